@@ -1,6 +1,6 @@
 -- Rights and sets of rights (`docs/RULES.md`, 'Rights'). A right is the number of its bit, and a set of rights is the
 -- word in which exactly the bits of its rights are set.
-use Rattle.std.specs.Prelude.{◌≡◌, ◌==◌, ◌&&◌, not, Bool, ℕ, ◌/◌, ◌%◌, ◌^◌, List, [], ◌∷◌, Option, map, option_map, unwrap_or, codes, nat_eq, find, bit_and, bit_xor}
+use Rattle.std.specs.Prelude.{◌≡◌, ◌==◌, ◌&&◌, not, Bool, ℕ, ◌/◌, ◌%◌, ◌^◌, List, [], ◌∷◌, Option, map, option_map, unwrap_or, codes, IsTrue, nat_eq, find, bit_and, bit_xor}
 use Rattle.std.specs.List.{list_any}
 use Rattle.std.specs.Cmp.Lexicographic.{pointwise}
 
@@ -55,6 +55,10 @@ special_rights = 0x700
 -- the rights that the first set has and the second lacks
 abbrev pub minus : ℕ → ℕ → ℕ
 minus rights gone = bit_xor rights (bit_and rights gone)
+
+-- the first set has every right of the second
+abbrev pub HasAll : ℕ → ℕ → Type 0
+HasAll have need = (number : ℕ) → IsTrue (has need number) → IsTrue (has have number)
 
 -- the right of the lowest number that is needed and not there
 unfoldable pub first_missing : ℕ → ℕ → Option ℕ

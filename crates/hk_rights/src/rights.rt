@@ -1,7 +1,7 @@
 // Sets of rights.
 
 ghost use Rattle.std.specs.Prelude.{◌≡◌, ◌↔◌, ◌==◌, ◌<◌, ◌^◌, ◌&&◌, ◌||◌, not, ℕ, false, IsTrue, IsSome, IsNone, IfSome, bit_and, bit_or};
-ghost use Rattle.hk_rights.specs.Rights.{has, is_right, all_rights, IsRightsWord, minus, first_missing};
+ghost use Rattle.hk_rights.specs.Rights.{has, is_right, all_rights, IsRightsWord, HasAll, minus, first_missing};
 
 use crate::right::Right;
 use crate::word::RightsWord;
@@ -149,7 +149,7 @@ impl Rights {
     /// Whether this set has every right of `other` (`docs/RULES.md`, 'Rights').
     pub fn contains(self, other: Rights) -> bool
         ensures word { result ≡ (bit_and self other == other) }
-        ensures members { IsTrue result ↔ ((n : ℕ) → IsTrue (has other n) → IsTrue (has self n)) }
+        ensures members { IsTrue result ↔ HasAll self other }
     {
         self.word.contains(other.word)
     }
@@ -195,7 +195,7 @@ impl Rights {
     /// it lacks none.
     pub fn first_missing(self, need: Rights) -> Option<Right>
         ensures first { result ≡ first_missing self need }
-        ensures none { IsNone result ↔ ((n : ℕ) → IsTrue (has need n) → IsTrue (has self n)) }
+        ensures none { IsNone result ↔ HasAll self need }
     {
         let missing = need.without(self).bits();
         if missing == 0 {
