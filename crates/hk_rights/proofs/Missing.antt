@@ -7,7 +7,7 @@ use Rattle.std.specs.List.{list_any}
 use Rattle.hk_rights.specs.Rights.{has, is_right, right_numbers, right_table, all_rights, IsRightsWord, HasAll, minus, first_missing}
 use Rattle.hk_rights.proofs.Sets.{left_of, right_of, has-minus, has-zero, has-pow}
 use Rattle.hk_rights.proofs.Words.{HasAll-all_rights}
-use Rattle.hk_rights.proofs.Table.{has-all_rights}
+use Rattle.hk_rights.proofs.Table.{has-all_rights, right_numbers-is_right}
 
 -- ---- the first of a rising list of numbers that passes a test
 
@@ -70,6 +70,13 @@ implies true true h e = refl
 implies true false h e = absurd (true≢false h)
 implies false y h e = absurd (false≢true e)
 
+numbers_rise : rising 0 right_numbers ≡ true
+unfolding rising right_numbers right_table
+numbers_rise = refl
+
+listed : (n : ℕ) → IsTrue (has all_rights n) → list_any (λ k. k == n) right_numbers ≡ true
+listed n right = right_numbers-is_right n ∙ (sym (has-all_rights n) ∙ right)
+
 -- none is missing where all that is needed is there
 pub first_missing-none : (have need : ℕ) → HasAll have need → first_missing have need ≡ None
 unfolding first_missing
@@ -81,18 +88,18 @@ HasAll-from_minus have need e = λ n. implies (has need n) (has have n) (sym (ha
 
 -- where none is missing each right that is needed is there
 pub has-from_first_missing : (have need n : ℕ) → first_missing have need ≡ None → IsTrue (has all_rights n) → IsTrue (has need n) → IsTrue (has have n)
-unfolding first_missing is_right
+unfolding first_missing
 has-from_first_missing have need n none right needed =
-    implies (has need n) (has have n) (none-passes (λ n. has need n && not (has have n)) right_numbers n none (sym (has-all_rights n) ∙ right)) needed
+    implies (has need n) (has have n) (none-passes (λ n. has need n && not (has have n)) right_numbers n none (listed n right)) needed
 
 pub HasAll-from_first_missing : (have need : ℕ) → IsRightsWord need → first_missing have need ≡ None → HasAll have need
 HasAll-from_first_missing have need word none = λ n needed. has-from_first_missing have need n none (HasAll-all_rights need word n needed) needed
 
 -- the least right that is needed and not there is missing first
 pub first_missing-some : (have need n : ℕ) → IsTrue (has all_rights n) → IsTrue (has (minus need have) n) → ((k : ℕ) → k < n → has (minus need have) k ≡ false) → first_missing have need ≡ Some n
-unfolding first_missing is_right right_numbers right_table rising
+unfolding first_missing rising
 first_missing-some have need n right missing least =
-    find-least (λ n. has need n && not (has have n)) n 0 right_numbers refl (sym (has-all_rights n) ∙ right) (sym (has-minus need have n) ∙ missing) (λ k less. sym (has-minus need have k) ∙ least k less)
+    find-least (λ n. has need n && not (has have n)) n 0 right_numbers numbers_rise (listed n right) (sym (has-minus need have n) ∙ missing) (λ k less. sym (has-minus need have k) ∙ least k less)
 
 -- of one right
 pub first_missing-pow : (have n : ℕ) → IsTrue (has all_rights n) → has have n ≡ false → first_missing have (2 ^ n) ≡ Some n

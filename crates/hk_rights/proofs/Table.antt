@@ -31,33 +31,28 @@ agree_below zero = true
 agree_below (suc n) = agrees n && agree_below n
 
 right_below : (n : ℕ) → n < 32 → has all_rights n ≡ is_right n
-unfolding agrees agree_below same is_right right_numbers right_table
+unfolding agrees agree_below same
 right_below = (Decides-below_and agrees (λ n. has all_rights n ≡ is_right n) agree_below (λ n. same_decides (has all_rights n) (is_right n)) refl (λ _. refl) 32).0 refl
-
-none_above : (ns : List ℕ) (n : ℕ) → list_all (λ k. nat_lt k 24) ns ≡ true → 24 ≤ n → list_any (λ k. k == n) ns ≡ false
-none_above [] n low above = refl
-none_above (k ∷ ns) n low above =
-    let here : nat_lt k 24 ≡ true = left_of (nat_lt k 24) _ low in
-    let other : (k == n) ≡ false = grind (arith, nat_tests) in
-    rw other (none_above ns n (right_of (nat_lt k 24) _ low) above)
 
 -- the numbers of the rights are those of the set of all rights
 pub has-all_rights : (n : ℕ) → has all_rights n ≡ is_right n
-unfolding is_right right_numbers right_table
 has-all_rights n =
     elim (cases_lt n 32) [
       | inl low ↦ right_below n low
-      | inr high ↦ let above : 24 ≤ n = omega arith in has-above 24 all_rights n (lit< tt) above ∙ sym (none_above right_numbers n refl above)
+      | inr high ↦
+          let above : 24 ≤ n = omega arith in
+          let none : is_right n ≡ false = grind (arith, nat_tests) in
+          has-above 24 all_rights n (lit< tt) above ∙ sym none
     ]
+
+-- the numbers of the rights are those of the table
+pub right_numbers-is_right : (n : ℕ) → list_any (λ k. k == n) right_numbers ≡ is_right n
+unfolding right_numbers right_table
+right_numbers-is_right n = grind (arith, nat_tests)
 
 -- the highest right is 23
 pub right_low : (n : ℕ) → IsTrue (is_right n) → n < 24
-unfolding is_right right_numbers right_table
-right_low n h =
-    elim (cases_lt n 24) [
-      | inl low ↦ low
-      | inr high ↦ absurd (true≢false (sym h ∙ none_above right_numbers n refl high))
-    ]
+right_low n h = grind (arith, nat_tests)
 
 -- the words of the table are together the word of all rights
 pub known-all_rights : known_bits word_table ≡ all_rights
@@ -98,10 +93,13 @@ number-in_rows (row ∷ rows) name n e = at (pointwise nat_eq row.0 name) e (num
         rw test refl
     at false e later = or_right (row.1 == n) _ (later e)
 
+named-in_table : (name : List ℕ) (n : ℕ) → number_named name ≡ Some n → list_any (λ k. k == n) right_numbers ≡ true
+unfolding number_named right_numbers
+named-in_table name n e = number-in_rows right_table name n e
+
 -- what a name stands for is a right
 pub named-is_right : (name : List ℕ) (n : ℕ) → number_named name ≡ Some n → IsTrue (is_right n)
-unfolding number_named is_right right_numbers
-named-is_right name n e = number-in_rows right_table name n e
+named-is_right name n e = sym (right_numbers-is_right n) ∙ named-in_table name n e
 
 -- the right of a name whose word was found, or not found
 pub named_some : (name : List ℕ) (word : ℕ) → Some word ≡ find_name word_table name → (n : ℕ) × (number_named name ≡ Some n) × (word ≡ 2 ^ n)

@@ -1,7 +1,6 @@
 -- Rights and sets of rights (`docs/RULES.md`, 'Rights'). A right is the number of its bit, and a set of rights is the
 -- word in which exactly the bits of its rights are set.
-use Rattle.std.specs.Prelude.{◌≡◌, ◌==◌, ◌&&◌, not, Bool, ℕ, ◌/◌, ◌%◌, ◌^◌, List, [], ◌∷◌, Option, map, option_map, unwrap_or, codes, IsTrue, nat_eq, find, bit_and, bit_xor}
-use Rattle.std.specs.List.{list_any}
+use Rattle.std.specs.Prelude.{◌≡◌, ◌==◌, ◌&&◌, ◌||◌, not, nat_le, Bool, ℕ, ◌/◌, ◌%◌, ◌^◌, List, [], ◌∷◌, Option, map, option_map, unwrap_or, codes, IsTrue, nat_eq, find, bit_and, bit_xor}
 use Rattle.std.specs.Cmp.Lexicographic.{pointwise}
 
 -- a right: its name and the number of its bit
@@ -24,9 +23,9 @@ right_numbers = map (λ row. row.1) right_table
 abbrev pub word_table : List Row
 word_table = map (λ row. (row.0, 2 ^ row.1)) right_table
 
--- some right has this number
-unfoldable pub is_right : ℕ → Bool
-is_right number = list_any (λ n. n == number) right_numbers
+-- some right has this number: 0 to 10 and 16 to 23
+abbrev pub is_right : ℕ → Bool
+is_right number = nat_le number 10 || (nat_le 16 number && nat_le number 23)
 
 -- the number of the right with this name, where there is one
 unfoldable pub number_named : List ℕ → Option ℕ

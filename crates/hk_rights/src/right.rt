@@ -69,15 +69,13 @@ impl Right {
 
 impl Right {
     /// The right of this number (`docs/RULES.md`, 'Rights'). None exactly where no right has it.
-    #[tactic(auto, unfolding(crate::specs::Rights::is_right, crate::specs::Rights::right_numbers, crate::specs::Rights::right_table))]
     pub fn new(bit: u8) -> Option<Right>
         ensures known { IsSome result ↔ IsTrue (is_right bit) }
         ensures same { IfSome result (λ right. right ≡ bit) }
     {
-        if bit < 11 || (bit >= 16 && bit < 24) {
-            Some(Right { bit })
-        } else {
-            None
+        match bit {
+            0..=10 | 16..=23 => Some(Right { bit }),
+            _ => None,
         }
     }
 
@@ -91,7 +89,7 @@ impl Right {
     }
 
     /// The name of this right (`docs/RULES.md`, 'Rights').
-    #[tactic(auto, unfolding(crate::specs::Rights::is_right, crate::specs::Rights::name_of, crate::specs::Rights::right_numbers, crate::specs::Rights::right_table))]
+    #[tactic(auto, unfolding(crate::specs::Rights::name_of, crate::specs::Rights::right_table))]
     pub fn name(self) -> &'static str
         ensures { result.now ≡ name_of self }
     {
