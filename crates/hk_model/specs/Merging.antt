@@ -1,0 +1,43 @@
+-- Merging a capability with a template, and the name space of a call. docs/RULES.md, "Merging" and "Calls of procedures".
+use Rattle.std.specs.Prelude.{ℕ, ◌+◌, ◌-◌, Bool, true, false, List, ◌++◌, length, Option, Some, None, Result, Ok, bit_and, bit_or, replicate, map}
+use Rattle.hk_model.specs.declared.names.Name.{Name}
+use Rattle.hk_model.specs.declared.entries.Cap.{Cap}
+use Rattle.hk_model.specs.declared.entries.Param.{Param}
+use Rattle.hk_model.specs.declared.entries.Entry.{Entry}
+use Rattle.hk_model.specs.declared.entries.Entry.TheVariants.{Empty, Held, Form}
+use Rattle.hk_model.specs.declared.calls.Refusal.{Refusal}
+use Rattle.hk_model.specs.declared.calls.Refusal.TheVariants as refused
+use Rattle.hk_rights.specs.Rights.{special_rights}
+use Rattle.hk_model.specs.Limits.{slot_limit}
+use Rattle.hk_model.specs.State.{same_name}
+use Rattle.hk_model.specs.Refusing.{◌>>◌, unless, allowed}
+use Rattle.hk_model.specs.Walking.{confined_rights}
+
+-- the type that a template names, if any, is this one
+abbrev pub matches : Option Name → Name → Bool
+matches None of = true
+matches (Some wanted) of = same_name wanted of
+
+-- what a template gives: a type's own template adds rights, but MODIFY, ENV and UNCONF never come from it
+abbrev pub merged_rights : ℕ → Option Name → ℕ → ℕ
+merged_rights rights None give = bit_and give rights
+merged_rights rights (Some _) give = bit_or (bit_and give 0xff00ff) (bit_and (bit_and give special_rights) rights)
+
+-- a capability for an object of type `of`, merged with a template
+abbrev pub merged : Cap → Name → Param → ℕ → Result Cap Refusal
+merged cap of form step = do
+  unless (matches form.of of) (refused.WrongType step)
+  allowed cap.rights form.check step
+  Ok (record { name = cap.name; rights = merged_rights cap.rights form.of form.give })
+
+-- what a call inherits: through a confining capability, without MODIFY and UNCONF
+abbrev pub inherited : Bool → Entry → Entry
+inherited true (Held cap) = Held (record cap { rights = confined_rights cap.rights })
+inherited true Empty = Empty
+inherited true (Form form) = Form form
+inherited false entry = entry
+
+-- the 64 entries of a new incarnation: parameters, then what the procedure holds, then nothing
+abbrev pub call_slots : List Cap → List Entry → Bool → List Entry
+call_slots caps entries confined =
+    map (λ (c : Cap). Held c) caps ++ (map (inherited confined) entries ++ replicate (slot_limit - (length caps + length entries)) Empty)

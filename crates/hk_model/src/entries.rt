@@ -1,0 +1,51 @@
+//! What stands in slots and lists: capabilities and templates (`docs/RULES.md`, "Capabilities").
+
+use crate::names::Name;
+use hk_rights::Rights;
+
+/// A capability: the name of an object, with rights for it.
+#[derive(Clone, Copy, PartialEq, Eq, Debug)]
+pub struct Cap {
+    pub name: Name,
+    pub rights: Rights,
+}
+
+/// A template (`docs/RULES.md`, "Merging").
+#[derive(Clone, Copy, PartialEq, Eq, Debug)]
+pub enum Template {
+    /// Merges with a capability that has all of `check`, for an object of the type `of` or of any
+    /// type, and gives it the rights `give`.
+    Amplify {
+        of: Option<Name>,
+        check: Rights,
+        give: Rights,
+    },
+    /// Makes a new object of the type `of`, held with the rights `give`.
+    Create {
+        of: Name,
+        give: Rights,
+    },
+}
+
+/// A parameter template of a procedure: what an argument must be, and what it becomes.
+#[derive(Clone, Copy, PartialEq, Eq, Debug)]
+pub struct Param {
+    pub of: Option<Name>,
+    pub check: Rights,
+    pub give: Rights,
+}
+
+/// What stands in a slot of an incarnation, or at an index of an object's list.
+#[derive(Clone, Copy, PartialEq, Eq, Debug)]
+pub enum Entry {
+    Empty,
+    Held(Cap),
+    Form(Template),
+}
+
+/// The kind of template that a program makes, with its rights.
+#[derive(Clone, Copy, PartialEq, Eq, Debug)]
+pub enum Making {
+    Amplify { check: Rights, give: Rights },
+    Create { give: Rights },
+}

@@ -1,0 +1,31 @@
+//! The data of the kernel, and what its calls, processors, scripts and records mean.
+//!
+//! `src` has the plain data and the trait `Kernel`; `specs` has the definitions that every contract
+//! of the project cites. `docs/ARCHITECTURE.md` says which file answers which question.
+#![tactic(auto)]
+
+pub mod calls;
+pub mod entries;
+pub mod frames;
+pub mod instructions;
+pub mod kernel;
+pub mod lines;
+pub mod lists;
+pub mod names;
+pub mod objects;
+pub mod paths;
+pub mod snapshot;
+pub mod world;
+
+pub use calls::{Answer, Call, Refusal, Reply, What8};
+pub use entries::{Cap, Entry, Making, Param, Template};
+pub use frames::{Frame, Todo};
+pub use instructions::{Index, Instr, Operand, Route};
+pub use kernel::{Acted, Kernel, NoMemory};
+pub use lines::{End, Line, What};
+pub use lists::{Entries, Items, Params, Text, Words};
+pub use names::{Cpu, Inc, Name, Proc, Slot};
+pub use objects::{Incarnation, Object, Process, ProcessState};
+pub use paths::{Args, Path};
+pub use snapshot::{Live, Seen, Snapshot};
+pub use world::{Born, Code, Kind, Task, World};
