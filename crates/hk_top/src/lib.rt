@@ -1,0 +1,4 @@
+//! The commands of `hydra`, from words and bytes to bytes and a status.
+#![tactic(auto)]
+
+mod small;
