@@ -1,10 +1,12 @@
 //! The instructions of a code.
 
+use crate::copying::Duplicate;
 use crate::entries::Making;
 use crate::lists::Items;
 use crate::names::Slot;
 use crate::paths::Args;
 use hk_rights::Rights;
+use std::alloc::{AllocError, Global};
 
 /// A number, or what a register holds.
 #[derive(Clone, Copy, PartialEq, Eq, Debug)]
@@ -134,4 +136,108 @@ pub enum Instr {
     IfDenied {
         to: u16,
     },
+}
+
+impl Duplicate for Route {
+    fn duplicate(&self, alloc: Global) -> Result<Route, AllocError> {
+        Ok(Route {
+            at: self.at.copy(alloc)?,
+        })
+    }
+}
+
+impl Duplicate for Instr {
+    fn duplicate(&self, alloc: Global) -> Result<Instr, AllocError> {
+        Ok(match self {
+            Instr::Get { of, at, reg } => Instr::Get {
+                of: of.duplicate(alloc)?,
+                at: *at,
+                reg: *reg,
+            },
+            Instr::Put { of, at, word } => Instr::Put {
+                of: of.duplicate(alloc)?,
+                at: *at,
+                word: *word,
+            },
+            Instr::Add { of, word } => Instr::Add {
+                of: of.duplicate(alloc)?,
+                word: *word,
+            },
+            Instr::Length { of, reg } => Instr::Length {
+                of: of.duplicate(alloc)?,
+                reg: *reg,
+            },
+            Instr::Load { from, into } => Instr::Load {
+                from: from.duplicate(alloc)?,
+                into: *into,
+            },
+            Instr::Store { list, at, from } => Instr::Store {
+                list: list.duplicate(alloc)?,
+                at: *at,
+                from: *from,
+            },
+            Instr::Append { list, from } => Instr::Append {
+                list: list.duplicate(alloc)?,
+                from: *from,
+            },
+            Instr::Erase { list, at } => Instr::Erase {
+                list: list.duplicate(alloc)?,
+                at: *at,
+            },
+            Instr::Drop { slot } => Instr::Drop { slot: *slot },
+            Instr::Restrict { slot, keep } => Instr::Restrict {
+                slot: *slot,
+                keep: *keep,
+            },
+            Instr::Look { of, reg } => Instr::Look {
+                of: of.duplicate(alloc)?,
+                reg: *reg,
+            },
+            Instr::MakeTemplate { of, making, into } => Instr::MakeTemplate {
+                of: of.duplicate(alloc)?,
+                making: *making,
+                into: *into,
+            },
+            Instr::Create { by, into } => Instr::Create {
+                by: by.duplicate(alloc)?,
+                into: *into,
+            },
+            Instr::Merge { with, cap, into } => Instr::Merge {
+                with: with.duplicate(alloc)?,
+                cap: *cap,
+                into: *into,
+            },
+            Instr::Copy { of, into } => Instr::Copy {
+                of: of.duplicate(alloc)?,
+                into: *into,
+            },
+            Instr::Enter { proc, args, into } => Instr::Enter {
+                proc: proc.duplicate(alloc)?,
+                args: *args,
+                into: *into,
+            },
+            Instr::Leave { give } => Instr::Leave { give: *give },
+            Instr::P { of } => Instr::P {
+                of: of.duplicate(alloc)?,
+            },
+            Instr::V { of } => Instr::V {
+                of: of.duplicate(alloc)?,
+            },
+            Instr::Yield => Instr::Yield,
+            Instr::SetReg { reg, to } => Instr::SetReg { reg: *reg, to: *to },
+            Instr::AddReg { reg, by } => Instr::AddReg { reg: *reg, by: *by },
+            Instr::Goto { to } => Instr::Goto { to: *to },
+            Instr::IfEq { left, right, to } => Instr::IfEq {
+                left: *left,
+                right: *right,
+                to: *to,
+            },
+            Instr::IfLess { left, right, to } => Instr::IfLess {
+                left: *left,
+                right: *right,
+                to: *to,
+            },
+            Instr::IfDenied { to } => Instr::IfDenied { to: *to },
+        })
+    }
 }

@@ -5,6 +5,7 @@
 #![tactic(auto)]
 
 pub mod calls;
+pub mod copying;
 pub mod entries;
 pub mod frames;
 pub mod instructions;

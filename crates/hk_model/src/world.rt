@@ -3,10 +3,12 @@
 ghost use Rattle.std.specs.Prelude.{◌≡◌, IfOk, length};
 ghost use Rattle.hk_model.specs.Setup.{IsWorld, setup};
 
-use crate::entries::Entry;
+use crate::copying::{Duplicate, duplicates};
 use crate::instructions::Instr;
+use crate::kernel::NoMemory;
 use crate::lists::{Entries, Items, Params, Text, Words};
 use crate::names::Name;
+use std::alloc::{AllocError, Global};
 use std::marker::Model;
 
 /// A code: its label, and its instructions.
@@ -119,5 +121,70 @@ impl World {
         ensures valid { IsWorld self.now }
     {
         self.tasks.as_slice()
+    }
+}
+
+impl Duplicate for Code {
+    fn duplicate(&self, alloc: Global) -> Result<Code, AllocError> {
+        Ok(Code {
+            label: self.label.copy(alloc)?,
+            steps: Items::from_vec(duplicates(alloc, self.steps.as_slice())?),
+        })
+    }
+}
+
+impl Duplicate for Kind {
+    fn duplicate(&self, alloc: Global) -> Result<Kind, AllocError> {
+        Ok(match self {
+            Kind::TypeObject => Kind::TypeObject,
+            Kind::Plain { of, words, entries } => Kind::Plain {
+                of: *of,
+                words: words.copy(alloc)?,
+                entries: entries.copy(alloc)?,
+            },
+            Kind::Semaphore { count } => Kind::Semaphore { count: *count },
+            Kind::Procedure {
+                code,
+                params,
+                entries,
+            } => Kind::Procedure {
+                code: *code,
+                params: params.copy(alloc)?,
+                entries: entries.copy(alloc)?,
+            },
+        })
+    }
+}
+
+impl Duplicate for Born {
+    fn duplicate(&self, alloc: Global) -> Result<Born, AllocError> {
+        Ok(Born {
+            label: self.label.copy(alloc)?,
+            kind: self.kind.duplicate(alloc)?,
+        })
+    }
+}
+
+impl Duplicate for Task {
+    fn duplicate(&self, alloc: Global) -> Result<Task, AllocError> {
+        Ok(Task {
+            label: self.label.copy(alloc)?,
+            code: self.code,
+            slots: self.slots.copy(alloc)?,
+        })
+    }
+}
+
+impl World {
+    /// An equal world.
+    pub fn copy(&self, alloc: Global) -> Result<World, NoMemory>
+        ensures { IfOk result (λ w. w ≡ self.now) }
+    {
+        Ok(World {
+            limit: self.limit,
+            objects: Items::from_vec(duplicates(alloc, self.objects.as_slice())?),
+            codes: Items::from_vec(duplicates(alloc, self.codes.as_slice())?),
+            tasks: Items::from_vec(duplicates(alloc, self.tasks.as_slice())?),
+        })
     }
 }
