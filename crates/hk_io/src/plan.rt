@@ -1,6 +1,6 @@
 // The plan of a stream in memory: how much a call passes, which calls fail, and the counts.
 
-ghost use Rattle.std.specs.Prelude.{◌≡◌, ◌↔◌, ◌≤◌, ◌^◌, ◌<◌, [], OnOk, OnErr, IsErr};
+ghost use Rattle.std.specs.Prelude.{◌≡◌, ◌↔◌, ◌≤◌, OnOk, OnErr, IsErr};
 ghost use Rattle.hk_io.specs.Causes.{HasCause, Rose};
 ghost use Rattle.hk_io.specs.Plans.{FailsNext, after_call, after_fault};
 
