@@ -1,1 +1,2 @@
 pub mod SmallScripts
+pub mod Outputs

@@ -1,4 +1,12 @@
 //! The commands of `hydra`, from words and bytes to bytes and a status.
 #![tactic(auto)]
 
+mod commands;
+mod parse;
+mod record;
+mod run;
 mod small;
+pub mod status;
+mod words;
+
+pub use commands::{answer, hydra};

@@ -1,0 +1,29 @@
+// The program: its words, its standard input and output, and the status that it ends with.
+#![tactic(auto)]
+
+use hk_io::{StdIn, StdOut};
+use hk_top::{hydra, status};
+use std::env;
+use std::io::ErrorKind;
+use std::process::ExitCode;
+
+/// The status where the words can't be had for another reason than want of memory.
+const NO_WORDS: u8 = 9;
+
+fn main(rt: HostRuntime) -> ExitCode {
+    let mut args = match env::args(&rt) {
+        Ok(args) => args,
+        Err(error) if error.kind() == ErrorKind::OutOfMemory => {
+            return ExitCode::from(status::NO_MEMORY);
+        }
+        Err(_) => return ExitCode::from(NO_WORDS),
+    };
+    let _program = args.next();
+    let words: Vec<String> = match args.collect(rt.alloc()) {
+        Ok(words) => words,
+        Err(_) => return ExitCode::from(status::NO_MEMORY),
+    };
+    let mut input = StdIn::new(rt.stdin());
+    let mut output = StdOut::new(rt.stdout());
+    ExitCode::from(hydra(rt.alloc(), &words, &mut input, &mut output))
+}
