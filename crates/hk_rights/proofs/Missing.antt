@@ -1,10 +1,10 @@
 -- The first right that is missing.
-use Rattle.std.proofs.Common.{◌≡◌, ◌==◌, ◌&&◌, ◌||◌, not, ◌^◌, ◌<◌, ℕ, suc, Bool, true, false, List, [], ◌∷◌, Option, Some, None, refl, sym, ap, ◌∙◌, arith, inl, inr, cond, IsTrue, nat_le, find}
+use Rattle.std.proofs.Common.{◌≡◌, ◌==◌, ◌&&◌, ◌||◌, not, ◌^◌, ◌<◌, ℕ, suc, Bool, true, false, List, [], ◌∷◌, Some, None, refl, sym, ap, ◌∙◌, arith, inl, inr, cond, IsTrue, nat_le, find}
 use Rattle.std.proofs.lemmas.Bool.Decides.{nat_tests}
 use Rattle.std.proofs.lemmas.Option.{none-some}
-use Rattle.std.proofs.lemmas.Bool.{cases_order, cases_Bool, true≢false, false≢true}
+use Rattle.std.proofs.lemmas.Bool.{cases_order, true≢false, false≢true}
 use Rattle.std.specs.List.{list_any}
-use Rattle.hk_rights.specs.Rights.{has, is_right, right_numbers, right_table, all_rights, IsRightsWord, HasAll, minus, first_missing}
+use Rattle.hk_rights.specs.Rights.{has, right_numbers, right_table, all_rights, IsRightsWord, HasAll, minus, first_missing}
 use Rattle.hk_rights.proofs.Sets.{left_of, right_of, has-minus, has-zero, has-pow}
 use Rattle.hk_rights.proofs.Words.{HasAll-all_rights}
 use Rattle.hk_rights.proofs.Table.{has-all_rights, right_numbers-is_right}
@@ -109,5 +109,6 @@ first_missing-pow have n right lacks = first_missing-some have (2 ^ n) n right
   where
     here : (has (2 ^ n) n && not (has have n)) ≡ true
     here = let same : (n == n) ≡ true = grind (arith, nat_tests) in rw (has-pow n n, same, lacks) refl
+
     before : (k : ℕ) → k < n → (has (2 ^ n) k && not (has have k)) ≡ false
     before k less = let other : (k == n) ≡ false = grind (arith, nat_tests) in rw (has-pow n k, other) refl

@@ -1,15 +1,15 @@
 -- The table of rights: its numbers, its names and its words.
-use Rattle.std.proofs.Common.{◌≡◌, ◌==◌, ◌&&◌, ◌||◌, not, ◌*◌, ◌/◌, ◌%◌, ◌^◌, ◌<◌, ◌≤◌, ℕ, zero, suc, Bool, true, false, List, [], ◌∷◌, map, length, Option, Some, None, refl, sym, ap, ◌∙◌, arith, inl, inr, cond, option_map, IsTrue, nat_lt, lit<, find, bit_and, bit_or}
+use Rattle.std.proofs.Common.{◌≡◌, ◌==◌, ◌&&◌, not, ◌^◌, ◌<◌, ◌≤◌, ℕ, zero, suc, Bool, true, false, List, [], ◌∷◌, map, length, Option, Some, None, refl, sym, ap, ◌∙◌, arith, inl, inr, cond, option_map, IsTrue, lit<, find}
 use Rattle.std.specs.Prelude.{nat_eq}
 use Rattle.std.proofs.lemmas.Bool.Decides.{nat_tests, Decides-below_and}
 use Rattle.std.proofs.lemmas.Option.{none-some, same_Some}
-use Rattle.std.proofs.lemmas.Bool.{cases_lt, cases_Bool, true≢false}
+use Rattle.std.proofs.lemmas.Bool.{cases_lt, cases_Bool}
 use Rattle.std.specs.Bool.{Decides}
-use Rattle.std.specs.List.{list_any, list_all}
+use Rattle.std.specs.List.{list_any}
 use Rattle.std.specs.Cmp.Lexicographic.{pointwise}
 use Rattle.bitflags.specs.Sets.{known_from, known_bits, find_row, find_name}
 use Rattle.hk_rights.specs.Rights.{Row, right_table, right_numbers, word_table, is_right, number_named, has, all_rights}
-use Rattle.hk_rights.proofs.Sets.{has-above, left_of, right_of, or_right}
+use Rattle.hk_rights.proofs.Sets.{has-above, or_right}
 
 -- ---- the numbers
 

@@ -1,7 +1,7 @@
 -- Rights words: words in which no bit is set that is no right's.
-use Rattle.std.proofs.Common.{◌≡◌, ◌<◌, ◌^◌, ℕ, ap, ◌∙◌, sym, IsTrue, arith, bit_and, bit_or}
+use Rattle.std.proofs.Common.{◌≡◌, ◌<◌, ◌^◌, ℕ, ◌∙◌, arith, bit_and, bit_or}
 use Rattle.std.proofs.lemmas.Nat.{and_comm, and_le_l}
-use Rattle.hk_rights.specs.Rights.{has, all_rights, IsRightsWord, minus, HasAll}
+use Rattle.hk_rights.specs.Rights.{all_rights, IsRightsWord, minus, HasAll}
 use Rattle.hk_rights.proofs.Sets.{HasAll-from_bit_and, bit_and-from_HasAll, HasAll-trans, HasAll-bit_and_left, HasAll-bit_and_right, HasAll-bit_or, HasAll-minus}
 
 -- the rights words are the words of sets of rights

@@ -7,7 +7,7 @@ use Rattle.std.specs.Cmp.Lexicographic.{pointwise}
 abbrev pub Row : Type 0
 Row = List ℕ × ℕ
 
--- the 19 rights, by rising number: those of every object, and then the eight auxiliary ones
+-- the 19 rights, by rising number; the last eight are the auxiliary ones, which each type uses in its own way
 unfoldable pub right_table : List Row
 right_table =
     (codes "GETDATA", 0) ∷ (codes "PUTDATA", 1) ∷ (codes "ADDDATA", 2) ∷ (codes "LOAD", 3) ∷ (codes "STORE", 4)
@@ -31,7 +31,7 @@ is_right number = nat_le number 10 || (nat_le 16 number && nat_le number 23)
 unfoldable pub number_named : List ℕ → Option ℕ
 number_named name = option_map (λ row. row.1) (find (λ row. pointwise nat_eq row.0 name) right_table)
 
--- the name of the right with this number
+-- the name of the right with this number; a number that is no right's has none
 unfoldable pub name_of : ℕ → List ℕ
 name_of number = unwrap_or (option_map (λ row. row.0) (find (λ row. row.1 == number) right_table)) []
 
@@ -51,7 +51,7 @@ IsRightsWord word = bit_and word all_rights ≡ word
 abbrev pub special_rights : ℕ
 special_rights = 0x700
 
--- the rights that the first set has and the second lacks
+-- the rights that the first set has and the second lacks: what both have is taken out
 abbrev pub minus : ℕ → ℕ → ℕ
 minus rights gone = bit_xor rights (bit_and rights gone)
 

@@ -29,70 +29,114 @@ impl Model for Rights {
 
 impl Rights {
     /// The set of GETDATA alone (`docs/RULES.md`, 'Rights').
-    pub const GETDATA: Rights = Rights { word: RightsWord::GETDATA };
+    pub const GETDATA: Rights = Rights {
+        word: RightsWord::GETDATA,
+    };
 
     /// The set of PUTDATA alone (`docs/RULES.md`, 'Rights').
-    pub const PUTDATA: Rights = Rights { word: RightsWord::PUTDATA };
+    pub const PUTDATA: Rights = Rights {
+        word: RightsWord::PUTDATA,
+    };
 
     /// The set of ADDDATA alone (`docs/RULES.md`, 'Rights').
-    pub const ADDDATA: Rights = Rights { word: RightsWord::ADDDATA };
+    pub const ADDDATA: Rights = Rights {
+        word: RightsWord::ADDDATA,
+    };
 
     /// The set of LOAD alone (`docs/RULES.md`, 'Rights').
-    pub const LOAD: Rights = Rights { word: RightsWord::LOAD };
+    pub const LOAD: Rights = Rights {
+        word: RightsWord::LOAD,
+    };
 
     /// The set of STORE alone (`docs/RULES.md`, 'Rights').
-    pub const STORE: Rights = Rights { word: RightsWord::STORE };
+    pub const STORE: Rights = Rights {
+        word: RightsWord::STORE,
+    };
 
     /// The set of APPEND alone (`docs/RULES.md`, 'Rights').
-    pub const APPEND: Rights = Rights { word: RightsWord::APPEND };
+    pub const APPEND: Rights = Rights {
+        word: RightsWord::APPEND,
+    };
 
     /// The set of KILL alone (`docs/RULES.md`, 'Rights').
-    pub const KILL: Rights = Rights { word: RightsWord::KILL };
+    pub const KILL: Rights = Rights {
+        word: RightsWord::KILL,
+    };
 
     /// The set of COPY alone (`docs/RULES.md`, 'Rights').
-    pub const COPY: Rights = Rights { word: RightsWord::COPY };
+    pub const COPY: Rights = Rights {
+        word: RightsWord::COPY,
+    };
 
     /// The set of MODIFY alone (`docs/RULES.md`, 'Rights').
-    pub const MODIFY: Rights = Rights { word: RightsWord::MODIFY };
+    pub const MODIFY: Rights = Rights {
+        word: RightsWord::MODIFY,
+    };
 
     /// The set of ENV alone (`docs/RULES.md`, 'Rights').
-    pub const ENV: Rights = Rights { word: RightsWord::ENV };
+    pub const ENV: Rights = Rights {
+        word: RightsWord::ENV,
+    };
 
     /// The set of UNCONF alone (`docs/RULES.md`, 'Rights').
-    pub const UNCONF: Rights = Rights { word: RightsWord::UNCONF };
+    pub const UNCONF: Rights = Rights {
+        word: RightsWord::UNCONF,
+    };
 
     /// The set of A0 alone (`docs/RULES.md`, 'Rights').
-    pub const A0: Rights = Rights { word: RightsWord::A0 };
+    pub const A0: Rights = Rights {
+        word: RightsWord::A0,
+    };
 
     /// The set of A1 alone (`docs/RULES.md`, 'Rights').
-    pub const A1: Rights = Rights { word: RightsWord::A1 };
+    pub const A1: Rights = Rights {
+        word: RightsWord::A1,
+    };
 
     /// The set of PUTDATA and MODIFY (`docs/RULES.md`, 'Rights').
-    pub const PUTDATA_MODIFY: Rights = Rights { word: RightsWord(0x102) };
+    pub const PUTDATA_MODIFY: Rights = Rights {
+        word: RightsWord(0x102),
+    };
 
     /// The set of ADDDATA and MODIFY (`docs/RULES.md`, 'Rights').
-    pub const ADDDATA_MODIFY: Rights = Rights { word: RightsWord(0x104) };
+    pub const ADDDATA_MODIFY: Rights = Rights {
+        word: RightsWord(0x104),
+    };
 
     /// The set of STORE and MODIFY (`docs/RULES.md`, 'Rights').
-    pub const STORE_MODIFY: Rights = Rights { word: RightsWord(0x110) };
+    pub const STORE_MODIFY: Rights = Rights {
+        word: RightsWord(0x110),
+    };
 
     /// The set of APPEND and MODIFY (`docs/RULES.md`, 'Rights').
-    pub const APPEND_MODIFY: Rights = Rights { word: RightsWord(0x120) };
+    pub const APPEND_MODIFY: Rights = Rights {
+        word: RightsWord(0x120),
+    };
 
     /// The set of KILL and MODIFY (`docs/RULES.md`, 'Rights').
-    pub const KILL_MODIFY: Rights = Rights { word: RightsWord(0x140) };
+    pub const KILL_MODIFY: Rights = Rights {
+        word: RightsWord(0x140),
+    };
 
     /// The set of ENV and A0 (`docs/RULES.md`, 'Rights').
-    pub const ENV_A0: Rights = Rights { word: RightsWord(0x10200) };
+    pub const ENV_A0: Rights = Rights {
+        word: RightsWord(0x10200),
+    };
 
     /// The set of MODIFY and A0 (`docs/RULES.md`, 'Rights').
-    pub const MODIFY_A0: Rights = Rights { word: RightsWord(0x10100) };
+    pub const MODIFY_A0: Rights = Rights {
+        word: RightsWord(0x10100),
+    };
 
     /// The set of MODIFY and A1 (`docs/RULES.md`, 'Rights').
-    pub const MODIFY_A1: Rights = Rights { word: RightsWord(0x20100) };
+    pub const MODIFY_A1: Rights = Rights {
+        word: RightsWord(0x20100),
+    };
 
     /// The set of the special rights MODIFY, ENV and UNCONF (`docs/RULES.md`, 'Rights').
-    pub const SPECIAL: Rights = Rights { word: RightsWord(0x700) };
+    pub const SPECIAL: Rights = Rights {
+        word: RightsWord(0x700),
+    };
 }
 
 impl Rights {

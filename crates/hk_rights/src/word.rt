@@ -11,24 +11,43 @@ pub struct RightsWord(pub(crate) u32);
 
 bitflag_items! {
     impl RightsWord: u32 {
+        /// To read words and their number.
         const GETDATA = 0x1;
+        /// To replace a word.
         const PUTDATA = 0x2;
+        /// To add a word.
         const ADDDATA = 0x4;
+        /// To go on to an entry of the list.
         const LOAD = 0x8;
+        /// To replace an entry.
         const STORE = 0x10;
+        /// To add an entry.
         const APPEND = 0x20;
+        /// To empty an entry.
         const KILL = 0x40;
+        /// To copy the object.
         const COPY = 0x80;
+        /// Needed besides, wherever the object is changed.
         const MODIFY = 0x100;
+        /// Needed to hand the capability on, by a store or a return, and to make or take templates through it.
         const ENV = 0x200;
+        /// Needed of a procedure's capability for its calls to be unconfined.
         const UNCONF = 0x400;
+        /// Auxiliary right 0.
         const A0 = 0x10000;
+        /// Auxiliary right 1.
         const A1 = 0x20000;
+        /// Auxiliary right 2.
         const A2 = 0x40000;
+        /// Auxiliary right 3.
         const A3 = 0x80000;
+        /// Auxiliary right 4.
         const A4 = 0x100000;
+        /// Auxiliary right 5.
         const A5 = 0x200000;
+        /// Auxiliary right 6.
         const A6 = 0x400000;
+        /// Auxiliary right 7.
         const A7 = 0x800000;
     }
 }

@@ -1,8 +1,8 @@
-use Rattle.std.proofs.Common.{◌≡◌, ◌==◌, ◌<◌, ◌^◌, ℕ, List, Some, false, ap, ◌∙◌, sym, refl, IsTrue, arith}
+use Rattle.std.proofs.Common.{◌≡◌, ◌<◌, ◌^◌, ℕ, List, Some, ap, ◌∙◌, sym, IsTrue}
 use Rattle.std.proofs.lemmas.Bool.Decides.{Decides-eqb}
 use Rattle.std.proofs.lemmas.Nat.{pow_pos}
 use Rattle.bitflags.specs.Sets.{find_name}
-use Rattle.hk_rights.specs.Rights.{has, is_right, number_named, word_table, all_rights, IsRightsWord}
+use Rattle.hk_rights.specs.Rights.{has, is_right, number_named, word_table, IsRightsWord}
 use Rattle.hk_rights.proofs.Sets.{has-pow}
 use Rattle.hk_rights.proofs.Words.{IsRightsWord-from_HasAll}
 use Rattle.hk_rights.proofs.Table.{has-all_rights, named_some, named_none, named-is_right}
@@ -16,8 +16,8 @@ rights : (name : List ℕ) (word bits : ℕ) → bits ≡ word → Some word ≡
 rights name word bits same e =
     let found = named_some name word e in
     IsRightsWord-from_HasAll bits (λ n there.
-        let here : n ≡ found.0 = only bits n found.0 (same ∙ found.2) there in
-        has-all_rights n ∙ (ap (λ k. is_right k) here ∙ named-is_right name found.0 found.1))
+    let here : n ≡ found.0 = only bits n found.0 (same ∙ found.2) there in
+    has-all_rights n ∙ (ap (λ k. is_right k) here ∙ named-is_right name found.0 found.1))
 
 some : (name : List ℕ) (word bits : ℕ) → bits ≡ word → Some word ≡ find_name word_table name → 0 < bits
 some name word bits same e =

@@ -1,5 +1,5 @@
-use Rattle.std.proofs.Common.{◌≡◌, ap, ◌∙◌, refl}
-use Rattle.hk_rights.specs.Rights.{has, all_rights, IsRightsWord}
+use Rattle.std.proofs.Common.{ap, ◌∙◌, refl}
+use Rattle.hk_rights.specs.Rights.{has}
 use Rattle.hk_rights.proofs.Table.{has-all_rights, known-all_rights}
 use Rattle.hk_rights.proofs.rights.Rights.all.Goals as goal
 

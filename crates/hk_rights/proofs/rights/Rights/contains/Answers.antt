@@ -1,4 +1,4 @@
-use Rattle.std.proofs.Common.{◌≡◌, ◌==◌, ◌↔◌, ℕ, Bool, ap, ◌∙◌, sym, IsTrue, bit_and}
+use Rattle.std.proofs.Common.{◌≡◌, ◌==◌, ◌↔◌, ℕ, Bool, ◌∙◌, sym, IsTrue, bit_and}
 use Rattle.std.proofs.lemmas.Bool.Decides.{Decides-eqb}
 use Rattle.hk_rights.specs.Rights.{HasAll}
 use Rattle.hk_rights.proofs.Sets.{bit_and-from_HasAll, HasAll-from_bit_and}

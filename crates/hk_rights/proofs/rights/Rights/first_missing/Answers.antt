@@ -1,7 +1,5 @@
-use Rattle.std.proofs.Common.{◌≡◌, ◌<◌, ℕ, None, Some, false, refl, ap, ◌∙◌, sym, IsTrue}
-use Rattle.std.proofs.lemmas.Bool.{false≢true}
-use Rattle.hk_rights.specs.Rights.{has, minus, first_missing, IsRightsWord, HasAll}
-use Rattle.hk_rights.proofs.Sets.{has-minus, has-zero}
+use Rattle.std.proofs.Common.{◌≡◌, ◌<◌, ℕ, Some, false, ap, ◌∙◌, sym, IsTrue}
+use Rattle.hk_rights.specs.Rights.{has, minus, first_missing, IsRightsWord}
 use Rattle.hk_rights.proofs.Words.{HasAll-all_rights}
 use Rattle.hk_rights.proofs.Missing.{first_missing-some, first_missing-none, HasAll-from_minus}
 use Rattle.hk_rights.proofs.rights.Rights.first_missing.Goals as goal

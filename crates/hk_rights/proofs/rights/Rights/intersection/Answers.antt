@@ -1,4 +1,4 @@
-use Rattle.std.proofs.Common.{◌≡◌, ap, ◌∙◌}
+use Rattle.std.proofs.Common.{ap, ◌∙◌}
 use Rattle.hk_rights.specs.Rights.{has}
 use Rattle.hk_rights.proofs.Sets.{has-bit_and}
 use Rattle.hk_rights.proofs.Words.{IsRightsWord-bit_and}
