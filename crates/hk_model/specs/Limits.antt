@@ -21,6 +21,14 @@ slot_limit = 64
 abbrev pub param_limit : ℕ
 param_limit = 8
 
+-- arguments of a call
+abbrev pub args_limit : ℕ
+args_limit = 8
+
+-- indices of a path
+abbrev pub path_limit : ℕ
+path_limit = 8
+
 -- incarnations of a process, the base counted
 abbrev pub depth_limit : ℕ
 depth_limit = 64
@@ -55,3 +63,10 @@ usual_limit = 10000
 -- bytes of a line of a script, without its line feed
 abbrev pub line_bytes : ℕ
 line_bytes = 1000
+
+-- bytes of a script, and of a record
+abbrev pub script_bytes : ℕ
+script_bytes = 1048576
+
+abbrev pub record_bytes : ℕ
+record_bytes = 536870912

@@ -1,4 +1,5 @@
-//! The kernel calls, and how they are answered (`docs/RULES.md`, "The kernel calls").
+//! The kernel calls, and how they are answered (`docs/RULES.md`, "The table of the calls" and
+//! "What each call does").
 
 use crate::entries::Making;
 use crate::names::Slot;
@@ -122,11 +123,11 @@ pub enum What8 {
 pub enum Refusal {
     /// An index is not below the length of its list, or a slot not below 64.
     Range { step: u8 },
-    /// A capability or a template is wanted where nothing stands.
+    /// Something is wanted where nothing stands.
     Empty { step: u8 },
     /// A capability is wanted where a template stands.
     NotCap { step: u8 },
-    /// A right is missing: the lowest of those that are wanted.
+    /// A right is missing: the lowest of those that are wanted and not there.
     Denied { step: u8, right: Right },
     /// The object is of another type.
     WrongType { step: u8 },

@@ -13,8 +13,10 @@ pub struct Cap {
 /// A template (`docs/RULES.md`, "Merging").
 #[derive(Clone, Copy, PartialEq, Eq, Debug)]
 pub enum Template {
-    /// Merges with a capability that has all of `check`, for an object of the type `of` or of any
-    /// type, and gives it the rights `give`.
+    /// Merges with a capability that has all of `check`, for an object of the type `of`, or of any
+    /// type. Where a type is named, the rights become those of `give`, but for MODIFY, ENV and
+    /// UNCONF, which stay only where they were; where none is named, they become those of `give`
+    /// that were there.
     Amplify {
         of: Option<Name>,
         check: Rights,

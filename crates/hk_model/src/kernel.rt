@@ -1,6 +1,6 @@
 //! A kernel, by the state that it is in.
 
-ghost use Rattle.std.specs.Prelude.{◌≡◌, ◌<◌, Bool, ◌↔◌, IsTrue, IsSome, IfOk, OnErr, IfSome, IfNone, Some, None};
+ghost use Rattle.std.specs.Prelude.{◌≡◌, ◌<◌, Bool, not, IsTrue, IsSome, IfOk, OnErr, IfSome, IfNone, Some, None};
 ghost use Rattle.hk_model.specs.State.{State};
 ghost use Rattle.hk_model.specs.declared.calls.Call.{Call};
 ghost use Rattle.hk_model.specs.Processors.{runner, may_step, dispatched, acted_on, halted_on, entered_on, has_left, is_over, running_on};
@@ -37,8 +37,8 @@ pub struct Acted {
     pub gone: bool,
 }
 
-/// A kernel (`docs/RULES.md`, "Steps of processors"). Each call but `current`, `over`,
-/// `limit_reached` and `snapshot` is one event.
+/// A kernel (`docs/RULES.md`, "Steps of processors"). An `act` that is answered, refused or not, a
+/// `dispatch` that gives a process, and a `halt` are one event each.
 pub trait Kernel: Drop {
     /// The state that it is in.
     ghost state: { Self → State };
@@ -83,7 +83,7 @@ pub trait Kernel: Drop {
 
     /// Whether the events number the limit.
     fn limit_reached(&self) -> bool
-        ensures { IsTrue result ↔ ((state self.now).events ≡ (state self.now).limit) };
+        ensures { result ≡ not (may_step (state self.now)) };
 
     /// The state as plain data.
     fn snapshot(&self, alloc: Global) -> Result<Snapshot, NoMemory>

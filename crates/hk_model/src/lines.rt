@@ -32,6 +32,6 @@ pub enum End {
     Done,
     /// No process is ready or runs, and some waits.
     Stuck,
-    /// The events number the limit.
+    /// The events number the limit, and neither of the others holds.
     Limit,
 }

@@ -16,6 +16,6 @@ pub struct Proc(pub u16);
 #[derive(Clone, Copy, PartialEq, Eq, PartialOrd, Ord, Debug)]
 pub struct Cpu(pub u8);
 
-/// The number of a slot of an incarnation, 0 to 63.
+/// The number of a slot of an incarnation. There are 64; a call that names another is refused.
 #[derive(Clone, Copy, PartialEq, Eq, PartialOrd, Ord, Debug)]
 pub struct Slot(pub u8);

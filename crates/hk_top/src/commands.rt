@@ -1,9 +1,8 @@
 //! The commands, from words and bytes to bytes and a status.
 
-ghost use Rattle.std.specs.Prelude.{◌≡◌, ◌⊎◌, ◌<◌, IfOk, IfErr, IsErrOf, map, string_bytes, length, take};
-ghost use Rattle.std.specs.Io.KnownBytes.{Appends};
+ghost use Rattle.std.specs.Prelude.{◌≡◌, ◌≢◌, ◌⊎◌, ◌∷◌, [], IfOk, IsErrOf, MatchResult, codes, map, string_bytes};
 ghost use Rattle.hk_io.specs.Causes.{Rose};
-ghost use Rattle.hk_top.specs.Outputs.{Answer, Due, IsRun, stream};
+ghost use Rattle.hk_top.specs.Outputs.{Answer, Due, IsRun, IsSaid, stream};
 
 use crate::parse::{ScriptError, small_script};
 use crate::record::record_bytes;
@@ -11,7 +10,7 @@ use crate::run::run;
 use crate::status;
 use crate::words::is_run;
 use hk_io::{ReadError, Sink, Source, read_all, write_all};
-use std::alloc::{AllocError, Global};
+use std::alloc::Global;
 
 /// The largest script, in bytes.
 const SCRIPT_BYTES: usize = 1_048_576;
