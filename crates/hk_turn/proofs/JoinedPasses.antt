@@ -1,0 +1,61 @@
+-- Passes that are joined one after another, and the value at the end.
+use Rattle.std.proofs.Common.{◌≡◌, ◌≢◌, ℕ, zero, suc, ◌+◌, ◌-◌, ◌*◌, ◌/◌, ◌%◌, ◌<◌, ◌≤◌, eqb, Bool, true, false, true≢false, List, [], ◌∷◌, ◌++◌, Some, None, Option, length, map, set, get_or, max, sym, refl, ap, ◌∙◌, subst, ⊎_elim, ◌⊎◌, inl, inr, arith, length-append, length-set, append_assoc}
+use Rattle.std.specs.Prelude.{All, nat_lt, Contains}
+use Rattle.std.proofs.lemmas.Bool.Decides.{nat_tests}
+use Rattle.std.proofs.lemmas.List.Elements.{All-append, All-nil, All-cons, All-weaker}
+use Rattle.std.proofs.Math.Nat.{max-le}
+use mathlib.Core.List.{IsPrefix}
+use mathlib.Core.Logic.{dite}
+use mathlib.Core.Option.{some, some-ne-none, some-injective}
+use mathlib.Core.Option as maybe
+use native.Mathlib.Decide.{ℕ_discrete}
+use lib.ListN.{get_elem?}
+use prog.Atomic.{either}
+use Rattle.atomic_table.specs.Table.{Me, Final, Seen}
+use Rattle.hk_turn.specs.declared.view.View.{View}
+use Rattle.hk_turn.specs.declared.pass.Pass.{Pass}
+use Rattle.hk_turn.specs.Views.{first_view, opening_view, blank_view, maker_after_split, split_view, spent_view, joined_view, longer, longer_if, Heard}
+use Rattle.hk_turn.specs.Rule.{total, GoesOn, Fits, Seated, Holding, KeepsRule}
+use Rattle.hk_turn.specs.Passes.{seen_list, HasHeard}
+use Rattle.hk_turn.specs.Turns.{StandsForAll}
+use Rattle.hk_turn.proofs.Prefixes.{all_tail}
+use Rattle.hk_turn.proofs.LastState.{last_state_shows}
+
+-- what holds of all passes holds of the last that was not joined yet
+pub all_last : {A : Type 0} (P : A → Type 0) (all xs ys joined : List A) (y : A) → All P all → all ≡ xs ++ joined → xs ≡ ys ++ y ∷ [] → P y
+all_last P all xs ys joined y a is last =
+    let e : all ≡ ys ++ (y ∷ joined) = is ∙ (ap (λ l. l ++ joined) last ∙ append_assoc ys (y ∷ []) joined) in
+    all_tail P ys (y ∷ joined) (subst (All P) e a) 0 y (omega arith)
+
+-- the last pass goes over to those that are joined
+pub moved : {A : Type 0} (all xs ys joined : List A) (y : A) → all ≡ xs ++ joined → xs ≡ ys ++ y ∷ [] → all ≡ ys ++ (y ∷ joined)
+moved all xs ys joined y is last = is ∙ (ap (λ l. l ++ joined) last ∙ append_assoc ys (y ∷ []) joined)
+
+module _ {E : Type 0} where
+  -- what was heard stays heard
+  still : (v u : View E) (l : List E) → Heard v l → Heard (joined_view v u) l
+  still v u l h = ⊎_elim
+      (λ (is : l ≡ v.seen). inr (0, omega arith, sym is))
+      (λ (has : Contains v.told l). inr (suc (suc has.0), (let k = has.1 in omega arith), has.2)) h
+
+  -- a pass more was heard of, whose view was taken in
+  pub heard_more : (v u : View E) (p : Pass E) (ps : List (Pass E)) → seen_list p ≡ u.seen → HasHeard v ps → HasHeard (joined_view v u) (p ∷ ps)
+  heard_more v u p ps is h = All-cons (λ q. Heard (joined_view v u) (seen_list q)) p ps (inr (1, omega arith, sym is)) (All-weaker (λ q. Heard v (seen_list q)) (λ q. Heard (joined_view v u) (seen_list q)) (λ q. still v u (seen_list q)) ps h)
+
+  -- the first pass was heard of by its own view
+  pub heard_first : (v : View E) (p : Pass E) → seen_list p ≡ v.seen → HasHeard v (p ∷ [])
+  heard_first v p is = All-cons (λ q. Heard v (seen_list q)) p [] (inl is) (All-nil (λ q. Heard v (seen_list q)))
+
+  -- what was heard is a prefix, if what was seen and told is
+  prefix_of_heard : (v : View E) (all l : List E) → IsPrefix v.seen all → All (λ t. IsPrefix t all) v.told → Heard v l → IsPrefix l all
+  prefix_of_heard v all l mine theirs h = ⊎_elim
+      (λ (is : l ≡ v.seen). subst (λ t. IsPrefix t all) (sym is) mine)
+      (λ (has : Contains v.told l). subst (λ t. IsPrefix t all) has.2 (theirs has.0 l has.1)) h
+
+module _ {T E : Type 0} (stands : T → List E → Type 0) (owner : E → ℕ) (seats : ℕ) where
+  -- the value of the last state stands for a list that begins with what each pass had seen
+  pub stands_for_all : (id : ℕ) (v : View E) (ws : List ℕ) (xs : List (Option T)) (ps : List (Pass E)) → 0 < seats → v.weight ≡ seats → v.holds ≡ false → HasHeard v ps → Final (Seen (KeepsRule stands owner seats) id v) ws xs
+      → (x : T) × (get_elem? xs 0 ≡ some (Some x)) × StandsForAll stands owner seats ps x
+  stands_for_all id v ws xs ps some_seats all free heard f =
+      let r = last_state_shows stands owner seats id v ws xs some_seats all free f in
+      (r.0, r.2, (r.1, r.3, All-weaker (λ p. Heard v (seen_list p)) (λ p. IsPrefix (seen_list p) r.1) (λ p. prefix_of_heard v r.1 (seen_list p) r.4 r.5) ps heard, r.6))
