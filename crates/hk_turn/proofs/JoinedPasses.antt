@@ -3,7 +3,7 @@ use Rattle.std.proofs.Common.{◌≡◌, ◌≢◌, ℕ, zero, suc, ◌+◌, ◌
 use Rattle.std.specs.Prelude.{All, nat_lt, Contains}
 use Rattle.std.proofs.lemmas.Bool.Decides.{nat_tests}
 use Rattle.std.proofs.lemmas.List.Elements.{All-append, All-nil, All-cons, All-weaker}
-use Rattle.std.proofs.Math.Nat.{max-le}
+use Rattle.std.proofs.Math.Nat.{le-max_left, le-max_right}
 use mathlib.Core.List.{IsPrefix}
 use mathlib.Core.Logic.{dite}
 use mathlib.Core.Option.{some, some-ne-none, some-injective}
@@ -16,8 +16,8 @@ use Rattle.hk_turn.specs.declared.view.View.{View}
 use Rattle.hk_turn.specs.declared.pass.Pass.{Pass}
 use Rattle.hk_turn.specs.Views.{first_view, opening_view, blank_view, maker_after_split, split_view, spent_view, joined_view, longer, longer_if, Heard}
 use Rattle.hk_turn.specs.Rule.{total, GoesOn, Fits, Seated, Holding, KeepsRule}
-use Rattle.hk_turn.specs.Passes.{seen_list, HasHeard}
-use Rattle.hk_turn.specs.Turns.{StandsForAll}
+use Rattle.hk_turn.specs.Passes.{seen_list, known_count, Remembers, RemembersAll}
+use Rattle.hk_turn.specs.Turns.{Extends, StandsForAll}
 use Rattle.hk_turn.proofs.Prefixes.{all_tail}
 use Rattle.hk_turn.proofs.LastState.{last_state_shows}
 
@@ -38,13 +38,19 @@ module _ {E : Type 0} where
       (λ (is : l ≡ v.seen). inr (0, omega arith, sym is))
       (λ (has : Contains v.told l). inr (suc (suc has.0), (let k = has.1 in omega arith), has.2)) h
 
-  -- a pass more was heard of, whose view was taken in
-  pub heard_more : (v u : View E) (p : Pass E) (ps : List (Pass E)) → seen_list p ≡ u.seen → HasHeard v ps → HasHeard (joined_view v u) (p ∷ ps)
-  heard_more v u p ps is h = All-cons (λ q. Heard (joined_view v u) (seen_list q)) p ps (inr (1, omega arith, sym is)) (All-weaker (λ q. Heard v (seen_list q)) (λ q. Heard (joined_view v u) (seen_list q)) (λ q. still v u (seen_list q)) ps h)
+  -- a pass that was remembered stays so
+  remembers_still : (v u : View E) (p : Pass E) → Remembers v p → Remembers (joined_view v u) p
+  remembers_still v u p h = (still v u (seen_list p) h.0, (let l = le-max_left v.known u.known in let k = h.1 in omega arith))
 
-  -- the first pass was heard of by its own view
-  pub heard_first : (v : View E) (p : Pass E) → seen_list p ≡ v.seen → HasHeard v (p ∷ [])
-  heard_first v p is = All-cons (λ q. Heard v (seen_list q)) p [] (inl is) (All-nil (λ q. Heard v (seen_list q)))
+  -- a pass more is remembered, whose view was taken in
+  pub remembers_more : (v u : View E) (p : Pass E) (ps : List (Pass E)) → seen_list p ≡ u.seen → known_count p ≡ u.known → RemembersAll v ps → RemembersAll (joined_view v u) (p ∷ ps)
+  remembers_more v u p ps saw knew h =
+      All-cons (Remembers (joined_view v u)) p ps (inr (1, omega arith, sym saw), (let l = le-max_right v.known u.known in omega arith))
+      (All-weaker (Remembers v) (Remembers (joined_view v u)) (λ q. remembers_still v u q) ps h)
+
+  -- the first pass is remembered by its own view
+  pub remembers_first : (v : View E) (p : Pass E) → seen_list p ≡ v.seen → known_count p ≡ v.known → RemembersAll v (p ∷ [])
+  remembers_first v p saw knew = All-cons (Remembers v) p [] (inl saw, omega arith) (All-nil (Remembers v))
 
   -- what was heard is a prefix, if what was seen and told is
   prefix_of_heard : (v : View E) (all l : List E) → IsPrefix v.seen all → All (λ t. IsPrefix t all) v.told → Heard v l → IsPrefix l all
@@ -52,10 +58,14 @@ module _ {E : Type 0} where
       (λ (is : l ≡ v.seen). subst (λ t. IsPrefix t all) (sym is) mine)
       (λ (has : Contains v.told l). subst (λ t. IsPrefix t all) has.2 (theirs has.0 l has.1)) h
 
+  -- a list extends the passes that are remembered, if it begins with what was seen and told, and is as long as was known
+  extends_of_remembers : (v : View E) (all : List E) (p : Pass E) → IsPrefix v.seen all → All (λ t. IsPrefix t all) v.told → v.known ≤ length all → Remembers v p → Extends all p
+  extends_of_remembers v all p mine theirs knew h = (prefix_of_heard v all (seen_list p) mine theirs h.0, (let k = h.1 in omega arith))
+
 module _ {T E : Type 0} (stands : T → List E → Type 0) (owner : E → ℕ) (seats : ℕ) where
-  -- the value of the last state stands for a list that begins with what each pass had seen
-  pub stands_for_all : (id : ℕ) (v : View E) (ws : List ℕ) (xs : List (Option T)) (ps : List (Pass E)) → 0 < seats → v.weight ≡ seats → v.holds ≡ false → HasHeard v ps → Final (Seen (KeepsRule stands owner seats) id v) ws xs
+  -- the value of the last state stands for a list that extends each pass
+  pub stands_for_all : (id : ℕ) (v : View E) (ws : List ℕ) (xs : List (Option T)) (ps : List (Pass E)) → 0 < seats → v.weight ≡ seats → v.holds ≡ false → RemembersAll v ps → Final (Seen (KeepsRule stands owner seats) id v) ws xs
       → (x : T) × (get_elem? xs 0 ≡ some (Some x)) × StandsForAll stands owner seats ps x
-  stands_for_all id v ws xs ps some_seats all free heard f =
+  stands_for_all id v ws xs ps some_seats all free remembers f =
       let r = last_state_shows stands owner seats id v ws xs some_seats all free f in
-      (r.0, r.2, (r.1, r.3, All-weaker (λ p. Heard v (seen_list p)) (λ p. IsPrefix (seen_list p) r.1) (λ p. prefix_of_heard v r.1 (seen_list p) r.4 r.5) ps heard, r.6))
+      (r.0, r.2, (r.1, r.3, All-weaker (Remembers v) (Extends r.1) (λ p. extends_of_remembers v r.1 p r.4 r.5 r.6) ps remembers, r.7))

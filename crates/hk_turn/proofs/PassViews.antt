@@ -14,7 +14,7 @@ use prog.Atomic.{either}
 use Rattle.hk_turn.specs.declared.view.View.{View}
 use Rattle.hk_turn.specs.declared.pass.Pass.{Pass}
 use Rattle.hk_turn.specs.Views.{first_view, opening_view, blank_view, maker_after_split, split_view, spent_view, joined_view, longer, longer_if, Heard}
-use Rattle.hk_turn.specs.Passes.{seen_list}
+use Rattle.hk_turn.specs.Passes.{seen_list, known_count}
 
 module _ {E : Type 0} where
   -- it stands for one pass
@@ -28,3 +28,7 @@ module _ {E : Type 0} where
   -- it has seen what the pass has
   pub seen_list_is : (p : Pass E) (v : View E) → p.badge.views ≡ v ∷ [] → seen_list p ≡ v.seen
   seen_list_is p v is = ap (λ (vs : List (View E)). (first_view vs).seen) is
+
+  -- it knows of as many entries as the pass
+  pub known_count_is : (p : Pass E) (v : View E) → p.badge.views ≡ v ∷ [] → known_count p ≡ v.known
+  known_count_is p v is = ap (λ (vs : List (View E)). (first_view vs).known) is

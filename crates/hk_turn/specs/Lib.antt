@@ -3,3 +3,4 @@ pub mod Rule
 pub mod Steps
 pub mod Passes
 pub mod Turns
+pub mod Loan

@@ -1,5 +1,5 @@
 -- What clauses say of a pass. docs/TURNS.md, 'Passes'.
-use Rattle.std.specs.Prelude.{◌≡◌, ℕ, List, All}
+use Rattle.std.specs.Prelude.{◌≡◌, ℕ, ◌≤◌, List, All}
 use Rattle.hk_turn.specs.declared.view.View.{View}
 use Rattle.hk_turn.specs.declared.pass.Pass.{Pass}
 use Rattle.hk_turn.specs.Views.{first_view, Heard}
@@ -21,6 +21,10 @@ module _ {E : Type 0} where
   abbrev pub IsSamePass : Pass E → Pass E → Type 0
   IsSamePass p q = (q.badge.table_id ≡ p.badge.table_id) × (pass_number q ≡ pass_number p)
 
-  -- the view has heard of what each of these passes had seen
-  abbrev pub HasHeard : View E → List (Pass E) → Type 0
-  HasHeard v ps = All (λ p. Heard v (seen_list p)) ps
+  -- the view knows what the pass had seen, and of as many entries
+  abbrev pub Remembers : View E → Pass E → Type 0
+  Remembers v p = Heard v (seen_list p) × (known_count p ≤ v.known)
+
+  -- so it does for each of these passes
+  abbrev pub RemembersAll : View E → List (Pass E) → Type 0
+  RemembersAll v ps = All (Remembers v) ps

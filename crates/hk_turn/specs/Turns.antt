@@ -1,5 +1,5 @@
 -- What clauses say of turns and of one turn. docs/TURNS.md, 'Passes', 'A turn' and 'Closing'.
-use Rattle.std.specs.Prelude.{◌≡◌, ℕ, ◌+◌, ◌<◌, List, [], length, slice_index_or, All}
+use Rattle.std.specs.Prelude.{◌≡◌, ℕ, ◌+◌, ◌<◌, ◌≤◌, List, [], length, slice_index_or, All}
 use mathlib.Core.List.{IsPrefix}
 use Rattle.hk_turn.specs.declared.pass.Pass.{Pass}
 use Rattle.hk_turn.specs.declared.turn.Turn.{Turn}
@@ -51,6 +51,10 @@ module _ {T E : Type 0} where
   abbrev pub IsPassAfter : Turn T E → Pass E → Type 0
   IsPassAfter t p = (p.badge.table_id ≡ t.seat.table_id) × (pass_number p ≡ turn_number t) × (known_count p ≡ t.seat.me.0.known)
 
--- the value stands for a list that begins with what each of these passes had seen, and whose owners are below that number
+-- the list begins with what the pass had seen, and has at least as many entries as the pass knew of
+abbrev pub Extends : {E : Type 0} → List E → Pass E → Type 0
+Extends list p = IsPrefix (seen_list p) list × (known_count p ≤ length list)
+
+-- the value stands for a list that extends each of these passes, and whose owners are below that number
 abbrev pub StandsForAll : {T E : Type 0} → (T → List E → Type 0) → (E → ℕ) → ℕ → List (Pass E) → T → Type 0
-StandsForAll {T} {E} stands owner seats ps x = (list : List E) × stands x list × All (λ p. IsPrefix (seen_list p) list) ps × All (λ e. owner e < seats) list
+StandsForAll {T} {E} stands owner seats ps x = (list : List E) × stands x list × All (Extends list) ps × All (λ e. owner e < seats) list

@@ -1,7 +1,6 @@
 //! A turn that was taken: its value is changed, and it is given back.
 ghost use Rattle.std.specs.Prelude.{◌≡◌, ◌<◌, ◌*◌, ◌^◌, ◌++◌, [], ◌∷◌, length, true, None};
-ghost use Rattle.std.specs.Borrow.{Lends, sem};
-ghost use mir.Syntax.{named};
+ghost use Rattle.std.specs.Borrow.{sem};
 
 use crate::pass::Pass;
 use crate::steps::{GiveBack, Noting};
@@ -29,12 +28,12 @@ pub struct Turn<'a, T: Story> {
 }
 
 impl<'a, T: Story> Turn<'a, T> {
-    ghost use Rattle.hk_turn.specs.contracts.turn.Turn.{the_row};
-    ghost use Rattle.hk_turn.specs.Turns.{with_value, turn_value};
+    ghost use Rattle.hk_turn.specs.Loan.{lends_value};
+    ghost use Rattle.hk_turn.specs.Turns.{turn_value};
 
     /// The value, to be read and changed. All else of the turn stays.
     pub fn value(&mut self) -> &mut T
-        ensures* lends { sem 𝓛 (Lends (the_row (record { mir = named 1; lft = [] }) T.row T.Entry.row T.Story) T.row self.entry result (with_value self.old)) }
+        ensures* lends { sem 𝓛 (lends_value T.row T.Entry.row T.Story self.entry result) }
         ensures value { result.now ≡ turn_value self.old }
     {
         &mut self.value

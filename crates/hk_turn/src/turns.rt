@@ -166,13 +166,13 @@ impl<T: Story> Turns<T> {
 }
 
 impl<T: Story> Turns<T> {
-    ghost use Rattle.hk_turn.specs.Passes.{HasHeard};
+    ghost use Rattle.hk_turn.specs.Passes.{RemembersAll};
     ghost use Rattle.hk_turn.specs.Turns.{seat_count, ArePassesOf, StandsForAll};
 
     /// The value, once all passes of these turns are back.
     ///
-    /// It stands for a list that begins with what each pass had seen, and each of whose entries is owned by a number
-    /// below that of the seats. `docs/TURNS.md`, 'Closing'.
+    /// It stands for a list that begins with what each pass had seen, has at least as many entries as each knew of,
+    /// and whose entries are owned by numbers below that of the seats. `docs/TURNS.md`, 'Closing'.
     pub fn close(self, passes: Vec<Pass<T::Entry>>) -> T
         requires count { length passes.items ≡ seat_count self }
         requires own { ArePassesOf self passes.items }
@@ -186,13 +186,13 @@ impl<T: Story> Turns<T> {
         value.unwrap()
     }
 
-    // One seat that stands for all passes, and has heard of what each had seen.
+    // One seat that stands for all passes, and remembers what each had seen and knew.
     fn join_passes(&self, mut passes: Vec<Pass<T::Entry>>) -> Seat<Option<T>, View<T::Entry>>
         requires count { length passes.items ≡ seat_count self.now }
         requires own { ArePassesOf self.now passes.items }
         ensures seat { (result.table_id ≡ self.now.table.shared.table_id) × (result.me.1 ≡ []) }
         ensures all { (result.me.0.weight ≡ seat_count self.now) × (result.me.0.holds ≡ false) }
-        ensures heard { HasHeard result.me.0 passes.items }
+        ensures remembers { RemembersAll result.me.0 passes.items }
     {
         let Pass { number: _, badge } = passes.pop().unwrap();
         let mut seat = badge.into_seat();

@@ -1,10 +1,10 @@
 use Rattle.std.proofs.Common.{rules, arith, ap, ◌∙◌, [], ◌∷◌, subst, sym, ◌≡◌}
 use Rattle.hk_turn.specs.Steps.{AtSeat}
-use Rattle.hk_turn.specs.Passes.{HasHeard}
+use Rattle.hk_turn.specs.Passes.{RemembersAll}
 use Rattle.hk_turn.specs.Turns.{IsPassOf}
-use Rattle.hk_turn.proofs.PassViews.{weight_is, free_is, seen_list_is}
+use Rattle.hk_turn.proofs.PassViews.{weight_is, free_is, seen_list_is, known_count_is}
 use Rattle.hk_turn.proofs.JoinStep.{join_keeps_rule}
-use Rattle.hk_turn.proofs.JoinedPasses.{all_last, moved, heard_more, heard_first}
+use Rattle.hk_turn.proofs.JoinedPasses.{all_last, moved, remembers_more, remembers_first}
 use Rattle.hk_turn.proofs.turns.Turns.join_passes.Goals as goal
 
 pub join_seat-requires : goal.join_seat-requires
@@ -32,7 +32,7 @@ loop-pass-preserved g c =
       (
         c.in-Some.pass ∷ inv.5.0,
         moved c.args.passes.items c.loop-pass.passes.items c.pop-in-loop-pass.new.self.items inv.5.0 c.in-Some.pass inv.5.1 c.in-Some.ensures.items,
-        subst (λ (m : AtSeat g.row.T.Denot g.row.T-Entry.Denot). HasHeard m.0 (c.in-Some.pass ∷ inv.5.0)) (sym now)
-            (heard_more c.loop-pass.seat.me.0 c.into_seat-other.result.me.0 c.in-Some.pass inv.5.0 (seen_list_is c.in-Some.pass c.into_seat-other.result.me.0 c.into_seat-other.ensures.2) inv.5.2),
+        subst (λ (m : AtSeat g.row.T.Denot g.row.T-Entry.Denot). RemembersAll m.0 (c.in-Some.pass ∷ inv.5.0)) (sym now)
+            (remembers_more c.loop-pass.seat.me.0 c.into_seat-other.result.me.0 c.in-Some.pass inv.5.0 (seen_list_is c.in-Some.pass c.into_seat-other.result.me.0 c.into_seat-other.ensures.2) (known_count_is c.in-Some.pass c.into_seat-other.result.me.0 c.into_seat-other.ensures.2) inv.5.2),
       ),
     )
