@@ -1,25 +1,19 @@
 -- Join keeps the rule.
-use Rattle.std.proofs.Common.{◌≡◌, ◌≢◌, ℕ, zero, suc, ◌+◌, ◌-◌, ◌*◌, ◌/◌, ◌%◌, ◌<◌, ◌≤◌, eqb, Bool, true, false, true≢false, List, [], ◌∷◌, ◌++◌, Some, None, Option, length, map, set, get_or, max, sym, refl, ap, ◌∙◌, subst, ⊎_elim, ◌⊎◌, inl, inr, arith, length-append, length-set, append_assoc}
-use Rattle.std.specs.Prelude.{All, nat_lt, Contains}
-use Rattle.std.proofs.lemmas.Bool.Decides.{nat_tests}
-use Rattle.std.proofs.lemmas.List.Elements.{All-append, All-nil, All-cons, All-weaker}
+use Rattle.std.proofs.Common.{◌≡◌, ◌≢◌, ℕ, ◌<◌, true, false, true≢false, List, ◌∷◌, Option, length, set, sym, refl, ap, ◌∙◌, arith}
+use Rattle.std.specs.Prelude.{nat_lt}
+use Rattle.std.proofs.lemmas.List.Elements.{All-cons}
 use Rattle.std.proofs.Math.Nat.{max-le}
 use mathlib.Core.List.{IsPrefix}
-use mathlib.Core.Logic.{dite}
-use mathlib.Core.Option.{some, some-ne-none, some-injective}
-use mathlib.Core.Option as maybe
-use native.Mathlib.Decide.{ℕ_discrete}
+use mathlib.Core.Option.{some}
 use lib.ListN.{get_elem?}
-use prog.Atomic.{either}
-use Rattle.atomic_table.specs.Table.{State, Me, Step, step, keeps, takes, gives, put_back, rest, stepped, Valid, carried_after, opening, Allows, Splits, Joins, Final, Seen}
-use Rattle.atomic_table.proofs.Lists.{at_set, set_here, set_else, at_snoc, at_longer, at_last, exchanged}
+use Rattle.atomic_table.specs.Table.{State, Joins}
+use Rattle.atomic_table.proofs.Lists.{set_else}
 use Rattle.hk_turn.specs.declared.view.View.{View}
-use Rattle.hk_turn.specs.Views.{first_view, opening_view, blank_view, maker_after_split, split_view, spent_view, joined_view, longer, longer_if, Heard}
-use Rattle.hk_turn.specs.Rule.{total, GoesOn, Fits, Seated, Holding, KeepsRule}
-use Rattle.hk_turn.specs.Steps.{AtSeat, Loads, Wins, Tries, GivesBack, IsHolder, MayGiveBack}
-use Rattle.hk_turn.proofs.Places.{total_set, total_snoc, total_one, total_two, one_there, within, at_new, each_set}
-use Rattle.hk_turn.proofs.Prefixes.{prefix_self, prefix_longer, goes_nowhere, goes_further, goes_length, goes_longer_if, prefix_of_goes}
-use Rattle.hk_turn.proofs.Seating.{seated_set, seated_split, seated_join, alone}
+use Rattle.hk_turn.specs.Views.{spent_view, joined_view}
+use Rattle.hk_turn.specs.Rule.{Fits, HoldsTurn, KeepsRule}
+use Rattle.hk_turn.proofs.Places.{one_there, each_set}
+use Rattle.hk_turn.proofs.Prefixes.{goes_longer_if, prefix_of_goes}
+use Rattle.hk_turn.proofs.Seating.{seated_join}
 
 module _ {T E : Type 0} (stands : T → List E → Type 0) (owner : E → ℕ) (seats : ℕ) where
   abbrev Rule : State (Option T) (View E) → Type 0
@@ -45,8 +39,8 @@ module _ {T E : Type 0} (stands : T → List E → Type 0) (owner : E → ℕ) (
         away = r.away;
         seated = sit.1;
         holding = record {
-          each = each_set (λ i z. z.holds ≡ true → (r.held ≡ 1) × (i ≡ r.holder) × (z.found ≡ r.list) × (0 < z.weight)) mid other spent_view (λ no. absurd (true≢false (sym no)))
-              (λ j z _ e. each_set (λ i z. z.holds ≡ true → (r.held ≡ 1) × (i ≡ r.holder) × (z.found ≡ r.list) × (0 < z.weight)) s.views id w (λ h. absurd (true≢false (sym h ∙ free))) (λ k y _ f. r.holding.each k y f) j z e);
+          each = each_set (λ i z. z.holds ≡ true → HoldsTurn r.list r.held r.holder i z) mid other spent_view (λ no. absurd (true≢false (sym no)))
+              (λ j z _ e. each_set (λ i z. z.holds ≡ true → HoldsTurn r.list r.held r.holder i z) s.views id w (λ h. absurd (true≢false (sym h ∙ free))) (λ k y _ f. r.holding.each k y f) j z e);
           someone = λ h. let k = r.holding.someone h in let out = apart_from r.holder k.0 k.1 k.2 in (k.0, set_else mid other r.holder spent_view out.1 ∙ (set_else s.views id r.holder w out.0 ∙ k.1), k.2);
         };
         fits = each_set (λ i z. 0 < z.weight → Fits owner r.list seats r.top z) mid other spent_view (λ no. absurd (omega arith))

@@ -1,21 +1,16 @@
 -- Passes that are joined one after another, and the value at the end.
-use Rattle.std.proofs.Common.{◌≡◌, ◌≢◌, ℕ, zero, suc, ◌+◌, ◌-◌, ◌*◌, ◌/◌, ◌%◌, ◌<◌, ◌≤◌, eqb, Bool, true, false, true≢false, List, [], ◌∷◌, ◌++◌, Some, None, Option, length, map, set, get_or, max, sym, refl, ap, ◌∙◌, subst, ⊎_elim, ◌⊎◌, inl, inr, arith, length-append, length-set, append_assoc}
-use Rattle.std.specs.Prelude.{All, nat_lt, Contains}
-use Rattle.std.proofs.lemmas.Bool.Decides.{nat_tests}
-use Rattle.std.proofs.lemmas.List.Elements.{All-append, All-nil, All-cons, All-weaker}
+use Rattle.std.proofs.Common.{◌≡◌, ℕ, suc, ◌<◌, ◌≤◌, false, List, [], ◌∷◌, ◌++◌, Some, Option, length, sym, ap, ◌∙◌, subst, ⊎_elim, inl, inr, arith, append_assoc}
+use Rattle.std.specs.Prelude.{All, Contains}
+use Rattle.std.proofs.lemmas.List.Elements.{All-nil, All-cons, All-weaker}
 use Rattle.std.proofs.Math.Nat.{le-max_left, le-max_right}
 use mathlib.Core.List.{IsPrefix}
-use mathlib.Core.Logic.{dite}
-use mathlib.Core.Option.{some, some-ne-none, some-injective}
-use mathlib.Core.Option as maybe
-use native.Mathlib.Decide.{ℕ_discrete}
+use mathlib.Core.Option.{some}
 use lib.ListN.{get_elem?}
-use prog.Atomic.{either}
-use Rattle.atomic_table.specs.Table.{Me, Final, Seen}
+use Rattle.atomic_table.specs.Table.{Final, Seen}
 use Rattle.hk_turn.specs.declared.view.View.{View}
 use Rattle.hk_turn.specs.declared.pass.Pass.{Pass}
-use Rattle.hk_turn.specs.Views.{first_view, opening_view, blank_view, maker_after_split, split_view, spent_view, joined_view, longer, longer_if, Heard}
-use Rattle.hk_turn.specs.Rule.{total, GoesOn, Fits, Seated, Holding, KeepsRule}
+use Rattle.hk_turn.specs.Views.{joined_view, Heard}
+use Rattle.hk_turn.specs.Rule.{KeepsRule}
 use Rattle.hk_turn.specs.Passes.{seen_list, known_count, Remembers, RemembersAll}
 use Rattle.hk_turn.specs.Turns.{Extends, StandsForAll}
 use Rattle.hk_turn.proofs.Prefixes.{all_tail}

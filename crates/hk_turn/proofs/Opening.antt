@@ -1,25 +1,15 @@
 -- The table keeps the rule when it is made.
-use Rattle.std.proofs.Common.{◌≡◌, ◌≢◌, ℕ, zero, suc, ◌+◌, ◌-◌, ◌*◌, ◌/◌, ◌%◌, ◌<◌, ◌≤◌, eqb, Bool, true, false, true≢false, List, [], ◌∷◌, ◌++◌, Some, None, Option, length, map, set, get_or, max, sym, refl, ap, ◌∙◌, subst, ⊎_elim, ◌⊎◌, inl, inr, arith, length-append, length-set, append_assoc}
-use Rattle.std.specs.Prelude.{All, nat_lt, Contains}
-use Rattle.std.proofs.lemmas.Bool.Decides.{nat_tests}
-use Rattle.std.proofs.lemmas.List.Elements.{All-append, All-nil, All-cons, All-weaker}
-use Rattle.std.proofs.Math.Nat.{max-le}
+use Rattle.std.proofs.Common.{◌≡◌, ℕ, ◌<◌, true, true≢false, List, [], ◌∷◌, Some, Option, sym, refl, arith}
+use Rattle.std.proofs.lemmas.List.Elements.{All-nil}
 use mathlib.Core.List.{IsPrefix}
-use mathlib.Core.Logic.{dite}
-use mathlib.Core.Option.{some, some-ne-none, some-injective}
-use mathlib.Core.Option as maybe
-use native.Mathlib.Decide.{ℕ_discrete}
+use mathlib.Core.Option.{some}
 use lib.ListN.{get_elem?}
-use prog.Atomic.{either}
-use Rattle.atomic_table.specs.Table.{State, Me, Step, step, keeps, takes, gives, put_back, rest, stepped, Valid, carried_after, opening, Allows, Splits, Joins, Final, Seen}
-use Rattle.atomic_table.proofs.Lists.{at_set, set_here, set_else, at_snoc, at_longer, at_last, exchanged}
+use Rattle.atomic_table.specs.Table.{State, opening}
 use Rattle.hk_turn.specs.declared.view.View.{View}
-use Rattle.hk_turn.specs.Views.{first_view, opening_view, blank_view, maker_after_split, split_view, spent_view, joined_view, longer, longer_if, Heard}
-use Rattle.hk_turn.specs.Rule.{total, GoesOn, Fits, Seated, Holding, KeepsRule}
-use Rattle.hk_turn.specs.Steps.{AtSeat, Loads, Wins, Tries, GivesBack, IsHolder, MayGiveBack}
-use Rattle.hk_turn.proofs.Places.{total_set, total_snoc, total_one, total_two, one_there, within, at_new, each_set}
-use Rattle.hk_turn.proofs.Prefixes.{prefix_self, prefix_longer, goes_nowhere, goes_further, goes_length, goes_longer_if, prefix_of_goes}
-use Rattle.hk_turn.proofs.Seating.{seated_set, seated_split, seated_join, alone}
+use Rattle.hk_turn.specs.Views.{opening_view}
+use Rattle.hk_turn.specs.Rule.{Fits, HoldsTurn, KeepsRule}
+use Rattle.hk_turn.proofs.Places.{within, each_set}
+use Rattle.hk_turn.proofs.Prefixes.{goes_nowhere}
 
 module _ {T E : Type 0} (stands : T → List E → Type 0) (owner : E → ℕ) (seats : ℕ) where
   abbrev Rule : State (Option T) (View E) → Type 0
@@ -47,7 +37,7 @@ module _ {T E : Type 0} (stands : T → List E → Type 0) (owner : E → ℕ) (
           room = (omega arith, omega arith);
         };
         holding = record {
-          each = only (λ i u. u.holds ≡ true → (0 ≡ 1) × (i ≡ 0) × (u.found ≡ []) × (0 < u.weight)) (λ no. absurd (true≢false (sym no)));
+          each = only (λ i u. u.holds ≡ true → HoldsTurn [] 0 0 i u) (λ no. absurd (true≢false (sym no)));
           someone = λ no. absurd (omega arith);
         };
         fits = only (λ i u. 0 < u.weight → Fits owner [] seats 1 u) (λ _. record {

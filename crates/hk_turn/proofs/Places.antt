@@ -1,19 +1,9 @@
 -- Places of a list: what one reads there after an element was replaced or put behind.
-use Rattle.std.proofs.Common.{◌≡◌, ◌≢◌, ℕ, zero, suc, ◌+◌, ◌-◌, ◌*◌, ◌/◌, ◌%◌, ◌<◌, ◌≤◌, eqb, Bool, true, false, true≢false, List, [], ◌∷◌, ◌++◌, Some, None, Option, length, map, set, get_or, max, sym, refl, ap, ◌∙◌, subst, ⊎_elim, ◌⊎◌, inl, inr, arith, length-append, length-set, append_assoc}
-use Rattle.std.specs.Prelude.{All, nat_lt, Contains}
-use Rattle.std.proofs.lemmas.Bool.Decides.{nat_tests}
-use Rattle.std.proofs.lemmas.List.Elements.{All-append, All-nil, All-cons, All-weaker}
-use Rattle.std.proofs.Math.Nat.{max-le}
-use mathlib.Core.List.{IsPrefix}
-use mathlib.Core.Logic.{dite}
+use Rattle.std.proofs.Common.{◌≡◌, ◌≢◌, ℕ, zero, suc, ◌+◌, ◌<◌, ◌≤◌, List, [], ◌∷◌, ◌++◌, length, set, sym, refl, ap, ◌∙◌, subst, ⊎_elim, ◌⊎◌, inl, inr, arith}
 use mathlib.Core.Option.{some, some-ne-none, some-injective}
-use mathlib.Core.Option as maybe
-use native.Mathlib.Decide.{ℕ_discrete}
 use lib.ListN.{get_elem?}
-use prog.Atomic.{either}
-use Rattle.atomic_table.specs.Table.{State, Me, Step, step, keeps, takes, gives, put_back, rest, stepped, Valid, carried_after, opening, Allows, Splits, Joins, Final, Seen}
-use Rattle.atomic_table.proofs.Lists.{at_set, set_here, set_else, at_snoc, at_longer, at_last, exchanged}
-use Rattle.hk_turn.specs.Rule.{total, GoesOn, Fits, Seated, Holding, KeepsRule}
+use Rattle.atomic_table.proofs.Lists.{at_set}
+use Rattle.hk_turn.specs.Rule.{total}
 
 module _ {V : Type 0} where
   -- the sum after one element was replaced

@@ -1,20 +1,11 @@
 -- Prefixes of the one list, and what they leave behind them.
-use Rattle.std.proofs.Common.{◌≡◌, ◌≢◌, ℕ, zero, suc, ◌+◌, ◌-◌, ◌*◌, ◌/◌, ◌%◌, ◌<◌, ◌≤◌, eqb, Bool, true, false, true≢false, List, [], ◌∷◌, ◌++◌, Some, None, Option, length, map, set, get_or, max, sym, refl, ap, ◌∙◌, subst, ⊎_elim, ◌⊎◌, inl, inr, arith, length-append, length-set, append_assoc}
-use Rattle.std.specs.Prelude.{All, nat_lt, Contains}
+use Rattle.std.proofs.Common.{◌≡◌, ◌≢◌, ℕ, suc, ◌<◌, ◌≤◌, Bool, true, false, List, [], ◌∷◌, ◌++◌, length, sym, refl, ap, ◌∙◌, subst, arith, length-append, append_assoc}
+use Rattle.std.specs.Prelude.{All, nat_lt}
 use Rattle.std.proofs.lemmas.Bool.Decides.{nat_tests}
-use Rattle.std.proofs.lemmas.List.Elements.{All-append, All-nil, All-cons, All-weaker}
-use Rattle.std.proofs.Math.Nat.{max-le}
+use Rattle.std.proofs.lemmas.List.Elements.{All-append, All-nil}
 use mathlib.Core.List.{IsPrefix}
-use mathlib.Core.Logic.{dite}
-use mathlib.Core.Option.{some, some-ne-none, some-injective}
-use mathlib.Core.Option as maybe
-use native.Mathlib.Decide.{ℕ_discrete}
-use lib.ListN.{get_elem?}
-use prog.Atomic.{either}
-use Rattle.atomic_table.specs.Table.{State, Me, Step, step, keeps, takes, gives, put_back, rest, stepped, Valid, carried_after, opening, Allows, Splits, Joins, Final, Seen}
-use Rattle.atomic_table.proofs.Lists.{at_set, set_here, set_else, at_snoc, at_longer, at_last, exchanged}
-use Rattle.hk_turn.specs.Views.{first_view, opening_view, blank_view, maker_after_split, split_view, spent_view, joined_view, longer, longer_if, Heard}
-use Rattle.hk_turn.specs.Rule.{total, GoesOn, Fits, Seated, Holding, KeepsRule}
+use Rattle.hk_turn.specs.Views.{longer_if}
+use Rattle.hk_turn.specs.Rule.{GoesOn}
 
 module _ {A : Type 0} where
   -- a list is a prefix of itself

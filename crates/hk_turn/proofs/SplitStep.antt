@@ -1,25 +1,19 @@
 -- Split keeps the rule.
-use Rattle.std.proofs.Common.{◌≡◌, ◌≢◌, ℕ, zero, suc, ◌+◌, ◌-◌, ◌*◌, ◌/◌, ◌%◌, ◌<◌, ◌≤◌, eqb, Bool, true, false, true≢false, List, [], ◌∷◌, ◌++◌, Some, None, Option, length, map, set, get_or, max, sym, refl, ap, ◌∙◌, subst, ⊎_elim, ◌⊎◌, inl, inr, arith, length-append, length-set, append_assoc}
-use Rattle.std.specs.Prelude.{All, nat_lt, Contains}
-use Rattle.std.proofs.lemmas.Bool.Decides.{nat_tests}
-use Rattle.std.proofs.lemmas.List.Elements.{All-append, All-nil, All-cons, All-weaker}
-use Rattle.std.proofs.Math.Nat.{max-le}
+use Rattle.std.proofs.Common.{◌≡◌, ℕ, ◌+◌, ◌-◌, ◌<◌, true, true≢false, List, [], ◌∷◌, Option, length, set, sym, refl, ap, ◌∙◌, subst, ⊎_elim, arith}
+use Rattle.std.proofs.lemmas.List.Elements.{All-nil}
 use mathlib.Core.List.{IsPrefix}
 use mathlib.Core.Logic.{dite}
-use mathlib.Core.Option.{some, some-ne-none, some-injective}
-use mathlib.Core.Option as maybe
+use mathlib.Core.Option.{some}
 use native.Mathlib.Decide.{ℕ_discrete}
 use lib.ListN.{get_elem?}
-use prog.Atomic.{either}
-use Rattle.atomic_table.specs.Table.{State, Me, Step, step, keeps, takes, gives, put_back, rest, stepped, Valid, carried_after, opening, Allows, Splits, Joins, Final, Seen}
-use Rattle.atomic_table.proofs.Lists.{at_set, set_here, set_else, at_snoc, at_longer, at_last, exchanged}
+use Rattle.atomic_table.specs.Table.{State, Splits}
+use Rattle.atomic_table.proofs.Lists.{set_here, set_else, at_longer}
 use Rattle.hk_turn.specs.declared.view.View.{View}
-use Rattle.hk_turn.specs.Views.{first_view, opening_view, blank_view, maker_after_split, split_view, spent_view, joined_view, longer, longer_if, Heard}
-use Rattle.hk_turn.specs.Rule.{total, GoesOn, Fits, Seated, Holding, KeepsRule}
-use Rattle.hk_turn.specs.Steps.{AtSeat, Loads, Wins, Tries, GivesBack, IsHolder, MayGiveBack}
-use Rattle.hk_turn.proofs.Places.{total_set, total_snoc, total_one, total_two, one_there, within, at_new, each_set}
-use Rattle.hk_turn.proofs.Prefixes.{prefix_self, prefix_longer, goes_nowhere, goes_further, goes_length, goes_longer_if, prefix_of_goes}
-use Rattle.hk_turn.proofs.Seating.{seated_set, seated_split, seated_join, alone}
+use Rattle.hk_turn.specs.Views.{blank_view, maker_after_split, split_view}
+use Rattle.hk_turn.specs.Rule.{Fits, HoldsTurn, KeepsRule}
+use Rattle.hk_turn.specs.Steps.{AtSeat}
+use Rattle.hk_turn.proofs.Places.{one_there, within, at_new, each_set}
+use Rattle.hk_turn.proofs.Seating.{seated_split}
 
 module _ {T E : Type 0} (stands : T → List E → Type 0) (owner : E → ℕ) (seats : ℕ) where
   abbrev Rule : State (Option T) (View E) → Type 0
@@ -47,7 +41,7 @@ module _ {T E : Type 0} (stands : T → List E → Type 0) (owner : E → ℕ) (
         seated = seated_split seats r.top r.maker s.views id v at makes (let e = fit.seats_are in omega arith) some_weight fit.seats_are (λ i u e p. (r.fits i u e p).below) r.seated;
         holding = record {
           each = λ i u e. ⊎_elim
-              (λ (old : get_elem? after i ≡ some u). each_set (λ i u. u.holds ≡ true → (r.held ≡ 1) × (i ≡ r.holder) × (u.found ≡ r.list) × (0 < u.weight)) s.views id (maker_after_split v)
+              (λ (old : get_elem? after i ≡ some u). each_set (λ i u. u.holds ≡ true → HoldsTurn r.list r.held r.holder i u) s.views id (maker_after_split v)
               (λ h. let k = r.holding.each id v at h in (k.0, k.1, k.2, omega arith)) (λ j u _ e. r.holding.each j u e) i u old)
               (λ (new : (i ≡ length after) × (split_view v ≡ u)) h. absurd (true≢false (sym h ∙ sym (ap (λ (z : View E). z.holds) new.1))))
               (at_new after (split_view v) u i e);

@@ -1,25 +1,16 @@
 -- A try, won or lost, keeps the rule.
-use Rattle.std.proofs.Common.{◌≡◌, ◌≢◌, ℕ, zero, suc, ◌+◌, ◌-◌, ◌*◌, ◌/◌, ◌%◌, ◌<◌, ◌≤◌, eqb, Bool, true, false, true≢false, List, [], ◌∷◌, ◌++◌, Some, None, Option, length, map, set, get_or, max, sym, refl, ap, ◌∙◌, subst, ⊎_elim, ◌⊎◌, inl, inr, arith, length-append, length-set, append_assoc}
-use Rattle.std.specs.Prelude.{All, nat_lt, Contains}
-use Rattle.std.proofs.lemmas.Bool.Decides.{nat_tests}
-use Rattle.std.proofs.lemmas.List.Elements.{All-append, All-nil, All-cons, All-weaker}
-use Rattle.std.proofs.Math.Nat.{max-le}
-use mathlib.Core.List.{IsPrefix}
-use mathlib.Core.Logic.{dite}
+use Rattle.std.proofs.Common.{◌≡◌, ℕ, ◌+◌, ◌*◌, ◌%◌, ◌<◌, eqb, true, List, [], ◌∷◌, Some, Option, length, set, get_or, sym, refl, ap, ◌∙◌, arith}
 use mathlib.Core.Option.{some, some-ne-none, some-injective}
 use mathlib.Core.Option as maybe
-use native.Mathlib.Decide.{ℕ_discrete}
 use lib.ListN.{get_elem?}
 use prog.Atomic.{either}
-use Rattle.atomic_table.specs.Table.{State, Me, Step, step, keeps, takes, gives, put_back, rest, stepped, Valid, carried_after, opening, Allows, Splits, Joins, Final, Seen}
-use Rattle.atomic_table.proofs.Lists.{at_set, set_here, set_else, at_snoc, at_longer, at_last, exchanged}
+use Rattle.atomic_table.specs.Table.{State, step, keeps, takes, stepped, Valid, carried_after, Allows}
+use Rattle.atomic_table.proofs.Lists.{set_here, exchanged}
 use Rattle.hk_turn.specs.declared.view.View.{View}
-use Rattle.hk_turn.specs.Views.{first_view, opening_view, blank_view, maker_after_split, split_view, spent_view, joined_view, longer, longer_if, Heard}
-use Rattle.hk_turn.specs.Rule.{total, GoesOn, Fits, Seated, Holding, KeepsRule}
-use Rattle.hk_turn.specs.Steps.{AtSeat, Loads, Wins, Tries, GivesBack, IsHolder, MayGiveBack}
-use Rattle.hk_turn.proofs.Places.{total_set, total_snoc, total_one, total_two, one_there, within, at_new, each_set}
-use Rattle.hk_turn.proofs.Prefixes.{prefix_self, prefix_longer, goes_nowhere, goes_further, goes_length, goes_longer_if, prefix_of_goes}
-use Rattle.hk_turn.proofs.Seating.{seated_set, seated_split, seated_join, alone}
+use Rattle.hk_turn.specs.Rule.{Fits, HoldsTurn, KeepsRule}
+use Rattle.hk_turn.specs.Steps.{AtSeat, Tries}
+use Rattle.hk_turn.proofs.Places.{within, each_set}
+use Rattle.hk_turn.proofs.Seating.{seated_set}
 use Rattle.hk_turn.proofs.ViewChange.{view_change_keeps_rule}
 
 module _ {T E : Type 0} (stands : T → List E → Type 0) (owner : E → ℕ) (seats : ℕ) where
@@ -46,7 +37,7 @@ module _ {T E : Type 0} (stands : T → List E → Type 0) (owner : E → ℕ) (
         away = λ _. ap (λ (hs : List (maybe.Option (Option T))). set hs 0 maybe.none) homes;
         seated = seated_set seats r.top r.maker s.views id v w at refl refl refl some_weight r.seated;
         holding = record {
-          each = each_set (λ i u. u.holds ≡ true → (1 ≡ 1) × (i ≡ id) × (u.found ≡ r.list) × (0 < u.weight)) s.views id w (λ _. (refl, refl, refl, some_weight))
+          each = each_set (λ i u. u.holds ≡ true → HoldsTurn r.list 1 id i u) s.views id w (λ _. (refl, refl, refl, some_weight))
               (λ j u _ e h. let k = (r.holding.each j u e h).0 in absurd (omega arith));
           someone = λ _. (w, set_here s.views id w (within s.views id v at), refl);
         };

@@ -43,11 +43,15 @@ pub record Seated {E : Type 0} (seats top maker : ℕ) (views : List (View E)) :
   -- at least one pass was made, and no more than there are seats
   pub room : (0 < top) × (top ≤ seats)
 
+-- the view at the place i holds the turn: the turn is taken, i is the place of the holder, and the view has found the list and is not spent
+abbrev pub HoldsTurn : {E : Type 0} → List E → ℕ → ℕ → ℕ → View E → Type 0
+HoldsTurn list held holder i v = (held ≡ 1) × (i ≡ holder) × (v.found ≡ list) × (0 < v.weight)
+
 -- who holds the turn: where `held` is 1 the view at the place `holder` alone, and where it is 0 none
 pub record Holding {E : Type 0} (list : List E) (held holder : ℕ) (views : List (View E)) : Type 0 where
-  -- who holds is the holder, is not spent and has found the list
-  pub each : (i : ℕ) (v : View E) → get_elem? views i ≡ some v → v.holds ≡ true → (held ≡ 1) × (i ≡ holder) × (v.found ≡ list) × (0 < v.weight)
-  -- the holder holds
+  -- no view but the holder's holds the turn
+  pub each : (i : ℕ) (v : View E) → get_elem? views i ≡ some v → v.holds ≡ true → HoldsTurn list held holder i v
+  -- where the turn is taken, the holder's view holds it
   pub someone : held ≡ 1 → (v : View E) × (get_elem? views holder ≡ some v) × (v.holds ≡ true)
 
 -- the table keeps the rule of the turn for so many seats

@@ -1,4 +1,4 @@
-use Rattle.std.proofs.Common.{rules, arith, ap, ◌∙◌, sym, subst, Some, Option, ◌≡◌, ◌<◌, ℕ}
+use Rattle.std.proofs.Common.{rules, arith, ◌∙◌, sym, subst, Some, Option, ◌≡◌, ℕ}
 use Rattle.std.specs.Option.{IsSome}
 use mathlib.Core.Option.{some-injective}
 use Rattle.hk_turn.specs.Turns.{StandsForAll}

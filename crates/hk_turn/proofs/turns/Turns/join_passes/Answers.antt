@@ -1,10 +1,10 @@
-use Rattle.std.proofs.Common.{rules, arith, ap, ◌∙◌, [], ◌∷◌, subst, sym, ◌≡◌}
+use Rattle.std.proofs.Common.{rules, arith, ap, ◌∙◌, ◌∷◌, subst, sym}
 use Rattle.hk_turn.specs.Steps.{AtSeat}
 use Rattle.hk_turn.specs.Passes.{RemembersAll}
 use Rattle.hk_turn.specs.Turns.{IsPassOf}
 use Rattle.hk_turn.proofs.PassViews.{weight_is, free_is, seen_list_is, known_count_is}
 use Rattle.hk_turn.proofs.JoinStep.{join_keeps_rule}
-use Rattle.hk_turn.proofs.JoinedPasses.{all_last, moved, remembers_more, remembers_first}
+use Rattle.hk_turn.proofs.JoinedPasses.{all_last, moved, remembers_more}
 use Rattle.hk_turn.proofs.turns.Turns.join_passes.Goals as goal
 
 pub join_seat-requires : goal.join_seat-requires

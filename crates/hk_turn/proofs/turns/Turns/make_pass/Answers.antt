@@ -1,5 +1,5 @@
 use Rattle.std.proofs.Common.{rules, arith}
-use Rattle.hk_turn.proofs.SplitStep.{split_of_first_seat, first_seat_after_split}
+use Rattle.hk_turn.proofs.SplitStep.{split_of_first_seat}
 use Rattle.hk_turn.proofs.turns.Turns.make_pass.Goals as goal
 
 pub split_seat-seat-requires : goal.split_seat-seat-requires

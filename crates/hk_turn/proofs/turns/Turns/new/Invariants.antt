@@ -1,4 +1,4 @@
-use Rattle.std.proofs.Common.{◌≡◌, ◌+◌, ◌-◌, ◌∷◌, [], length}
+use Rattle.std.proofs.Common.{◌≡◌, ◌+◌, ◌-◌, [], length}
 use Rattle.hk_turn.specs.Views.{blank_view}
 use Rattle.hk_turn.specs.Turns.{seat_count, AreNewPasses}
 use Rattle.hk_turn.proofs.turns.Turns.new.Given as goal

@@ -1,4 +1,4 @@
-use Rattle.std.proofs.Common.{rules, arith, ap, ◌∙◌, ◌<◌, sym, subst, ℕ, Some, ◌∷◌, List, Option}
+use Rattle.std.proofs.Common.{rules, ap, ◌∙◌, sym, ℕ, Some, ◌∷◌, List, Option}
 use Rattle.atomic_table.specs.Table.{rest}
 use Rattle.hk_turn.proofs.turns.Turns.take.Goals as goal
 
