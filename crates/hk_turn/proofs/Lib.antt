@@ -1,0 +1,14 @@
+pub mod Places
+pub mod Prefixes
+pub mod PassViews
+pub mod Seating
+pub mod ViewChange
+pub mod LoadStep
+pub mod TryStep
+pub mod GiveBackStep
+pub mod SplitStep
+pub mod JoinStep
+pub mod Opening
+pub mod LastState
+pub mod NewPasses
+pub mod JoinedPasses
