@@ -1,0 +1,2 @@
+mod ScriptRows
+mod RecordRows

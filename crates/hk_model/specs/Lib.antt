@@ -18,3 +18,11 @@ pub mod Opening
 pub mod Running
 pub mod Legal
 pub mod RightsTexts
+pub mod Pieces
+pub mod Texts
+pub mod Verbs
+pub mod Operands
+pub mod AuditLines
+pub mod Spelling
+pub mod Canonical
+pub mod Records

@@ -5,6 +5,7 @@
 #![tactic(auto)]
 
 pub mod calls;
+pub mod causes;
 pub mod copying;
 pub mod entries;
 pub mod frames;
@@ -16,9 +17,11 @@ pub mod names;
 pub mod objects;
 pub mod paths;
 pub mod snapshot;
+pub mod syntax;
 pub mod world;
 
 pub use calls::{Answer, Call, Refusal, Reply, What8};
+pub use causes::{Cause, LoadCause, Misstep, ParseCause, TextCause, Verdict};
 pub use entries::{Cap, Entry, Making, Param, Template};
 pub use frames::{Frame, Todo};
 pub use instructions::{Index, Instr, Operand, Route};
@@ -29,4 +32,5 @@ pub use names::{Cpu, Inc, Name, Proc, Slot};
 pub use objects::{Incarnation, Object, Process, ProcessState};
 pub use paths::{Args, Path};
 pub use snapshot::{Live, Seen, Snapshot};
+pub use syntax::{Body, Head, Item, MakingText, Part, Verb, Written};
 pub use world::{Born, Code, Kind, Task, World};

@@ -1,0 +1,84 @@
+//! Why a script or a record is refused, and the first misstep of a record that is not legal.
+
+/// Why a line is no text of a script (`docs/FORMATS.md`, "Text").
+#[derive(Clone, Copy, PartialEq, Eq, Debug)]
+pub enum TextCause {
+    /// A byte is above 126, or below 32 and neither a tab nor a carriage return.
+    NotAscii,
+    /// The line has more than 1,000 bytes.
+    LongLine,
+    /// A piece has none of the forms.
+    BadToken,
+    /// A number in a piece is above 4,294,967,295.
+    NumberTooLarge,
+}
+
+/// Why a line does not follow the grammar (`docs/FORMATS.md`, "Grammar").
+#[derive(Clone, Copy, PartialEq, Eq, Debug)]
+pub enum ParseCause {
+    /// The first piece is no word that is allowed here, or a piece is not of the form that is
+    /// wanted.
+    UnknownWord,
+    /// The line ends before a piece that is wanted.
+    Missing,
+    /// A piece is left over.
+    Extra,
+    /// A second limit, or a name or label for the second time.
+    Repeated,
+    /// A number is outside its range, or a call has more than eight arguments.
+    OutOfRange,
+    /// The item that begins at this line has no end.
+    Unclosed,
+}
+
+/// Why a line can not be loaded (`docs/FORMATS.md`, "Loading").
+#[derive(Clone, Copy, PartialEq, Eq, Debug)]
+pub enum LoadCause {
+    /// No line declares the name as what is wanted.
+    UnknownName,
+    /// An object of a kernel type other than DATA and UNIVERSAL, or an entry of a DATA object.
+    WrongPart,
+    /// The line passes a limit.
+    TooMany,
+    /// A name is the name of no right.
+    BadRights,
+}
+
+/// Why a script or a record is refused (`docs/FORMATS.md`, "Audit lines and records").
+#[derive(Clone, Copy, PartialEq, Eq, Debug)]
+pub enum Cause {
+    OfText(TextCause),
+    OfParse(ParseCause),
+    OfLoad(LoadCause),
+    /// A line behind the line `record` is neither an audit line nor an end line, or has no line
+    /// feed.
+    BadLine,
+}
+
+/// How the first line of a record that is no step differs from the step (`docs/FORMATS.md`, "Legal
+/// records"). Of several, the first that is listed here.
+#[derive(Clone, Copy, PartialEq, Eq, Debug)]
+pub enum Misstep {
+    /// The processor has no step.
+    Cpu,
+    /// Another process or incarnation makes the step.
+    Process,
+    /// The event is another.
+    Call,
+    /// The reply is another.
+    Reply,
+    /// All lines are steps, and the end word is not that of the last state.
+    EndWord,
+}
+
+/// Whether a record is legal (`docs/FORMATS.md`, "Legal records").
+#[derive(Clone, Copy, PartialEq, Eq, Debug)]
+pub enum Verdict {
+    Legal,
+    Illegal {
+        /// The number of the first bad line, from 1; for a bad end word the number of lines plus
+        /// one.
+        line: u32,
+        cause: Misstep,
+    },
+}
