@@ -7,7 +7,8 @@ use Rattle.hk_model.specs.declared.lines.Line.{Line}
 use Rattle.hk_model.specs.declared.lines.End.TheVariants as end
 use Rattle.hk_model.specs.Setup.{Setup}
 use Rattle.hk_model.specs.Legal.{IsLegal}
-use Rattle.hk_model.specs.Records.{record_text}
+use Rattle.hk_model.specs.Texts.{ended_line}
+use Rattle.hk_model.specs.Records.{record_text, record_word, lines_text, end_text}
 use Rattle.hk_top.specs.SmallScripts.{Spells}
 
 -- the words `run`
@@ -77,3 +78,7 @@ abbrev pub IsSaid : ℕ → List ℕ → Stream → ℕ → Type 0
 IsSaid status text output result =
     ((result ≡ status) × Appends output.before output.after text)
     ⊎ ((result ≡ 6) × HadFault output × ((sent : ℕ) × (sent < length text) × Appends output.before output.after (take sent text)))
+
+-- what stands behind the script in the record of a run in which every process ends
+abbrev pub behind_script : List Line → List ℕ
+behind_script lines = ended_line record_word ++ (lines_text lines ++ ended_line (end_text end.Done))
