@@ -25,7 +25,7 @@ use Rattle.hk_top.specs.declared.small.SmallScript.{SmallScript}
 use Rattle.hk_top.specs.SmallScripts.{IsSmall, IsRead, small_text, world_of, then_text, words_text, words_line, read_line, cap_line, end_text, line, get_instr, cap_entry, code_of, task_of}
 
 -- texts joined by a byte: the first, and then the byte before each of the others
-joined : (c : ℕ) (x : List ℕ) (xs : List (List ℕ)) → join_with_byte c (x ∷ xs) ≡ x ++ flat_map (λ t. c ∷ t) xs
+pub joined : (c : ℕ) (x : List ℕ) (xs : List (List ℕ)) → join_with_byte c (x ∷ xs) ≡ x ++ flat_map (λ t. c ∷ t) xs
 joined c x [] = sym (append-nil x)
 joined c x (y ∷ ys) = ap (λ rest. x ++ (c ∷ rest)) (joined c y ys)
 

@@ -1,3 +1,4 @@
 pub mod WordLemmas
 pub mod CanonicalScripts
 pub mod AnswerLemmas
+pub mod LineTexts

@@ -1,2 +1,4 @@
 pub mod SmallScripts
 pub mod Outputs
+pub mod SmallLines
+pub mod LineParts

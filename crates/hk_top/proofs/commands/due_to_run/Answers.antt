@@ -16,4 +16,4 @@ returns-in-Err-Form-clause-due g c =
 pub returns-in-Ok-record_bytes-clause-due : goal.returns-in-Ok-record_bytes-clause-due
 returns-in-Ok-record_bytes-clause-due g c =
     record_due c.in-Ok-small_script.script c.in-Ok-run.lines.items (c.in-Ok.ensures.bytes, c.in-Ok.ensures.end) c.in-Ok-small_script.ensures.ok.0 c.in-Ok-small_script.ensures.ok.1 c.deref.ensures.value
-      c.in-Ok-run.ensures (c.in-Ok-record_bytes.ensures ∙ ap (λ lines. c.in-Ok.bytes.items ++ behind_script lines) c.deref-2.ensures.value)
+      c.in-Ok-run.ensures.legal (c.in-Ok-record_bytes.ensures ∙ ap (λ lines. c.in-Ok.bytes.items ++ behind_script lines) c.deref-2.ensures.value)
