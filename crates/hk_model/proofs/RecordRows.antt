@@ -1,5 +1,5 @@
 -- Audit lines and records, computed.
-use Rattle.std.specs.Prelude.{◌≡◌, ℕ, List, [], ◌∷◌, refl, codes, Some, None}
+use Rattle.std.specs.Prelude.{◌≡◌, ℕ, [], ◌∷◌, refl, codes}
 use Rattle.std.specs.Fmt.{digits}
 use Rattle.hk_rights.specs.Rights.{right_table, right_numbers, name_of}
 use Rattle.hk_model.specs.declared.calls.Call.TheVariants as call

@@ -1,9 +1,9 @@
 -- Scripts, and what they are read as and printed from, computed.
-use Rattle.std.specs.Prelude.{◌≡◌, ℕ, List, [], ◌∷◌, refl, codes, Some, None}
+use Rattle.std.specs.Prelude.{◌≡◌, [], ◌∷◌, refl, codes}
 use Rattle.std.specs.Fmt.{digits}
 use Rattle.hk_rights.specs.Rights.{right_table, right_numbers, name_of}
-use Rattle.hk_model.specs.declared.entries.Entry.TheVariants.{Empty, Held}
-use Rattle.hk_model.specs.declared.instructions.Index.TheVariants.{Fixed, ByReg}
+use Rattle.hk_model.specs.declared.entries.Entry.TheVariants.{Held}
+use Rattle.hk_model.specs.declared.instructions.Index.TheVariants.{Fixed}
 use Rattle.hk_model.specs.declared.instructions.Instr.TheVariants as instr
 use Rattle.hk_model.specs.declared.instructions.Operand.TheVariants as operand
 use Rattle.hk_model.specs.declared.world.Kind.TheVariants as kind

@@ -26,3 +26,8 @@ pub mod AuditLines
 pub mod Spelling
 pub mod Canonical
 pub mod Records
+pub mod Reading
+pub mod Forms
+pub mod WrittenLines
+pub mod Grammar
+pub mod Syntax

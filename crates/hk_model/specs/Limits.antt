@@ -21,6 +21,14 @@ slot_limit = 64
 abbrev pub param_limit : ℕ
 param_limit = 8
 
+-- arguments of a call
+abbrev pub argument_limit : ℕ
+argument_limit = 8
+
+-- indices of a path
+abbrev pub path_limit : ℕ
+path_limit = 8
+
 -- incarnations of a process, the base counted
 abbrev pub depth_limit : ℕ
 depth_limit = 64
