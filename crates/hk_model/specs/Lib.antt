@@ -31,3 +31,5 @@ pub mod Forms
 pub mod WrittenLines
 pub mod Grammar
 pub mod Syntax
+pub mod Loading
+pub mod Worlds
