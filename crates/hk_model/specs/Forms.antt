@@ -12,7 +12,7 @@ use Rattle.hk_model.specs.declared.syntax.Verb.{Verb}
 use Rattle.hk_model.specs.declared.causes.ParseCause.{ParseCause}
 use Rattle.hk_model.specs.declared.causes.ParseCause.TheVariants.{UnknownWord, OutOfRange}
 use Rattle.hk_model.specs.Labels.{between, same_text, is_name, is_register}
-use Rattle.hk_model.specs.Limits.{slot_limit}
+use Rattle.hk_model.specs.Limits.{slot_limit, index_bound}
 use Rattle.hk_model.specs.Pieces.{Piece, Word, Upper, Dash, Number, Path, register_of}
 use Rattle.hk_model.specs.Verbs.{verb_word, all_verbs}
 
@@ -57,14 +57,15 @@ abbrev pub as_number_in : ℕ → ℕ → Piece → Result ℕ ParseCause
 as_number_in low high (Number n) = if between low high n then Ok n else Err OutOfRange
 as_number_in low high _ = Err UnknownWord
 
--- the number of a slot
-abbrev pub as_slot_number : Piece → Result ℕ ParseCause
-as_slot_number (Number n) = if nat_lt n slot_limit then Ok n else Err OutOfRange
-as_slot_number _ = Err UnknownWord
+-- a number below a bound
+abbrev pub as_number_below : ℕ → Piece → Result ℕ ParseCause
+as_number_below bound (Number n) = if nat_lt n bound then Ok n else Err OutOfRange
+as_number_below bound _ = Err UnknownWord
 
 abbrev pub slot_numbered : ℕ → Slot
 slot_numbered n = record { 0 = n }
 
+-- a slot of an incarnation
 abbrev pub as_slot : Piece → Result Slot ParseCause
 as_slot (Number n) = if nat_lt n slot_limit then Ok (slot_numbered n) else Err OutOfRange
 as_slot _ = Err UnknownWord
@@ -87,7 +88,7 @@ is_index_below bound (ByReg reg) = true
 -- the first index is a slot, and the others are below 65,536
 abbrev pub is_route : List Index → Bool
 is_route [] = false
-is_route (first ∷ more) = is_index_below slot_limit first && list_all (is_index_below 65536) more
+is_route (first ∷ more) = is_index_below slot_limit first && list_all (is_index_below index_bound) more
 
 abbrev pub route_of : List Index → Route
 route_of indices = record { at = indices }

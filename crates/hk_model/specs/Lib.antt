@@ -33,3 +33,7 @@ pub mod Grammar
 pub mod Syntax
 pub mod Loading
 pub mod Worlds
+pub mod LineReading
+pub mod LineRanges
+pub mod Audits
+pub mod Verdicts

@@ -23,7 +23,7 @@ use Rattle.hk_model.specs.declared.world.Kind.TheVariants as kind
 use Rattle.hk_model.specs.declared.world.Task.{Task}
 use Rattle.hk_rights.specs.Rights.{IsRightsWord}
 use Rattle.hk_model.specs.Labels.{is_name, are_apart}
-use Rattle.hk_model.specs.Limits.{object_limit, word_limit, entry_limit, slot_limit, param_limit, argument_limit, path_limit, token_limit, code_limit, process_limit, event_limit}
+use Rattle.hk_model.specs.Limits.{object_limit, word_limit, entry_limit, slot_limit, param_limit, argument_limit, path_limit, index_bound, token_limit, code_limit, process_limit, event_limit}
 use Rattle.hk_model.specs.Targets.{DATA, UNIVERSAL, kernel_types}
 
 pub record Setup : Type 0 where
@@ -102,7 +102,7 @@ IsOperand (Number n) = IsWord32 n
 IsOperand (Reg reg) = IsReg reg
 
 abbrev pub IsIndex : Index → Type 0
-IsIndex (Fixed n) = n < 65536
+IsIndex (Fixed n) = n < index_bound
 IsIndex (ByReg reg) = IsReg reg
 
 -- the first index of a route is a slot

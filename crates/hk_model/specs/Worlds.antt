@@ -4,7 +4,7 @@ use Rattle.std.specs.Prelude.{ℕ, List, Result, Ok, Err}
 use Rattle.hk_model.specs.declared.syntax.Item.{Item}
 use Rattle.hk_model.specs.declared.causes.Cause.{Cause}
 use Rattle.hk_model.specs.declared.causes.Cause.TheVariants.{OfText, OfParse, OfLoad}
-use Rattle.hk_model.specs.Texts.{Lines, text}
+use Rattle.hk_model.specs.Texts.{Lines, lines_of, text_lines}
 use Rattle.hk_model.specs.Grammar.{script}
 use Rattle.hk_model.specs.Loading.{load}
 use Rattle.hk_model.specs.Setup.{Setup}
@@ -26,6 +26,10 @@ loaded items = pass OfLoad (load items) Ok
 abbrev pub parsed : Lines → Result Setup Refused
 parsed lines = pass OfParse (script lines) loaded
 
+-- the world of the lines of a script, the first of which is number 1
+abbrev pub world_of : List (List ℕ) → Result Setup Refused
+world_of lines = pass OfText (text_lines 1 lines) parsed
+
 -- the world of a script
 unfoldable pub world : List ℕ → Result Setup Refused
-world bytes = pass OfText (text bytes) parsed
+world bytes = world_of (lines_of bytes)

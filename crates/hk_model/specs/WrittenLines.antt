@@ -7,9 +7,9 @@ use Rattle.hk_model.specs.declared.syntax.MakingText.{MakingText}
 use Rattle.hk_model.specs.declared.syntax.MakingText.TheVariants as making
 use Rattle.hk_model.specs.declared.syntax.Written.{Written}
 use Rattle.hk_model.specs.declared.syntax.Written.TheVariants as written
-use Rattle.hk_model.specs.Limits.{argument_limit}
+use Rattle.hk_model.specs.Limits.{argument_limit, slot_limit}
 use Rattle.hk_model.specs.Reading.{Reads, ◌>>=◌, wanted, optional, at_most, end, unknown}
-use Rattle.hk_model.specs.Forms.{as_verb, as_word, as_rights, as_slot, as_slot_number, slot_numbered, as_register, as_operand, as_route}
+use Rattle.hk_model.specs.Forms.{as_verb, as_word, as_rights, as_slot, as_number_below, slot_numbered, as_register, as_operand, as_route}
 
 -- of a list of one at least: all but its last, and the last
 
@@ -105,8 +105,8 @@ instruction_of verb.Copy = do
   end (written.Copy of into)
 instruction_of verb.Call = do
   proc ← wanted as_route
-  first ← wanted as_slot_number
-  more ← at_most argument_limit as_slot_number
+  first ← wanted (as_number_below slot_limit)
+  more ← at_most argument_limit (as_number_below slot_limit)
   end (written.Enter proc (before_last first more) (slot_numbered (last_of first more)))
 instruction_of verb.Return = do
   give ← optional as_slot
