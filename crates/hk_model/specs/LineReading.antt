@@ -27,10 +27,10 @@ use Rattle.hk_model.specs.declared.causes.ParseCause.TheVariants.{UnknownWord, O
 use Rattle.hk_model.specs.Labels.{same_text}
 use Rattle.hk_model.specs.Limits.{argument_limit, index_bound, slot_bound, cpu_limit, process_limit}
 use Rattle.hk_model.specs.RightsTexts.{rights_of}
-use Rattle.hk_model.specs.Pieces.{Piece, Word, Upper, Dash, Number, Path, piece_of, is_number, value}
+use Rattle.hk_model.specs.Pieces.{largest_number, Piece, Word, Upper, Dash, Number, Path, piece_of, is_number, value}
 use Rattle.hk_model.specs.Texts.{piece_onto}
 use Rattle.hk_model.specs.Reading.{Found, Reads, ◌>>=◌, onward, taken, wanted, optional, at_most, end, unknown}
-use Rattle.hk_model.specs.Forms.{as_verb, as_word, as_number, as_number_below, slot_numbered}
+use Rattle.hk_model.specs.Forms.{as_verb, as_word, as_number_below, slot_numbered}
 use Rattle.hk_model.specs.WrittenLines.{before_last, last_of}
 use Rattle.hk_model.specs.AuditLines.{arrow, full_word, line_text}
 
@@ -43,6 +43,10 @@ is_number_index (ByReg reg) = false
 abbrev pub index_number : Index → ℕ
 index_number (Fixed n) = n
 index_number (ByReg reg) = 0
+
+-- the number of an incarnation has 64 bits
+abbrev pub inc_bound : ℕ
+inc_bound = 18446744073709551616
 
 -- a path of one index, or of several
 abbrev pub as_path : Piece → Result (List ℕ) ParseCause
@@ -69,6 +73,11 @@ abbrev pub as_right : Piece → Result ℕ ParseCause
 as_right (Upper t) = set_found (number_named t)
 as_right _ = Err UnknownWord
 
+-- a word of 32 bits
+abbrev pub as_word32 : Piece → Result ℕ ParseCause
+as_word32 (Number n) = if nat_le n largest_number then Ok n else Err OutOfRange
+as_word32 _ = Err UnknownWord
+
 -- the slot behind the rights of a template, and the end of the call
 abbrev pub template_end : List ℕ → Making → Reads Call
 template_end of kind = do
@@ -90,16 +99,16 @@ template_of of _ = unknown
 abbrev pub call_of : Verb → Reads Call
 call_of verb.GetData = do
   of ← wanted as_path
-  at ← wanted as_number
+  at ← wanted as_word32
   end (call.Get of at)
 call_of verb.PutData = do
   of ← wanted as_path
-  at ← wanted as_number
-  word ← wanted as_number
+  at ← wanted as_word32
+  word ← wanted as_word32
   end (call.Put of at word)
 call_of verb.AddData = do
   of ← wanted as_path
-  word ← wanted as_number
+  word ← wanted as_word32
   end (call.Add of word)
 call_of verb.Length = do
   of ← wanted as_path
@@ -110,7 +119,7 @@ call_of verb.Load = do
   end (call.Load from into)
 call_of verb.Store = do
   list ← wanted as_path
-  at ← wanted as_number
+  at ← wanted as_word32
   from ← wanted as_any_slot
   end (call.Store list at from)
 call_of verb.Append = do
@@ -119,7 +128,7 @@ call_of verb.Append = do
   end (call.Append list from)
 call_of verb.Erase = do
   list ← wanted as_path
-  at ← wanted as_number
+  at ← wanted as_word32
   end (call.Erase list at)
 call_of verb.Drop = do
   slot ← wanted as_any_slot
@@ -211,7 +220,7 @@ full_reply = do
 
 abbrev pub word_reply : Reads Reply
 word_reply = do
-  n ← wanted as_number
+  n ← wanted as_word32
   end (reply.Word n)
 
 abbrev pub refusal_of : List ℕ → Reads Reply
@@ -247,19 +256,16 @@ abbrev pub event_line : Reads (Reply → Line)
 event_line = do
   cpu ← wanted (as_number_below cpu_limit)
   proc ← wanted (as_number_below process_limit)
-  inc ← wanted as_number
+  inc ← wanted (as_number_below inc_bound)
   word ← wanted as_word
   event ← what_of word
   end (line_with cpu proc inc event)
 
 -- pieces whose numbers go on to 64 bits, as the number of an incarnation does
 
-abbrev pub largest_inc : ℕ
-largest_inc = 18446744073709551615
-
 abbrev pub widened : List ℕ → Result Piece TextCause → Result Piece TextCause
 widened t (Ok piece) = Ok piece
-widened t (Err NumberTooLarge) = if is_number t && nat_le (value t) largest_inc then Ok (Number (value t)) else Err NumberTooLarge
+widened t (Err NumberTooLarge) = if is_number t && nat_lt (value t) inc_bound then Ok (Number (value t)) else Err NumberTooLarge
 widened t (Err NotAscii) = Err NotAscii
 widened t (Err LongLine) = Err LongLine
 widened t (Err BadToken) = Err BadToken
