@@ -28,7 +28,7 @@ use Rattle.hk_model.specs.Canonical.{canon}
 use Rattle.hk_model.specs.Records.{record_text}
 use Rattle.hk_model.specs.Audits.{audited, events, audit}
 
-abbrev line : ℕ → ℕ → ℕ → What → Reply → Line
+abbrev pub line : ℕ → ℕ → ℕ → What → Reply → Line
 line cpu proc inc event answer = record { cpu = record { 0 = cpu }; proc = record { 0 = proc }; inc = record { 0 = inc }; what = event; reply = answer }
 
 -- single lines

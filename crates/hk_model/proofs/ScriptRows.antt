@@ -18,6 +18,7 @@ use Rattle.hk_model.specs.Pieces.{piece_of}
 use Rattle.hk_model.specs.Verbs.{all_verbs}
 use Rattle.hk_model.specs.Worlds.{world}
 use Rattle.hk_model.specs.Canonical.{canon}
+use Rattle.hk_model.specs.Generated.{generate}
 
 -- one DATA object, whose words a loop reads until there is none
 abbrev pub counting : Setup
@@ -101,3 +102,8 @@ all_and_more = refl
 nine_parameters : world (codes "hydra 1\nprocedure p c\nparam any - -\nparam any - -\nparam any - -\nparam any - -\nparam any - -\nparam any - -\nparam any - -\nparam any - -\nparam any - -\nend\ncode c\nend\n") ≡ Err (11, OfLoad bad_load.TooMany)
 unfolding piece_of all_verbs right_table number_named rights_of world
 nine_parameters = refl
+
+-- the generated world of one process
+generated_one : canon (generate 1) ≡ codes "hydra 1\nlimit 1000000\nobject total DATA\nwords 0\nend\nsemaphore lock 1\nprocedure bump cbump\nparam DATA GETDATA+PUTDATA GETDATA+PUTDATA+MODIFY\nend\ncode cbump\ngetdata 0 0 r1\nadd r1 1\nputdata 0 0 r1\nend\ncode main\nlabel l0\np 2\ncall 0 1 3\nv 2\nadd r0 1\niflt r0 100 l0\nend\nprocess w0 main\ncap bump A0\ncap total GETDATA+PUTDATA+MODIFY\ncap lock MODIFY+A0+A1\nend\n"
+unfolding digits right_table right_numbers name_of rights_text canon generate
+generated_one = refl

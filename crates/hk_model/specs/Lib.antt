@@ -37,3 +37,4 @@ pub mod LineReading
 pub mod LineRanges
 pub mod Audits
 pub mod Verdicts
+pub mod Generated
