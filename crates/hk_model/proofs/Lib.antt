@@ -1,2 +1,3 @@
 mod ScriptRows
-mod RecordRows
+pub mod RecordRows
+mod VerdictRows

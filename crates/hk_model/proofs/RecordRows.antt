@@ -1,26 +1,137 @@
 -- Audit lines and records, computed.
-use Rattle.std.specs.Prelude.{◌≡◌, ℕ, List, [], ◌∷◌, refl, codes, Some, None}
+use Rattle.std.specs.Prelude.{◌≡◌, ℕ, List, [], ◌∷◌, ◌++◌, refl, codes, Some, None, Ok, Err}
 use Rattle.std.specs.Fmt.{digits}
-use Rattle.hk_rights.specs.Rights.{right_table, right_numbers, name_of}
+use Rattle.hk_rights.specs.Rights.{right_table, right_numbers, name_of, number_named}
+use Rattle.hk_model.specs.declared.entries.Entry.TheVariants.{Held}
+use Rattle.hk_model.specs.declared.instructions.Index.TheVariants.{Fixed}
+use Rattle.hk_model.specs.declared.instructions.Instr.TheVariants as instr
+use Rattle.hk_model.specs.declared.instructions.Operand.TheVariants as operand
+use Rattle.hk_model.specs.declared.world.Kind.TheVariants as kind
 use Rattle.hk_model.specs.declared.calls.Call.TheVariants as call
 use Rattle.hk_model.specs.declared.calls.Refusal.TheVariants as refused
 use Rattle.hk_model.specs.declared.calls.Reply.{Reply}
 use Rattle.hk_model.specs.declared.calls.Reply.TheVariants as reply
+use Rattle.hk_model.specs.declared.calls.What8.TheVariants.{Slots}
 use Rattle.hk_model.specs.declared.lines.What.{What}
 use Rattle.hk_model.specs.declared.lines.What.TheVariants as what
 use Rattle.hk_model.specs.declared.lines.Line.{Line}
-use Rattle.hk_model.specs.RightsTexts.{rights_text}
+use Rattle.hk_model.specs.declared.lines.End.TheVariants as end
+use Rattle.hk_model.specs.declared.causes.Cause.TheVariants.{OfParse, BadLine}
+use Rattle.hk_model.specs.declared.causes.ParseCause.TheVariants.{UnknownWord, Missing, Extra}
+use Rattle.hk_model.specs.Setup.{Setup, setup}
+use Rattle.hk_model.specs.RightsTexts.{rights_text, rights_of}
+use Rattle.hk_model.specs.Pieces.{piece_of}
+use Rattle.hk_model.specs.Verbs.{all_verbs}
 use Rattle.hk_model.specs.AuditLines.{line_text}
+use Rattle.hk_model.specs.LineReading.{read_line}
+use Rattle.hk_model.specs.Canonical.{canon}
+use Rattle.hk_model.specs.Records.{record_text}
+use Rattle.hk_model.specs.Audits.{audited, events, audit}
 
-abbrev line : ℕ → ℕ → ℕ → What → Reply → Line
-line cpu proc inc what reply = record { cpu = record { 0 = cpu }; proc = record { 0 = proc }; inc = record { 0 = inc }; what = what; reply = reply }
+abbrev pub line : ℕ → ℕ → ℕ → What → Reply → Line
+line cpu proc inc event answer = record { cpu = record { 0 = cpu }; proc = record { 0 = proc }; inc = record { 0 = inc }; what = event; reply = answer }
+
+-- single lines
 
 -- a write that is denied
-denied_put : line_text (line 0 0 0 (what.Call (call.Put (0 ∷ 3 ∷ []) 0 5)) (reply.No (refused.Denied 0 8))) ≡ codes "0 0 0 putdata 0.3 0 5 -> denied 0 MODIFY"
-unfolding digits right_table right_numbers name_of rights_text line_text
-denied_put = refl
+abbrev denied_put : Line
+denied_put = line 0 0 0 (what.Call (call.Put (0 ∷ 3 ∷ []) 0 5)) (reply.No (refused.Denied 0 8))
 
--- a restriction, whose rights are spelled in rising order
-restricted : line_text (line 3 1 18446744073709551615 (what.Call (call.Restrict (record { 0 = 200 }) 0x10003)) reply.Done) ≡ codes "3 1 18446744073709551615 restrict 200 GETDATA+PUTDATA+A0 -> done"
+denied_put_text : line_text denied_put ≡ codes "0 0 0 putdata 0.3 0 5 -> denied 0 MODIFY"
 unfolding digits right_table right_numbers name_of rights_text line_text
-restricted = refl
+denied_put_text = refl
+
+denied_put_again : read_line (codes "0 0 0 putdata 0.3 0 5 -> denied 0 MODIFY") ≡ Some denied_put
+unfolding piece_of all_verbs digits right_table right_numbers name_of number_named rights_text rights_of line_text read_line
+denied_put_again = refl
+
+-- a restriction by an incarnation past 32 bits, of a slot that there is not; rights are spelled in rising order
+abbrev restricted : Line
+restricted = line 3 1 18446744073709551615 (what.Call (call.Restrict (record { 0 = 200 }) 0x10003)) (reply.No (refused.Range 0))
+
+restricted_text : line_text restricted ≡ codes "3 1 18446744073709551615 restrict 200 GETDATA+PUTDATA+A0 -> range 0"
+unfolding digits right_table right_numbers name_of rights_text line_text
+restricted_text = refl
+
+restricted_again : read_line (codes "3 1 18446744073709551615 restrict 200 GETDATA+PUTDATA+A0 -> range 0") ≡ Some restricted
+unfolding piece_of all_verbs digits right_table right_numbers name_of number_named rights_text rights_of line_text read_line
+restricted_again = refl
+
+-- a call with two arguments
+called_again : read_line (codes "15 255 7 call 1.65535 2 3 4 -> full slots") ≡ Some (line 15 255 7 (what.Call (call.Enter (1 ∷ 65535 ∷ []) (2 ∷ 3 ∷ []) (record { 0 = 4 }))) (reply.No (refused.Full Slots)))
+unfolding piece_of all_verbs digits right_table right_numbers name_of number_named rights_text rights_of line_text read_line
+called_again = refl
+
+-- no text of a line: a leading zero, rights in another order, a number past 32 bits, two spaces
+leading_zero : read_line (codes "00 0 0 getdata 0 0 -> word 7") ≡ None
+unfolding piece_of all_verbs digits right_table right_numbers name_of number_named rights_text rights_of line_text read_line
+leading_zero = refl
+
+rights_in_disorder : read_line (codes "0 0 0 restrict 0 PUTDATA+GETDATA -> done") ≡ None
+unfolding piece_of all_verbs digits right_table right_numbers name_of number_named rights_text rights_of line_text read_line
+rights_in_disorder = refl
+
+past_32_bits : read_line (codes "0 0 0 getdata 0 0 -> word 4294967296") ≡ None
+unfolding piece_of all_verbs digits right_table right_numbers name_of number_named rights_text rights_of line_text read_line
+past_32_bits = refl
+
+two_spaces : read_line (codes "0 0 0  yield -> done") ≡ None
+unfolding piece_of all_verbs digits right_table right_numbers name_of number_named rights_text rights_of line_text read_line
+two_spaces = refl
+
+-- records
+
+-- a process that reads a word
+abbrev pub reading : Setup
+reading = setup 10000
+    (record { label = codes "d"; kind = kind.Plain (record { 0 = 1 }) (7 ∷ []) [] } ∷ [])
+    (record { label = codes "main"; steps = instr.Get (record { at = Fixed 0 ∷ [] }) (operand.Number 0) 0 ∷ [] } ∷ [])
+    (record { label = codes "a"; code = 0; slots = Held (record { name = record { 0 = 7 }; rights = 1 }) ∷ [] } ∷ [])
+
+abbrev pub reading_lines : List Line
+reading_lines =
+    line 0 0 0 what.Dispatch reply.Done
+    ∷ line 0 0 0 (what.Call (call.Get (0 ∷ []) 0)) (reply.Word 7)
+    ∷ line 0 0 0 (what.Call (call.Leave None)) reply.Done
+    ∷ []
+
+abbrev reading_script : List ℕ
+reading_script = codes "hydra 1\nobject d DATA\nwords 7\nend\ncode main\ngetdata 0 0 r0\nend\nprocess a main\ncap d GETDATA\nend\n"
+
+abbrev reading_record : List ℕ
+reading_record = reading_script ++ codes "record\n0 0 0 dispatch -> done\n0 0 0 getdata 0 0 -> word 7\n0 0 0 return -> done\nend done\n"
+
+reading_text : record_text reading reading_lines end.Done ≡ reading_record
+unfolding digits right_table right_numbers name_of rights_text line_text canon record_text
+reading_text = refl
+
+reading_again : audit reading_record ≡ Ok (audited reading (events reading_lines end.Done))
+unfolding piece_of all_verbs digits right_table right_numbers name_of number_named rights_text rights_of line_text read_line audit
+reading_again = refl
+
+-- the script's own causes come first
+bad_script : audit (codes "hydra 1\nfoo\nrecord\nx\n") ≡ Err (2, OfParse UnknownWord)
+unfolding piece_of all_verbs audit
+bad_script = refl
+
+no_record_line : audit (codes "hydra 1\n") ≡ Err (2, OfParse Missing)
+unfolding piece_of all_verbs audit
+no_record_line = refl
+
+-- the line `record` needs no line feed, and the end line is missing behind it
+only_record : audit (codes "hydra 1\nrecord") ≡ Err (3, OfParse Missing)
+unfolding piece_of all_verbs audit
+only_record = refl
+
+cut_line : audit (codes "hydra 1\nrecord\n0 0 0 yield -> done\n0 0 0 yie") ≡ Err (4, BadLine)
+unfolding piece_of all_verbs digits right_table right_numbers name_of number_named rights_text rights_of line_text read_line audit
+cut_line = refl
+
+-- an end line without its line feed is bad
+cut_end : audit (codes "hydra 1\nrecord\nend done") ≡ Err (3, BadLine)
+unfolding piece_of all_verbs read_line audit
+cut_end = refl
+
+bytes_behind : audit (codes "hydra 1\nrecord\nend done\nx") ≡ Err (4, OfParse Extra)
+unfolding piece_of all_verbs read_line audit
+bytes_behind = refl

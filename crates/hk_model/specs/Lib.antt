@@ -26,3 +26,15 @@ pub mod AuditLines
 pub mod Spelling
 pub mod Canonical
 pub mod Records
+pub mod Reading
+pub mod Forms
+pub mod WrittenLines
+pub mod Grammar
+pub mod Syntax
+pub mod Loading
+pub mod Worlds
+pub mod LineReading
+pub mod LineRanges
+pub mod Audits
+pub mod Verdicts
+pub mod Generated

@@ -22,12 +22,19 @@ abbrev pub param_limit : ℕ
 param_limit = 8
 
 -- arguments of a call
-abbrev pub args_limit : ℕ
-args_limit = 8
+abbrev pub argument_limit : ℕ
+argument_limit = 8
 
 -- indices of a path
 abbrev pub path_limit : ℕ
 path_limit = 8
+
+-- what each index of a path is below, and each slot that a call can name
+abbrev pub index_bound : ℕ
+index_bound = 65536
+
+abbrev pub slot_bound : ℕ
+slot_bound = 256
 
 -- incarnations of a process, the base counted
 abbrev pub depth_limit : ℕ

@@ -7,6 +7,7 @@ use Rattle.hk_model.specs.declared.instructions.Index.{Index}
 use Rattle.hk_model.specs.declared.instructions.Index.TheVariants.{Fixed, ByReg}
 use Rattle.hk_model.specs.declared.causes.TextCause.{TextCause}
 use Rattle.hk_model.specs.declared.causes.TextCause.TheVariants.{BadToken, NumberTooLarge}
+use Rattle.hk_model.specs.Limits.{path_limit}
 use Rattle.hk_model.specs.Labels.{between, is_digit, is_lower, is_capital, is_word, is_register, first}
 
 -- a piece: a word, names in capital letters, a dash, a number, or a path of two to eight indices, each any number or a register
@@ -65,7 +66,7 @@ index_of t = if is_register t then ByReg (register_of t) else Fixed (value t)
 
 -- two to eight indices, which points join
 abbrev pub is_path : List (List ℕ) → Bool
-is_path parts = between 2 8 (length parts) && list_all is_index_text parts
+is_path parts = between 2 path_limit (length parts) && list_all is_index_text parts
 
 -- a text with a point in it, cut at its points
 abbrev pub path_of : List (List ℕ) → Result Piece TextCause
@@ -123,4 +124,4 @@ is_piece (Word t) = is_word t
 is_piece (Upper t) = is_upper t
 is_piece Dash = true
 is_piece (Number n) = nat_le n largest_number
-is_piece (Path steps) = between 2 8 (length steps) && list_all is_index steps
+is_piece (Path steps) = between 2 path_limit (length steps) && list_all is_index steps

@@ -1,13 +1,13 @@
 -- What a world consists of, and when it can be run. docs/RULES.md, "Worlds" and "Limits".
-use Rattle.std.specs.Prelude.{◌≡◌, ◌⊎◌, ℕ, ◌+◌, ◌-◌, ◌^◌, ◌<◌, ◌≤◌, List, [], ◌∷◌, ◌++◌, length, IsTrue, Option, Some, None, map, slice_get}
+use Rattle.std.specs.Prelude.{◌≡◌, ◌⊎◌, ℕ, ◌+◌, ◌-◌, ◌<◌, ◌≤◌, ◌^◌, List, [], ◌∷◌, ◌++◌, length, IsTrue, Option, Some, None, map, slice_get}
 use Rattle.std.specs.List.{AllByRecursion}
 use Rattle.hk_model.specs.declared.names.Name.{Name}
 use Rattle.hk_model.specs.declared.names.Slot.{Slot}
 use Rattle.hk_model.specs.declared.entries.Entry.{Entry}
 use Rattle.hk_model.specs.declared.entries.Entry.TheVariants.{Empty, Held, Form}
-use Rattle.hk_model.specs.declared.entries.Param.{Param}
 use Rattle.hk_model.specs.declared.entries.Making.{Making}
 use Rattle.hk_model.specs.declared.entries.Making.TheVariants as making
+use Rattle.hk_model.specs.declared.entries.Param.{Param}
 use Rattle.hk_model.specs.declared.entries.Template.TheVariants as template
 use Rattle.hk_model.specs.declared.instructions.Instr.{Instr}
 use Rattle.hk_model.specs.declared.instructions.Instr.TheVariants as instr
@@ -23,7 +23,7 @@ use Rattle.hk_model.specs.declared.world.Kind.TheVariants as kind
 use Rattle.hk_model.specs.declared.world.Task.{Task}
 use Rattle.hk_rights.specs.Rights.{IsRightsWord}
 use Rattle.hk_model.specs.Labels.{is_name, are_apart}
-use Rattle.hk_model.specs.Limits.{object_limit, word_limit, entry_limit, slot_limit, param_limit, args_limit, path_limit, token_limit, code_limit, process_limit, event_limit}
+use Rattle.hk_model.specs.Limits.{object_limit, word_limit, entry_limit, slot_limit, param_limit, argument_limit, path_limit, index_bound, token_limit, code_limit, process_limit, event_limit}
 use Rattle.hk_model.specs.Targets.{DATA, UNIVERSAL, kernel_types}
 
 pub record Setup : Type 0 where
@@ -62,7 +62,7 @@ abbrev pub IsTypeOrAny : Setup → Option Name → Type 0
 IsTypeOrAny w None = Unit {0}
 IsTypeOrAny w (Some name) = IsType w name
 
--- capabilities name objects of the world, and templates its types
+-- capabilities name objects of the world, and templates its types; rights are sets of the 19
 abbrev pub IsEntry : Setup → Entry → Type 0
 IsEntry w Empty = Unit {0}
 IsEntry w (Held cap) = IsObject w cap.name × IsRightsWord cap.rights
@@ -72,9 +72,9 @@ IsEntry w (Form (template.Create of give)) = IsType w of × IsRightsWord give
 abbrev pub IsParam : Setup → Param → Type 0
 IsParam w param = IsTypeOrAny w param.of × IsRightsWord param.check × IsRightsWord param.give
 
--- a number that a word can hold
-abbrev pub IsWord : ℕ → Type 0
-IsWord n = n < 2 ^ 32
+-- a word of 32 bits
+abbrev pub IsWord32 : ℕ → Type 0
+IsWord32 n = n < 2 ^ 32
 
 -- a plain object is of DATA, without entries, or of UNIVERSAL or a declared type
 abbrev pub IsPlainType : Setup → Name → List Entry → Type 0
@@ -83,8 +83,7 @@ IsPlainType w of entries = ((of.0 ≡ DATA) × (entries ≡ [])) ⊎ ((of.0 ≡ 
 abbrev pub IsKind : Setup → Kind → Type 0
 IsKind w kind.TypeObject = Unit {0}
 IsKind w (kind.Plain of words entries) =
-    IsPlainType w of entries × (length words ≤ word_limit) × AllByRecursion IsWord words
-    × (length entries ≤ entry_limit) × AllByRecursion (IsEntry w) entries
+    IsPlainType w of entries × (length words ≤ word_limit) × AllByRecursion IsWord32 words × (length entries ≤ entry_limit) × AllByRecursion (IsEntry w) entries
 IsKind w (kind.Semaphore count) = count ≤ token_limit
 IsKind w (kind.Procedure code params entries) =
     (code < length w.codes) × (length params ≤ param_limit) × AllByRecursion (IsParam w) params
@@ -99,11 +98,11 @@ abbrev pub IsReg : ℕ → Type 0
 IsReg reg = reg < 8
 
 abbrev pub IsOperand : Operand → Type 0
-IsOperand (Number n) = IsWord n
+IsOperand (Number n) = IsWord32 n
 IsOperand (Reg reg) = IsReg reg
 
 abbrev pub IsIndex : Index → Type 0
-IsIndex (Fixed n) = n < 2 ^ 16
+IsIndex (Fixed n) = n < index_bound
 IsIndex (ByReg reg) = IsReg reg
 
 -- the first index of a route is a slot
@@ -118,6 +117,10 @@ IsRoute route = BeginsAtSlot route.at × (length route.at ≤ path_limit) × All
 abbrev pub IsSlotOrNone : Option Slot → Type 0
 IsSlotOrNone None = Unit {0}
 IsSlotOrNone (Some slot) = IsSlot slot
+
+-- at most eight slots, the arguments of a call
+abbrev pub IsArguments : List ℕ → Type 0
+IsArguments args = (length args ≤ argument_limit) × AllByRecursion (λ slot. slot < slot_limit) args
 
 abbrev pub IsMaking : Making → Type 0
 IsMaking (making.Amplify check give) = IsRightsWord check × IsRightsWord give
@@ -136,11 +139,11 @@ IsInstr len (instr.Erase list at) = IsRoute list × IsOperand at
 IsInstr len (instr.Drop slot) = IsSlot slot
 IsInstr len (instr.Restrict slot keep) = IsSlot slot × IsRightsWord keep
 IsInstr len (instr.Look of reg) = IsRoute of × IsReg reg
-IsInstr len (instr.MakeTemplate of making into) = IsRoute of × IsMaking making × IsSlot into
+IsInstr len (instr.MakeTemplate of kind into) = IsRoute of × IsMaking kind × IsSlot into
 IsInstr len (instr.Create by into) = IsRoute by × IsSlot into
 IsInstr len (instr.Merge with cap into) = IsRoute with × IsSlot cap × IsSlot into
 IsInstr len (instr.Copy of into) = IsRoute of × IsSlot into
-IsInstr len (instr.Enter proc args into) = IsRoute proc × (length args ≤ args_limit) × AllByRecursion (λ slot. slot < slot_limit) args × IsSlot into
+IsInstr len (instr.Enter proc args into) = IsRoute proc × IsArguments args × IsSlot into
 IsInstr len (instr.Leave give) = IsSlotOrNone give
 IsInstr len (instr.P of) = IsRoute of
 IsInstr len (instr.V of) = IsRoute of

@@ -8,12 +8,13 @@ use Rattle.hk_top.specs.declared.commands.DueText.{DueText}
 use Rattle.hk_top.specs.declared.commands.Silence.{Silence}
 use Rattle.hk_model.specs.declared.lines.Line.{Line}
 use Rattle.hk_model.specs.declared.lines.End.TheVariants as end
+use Rattle.hk_model.specs.Limits.{script_bytes}
 use Rattle.hk_model.specs.Setup.{Setup}
 use Rattle.hk_model.specs.Legal.{IsLegal}
 use Rattle.hk_model.specs.Records.{record_text}
 use Rattle.hk_top.specs.declared.small.SmallScript.{SmallScript}
 use Rattle.hk_top.specs.SmallScripts.{IsSmall, Spells, small_text, world_of}
-use Rattle.hk_top.specs.Outputs.{Due, Answer, Stream, IsRun, IsSaid, WasRead, written, write_fault, record_of, script_bytes, behind_script}
+use Rattle.hk_top.specs.Outputs.{Due, Answer, Stream, IsRun, IsSaid, WasRead, written, write_fault, record_of, behind_script}
 use Rattle.hk_top.proofs.CanonicalScripts.{canon-small}
 
 -- a text that is due and said is an answer

@@ -5,6 +5,7 @@ use Rattle.hk_io.specs.Causes.{Rose}
 use Rattle.hk_io.specs.Streams.{Took}
 use Rattle.hk_model.specs.declared.lines.Line.{Line}
 use Rattle.hk_model.specs.declared.lines.End.TheVariants as end
+use Rattle.hk_model.specs.Limits.{script_bytes}
 use Rattle.hk_model.specs.Setup.{Setup}
 use Rattle.hk_model.specs.Legal.{IsLegal}
 use Rattle.hk_model.specs.Texts.{ended_line}
@@ -24,10 +25,6 @@ too_long_text = codes "line 0: TooLong" ++ 10 ∷ []
 
 abbrev pub form_text : List ℕ
 form_text = codes "line 0: Form" ++ 10 ∷ []
-
--- the largest script, in bytes
-abbrev pub script_bytes : ℕ
-script_bytes = 1048576
 
 -- these bytes were read: they are all that the source had, up to its end
 abbrev pub WasRead : Option (List ℕ) → Option (List ℕ) → List ℕ → Type 0
