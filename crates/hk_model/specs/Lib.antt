@@ -18,3 +18,7 @@ pub mod Opening
 pub mod Running
 pub mod Legal
 pub mod RightsTexts
+pub mod Places
+pub mod Lines
+pub mod Ways
+pub mod Origins
