@@ -22,3 +22,5 @@ pub mod Places
 pub mod Lines
 pub mod Ways
 pub mod Origins
+pub mod Descent
+pub mod Under

@@ -1,8 +1,7 @@
 -- What the lines of a history have done, and what is told of a history line by line. docs/RULES.md, "Under a call".
-use Rattle.std.specs.Prelude.{ℕ, ◌-◌, Bool, true, false, List, [], ◌∷◌, length, slice_get, Option, Some, None, option_map, if◌then◌else◌}
+use Rattle.std.specs.Prelude.{ℕ, zero, suc, Bool, true, false, List, [], ◌∷◌, length, slice_get, Option, Some, None, option_map, if◌then◌else◌}
 use Rattle.std.specs.Option.{option_and_then}
 use Rattle.hk_model.specs.declared.names.Name.{Name}
-use Rattle.hk_model.specs.declared.names.Inc.{Inc}
 use Rattle.hk_model.specs.declared.entries.Cap.{Cap}
 use Rattle.hk_model.specs.declared.calls.Call.{Call}
 use Rattle.hk_model.specs.declared.calls.Call.TheVariants as call
@@ -63,7 +62,8 @@ changed s line = option_map (λ (cap : Cap). cap.name) (option_and_then (cap_fou
 
 -- the line that leads to a moment, which is after so many lines
 abbrev pub line_before : List Line → ℕ → Option Line
-line_before lines moment = slice_get lines (moment - 1)
+line_before lines zero = None
+line_before lines (suc earlier) = slice_get lines earlier
 
 -- what is told of a history from a machine on: of each line, from the states before and after it
 abbrev pub told : {G : Type 0} → (State → Line → State → G → G) → Setup → Machine → List Line → G → G

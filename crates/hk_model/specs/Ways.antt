@@ -1,5 +1,5 @@
 -- What a call writes where: the way in which each entry comes. docs/RULES.md, "Where entries come from".
-use Rattle.std.specs.Prelude.{◌≡◌, ◌⊎◌, ℕ, zero, suc, Bool, true, not, List, [], ◌∷◌, length, Option, Some, None, Ok, if◌then◌else◌, bit_and, slice_index_or}
+use Rattle.std.specs.Prelude.{◌≡◌, ◌⊎◌, ℕ, zero, suc, Bool, true, not, List, [], ◌∷◌, length, Option, Some, None, Ok, if◌then◌else◌, bit_and}
 use Rattle.std.specs.Option.{option_and_then}
 use Rattle.hk_model.specs.declared.names.Name.{Name}
 use Rattle.hk_model.specs.declared.names.Inc.{Inc}
