@@ -1,0 +1,2 @@
+mod RowParts
+mod KernelRows

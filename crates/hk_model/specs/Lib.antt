@@ -24,3 +24,7 @@ pub mod Ways
 pub mod Origins
 pub mod Descent
 pub mod Under
+pub mod Reaches
+pub mod Confinement
+pub mod Changes
+pub mod Marks

@@ -7,7 +7,7 @@ use Rattle.hk_model.specs.declared.entries.Param.{Param}
 use Rattle.hk_model.specs.declared.entries.Entry.{Entry}
 use Rattle.hk_model.specs.declared.lines.Line.{Line}
 use Rattle.hk_model.specs.State.{State}
-use Rattle.hk_model.specs.Places.{Place, SlotOf, EntryOf, end_of, reached, found}
+use Rattle.hk_model.specs.Places.{Place, SlotOf, EntryOf, end_of, named_by, found}
 use Rattle.hk_model.specs.Ways.{Way, Walked, Stored, Lessened, Merged, Inherited, Copied, CopyOf, Created, Formed, Gone, line_way}
 
 -- the call that made an entry, with the name of the new object
@@ -29,7 +29,7 @@ origin_of s inc (Stored slot) = Some (From (SlotOf inc slot))
 origin_of s inc (Lessened slot keep) = Some (From (SlotOf inc slot))
 origin_of s inc (Merged slot form) = Some (Through (SlotOf inc slot) form)
 origin_of s inc (Inherited procedure index confined) = Some (From (EntryOf procedure index))
-origin_of s inc (Copied path index) = Some (From (EntryOf (reached s inc path) index))
+origin_of s inc (Copied path index) = Some (From (EntryOf (named_by s inc path) index))
 origin_of s inc (CopyOf path) = Some (Made (ByCopy s.next_name) (found s inc path))
 origin_of s inc (Created path) = Some (Made (ByCreate s.next_name) (found s inc path))
 origin_of s inc (Formed path kind) = Some (Made ByMakeTemplate (found s inc path))

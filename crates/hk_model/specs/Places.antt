@@ -80,9 +80,9 @@ abbrev pub passed : State → Inc → List ℕ → List Place
 passed s inc [] = []
 passed s inc (at ∷ rest) = passed_from s (SlotOf inc at) rest
 
--- the object that is named at the end of a path
-abbrev pub reached : State → Inc → List ℕ → Name
-reached s inc path = named (standing s (end_of s inc path))
+-- the object that a path of an incarnation names
+abbrev pub named_by : State → Inc → List ℕ → Name
+named_by s inc path = named (standing s (end_of s inc path))
 
 -- what a walk gives, nothing where it is refused
 abbrev pub entry_given : Result Entry Refusal → Entry

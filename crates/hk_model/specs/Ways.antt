@@ -19,7 +19,7 @@ use Rattle.hk_model.specs.Walking.{walk, unconf_right}
 use Rattle.hk_model.specs.Merging.{merged, inherited}
 use Rattle.hk_model.specs.Targets.{ENV+A0}
 use Rattle.hk_model.specs.Rule.{copied, made_form}
-use Rattle.hk_model.specs.Places.{Place, SlotOf, EntryOf, same_place, standing, rights_of, form_of, end_of, reached, found}
+use Rattle.hk_model.specs.Places.{Place, SlotOf, EntryOf, same_place, standing, rights_of, form_of, end_of, named_by, found}
 use Rattle.hk_model.specs.Lines.{done_call, makes_object, enters_call, leaves_call, changes_path}
 
 -- the ways in which an entry comes to a place that a call writes; slots are those of the calling incarnation
@@ -73,10 +73,10 @@ returned_way None into give p = None
 -- the way of each place that the call of an incarnation writes where nothing refuses it; none of a place that it leaves
 abbrev pub way : State → Inc → Call → Place → Option Way
 way s inc (call.Load path into) p = written (SlotOf inc into.0) p (Walked path)
-way s inc (call.Store path at from) p = written (EntryOf (reached s inc path) at) p (Stored from.0)
+way s inc (call.Store path at from) p = written (EntryOf (named_by s inc path) at) p (Stored from.0)
 way s inc (call.Append path from) p =
-    written (EntryOf (reached s inc path) (length (object s (reached s inc path)).entries)) p (Stored from.0)
-way s inc (call.Erase path at) p = written (EntryOf (reached s inc path) at) p Gone
+    written (EntryOf (named_by s inc path) (length (object s (named_by s inc path)).entries)) p (Stored from.0)
+way s inc (call.Erase path at) p = written (EntryOf (named_by s inc path) at) p Gone
 way s inc (call.Drop slot) p = written (SlotOf inc slot.0) p Gone
 way s inc (call.Restrict slot keep) p = written (SlotOf inc slot.0) p (Lessened slot.0 keep)
 way s inc (call.MakeTemplate path kind into) p = written (SlotOf inc into.0) p (Formed path kind)
@@ -84,7 +84,7 @@ way s inc (call.Create path into) p = written (SlotOf inc into.0) p (Created pat
 way s inc (call.Merge path cap into) p = written (SlotOf inc into.0) p (Merged cap.0 (form_of (standing s (end_of s inc path))))
 way s inc (call.Copy path into) p = copied_way s inc path into p
 way s inc (call.Enter path args into) p =
-    entered_way s (reached s inc path) (not (has (rights_of (found s inc path)) unconf_right)) args p
+    entered_way s (named_by s inc path) (not (has (rights_of (found s inc path)) unconf_right)) args p
 way s inc (call.Leave give) p = returned_way (incarnation s inc).caller (incarnation s inc).into.0 give p
 way s inc _ p = None
 
