@@ -1,2 +1,3 @@
 mod RowParts
 mod KernelRows
+mod LawRows
