@@ -14,15 +14,17 @@ use Rattle.hk_rights.specs.Rights.{first_missing, right_numbers, right_table}
 use Rattle.hk_model.specs.Setup.{Setup}
 use Rattle.hk_model.specs.Opening.{opening}
 use Rattle.hk_model.specs.Control.{next, next_from, after}
-use Rattle.hk_model.specs.Rule.{get_word, put_word, add_word, create_object, merge_cap, enter_procedure, leave}
+use Rattle.hk_model.specs.Rule.{get_word, put_word, add_word, store_entry, append_entry, create_object, merge_cap, enter_procedure, leave}
 use Rattle.hk_model.specs.Running.{AreStepsOf, opened, step, state_at}
 use Rattle.hk_model.specs.Places.{Place, SlotOf, EntryOf, passed}
 use Rattle.hk_model.specs.Origins.{ByCreate}
 use Rattle.hk_model.specs.Descent.{Gate, Opened, MadeAt, Link, chains}
-use Rattle.hk_model.specs.Reaches.{Hop, IsModifiable}
-use Rattle.hk_model.specs.Changes.{Made, AreChanges}
+use Rattle.hk_model.specs.Under.{is_made_under, parameters}
+use Rattle.hk_model.specs.Reaches.{Hop, IsReach, IsModifiable}
+use Rattle.hk_model.specs.Changes.{Made, Param, AreChanges, touches}
 use Rattle.hk_model.specs.Marks.{marks}
-use Rattle.hk_model.proofs.RowParts.{name, inc, slot, cap, route, object_line, procedure_line, code_line, process_line, dispatch, line, line_of_process, return_line}
+use Rattle.hk_model.proofs.LeastReaches.{least_reach}
+use Rattle.hk_model.proofs.RowParts.{name, inc, slot, cap, route, object_line, procedure_line, code_line, process_line, dispatch, dispatch_in, line, line_of_process, return_line}
 
 abbrev slot_of : ℕ → ℕ → Place
 slot_of i n = SlotOf (inc i) n
@@ -116,13 +118,29 @@ mark-goes-with-the-call = refl
 abbrev entry_hop : ℕ → ℕ → Hop
 entry_hop index moment = record { index = index; moment = moment; handed = false }
 
-object-is-reached-by-two-hops : IsModifiable reaching reaching_lines 2 (inc 1) 2 (name 7)
+abbrev two_hops : List Hop
+two_hops = entry_hop 0 2 ∷ entry_hop 0 2 ∷ []
+
+object-is-reached-by-two-hops : IsReach (state_at reaching reaching_lines) (is_made_under reaching reaching_lines 2 (inc 1)) (parameters reaching reaching_lines 2 (inc 1)) 2 (λ there. there.modify) 2 (name 7) 0 two_hops
 unfolding opened opening step next next_from after put_word enter_procedure leave first_missing right_numbers right_table
-object-is-reached-by-two-hops = record {
-  param = 0;
-  hops = entry_hop 0 2 ∷ entry_hop 0 2 ∷ [];
-  is = record { there = record { name = name 7; modify = true; unconf = true; moment = 2 }; leads = refl; same = refl; good = refl; by_then = lit≤ tt };
-}
+object-is-reached-by-two-hops = record { there = record { name = name 7; modify = true; unconf = true; moment = 2 }; leads = refl; same = refl; good = refl; by_then = lit≤ tt }
+
+reached-object-is-modifiable : IsModifiable reaching reaching_lines 2 (inc 1) 2 (name 7)
+unfolding opened opening step next next_from after put_word enter_procedure leave first_missing right_numbers right_table
+reached-object-is-modifiable = record { param = 0; hops = two_hops; is = object-is-reached-by-two-hops }
+
+-- the change is explained by those two hops, which are the least reach
+change-through-two-lists : AreChanges reaching reaching_lines (record { line = 3; under = inc 1; object = name 7; reach = Param 0 two_hops } ∷ [])
+unfolding opened opening step next next_from after put_word enter_procedure leave first_missing right_numbers right_table
+change-through-two-lists = (
+  record {
+    line = refl;
+    under = refl;
+    object = refl;
+    reason = (refl, least_reach (state_at reaching reaching_lines) (is_made_under reaching reaching_lines 2 (inc 1)) 2 (name 7) (parameters reaching reaching_lines 2 (inc 1)) 2 0 two_hops object-is-reached-by-two-hops refl);
+  },
+  tt,
+)
 
 -- a confined call changes an object that it has made, and returns it
 abbrev making : Setup
@@ -189,5 +207,55 @@ handing_lines =
     ∷ dispatch 1
     ∷ line_of_process 1 1 (call.Append (0 ∷ 0 ∷ []) (slot 1)) Done
     ∷ line_of_process 1 1 (call.Leave None) Done
-    ∷ line_of_process 0 2 (call.Leave None) Done
+    ∷ dispatch_in 0 2
+    ∷ line 2 (call.Put (2 ∷ 0 ∷ []) 0 5) Done
+    ∷ return_line 2
+    ∷ return_line 0
     ∷ []
+
+handing-steps : AreStepsOf handing handing_lines
+unfolding opened opening step next next_from after put_word store_entry append_entry create_object enter_procedure leave first_missing right_numbers right_table
+handing-steps = (refl, (refl, (refl, (refl, (refl, (refl, (refl, (refl, (refl, (refl, (refl, (refl, tt))))))))))))
+
+-- two objects are changed under the call
+handing-touches : touches handing handing_lines ≡
+    record { moment = 3; under = record { call = inc 2; moment = 2 }; object = name 7 }
+    ∷ record { moment = 9; under = record { call = inc 2; moment = 2 }; object = name 8 }
+    ∷ []
+unfolding opened opening step next next_from after put_word store_entry append_entry create_object enter_procedure leave first_missing right_numbers right_table
+handing-touches = refl
+
+-- the second change is explained by the new object, which was handed to the parameter's list, and its entry
+abbrev handed_hops : List Hop
+handed_hops = record { index = 0; moment = 4; handed = true } ∷ entry_hop 0 7 ∷ []
+
+hub-is-reached : IsReach (state_at handing handing_lines) (is_made_under handing handing_lines 2 (inc 2)) (parameters handing handing_lines 2 (inc 2)) 2 (λ there. there.modify) 3 (name 7) 0 []
+unfolding opened opening step next next_from after put_word store_entry append_entry create_object enter_procedure leave first_missing right_numbers right_table
+hub-is-reached = record { there = record { name = name 7; modify = true; unconf = false; moment = 2 }; leads = refl; same = refl; good = refl; by_then = lit≤ tt }
+
+object-is-reached-over-a-handed-hop : IsReach (state_at handing handing_lines) (is_made_under handing handing_lines 2 (inc 2)) (parameters handing handing_lines 2 (inc 2)) 2 (λ there. there.modify) 9 (name 8) 0 handed_hops
+unfolding opened opening step next next_from after put_word store_entry append_entry create_object enter_procedure leave first_missing right_numbers right_table
+object-is-reached-over-a-handed-hop = record { there = record { name = name 8; modify = true; unconf = true; moment = 7 }; leads = refl; same = refl; good = refl; by_then = lit≤ tt }
+
+changes-of-a-new-object-handed-over : AreChanges handing handing_lines (
+    record { line = 4; under = inc 2; object = name 7; reach = Param 0 [] }
+    ∷ record { line = 10; under = inc 2; object = name 8; reach = Param 0 handed_hops }
+    ∷ [])
+unfolding opened opening step next next_from after put_word store_entry append_entry create_object enter_procedure leave first_missing right_numbers right_table
+changes-of-a-new-object-handed-over = (
+  record {
+    line = refl;
+    under = refl;
+    object = refl;
+    reason = (refl, least_reach (state_at handing handing_lines) (is_made_under handing handing_lines 2 (inc 2)) 3 (name 7) (parameters handing handing_lines 2 (inc 2)) 2 0 [] hub-is-reached refl);
+  },
+  (
+    record {
+      line = refl;
+      under = refl;
+      object = refl;
+      reason = (refl, least_reach (state_at handing handing_lines) (is_made_under handing handing_lines 2 (inc 2)) 9 (name 8) (parameters handing handing_lines 2 (inc 2)) 2 0 handed_hops object-is-reached-over-a-handed-hop refl);
+    },
+    tt,
+  ),
+)

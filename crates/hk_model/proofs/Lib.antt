@@ -1,3 +1,4 @@
 mod RowParts
 mod KernelRows
+mod LeastReaches
 mod LawRows

@@ -48,9 +48,12 @@ code_line steps = record { label = []; steps = steps }
 abbrev pub process_line : ℕ → List Entry → Task
 process_line code slots = record { label = []; code = code; slots = slots }
 
--- lines of processor 0
+-- lines of processor 0: a process is given to it in its base, or in another incarnation
+abbrev pub dispatch_in : ℕ → ℕ → Line
+dispatch_in proc i = record { cpu = record { 0 = 0 }; proc = record { 0 = proc }; inc = inc i; what = what.Dispatch; reply = Done }
+
 abbrev pub dispatch : ℕ → Line
-dispatch proc = record { cpu = record { 0 = 0 }; proc = record { 0 = proc }; inc = inc proc; what = what.Dispatch; reply = Done }
+dispatch proc = dispatch_in proc proc
 
 abbrev pub line_of_process : ℕ → ℕ → Call → Reply → Line
 line_of_process proc i c reply = record { cpu = record { 0 = 0 }; proc = record { 0 = proc }; inc = inc i; what = what.Call c; reply = reply }
