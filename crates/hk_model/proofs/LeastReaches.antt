@@ -1,5 +1,5 @@
 -- A test that no reach comes before another, which computes.
-use Rattle.std.proofs.Common.{◌≡◌, ℕ, zero, suc, ◌+◌, ◌<◌, ◌≤◌, List, [], ◌∷◌, ◌++◌, length, Bool, true, false, ◌&&◌, not, Option, Some, None, refl, sym, ap, ◌∙◌, subst, arith, slice_get, option_map, option_and_then, nat_le, nat_lt, if◌then◌else◌}
+use Rattle.std.proofs.Common.{◌≡◌, ℕ, zero, suc, ◌+◌, ◌<◌, ◌≤◌, List, [], ◌∷◌, ◌++◌, length, Bool, true, false, ◌&&◌, not, Option, Some, None, refl, sym, ap, arith, slice_get, option_map, option_and_then, nat_le, if◌then◌else◌}
 use Rattle.std.specs.Prelude.{IsTrue}
 use Rattle.std.specs.List.{list_all, flat_map}
 use Rattle.std.specs.Cmp.{first_so, second_so, ranked, nat_cmp_is}
@@ -7,14 +7,14 @@ use Rattle.std.specs.Cmp.Lexicographic.{slice_cmp}
 use Rattle.std.specs.Ordering.{nat_cmp, is_le, is_eq, ordering_then, MatchOrdering}
 use Rattle.std.specs.declared.cmp.Ordering.{Ordering}
 use Rattle.std.specs.declared.cmp.Ordering.TheVariants.{Less, Equal, Greater}
-use Rattle.std.proofs.lemmas.Bool.{lt-ltb, ltb-true, leb-true, and_from, true≢false}
+use Rattle.std.proofs.lemmas.Bool.{leb-true, and_from}
 use Rattle.std.proofs.lemmas.Option.{slice_get_within}
 use Rattle.hk_model.specs.declared.names.Name.{Name}
 use Rattle.hk_model.specs.declared.entries.Cap.{Cap}
 use Rattle.hk_model.specs.declared.entries.Entry.{Entry}
 use Rattle.hk_model.specs.State.{State, object, same_name}
 use Rattle.hk_model.specs.Places.{cap_of}
-use Rattle.hk_model.specs.Reaches.{Hop, Reached, reached_by, listed_cap, onward, hop_to, follow, param_reached, reach, IsReach}
+use Rattle.hk_model.specs.Reaches.{Hop, Reached, reached_by, listed_cap, onward, hop_to, follow, param_reached, IsReach}
 use Rattle.hk_model.specs.Changes.{hop_key, reach_key, is_at_most, IsLeastReach}
 
 -- the numbers below one

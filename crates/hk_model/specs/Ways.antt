@@ -1,5 +1,5 @@
 -- What a call writes where: the way in which each entry comes. docs/RULES.md, "Where entries come from".
-use Rattle.std.specs.Prelude.{◌≡◌, ◌⊎◌, ℕ, zero, suc, Bool, true, not, List, [], ◌∷◌, length, Option, Some, None, Ok, if◌then◌else◌, bit_and}
+use Rattle.std.specs.Prelude.{◌≡◌, ◌⊎◌, ℕ, zero, suc, Bool, true, not, List, [], ◌∷◌, length, Option, Some, None, IsSome, Ok, if◌then◌else◌, bit_and}
 use Rattle.std.specs.Option.{option_and_then}
 use Rattle.hk_model.specs.declared.names.Name.{Name}
 use Rattle.hk_model.specs.declared.names.Inc.{Inc}
@@ -181,3 +181,12 @@ abbrev pub IsWritable : State → Inc → Option Call → Place → Type 0
 IsWritable s inc c (SlotOf i n) =
     (i ≡ inc) ⊎ (((enters_call c ≡ true) × (i ≡ s.next_inc)) ⊎ ((leaves_call c ≡ true) × ((incarnation s inc).caller ≡ Some i)))
 IsWritable s inc c (EntryOf name index) = ((makes_object c ≡ true) × (name ≡ s.next_name)) ⊎ IsModified s inc c name
+
+-- what a call that nothing refuses has written, everywhere: by the ways of the places, and where it may
+pub record IsWrittenBy (s : State) (inc : Inc) (c : Call) (t : State) : Type 0 where
+  pub entries : (p : Place) → Wrote s inc (standing s p) (way s inc c p) (standing t p)
+  pub places : (p : Place) → IsSome (way s inc c p) → IsWritable s inc (Some c) p
+
+-- what a line has written, everywhere
+abbrev pub IsWrittenByLine : State → Line → State → Type 0
+IsWrittenByLine s line t = (p : Place) → Wrote s line.inc (standing s p) (line_way s line p) (standing t p)
