@@ -2,3 +2,4 @@ mod RowParts
 mod KernelRows
 mod LeastReaches
 mod LawRows
+pub mod ReachRules
