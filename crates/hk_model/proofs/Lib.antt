@@ -1,3 +1,8 @@
 mod ScriptRows
 pub mod RecordRows
 mod VerdictRows
+mod RowParts
+mod KernelRows
+mod LeastReaches
+mod LawRows
+pub mod ReachRules

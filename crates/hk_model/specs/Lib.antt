@@ -38,3 +38,13 @@ pub mod LineRanges
 pub mod Audits
 pub mod Verdicts
 pub mod Generated
+pub mod Places
+pub mod Lines
+pub mod Ways
+pub mod Origins
+pub mod Descent
+pub mod Under
+pub mod Reaches
+pub mod Confinement
+pub mod Changes
+pub mod Marks

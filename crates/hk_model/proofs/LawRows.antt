@@ -1,0 +1,261 @@
+-- Worked rows of the laws: chains, marks, reaches and changes of small worlds.
+use Rattle.std.specs.Prelude.{◌≡◌, ℕ, List, [], ◌∷◌, Some, None, true, false, take, refl}
+use Rattle.std.proofs.Common.{lit≤}
+use Rattle.hk_model.specs.declared.entries.Entry.TheVariants.{Empty, Form}
+use Rattle.hk_model.specs.declared.entries.Template.TheVariants as template
+use Rattle.hk_model.specs.declared.calls.Call.TheVariants as call
+use Rattle.hk_model.specs.declared.calls.Reply.TheVariants.{Done, Word, No}
+use Rattle.hk_model.specs.declared.calls.Refusal.TheVariants as refused
+use Rattle.hk_model.specs.declared.instructions.Instr.TheVariants as instr
+use Rattle.hk_model.specs.declared.instructions.Operand.TheVariants.{Number}
+use Rattle.hk_model.specs.declared.world.Kind.TheVariants as kind
+use Rattle.hk_model.specs.declared.lines.Line.{Line}
+use Rattle.hk_rights.specs.Rights.{first_missing, right_numbers, right_table}
+use Rattle.hk_model.specs.Setup.{Setup}
+use Rattle.hk_model.specs.Opening.{opening}
+use Rattle.hk_model.specs.Control.{next, next_from, after}
+use Rattle.hk_model.specs.Rule.{get_word, put_word, add_word, store_entry, append_entry, create_object, merge_cap, enter_procedure, leave}
+use Rattle.hk_model.specs.Running.{AreStepsOf, opened, step, state_at}
+use Rattle.hk_model.specs.Places.{Place, SlotOf, EntryOf, passed}
+use Rattle.hk_model.specs.Origins.{ByCreate}
+use Rattle.hk_model.specs.Descent.{Gate, Opened, MadeAt, Link, chains}
+use Rattle.hk_model.specs.Under.{is_made_under, parameters}
+use Rattle.hk_model.specs.Reaches.{Hop, IsReach, IsModifiable}
+use Rattle.hk_model.specs.Changes.{Made, Param, AreChanges, touches}
+use Rattle.hk_model.specs.Marks.{marks}
+use Rattle.hk_model.proofs.LeastReaches.{least_reach}
+use Rattle.hk_model.proofs.RowParts.{name, inc, slot, cap, route, object_line, procedure_line, code_line, process_line, dispatch, dispatch_in, line, line_of_process, return_line}
+
+abbrev slot_of : ℕ → ℕ → Place
+slot_of i n = SlotOf (inc i) n
+
+-- a procedure that amplifies what its caller may not read
+abbrev amplifying : Setup
+amplifying = record {
+  limit = 10000;
+  objects =
+      record { label = []; kind = kind.TypeObject }
+      ∷ object_line 7 (42 ∷ []) []
+      ∷ procedure_line 0 (record { of = Some (name 7); check = 0; give = 0x200 } ∷ []) (Form (template.Amplify (Some (name 7)) 0 0x1) ∷ [])
+      ∷ [];
+  codes =
+      code_line (instr.Merge (route (1 ∷ [])) (slot 0) (slot 2) ∷ instr.Get (route (2 ∷ [])) (Number 0) 0 ∷ [])
+      ∷ code_line (instr.Get (route (0 ∷ [])) (Number 0) 0 ∷ instr.Enter (route (1 ∷ [])) (0 ∷ []) (slot 2) ∷ [])
+      ∷ [];
+  tasks = process_line 1 (cap 8 0x200 ∷ cap 9 0x10000 ∷ []) ∷ [];
+}
+
+abbrev amplifying_lines : List Line
+amplifying_lines =
+    dispatch 0
+    ∷ line 0 (call.Get (0 ∷ []) 0) (No (refused.Denied 0 0))
+    ∷ line 0 (call.Enter (1 ∷ []) (0 ∷ []) (slot 2)) Done
+    ∷ line 1 (call.Merge (1 ∷ []) (slot 0) (slot 2)) Done
+    ∷ line 1 (call.Get (2 ∷ []) 0) (Word 42)
+    ∷ return_line 1
+    ∷ return_line 0
+    ∷ []
+
+amplifying-steps : AreStepsOf amplifying amplifying_lines
+unfolding opened opening step next next_from after get_word merge_cap enter_procedure leave first_missing right_numbers right_table
+amplifying-steps = (refl, (refl, (refl, (refl, (refl, (refl, (refl, tt)))))))
+
+-- the gate of a template for the type 7, which an object of that type came through
+abbrev stack_gate : ℕ → Gate
+stack_gate give = record { form = record { of = Some (name 7); check = 0; give = give }; of = name 7 }
+
+-- the merged capability comes from the parameter by the merge, and that from the caller's slot by the call
+chain-through-a-merge-and-a-parameter : chains amplifying (take 4 amplifying_lines) (slot_of 1 2) ≡
+    Link 4 (slot_of 1 0) (cap 8 0x200) (Some (stack_gate 0x1)) (Link 3 (slot_of 0 0) (cap 8 0x200) (Some (stack_gate 0x200)) (Opened (slot_of 0 0)))
+unfolding opened opening step next next_from after get_word merge_cap enter_procedure leave first_missing right_numbers right_table
+chain-through-a-merge-and-a-parameter = refl
+
+-- a confined call changes an object that its parameter leads to over two lists
+abbrev reaching : Setup
+reaching = record {
+  limit = 10000;
+  objects =
+      object_line 1 (7 ∷ []) []
+      ∷ object_line 2 [] (cap 7 0x702 ∷ [])
+      ∷ object_line 2 [] (cap 8 0x708 ∷ [])
+      ∷ procedure_line 0 (record { of = Some (name 2); check = 0x8; give = 0x508 } ∷ []) []
+      ∷ [];
+  codes =
+      code_line (instr.Put (route (0 ∷ 0 ∷ 0 ∷ [])) (Number 0) (Number 9) ∷ [])
+      ∷ code_line (instr.Enter (route (1 ∷ [])) (0 ∷ []) (slot 2) ∷ [])
+      ∷ [];
+  tasks = process_line 1 (cap 9 0x708 ∷ cap 10 0x10000 ∷ []) ∷ [];
+}
+
+abbrev reaching_lines : List Line
+reaching_lines =
+    dispatch 0
+    ∷ line 0 (call.Enter (1 ∷ []) (0 ∷ []) (slot 2)) Done
+    ∷ line 1 (call.Put (0 ∷ 0 ∷ 0 ∷ []) 0 9) Done
+    ∷ return_line 1
+    ∷ return_line 0
+    ∷ []
+
+reaching-steps : AreStepsOf reaching reaching_lines
+unfolding opened opening step next next_from after put_word enter_procedure leave first_missing right_numbers right_table
+reaching-steps = (refl, (refl, (refl, (refl, (refl, tt)))))
+
+-- the places that the walk of the change passes
+passed-places : passed (state_at reaching reaching_lines 2) (inc 1) (0 ∷ 0 ∷ 0 ∷ []) ≡ slot_of 1 0 ∷ EntryOf (name 9) 0 ∷ EntryOf (name 8) 0 ∷ []
+unfolding opened opening step next next_from after put_word enter_procedure leave first_missing right_numbers right_table
+passed-places = refl
+
+-- the parameter, which lacks ENV, is marked while its call lives, and not after
+parameter-is-marked : marks reaching reaching_lines 2 (inc 1) 0 3 (slot_of 1 0) ≡ true
+unfolding opened opening step next next_from after put_word enter_procedure leave first_missing right_numbers right_table
+parameter-is-marked = refl
+
+mark-goes-with-the-call : marks reaching reaching_lines 2 (inc 1) 0 4 (slot_of 1 0) ≡ false
+unfolding opened opening step next next_from after put_word enter_procedure leave first_missing right_numbers right_table
+mark-goes-with-the-call = refl
+
+-- a hop by an entry
+abbrev entry_hop : ℕ → ℕ → Hop
+entry_hop index moment = record { index = index; moment = moment; handed = false }
+
+abbrev two_hops : List Hop
+two_hops = entry_hop 0 2 ∷ entry_hop 0 2 ∷ []
+
+object-is-reached-by-two-hops : IsReach (state_at reaching reaching_lines) (is_made_under reaching reaching_lines 2 (inc 1)) (parameters reaching reaching_lines 2 (inc 1)) 2 (λ there. there.modify) 2 (name 7) 0 two_hops
+unfolding opened opening step next next_from after put_word enter_procedure leave first_missing right_numbers right_table
+object-is-reached-by-two-hops = record { there = record { name = name 7; modify = true; unconf = true; moment = 2 }; leads = refl; same = refl; good = refl; by_then = lit≤ tt }
+
+reached-object-is-modifiable : IsModifiable reaching reaching_lines 2 (inc 1) 2 (name 7)
+unfolding opened opening step next next_from after put_word enter_procedure leave first_missing right_numbers right_table
+reached-object-is-modifiable = record { param = 0; hops = two_hops; is = object-is-reached-by-two-hops }
+
+-- the change is explained by those two hops, which are the least reach
+change-through-two-lists : AreChanges reaching reaching_lines (record { line = 3; under = inc 1; object = name 7; reach = Param 0 two_hops } ∷ [])
+unfolding opened opening step next next_from after put_word enter_procedure leave first_missing right_numbers right_table
+change-through-two-lists = (
+  record {
+    line = refl;
+    under = refl;
+    object = refl;
+    reason = (refl, least_reach (state_at reaching reaching_lines) (is_made_under reaching reaching_lines 2 (inc 1)) 2 (name 7) (parameters reaching reaching_lines 2 (inc 1)) 2 0 two_hops object-is-reached-by-two-hops refl);
+  },
+  tt,
+)
+
+-- a confined call changes an object that it has made, and returns it
+abbrev making : Setup
+making = record {
+  limit = 10000;
+  objects = procedure_line 0 [] (Form (template.Create (name 1) 0x305) ∷ []) ∷ [];
+  codes =
+      code_line (instr.Create (route (0 ∷ [])) (slot 1) ∷ instr.Add (route (1 ∷ [])) (Number 5) ∷ instr.Leave (Some (slot 1)) ∷ [])
+      ∷ code_line (instr.Enter (route (0 ∷ [])) [] (slot 1) ∷ instr.Get (route (1 ∷ [])) (Number 0) 0 ∷ [])
+      ∷ [];
+  tasks = process_line 1 (cap 7 0x10000 ∷ []) ∷ [];
+}
+
+abbrev making_lines : List Line
+making_lines =
+    dispatch 0
+    ∷ line 0 (call.Enter (0 ∷ []) [] (slot 1)) Done
+    ∷ line 1 (call.Create (0 ∷ []) (slot 1)) Done
+    ∷ line 1 (call.Add (1 ∷ []) 5) Done
+    ∷ line 1 (call.Leave (Some (slot 1))) Done
+    ∷ line 0 (call.Get (1 ∷ []) 0) (Word 5)
+    ∷ return_line 0
+    ∷ []
+
+making-steps : AreStepsOf making making_lines
+unfolding opened opening step next next_from after get_word add_word create_object enter_procedure leave first_missing right_numbers right_table
+making-steps = (refl, (refl, (refl, (refl, (refl, (refl, (refl, tt)))))))
+
+-- what was returned comes from the callee's slot, and was made there
+chain-of-a-made-object : chains making making_lines (slot_of 0 1) ≡
+    Link 5 (slot_of 1 1) (cap 8 0x305) None (MadeAt 3 (ByCreate (name 8)) (Form (template.Create (name 1) 0x305)))
+unfolding opened opening step next next_from after get_word add_word create_object enter_procedure leave first_missing right_numbers right_table
+chain-of-a-made-object = refl
+
+-- the change is explained by the making
+change-of-a-made-object : AreChanges making making_lines (record { line = 4; under = inc 1; object = name 8; reach = Made } ∷ [])
+unfolding opened opening step next next_from after get_word add_word create_object enter_procedure leave first_missing right_numbers right_table
+change-of-a-made-object = (record { line = refl; under = refl; object = refl; reason = refl }, tt)
+
+-- a confined call hands a new object over, and another process stores a capability there
+abbrev handing : Setup
+handing = record {
+  limit = 10000;
+  objects =
+      object_line 2 [] (Empty ∷ [])
+      ∷ object_line 1 (1 ∷ []) []
+      ∷ procedure_line 0 (record { of = Some (name 2); check = 0x10; give = 0x110 } ∷ []) (Form (template.Create (name 2) 0x738) ∷ [])
+      ∷ [];
+  codes =
+      code_line (instr.Create (route (1 ∷ [])) (slot 2) ∷ instr.Store (route (0 ∷ [])) (Number 0) (slot 2) ∷ instr.Yield ∷ instr.Put (route (2 ∷ 0 ∷ [])) (Number 0) (Number 5) ∷ [])
+      ∷ code_line (instr.Enter (route (1 ∷ [])) (0 ∷ []) (slot 2) ∷ [])
+      ∷ code_line (instr.Append (route (0 ∷ 0 ∷ [])) (slot 1) ∷ [])
+      ∷ [];
+  tasks = process_line 1 (cap 7 0x310 ∷ cap 9 0x10000 ∷ []) ∷ process_line 2 (cap 7 0x608 ∷ cap 8 0x702 ∷ []) ∷ [];
+}
+
+abbrev handing_lines : List Line
+handing_lines =
+    dispatch 0
+    ∷ line 0 (call.Enter (1 ∷ []) (0 ∷ []) (slot 2)) Done
+    ∷ line 2 (call.Create (1 ∷ []) (slot 2)) Done
+    ∷ line 2 (call.Store (0 ∷ []) 0 (slot 2)) Done
+    ∷ line 2 call.Yield Done
+    ∷ dispatch 1
+    ∷ line_of_process 1 1 (call.Append (0 ∷ 0 ∷ []) (slot 1)) Done
+    ∷ line_of_process 1 1 (call.Leave None) Done
+    ∷ dispatch_in 0 2
+    ∷ line 2 (call.Put (2 ∷ 0 ∷ []) 0 5) Done
+    ∷ return_line 2
+    ∷ return_line 0
+    ∷ []
+
+handing-steps : AreStepsOf handing handing_lines
+unfolding opened opening step next next_from after put_word store_entry append_entry create_object enter_procedure leave first_missing right_numbers right_table
+handing-steps = (refl, (refl, (refl, (refl, (refl, (refl, (refl, (refl, (refl, (refl, (refl, (refl, tt))))))))))))
+
+-- two objects are changed under the call
+handing-touches : touches handing handing_lines ≡
+    record { moment = 3; under = record { call = inc 2; moment = 2 }; object = name 7 }
+    ∷ record { moment = 9; under = record { call = inc 2; moment = 2 }; object = name 8 }
+    ∷ []
+unfolding opened opening step next next_from after put_word store_entry append_entry create_object enter_procedure leave first_missing right_numbers right_table
+handing-touches = refl
+
+-- the second change is explained by the new object, which was handed to the parameter's list, and its entry
+abbrev handed_hops : List Hop
+handed_hops = record { index = 0; moment = 4; handed = true } ∷ entry_hop 0 7 ∷ []
+
+hub-is-reached : IsReach (state_at handing handing_lines) (is_made_under handing handing_lines 2 (inc 2)) (parameters handing handing_lines 2 (inc 2)) 2 (λ there. there.modify) 3 (name 7) 0 []
+unfolding opened opening step next next_from after put_word store_entry append_entry create_object enter_procedure leave first_missing right_numbers right_table
+hub-is-reached = record { there = record { name = name 7; modify = true; unconf = false; moment = 2 }; leads = refl; same = refl; good = refl; by_then = lit≤ tt }
+
+object-is-reached-over-a-handed-hop : IsReach (state_at handing handing_lines) (is_made_under handing handing_lines 2 (inc 2)) (parameters handing handing_lines 2 (inc 2)) 2 (λ there. there.modify) 9 (name 8) 0 handed_hops
+unfolding opened opening step next next_from after put_word store_entry append_entry create_object enter_procedure leave first_missing right_numbers right_table
+object-is-reached-over-a-handed-hop = record { there = record { name = name 8; modify = true; unconf = true; moment = 7 }; leads = refl; same = refl; good = refl; by_then = lit≤ tt }
+
+changes-of-a-new-object-handed-over : AreChanges handing handing_lines (
+    record { line = 4; under = inc 2; object = name 7; reach = Param 0 [] }
+    ∷ record { line = 10; under = inc 2; object = name 8; reach = Param 0 handed_hops }
+    ∷ [])
+unfolding opened opening step next next_from after put_word store_entry append_entry create_object enter_procedure leave first_missing right_numbers right_table
+changes-of-a-new-object-handed-over = (
+  record {
+    line = refl;
+    under = refl;
+    object = refl;
+    reason = (refl, least_reach (state_at handing handing_lines) (is_made_under handing handing_lines 2 (inc 2)) 3 (name 7) (parameters handing handing_lines 2 (inc 2)) 2 0 [] hub-is-reached refl);
+  },
+  (
+    record {
+      line = refl;
+      under = refl;
+      object = refl;
+      reason = (refl, least_reach (state_at handing handing_lines) (is_made_under handing handing_lines 2 (inc 2)) 9 (name 8) (parameters handing handing_lines 2 (inc 2)) 2 0 handed_hops object-is-reached-over-a-handed-hop refl);
+    },
+    tt,
+  ),
+)

@@ -1,0 +1,110 @@
+-- The changes under confined calls, each with its reason. docs/RULES.md, "Changes and their reasons".
+use Rattle.std.specs.Prelude.{◌≡◌, ℕ, ◌+◌, Bool, true, false, IsTrue, List, [], ◌∷◌, ◌++◌, length, Some, None, map, filter}
+use Rattle.std.specs.List.{flat_map}
+use Rattle.std.specs.Ordering.{nat_cmp, is_le}
+use Rattle.std.specs.Cmp.Lexicographic.{slice_cmp}
+use Rattle.hk_model.specs.declared.names.Name.{Name}
+use Rattle.hk_model.specs.declared.names.Inc.{Inc}
+use Rattle.hk_model.specs.declared.entries.Entry.{Entry}
+use Rattle.hk_model.specs.declared.lines.Line.{Line}
+use Rattle.hk_model.specs.Setup.{Setup}
+use Rattle.hk_model.specs.State.{State, incarnation}
+use Rattle.hk_model.specs.Running.{opened, state_at}
+use Rattle.hk_model.specs.Lines.{done_call, enters_call, changed, told}
+use Rattle.hk_model.specs.Under.{is_under, is_made_under, parameters}
+use Rattle.hk_model.specs.Reaches.{Hop, IsReach}
+
+-- what the order of reaches looks at, hop by hop: the moment, the index, and an entry before what is handed
+abbrev pub hop_key : Hop → List ℕ
+hop_key hop = hop.moment ∷ hop.index ∷ (elim hop.handed [ true ↦ 1 | false ↦ 0 ]) ∷ []
+
+-- the fewest hops come first, then the least parameter, then the hops in their order
+abbrev pub reach_key : ℕ → List Hop → List ℕ
+reach_key param hops = length hops ∷ param ∷ flat_map hop_key hops
+
+-- one list of numbers is the other or comes before it, where they first differ
+abbrev pub is_at_most : List ℕ → List ℕ → Bool
+is_at_most a b = is_le (slice_cmp nat_cmp a b)
+
+-- the parameter and the hops lead to the object, which stands good for the modifiable reach, and no others that do come
+-- before them
+pub record IsLeastReach (at : ℕ → State) (made : Name → Bool) (params : List Entry) (k moment : ℕ) (name : Name) (param : ℕ) (hops : List Hop) : Type 0 where
+  pub is : IsReach at made params k (λ there. there.modify) moment name param hops
+  pub least : (other : ℕ) (others : List Hop) → IsReach at made params k (λ there. there.modify) moment name other others → IsTrue (is_at_most (reach_key param hops) (reach_key other others))
+
+-- a call that begins at a moment
+pub record Beginning : Type 0 where
+  pub call : Inc
+  pub moment : ℕ
+
+-- one more confined call begins where a line enters a procedure and the incarnation that it makes is confined
+abbrev pub confined_by : State → Line → State → List Beginning → List Beginning
+confined_by s line t calls = elim (enters_call (done_call line)) [
+  | true ↦ elim (incarnation t s.next_inc).confined [
+    | true ↦ calls ++ record { call = s.next_inc; moment = t.events } ∷ []
+    | false ↦ calls
+  ]
+  | false ↦ calls
+]
+
+-- the confined calls of a history, by rising incarnation
+abbrev pub confined_calls : Setup → List Line → List Beginning
+confined_calls w lines = told confined_by w (opened w) lines []
+
+-- the line at a moment changes an object under a confined call
+pub record Touch : Type 0 where
+  pub moment : ℕ
+  pub under : Beginning
+  pub object : Name
+
+-- those calls that the incarnation of a line is under
+abbrev pub calls_over : Setup → List Line → List Beginning → Line → List Beginning
+calls_over w lines calls line = filter (λ (b : Beginning). is_under w lines b.moment b.call line.inc) calls
+
+-- the changes by one more line: for each confined call that its incarnation is under, by rising call
+abbrev pub touched_by : Setup → List Line → List Beginning → State → Line → State → List Touch → List Touch
+touched_by w lines calls s line t touches = elim (changed s line) [
+  | None ↦ touches
+  | Some name ↦ touches ++ map (λ b. record { moment = s.events; under = b; object = name }) (calls_over w lines calls line)
+]
+
+-- all changes of a history under confined calls, by line and then by call
+abbrev pub touches : Setup → List Line → List Touch
+touches w lines = told (touched_by w lines (confined_calls w lines)) w (opened w) lines []
+
+-- why a call may change an object: it was made under the call, or a parameter and hops lead to it
+pub data Reach : Type 0 where
+  Made : Reach
+  Param : (param : ℕ) (hops : List Hop) → Reach
+
+-- a change with its reason; its line is numbered from 1
+pub record Change : Type 0 where
+  pub line : ℕ
+  pub under : Inc
+  pub object : Name
+  pub reach : Reach
+
+-- the reason of a change: that the object was made under the call, which stands before a reach; or the least reach at the
+-- moment before the line
+abbrev pub IsReason : Setup → List Line → ℕ → Inc → ℕ → Name → Reach → Type 0
+IsReason w lines k call moment name Made = is_made_under w lines k call name ≡ true
+IsReason w lines k call moment name (Param param hops) =
+    (is_made_under w lines k call name ≡ false)
+    × IsLeastReach (state_at w lines) (is_made_under w lines k call) (parameters w lines k call) k moment name param hops
+
+-- the change is this one, with its reason
+pub record IsExplained (w : Setup) (lines : List Line) (touch : Touch) (change : Change) : Type 0 where
+  pub line : change.line ≡ touch.moment + 1
+  pub under : change.under ≡ touch.under.call
+  pub object : change.object ≡ touch.object
+  pub reason : IsReason w lines touch.under.moment touch.under.call touch.moment touch.object change.reach
+
+abbrev pub AreExplained : Setup → List Line → List Touch → List Change → Type 0
+AreExplained w lines [] [] = Unit {0}
+AreExplained w lines (touch ∷ touches) (change ∷ changes) = IsExplained w lines touch change × AreExplained w lines touches changes
+AreExplained w lines [] (change ∷ changes) = ⊥
+AreExplained w lines (touch ∷ touches) [] = ⊥
+
+-- these are the changes of a history under confined calls, in order, each with its reason
+abbrev pub AreChanges : Setup → List Line → List Change → Type 0
+AreChanges w lines changes = AreExplained w lines (touches w lines) changes
