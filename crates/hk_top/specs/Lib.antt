@@ -1,1 +1,3 @@
 pub mod SmallScripts
+pub mod SmallRuns
+pub mod SmallLines
