@@ -1,1 +1,2 @@
+mod SmallReads
 mod SmallSteps

@@ -1,9 +1,10 @@
 -- The steps of the world of a small script: a dispatch, each read, and the return.
-use Rattle.std.proofs.Common.{◌≡◌, ℕ, ◌+◌, ◌<◌, ◌≤◌, Bool, true, false, List, [], ◌∷◌, ◌++◌, length, replicate, zero, suc, ◌-◌, Option, Some, None, Result, Ok, Err, refl, sym, ◌∙◌, ap, arith}
-use Rattle.std.specs.Prelude.{slice_get, slice_set, nat_lt, map, option_map, if◌then◌else◌}
+use Rattle.std.proofs.Common.{◌≡◌, ℕ, ◌+◌, ◌<◌, ◌≤◌, Bool, true, false, List, [], ◌∷◌, ◌++◌, length, replicate, zero, suc, ◌-◌, Option, Some, None, Result, Ok, Err, refl, sym, subst, ◌∙◌, ap, arith}
+use Rattle.std.specs.Prelude.{All, slice_get, slice_set, nat_lt, map, option_map, if◌then◌else◌}
 use Rattle.std.proofs.lemmas.Bool.Decides.{nat_tests}
-use Rattle.std.proofs.lemmas.Option.{slice_get-map, slice_get-get_or, slice_get_within}
-use Rattle.std.proofs.lemmas.List.{get_or-replicate, length-replicate, length-map}
+use Rattle.std.proofs.lemmas.Option.{slice_get-map, slice_get-get_or, slice_get_within, slice_get_past}
+use Rattle.std.proofs.lemmas.List.{length-append}
+use Rattle.std.proofs.lemmas.List.Elements.{All-nil, All-cons, All-push}
 use Rattle.hk_model.specs.declared.names.Inc.{Inc}
 use Rattle.hk_model.specs.declared.calls.Call.{Call}
 use Rattle.hk_model.specs.declared.calls.Call.TheVariants as call
@@ -22,7 +23,7 @@ use Rattle.hk_model.specs.declared.entries.Entry.TheVariants.{Empty, Held, Form}
 use Rattle.hk_model.specs.declared.calls.Refusal.{Refusal}
 use Rattle.hk_model.specs.declared.calls.Refusal.TheVariants as refused
 use Rattle.hk_model.specs.declared.calls.Answer.TheVariants as answer
-use Rattle.hk_model.specs.Limits.{slot_limit, local_limit, usual_limit}
+use Rattle.hk_model.specs.Limits.{slot_limit, local_limit, usual_limit, code_limit}
 use Rattle.hk_model.specs.Refusing.{◌>>=◌, ◌>>◌, unless, allowed, item_at}
 use Rattle.hk_model.specs.Walking.{held, walk}
 use Rattle.hk_rights.specs.Rights.{GETDATA}
@@ -41,11 +42,9 @@ use Rattle.std.specs.Option.{unwrap_or}
 use Rattle.hk_top.specs.declared.small.Read.{Read}
 use Rattle.hk_top.specs.declared.small.SmallScript.{SmallScript}
 use Rattle.hk_top.specs.SmallScripts.{world_of, get_instr, cap_entry, the_object}
-use Rattle.hk_top.specs.SmallRuns.{the_process, the_base, the_processor, running_state}
-
--- the line of an event of the one process
-abbrev pub small_line : What → Reply → Line
-small_line event reply = record { cpu = the_processor; proc = the_process; inc = the_base; what = event; reply = reply }
+use Rattle.hk_top.proofs.SmallReads.{get_word_keeps}
+use Rattle.hk_top.specs.SmallLines.{IsSmallLine}
+use Rattle.hk_top.specs.SmallRuns.{the_process, the_base, the_processor, running_state, slot_entry, small_line, read_call}
 
 -- ---- the dispatch
 
@@ -59,87 +58,6 @@ pub dispatch_step : (script : SmallScript)
 unfolding step opened opening
 dispatch_step script = refl
 
--- ---- a read
-
--- a capability for the object
-abbrev object_cap : ℕ → Cap
-object_cap rights = record { name = the_object; rights = rights }
-
--- what a slot below 64 holds, where the process has these rights
-abbrev pub slot_entry : Option ℕ → Entry
-slot_entry None = Empty
-slot_entry (Some rights) = cap_entry rights
-
-item_at-there : {A : Type 0} (items : List A) (at number : ℕ) (x : A) → slice_get items at ≡ Some x → item_at items at number ≡ Ok x
-item_at-there {A} items at number x there = by (slice_get items at) there
-  where
-    by : (o : Option A) → o ≡ Some x → elim o as (λ _. Result A Refusal) [ None ↦ Err (refused.Range number) | Some y ↦ Ok y ] ≡ Ok x
-    by None e = absurd (cc)
-    by (Some y) e = ap Ok (cc)
-
-padded-there : (rights : List ℕ) (free slot : ℕ) → slot < length rights + free
-    → slice_get (map cap_entry rights ++ replicate free Empty) slot ≡ Some (slot_entry (slice_get rights slot))
-padded-there [] free slot low =
-    let within : slot < free = omega arith in
-    let all : slot < length (replicate free Empty) = omega (arith, length-replicate free Empty) in
-    slice_get-get_or (replicate free Empty) slot Empty all ∙ ap Some (get_or-replicate free slot Empty Empty within)
-padded-there (r ∷ rights) free zero low = refl
-padded-there (r ∷ rights) free (suc slot) low = padded-there rights free slot (omega arith)
-
-slot-there : (rights : List ℕ) (slot : ℕ) → length rights ≤ slot_limit → slot < slot_limit
-    → slice_get (base_of the_process (map cap_entry rights)).slots slot ≡ Some (slot_entry (slice_get rights slot))
-slot-there rights slot few low =
-    padded-there rights (slot_limit - length (map cap_entry rights)) slot (omega (arith, length-map rights cap_entry))
-
--- a walk to a slot leads to what the slot holds
-pub walk-slot : (script : SmallScript) (events slot : ℕ) → length script.rights ≤ slot_limit → slot < slot_limit
-    → walk (running_state script events) the_base (slot ∷ []) ≡ Ok (slot_entry (slice_get script.rights slot))
-unfolding opening
-walk-slot script events slot few low =
-    let there : item_at (base_of the_process (map cap_entry script.rights)).slots slot 0 ≡ Ok (slot_entry (slice_get script.rights slot)) =
-        item_at-there (base_of the_process (map cap_entry script.rights)).slots slot 0 _ (slot-there script.rights slot few low) in
-    ap (λ r. r >>= (λ entry. Ok entry)) there
-
-abbrev word_of : State → ℕ → Outcome
-word_of s word = Ok (answer.Word word, s)
-
--- a test before a value, and what follows the value
-then_both : (test : Result (Unit {0}) Refusal) (cap : Cap) (f : Cap → Outcome) → ((test >> Ok cap) >>= f) ≡ (test >> f cap)
-then_both (Ok x) cap f = refl
-then_both (Err refusal) cap f = refl
-
--- what a read is answered, where the slot holds this
-abbrev pub read_of : SmallScript → State → Entry → ℕ → Outcome
-read_of script s entry at =
-    held entry 0 >>= (λ cap. allowed cap.rights GETDATA 0 >> (item_at script.words at 1 >>= (word_of s)))
-
--- the read of a slot goes by what the slot holds
-pub get_word-is : (script : SmallScript) (events slot at : ℕ) → length script.rights ≤ slot_limit → slot < slot_limit
-    → get_word (running_state script events) the_base (slot ∷ []) at ≡ read_of script (running_state script events) (slot_entry (slice_get script.rights slot)) at
-unfolding get_word opening
-get_word-is script events slot at few low =
-    let s = running_state script events in
-    let walked = walk-slot script events slot few low in
-    ap (λ r. (r >>= (λ entry. held entry 0 >>= (λ cap. unless (is_general (object s cap.name).of) (refused.WrongType 0) >> (allowed cap.rights GETDATA 0 >> Ok cap)))) >>= (λ cap. item_at (object s cap.name).words at 1 >>= (word_of s))) walked
-    ∙ by_entry (slice_get script.rights slot)
-  where
-    by_entry : (o : Option ℕ) → ((held (slot_entry o) 0 >>= (λ cap. unless (is_general (object (running_state script events) cap.name).of) (refused.WrongType 0) >> (allowed cap.rights GETDATA 0 >> Ok cap))) >>= (λ cap. item_at (object (running_state script events) cap.name).words at 1 >>= (word_of (running_state script events)))) ≡ read_of script (running_state script events) (slot_entry o) at
-    by_entry None = refl
-    by_entry (Some rights) =
-        then_both (allowed rights GETDATA 0) (object_cap rights) (λ cap. item_at (object (running_state script events) cap.name).words at 1 >>= word_of (running_state script events))
-
--- a read changes nothing but the number of events
-pub get_word_keeps : (s : State) (inc : Inc) (path : List ℕ) (at : ℕ) → (settled s (get_word s inc path at)).1 ≡ counted (s.events + 1) s
-unfolding get_word
-get_word_keeps s inc path at = by_cap (target s inc path is_general GETDATA)
-  where
-    by_word : (r : Result ℕ Refusal) → (settled s (r >>= word_of s)).1 ≡ counted (s.events + 1) s
-    by_word (Ok word) = refl
-    by_word (Err refusal) = refl
-    by_cap : (r : Result Cap Refusal) → (settled s (r >>= (λ cap. item_at (object s cap.name).words at (length path) >>= word_of s))).1 ≡ counted (s.events + 1) s
-    by_cap (Ok cap) = by_word (item_at (object s cap.name).words at (length path))
-    by_cap (Err refusal) = refl
-
 -- ---- control
 
 -- the frame of the one code, at an instruction
@@ -149,9 +67,6 @@ frame_at at registers refused = record { code = 0; at = at; registers = register
 -- the instructions of the one code
 abbrev pub small_steps : SmallScript → List Instr
 small_steps script = map get_instr script.reads
-
-abbrev pub read_call : Read → Call
-read_call read = call.Get (read.slot.0 ∷ []) read.at
 
 next_from-calls : (budget : ℕ) (steps : List Instr) (f : Frame) (c : Call) → next_from budget steps f (Calls c) ≡ (Do c, f)
 unfolding next_from
@@ -271,13 +186,13 @@ step_gives : (w : Setup) (m next : Machine) (line : Line) → step w m line.cpu 
 step_gives w m next line e =
     (ap (option_map (λ (found : Line × Machine). found.0)) e, ap (λ (o : Option (Line × Machine)). unwrap_or (option_map (λ found. found.1) o) m) e)
 
--- the lines are the run up to the read number k
+-- the lines are steps up to the read number k, and lead there
 pub record HasRun (script : SmallScript) (k : ℕ) (lines : List Line) : Type 0 where
   pub steps : AreStepsOf (world_of script) lines
   pub machine : HasRead script k (after_lines (world_of script) (opened (world_of script)) lines)
 
 -- the run begins with the dispatch
-pub HasRun-dispatch : (script : SmallScript) → HasRun script 0 (small_line what.Dispatch Done ∷ [])
+HasRun-dispatch : (script : SmallScript) → HasRun script 0 (small_line what.Dispatch Done ∷ [])
 HasRun-dispatch script =
     let w = world_of script in
     let gives = step_gives w (opened w) (running_machine script 1 (new_frame 0)) (small_line what.Dispatch Done) (dispatch_step script) in
@@ -306,29 +221,29 @@ machine-frame : (script : SmallScript) (k : ℕ) (lines : List Line) (run : HasR
     ≡ running_machine script (k + 1) (frame_at k run.machine.stands.registers run.machine.stands.refused)
 machine-frame script k lines run = run.machine.is ∙ ap (running_machine script (k + 1)) run.machine.stands.is
 
+-- the line of the read number k
+read_line_is : SmallScript → ℕ → Read → Line
+read_line_is script k read = small_line (what.Call (read_call read)) (rule (running_state script (k + 1)) the_process (read_call read)).0
+
 -- one read more
-pub HasRun-read : (script : SmallScript) (k : ℕ) (lines : List Line) (read : Read) (reply : Reply)
+HasRun-read : (script : SmallScript) (k : ℕ) (lines : List Line) (read : Read)
     → k + 1 < usual_limit → slice_get script.reads k ≡ Some read
-    → reply ≡ (rule (running_state script (k + 1)) the_process (read_call read)).0
-    → HasRun script k lines → HasRun script (k + 1) (lines ++ small_line (what.Call (read_call read)) reply ∷ [])
-unfolding StepsOn
-HasRun-read script k lines read reply below e is run =
+    → HasRun script k lines → HasRun script (k + 1) (lines ++ read_line_is script k read ∷ [])
+unfolding StepsOn read_line_is
+HasRun-read script k lines read below e run =
     let w = world_of script in
     let registers = run.machine.stands.registers in
     let refused = run.machine.stands.refused in
-    let frame = behind w (frame_at k registers refused) reply in
-    let line = small_line (what.Call (read_call read)) reply in
-    let step_is =
-        read_step script k registers refused read below e
-        ∙ ap (λ (r : Reply). Some (small_line (what.Call (read_call read)) r, running_machine script (k + 1 + 1) (behind w (frame_at k registers refused) r))) (sym is) in
-    let on = steps_on script lines line _ (running_machine script (k + 1 + 1) frame) (machine-frame script k lines run) step_is in
+    let line = read_line_is script k read in
+    let frame = behind w (frame_at k registers refused) line.reply in
+    let on = steps_on script lines line _ (running_machine script (k + 1 + 1) frame) (machine-frame script k lines run) (read_step script k registers refused read below e) in
     record {
       steps = AreSteps-push w (opened w) lines line run.steps on.0;
-      machine = record { frame = frame; stands = behind-read script k registers refused read reply e; is = on.1 };
+      machine = record { frame = frame; stands = behind-read script k registers refused read line.reply e; is = on.1 };
     }
 
 -- the return ends the run
-pub HasRun-return : (script : SmallScript) (k : ℕ) (lines : List Line)
+HasRun-return : (script : SmallScript) (k : ℕ) (lines : List Line)
     → k + 1 < usual_limit → slice_get script.reads k ≡ None
     → HasRun script k lines → IsLegal (world_of script) (lines ++ small_line (what.Call (call.Leave None)) Done ∷ []) end.Done
 unfolding StepsOn
@@ -341,3 +256,61 @@ HasRun-return script k lines below e run =
       steps = AreSteps-push w (opened w) lines line run.steps on.0;
       ends = ap (λ (m : Machine). end_word m.state) on.1 ∙ ended_is_done script (k + 1 + 1);
     }
+
+-- ---- for the code of a run
+
+-- the lines are the run up to the read number k
+pub record IsRunTo (script : SmallScript) (k : ℕ) (lines : List Line) : Type 0 where
+  pub run : HasRun script k lines
+  pub small : All IsSmallLine lines
+  pub count : length lines ≡ k + 1
+
+-- the lines are the whole run
+pub record IsRun (script : SmallScript) (lines : List Line) : Type 0 where
+  pub legal : IsLegal (world_of script) lines end.Done
+  pub small : All IsSmallLine lines
+  pub few : length lines ≤ 4098
+
+one_more : (lines : List Line) (line : Line) (n : ℕ) → length lines ≡ n → length (lines ++ line ∷ []) ≡ n + 1
+one_more lines line n e = omega (arith, e, length-append lines (line ∷ []))
+
+pub run_begins : (script : SmallScript) (lines : List Line) → lines ≡ small_line what.Dispatch Done ∷ [] → IsRunTo script 0 lines
+run_begins script lines is =
+    let dispatched : IsSmallLine (small_line what.Dispatch Done) = record { cpu = refl; proc = refl; inc = refl; event = refl } in
+    let begun : IsRunTo script 0 (small_line what.Dispatch Done ∷ []) = record {
+      run = HasRun-dispatch script;
+      small = All-cons IsSmallLine (small_line what.Dispatch Done) [] dispatched (All-nil IsSmallLine);
+      count = refl;
+    } in
+    subst (IsRunTo script 0) (sym is) begun
+
+pub run_reads : (script : SmallScript) (k : ℕ) (lines after : List Line) (read : Read) (line : Line)
+    → length script.reads ≤ code_limit → slice_get script.reads k ≡ Some read
+    → ((events : ℕ) → line ≡ small_line (what.Call (read_call read)) (rule (running_state script events) the_process (read_call read)).0) → IsSmallLine line
+    → after ≡ lines ++ line ∷ [] → IsRunTo script k lines → IsRunTo script (k + 1) after
+unfolding read_line_is
+run_reads script k lines after read line few e is small behind run =
+    let within : k < length script.reads = slice_get_within script.reads k read e in
+    let below : k + 1 < usual_limit = omega arith in
+    let same : read_line_is script k read ≡ line = sym (is (k + 1)) in
+    let more : IsRunTo script (k + 1) (lines ++ line ∷ []) = record {
+      run = subst (λ l. HasRun script (k + 1) (lines ++ l ∷ [])) same (HasRun-read script k lines read below e run.run);
+      small = All-push IsSmallLine lines line run.small small;
+      count = one_more lines line (k + 1) run.count;
+    } in
+    subst (IsRunTo script (k + 1)) (sym behind) more
+
+pub run_ends : (script : SmallScript) (k : ℕ) (lines after : List Line)
+    → length script.reads ≤ code_limit → k ≡ length script.reads
+    → after ≡ lines ++ small_line (what.Call (call.Leave None)) Done ∷ [] → IsRunTo script k lines → IsRun script after
+run_ends script k lines after few all is run =
+    let line = small_line (what.Call (call.Leave None)) Done in
+    let below : k + 1 < usual_limit = omega arith in
+    let none : slice_get script.reads k ≡ None = slice_get_past script.reads k (omega arith) in
+    let returned : IsSmallLine (small_line (what.Call (call.Leave None)) Done) = record { cpu = refl; proc = refl; inc = refl; event = (refl, refl) } in
+    let whole : IsRun script (lines ++ small_line (what.Call (call.Leave None)) Done ∷ []) = record {
+      legal = HasRun-return script k lines below none run.run;
+      small = All-push IsSmallLine lines line run.small returned;
+      few = omega (arith, one_more lines line (k + 1) run.count);
+    } in
+    subst (IsRun script) (sym is) whole

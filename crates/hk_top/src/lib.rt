@@ -1,4 +1,6 @@
 //! The commands of `hydra`, from words and bytes to bytes and a status.
 #![tactic(auto)]
 
+mod reading;
+mod run;
 mod small;
