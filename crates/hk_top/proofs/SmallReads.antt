@@ -42,7 +42,7 @@ use Rattle.hk_top.specs.declared.small.Read.{Read}
 use Rattle.hk_top.specs.declared.small.SmallScript.{SmallScript}
 use Rattle.hk_top.specs.SmallScripts.{world_of, get_instr, cap_entry, the_object}
 use Rattle.hk_top.specs.SmallLines.{IsReadRefusal}
-use Rattle.hk_top.specs.SmallRuns.{the_process, the_base, the_processor, running_state, slot_entry}
+use Rattle.hk_top.specs.SmallRuns.{the_process, the_base, the_processor, running_state, slot_entry, replied}
 
 -- a capability for the object
 abbrev object_cap : ℕ → Cap
@@ -135,25 +135,23 @@ get_word_keeps s inc path at = by_cap (target s inc path is_general GETDATA)
 -- ---- for the code of a read
 
 -- what the code of a read gives, by the rule at each number of events
-pub record IsReadOf (script : SmallScript) (slot at : ℕ) (result : Result ℕ Refusal) : Type 0 where
-  pub word : IfOk result (λ word. (events : ℕ) → get_word (running_state script events) the_base (slot ∷ []) at ≡ Ok (answer.Word word, running_state script events))
-  pub refused : IfErr result (λ refusal. (events : ℕ) → get_word (running_state script events) the_base (slot ∷ []) at ≡ Err refusal)
+abbrev pub IsRuled : SmallScript → ℕ → ℕ → Result ℕ Refusal → Type 0
+IsRuled script slot at result = (events : ℕ) → (rule (running_state script events) the_process (call.Get (slot ∷ []) at)).0 ≡ replied result
 
 by_read : (script : SmallScript) (slot at : ℕ) → length script.rights ≤ slot_limit → slot < slot_limit
-    → (result : Result ℕ Refusal) → small_read script slot at ≡ result → IsReadOf script slot at result
-unfolding outcome_of
-by_read script slot at few low (Ok word) e = record {
-  word = λ events. get_word-is script events slot at few low ∙ ap (outcome_of (running_state script events)) e;
-  refused = tt;
-}
-by_read script slot at few low (Err refusal) e = record {
-  word = tt;
-  refused = λ events. get_word-is script events slot at few low ∙ ap (outcome_of (running_state script events)) e;
-}
+    → (result : Result ℕ Refusal) → small_read script slot at ≡ result → IsRuled script slot at result
+unfolding opening outcome_of
+by_read script slot at few low result e events =
+    ap (λ o. (settled (running_state script events) o).0) (get_word-is script events slot at few low ∙ ap (outcome_of (running_state script events)) e)
+    ∙ by result
+  where
+    by : (r : Result ℕ Refusal) → (settled (running_state script events) (outcome_of (running_state script events) r)).0 ≡ replied r
+    by (Ok word) = refl
+    by (Err refusal) = refl
 
 module _ (script : SmallScript) (slot at : ℕ) (few : length script.rights ≤ slot_limit) (low : slot < slot_limit) (entry : Entry) (found : entry ≡ slot_entry (slice_get script.rights slot)) where
   -- no capability is there
-  pub read_unheld : (refusal : Refusal) → held entry 0 ≡ Err refusal → IsReadOf script slot at (Err refusal)
+  pub read_unheld : (refusal : Refusal) → held entry 0 ≡ Err refusal → IsRuled script slot at (Err refusal)
   unfolding small_read read_by
   read_unheld refusal none =
       by_read script slot at few low (Err refusal)
@@ -161,7 +159,7 @@ module _ (script : SmallScript) (slot at : ℕ) (few : length script.rights ≤ 
       ∙ ap (λ h. h >>= read_by script at) none)
 
   -- its rights do not do
-  pub read_denied : (cap : Cap) (refusal : Refusal) → held entry 0 ≡ Ok cap → allowed cap.rights GETDATA 0 ≡ Err refusal → IsReadOf script slot at (Err refusal)
+  pub read_denied : (cap : Cap) (refusal : Refusal) → held entry 0 ≡ Ok cap → allowed cap.rights GETDATA 0 ≡ Err refusal → IsRuled script slot at (Err refusal)
   unfolding small_read read_by
   read_denied cap refusal there denied =
       by_read script slot at few low (Err refusal)
@@ -170,7 +168,7 @@ module _ (script : SmallScript) (slot at : ℕ) (few : length script.rights ≤ 
       ∙ ap (λ t. t >> item_at script.words at 1) denied)
 
   -- the index decides
-  pub read_item : (cap : Cap) (x : Unit {0}) (result : Result ℕ Refusal) → held entry 0 ≡ Ok cap → allowed cap.rights GETDATA 0 ≡ Ok x → item_at script.words at 1 ≡ result → IsReadOf script slot at result
+  pub read_item : (cap : Cap) (x : Unit {0}) (result : Result ℕ Refusal) → held entry 0 ≡ Ok cap → allowed cap.rights GETDATA 0 ≡ Ok x → item_at script.words at 1 ≡ result → IsRuled script slot at result
   unfolding small_read read_by
   read_item cap x result there allowed' is =
       by_read script slot at few low result

@@ -39,12 +39,13 @@ use Rattle.hk_model.specs.declared.lines.End.TheVariants as end
 use Rattle.hk_model.specs.declared.objects.ProcessState.TheVariants.{Ended}
 use Rattle.hk_model.proofs.Appending.{AreSteps-push, after_lines-push}
 use Rattle.std.specs.Option.{unwrap_or}
+use Rattle.std.specs.List.{AllByRecursion}
 use Rattle.hk_top.specs.declared.small.Read.{Read}
 use Rattle.hk_top.specs.declared.small.SmallScript.{SmallScript}
-use Rattle.hk_top.specs.SmallScripts.{world_of, get_instr, cap_entry, the_object}
+use Rattle.hk_top.specs.SmallScripts.{IsRead, IsSmall, world_of, get_instr, cap_entry, the_object}
 use Rattle.hk_top.proofs.SmallReads.{get_word_keeps}
-use Rattle.hk_top.specs.SmallLines.{IsSmallLine}
-use Rattle.hk_top.specs.SmallRuns.{the_process, the_base, the_processor, running_state, slot_entry, small_line, read_call}
+use Rattle.hk_top.specs.SmallLines.{IsSmallLine, IsReadReply}
+use Rattle.hk_top.specs.SmallRuns.{the_process, the_base, the_processor, running_state, slot_entry, small_line, read_call, replied}
 
 -- ---- the dispatch
 
@@ -284,33 +285,44 @@ run_begins script lines is =
     } in
     subst (IsRunTo script 0) (sym is) begun
 
-pub run_reads : (script : SmallScript) (k : ℕ) (lines after : List Line) (read : Read) (line : Line)
-    → length script.reads ≤ code_limit → slice_get script.reads k ≡ Some read
-    → ((events : ℕ) → line ≡ small_line (what.Call (read_call read)) (rule (running_state script events) the_process (read_call read)).0) → IsSmallLine line
+read_in_range : (reads : List Read) (k : ℕ) (read : Read) → AllByRecursion IsRead reads → slice_get reads k ≡ Some read → IsRead read
+read_in_range [] k read all e = absurd (cc)
+read_in_range (r ∷ reads) zero read all e =
+    let same : r ≡ read = cc in
+    subst IsRead same all.0
+read_in_range (r ∷ reads) (suc k) read all e = read_in_range reads k read all.1 e
+
+pub run_reads : (script : SmallScript) (k : ℕ) (lines after : List Line) (read : Read) (line : Line) (answer : Result ℕ Refusal)
+    → IsSmall script → slice_get script.reads k ≡ Some read
+    → ((events : ℕ) → (rule (running_state script events) the_process (read_call read)).0 ≡ replied answer) → IsReadReply (replied answer)
+    → line ≡ small_line (what.Call (read_call read)) (replied answer)
     → after ≡ lines ++ line ∷ [] → IsRunTo script k lines → IsRunTo script (k + 1) after
 unfolding read_line_is
-run_reads script k lines after read line few e is small behind run =
+run_reads script k lines after read line answer is_small e ruled small is behind run =
     let within : k < length script.reads = slice_get_within script.reads k read e in
-    let below : k + 1 < usual_limit = omega arith in
-    let same : read_line_is script k read ≡ line = sym (is (k + 1)) in
+    let below : k + 1 < usual_limit = omega (arith, is_small.few_reads) in
+    let in_range : IsRead read = read_in_range script.reads k read is_small.reads e in
+    let same : read_line_is script k read ≡ line = ap (small_line (what.Call (read_call read))) (ruled (k + 1)) ∙ sym is in
+    let answered : IsSmallLine (small_line (what.Call (read_call read)) (replied answer)) =
+        record { cpu = refl; proc = refl; inc = refl; event = (in_range.0, in_range.1, small) } in
     let more : IsRunTo script (k + 1) (lines ++ line ∷ []) = record {
       run = subst (λ l. HasRun script (k + 1) (lines ++ l ∷ [])) same (HasRun-read script k lines read below e run.run);
-      small = All-push IsSmallLine lines line run.small small;
+      small = All-push IsSmallLine lines line run.small (subst IsSmallLine (sym is) answered);
       count = one_more lines line (k + 1) run.count;
     } in
     subst (IsRunTo script (k + 1)) (sym behind) more
 
 pub run_ends : (script : SmallScript) (k : ℕ) (lines after : List Line)
-    → length script.reads ≤ code_limit → k ≡ length script.reads
+    → IsSmall script → k ≡ length script.reads
     → after ≡ lines ++ small_line (what.Call (call.Leave None)) Done ∷ [] → IsRunTo script k lines → IsRun script after
-run_ends script k lines after few all is run =
+run_ends script k lines after is_small all is run =
     let line = small_line (what.Call (call.Leave None)) Done in
-    let below : k + 1 < usual_limit = omega arith in
+    let below : k + 1 < usual_limit = omega (arith, is_small.few_reads) in
     let none : slice_get script.reads k ≡ None = slice_get_past script.reads k (omega arith) in
     let returned : IsSmallLine (small_line (what.Call (call.Leave None)) Done) = record { cpu = refl; proc = refl; inc = refl; event = (refl, refl) } in
     let whole : IsRun script (lines ++ small_line (what.Call (call.Leave None)) Done ∷ []) = record {
       legal = HasRun-return script k lines below none run.run;
       small = All-push IsSmallLine lines line run.small returned;
-      few = omega (arith, one_more lines line (k + 1) run.count);
+      few = omega (arith, is_small.few_reads, one_more lines line (k + 1) run.count);
     } in
     subst (IsRun script) (sym is) whole

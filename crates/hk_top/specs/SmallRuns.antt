@@ -1,11 +1,13 @@
 -- The states that the world of a small script runs through. docs/FORMATS.md, "Small scripts".
-use Rattle.std.specs.Prelude.{ℕ, [], ◌∷◌, Option, Some, None}
+use Rattle.std.specs.Prelude.{ℕ, [], ◌∷◌, Option, Some, None, Result, Ok, Err}
 use Rattle.hk_model.specs.declared.names.Inc.{Inc}
 use Rattle.hk_model.specs.declared.names.Proc.{Proc}
 use Rattle.hk_model.specs.declared.names.Cpu.{Cpu}
 use Rattle.hk_model.specs.declared.calls.Call.{Call}
 use Rattle.hk_model.specs.declared.calls.Call.TheVariants as call
+use Rattle.hk_model.specs.declared.calls.Refusal.{Refusal}
 use Rattle.hk_model.specs.declared.calls.Reply.{Reply}
+use Rattle.hk_model.specs.declared.calls.Reply.TheVariants.{Word, No}
 use Rattle.hk_model.specs.declared.entries.Entry.{Entry}
 use Rattle.hk_model.specs.declared.entries.Entry.TheVariants.{Empty}
 use Rattle.hk_model.specs.declared.lines.What.{What}
@@ -44,3 +46,8 @@ read_call read = call.Get (read.slot.0 ∷ []) read.at
 -- the line of an event of the one process
 abbrev pub small_line : What → Reply → Line
 small_line event reply = record { cpu = the_processor; proc = the_process; inc = the_base; what = event; reply = reply }
+
+-- the reply to a read that is answered so
+abbrev pub replied : Result ℕ Refusal → Reply
+replied (Ok word) = Word word
+replied (Err refusal) = No refusal

@@ -1,18 +1,17 @@
 //! The kernel of a small script: what its process holds, and the calls that it makes
 //! (`docs/RULES.md`, "The table of the calls").
 
-ghost use Rattle.std.specs.Prelude.{◌≡◌, ℕ, ◌<◌, ◌≤◌, ◌∷◌, [], length, slice_get, Result, Ok, Err, IfOk, IfErr};
+ghost use Rattle.std.specs.Prelude.{◌≡◌, ℕ, ◌<◌, ◌≤◌, ◌∷◌, [], length, slice_get};
 ghost use Rattle.hk_model.specs.declared.calls.Call.TheVariants as call;
-ghost use Rattle.hk_model.specs.declared.calls.Answer.TheVariants as answer;
 ghost use Rattle.hk_model.specs.Limits.{slot_limit};
 ghost use Rattle.hk_model.specs.Refusing.{allowed, item_at};
-ghost use Rattle.hk_model.specs.Walking.{walk, held};
-ghost use Rattle.hk_model.specs.Rule.{get_word, rule};
-ghost use Rattle.hk_top.specs.SmallLines.{IsReadReply, IsReadRefusal};
-ghost use Rattle.hk_top.specs.SmallRuns.{slot_entry, running_state, the_base, the_process};
+ghost use Rattle.hk_model.specs.Walking.{held};
+ghost use Rattle.hk_model.specs.Rule.{rule};
+ghost use Rattle.hk_top.specs.SmallLines.{IsReadReply};
+ghost use Rattle.hk_top.specs.SmallRuns.{slot_entry, replied, running_state, the_process};
 
 use crate::small::SmallScript;
-use hk_model::{Cap, Entry, Name, Refusal, Reply, Slot};
+use hk_model::{Cap, Entry, Name, Refusal, Slot};
 use hk_rights::Rights;
 
 /// The name of the one object, the first behind the kernel types.
@@ -62,28 +61,15 @@ fn word_at(words: &[u32], at: u32, step: u8) -> Result<u32, Refusal>
     }
 }
 
-/// The word that a read replies. The type of the object needs no test: DATA is general.
-fn get(script: &SmallScript, slot: Slot, at: u32) -> Result<u32, Refusal>
+/// The word that a read replies, or why it is refused: at each number of events this is the rule of
+/// the call. The type of the object needs no test, since DATA is general.
+pub fn get(script: &SmallScript, slot: Slot, at: u32) -> Result<u32, Refusal>
     requires rights { length script.now.rights ≤ slot_limit }
     requires slot { slot.0 < slot_limit }
-    ensures word { IfOk result (λ word. (events : ℕ) → get_word (running_state script.now events) the_base (slot.0 ∷ []) at ≡ Ok (answer.Word word, running_state script.now events)) }
-    ensures refused { IfErr result (λ refusal. (events : ℕ) → get_word (running_state script.now events) the_base (slot.0 ∷ []) at ≡ Err refusal) }
-    ensures cause { IfErr result IsReadRefusal }
+    ensures rule { (events : ℕ) → (rule (running_state script.now events) the_process (call.Get (slot.0 ∷ []) at)).0 ≡ replied result }
+    ensures small { IsReadReply (replied result) }
 {
     let cap = held(entry_at(script, slot), 0)?;
     allowed(cap.rights, Rights::GETDATA, 0)?;
     word_at(script.words.as_slice(), at, 1)
-}
-
-/// The reply to a read, by the rule of the call at each number of events.
-pub fn reply(script: &SmallScript, slot: Slot, at: u32) -> Reply
-    requires rights { length script.now.rights ≤ slot_limit }
-    requires slot { slot.0 < slot_limit }
-    ensures rule { (events : ℕ) → result ≡ (rule (running_state script.now events) the_process (call.Get (slot.0 ∷ []) at)).0 }
-    ensures small { IsReadReply result }
-{
-    match get(script, slot, at) {
-        Ok(word) => Reply::Word(word),
-        Err(refusal) => Reply::No(refusal),
-    }
 }

@@ -1,22 +1,17 @@
 //! The run of a small script on processor 0 (`docs/RULES.md`, "Steps of processors").
 
-ghost use Rattle.std.specs.Prelude.{◌≡◌, ℕ, ◌<◌, ◌≤◌, ◌+◌, ◌^◌, ◌∷◌, [], length, All, IfOk, None};
-ghost use Rattle.hk_model.specs.declared.calls.Call.TheVariants as call;
-ghost use Rattle.hk_model.specs.declared.calls.Reply.TheVariants as reply;
+ghost use Rattle.std.specs.Prelude.{◌≡◌, ◌≤◌, ◌∷◌, [], length, All, IfOk};
 ghost use Rattle.hk_model.specs.declared.lines.What.TheVariants as what;
 ghost use Rattle.hk_model.specs.declared.lines.End.TheVariants as end;
 ghost use Rattle.hk_model.specs.Legal.{IsLegal};
-ghost use Rattle.hk_model.specs.Limits.{slot_limit};
-ghost use Rattle.hk_model.specs.Rule.{rule};
 ghost use Rattle.hk_top.specs.SmallLines.{IsSmallLine};
-ghost use Rattle.hk_top.specs.SmallRuns.{running_state, small_line, read_call, the_process};
-ghost use Rattle.hk_top.specs.SmallScripts.{IsSmall, IsRead, world_of};
+ghost use Rattle.hk_top.specs.SmallRuns.{small_line, read_call, replied};
+ghost use Rattle.hk_top.specs.SmallScripts.{IsSmall, world_of};
 
-use crate::reading::reply;
+use crate::reading::get;
 use crate::small::{Read, SmallScript};
 use hk_model::{Call, Cpu, Inc, Items, Line, NoMemory, Path, Proc, Refusal, Reply, Slot, What};
 use std::alloc::Global;
-use std::marker::PhantomData;
 
 /// A line of the one process, in its base incarnation, on processor 0.
 fn line(what: What, reply: Reply) -> Line
@@ -41,15 +36,15 @@ fn slot_path(slot: Slot) -> Path
     }
 }
 
-/// The line of a read: its reply is the rule's, at each number of events.
-fn read_line(script: &SmallScript, read: &Read) -> Line
-    requires rights { length script.now.rights ≤ slot_limit }
-    requires read { IsRead read.now }
-    ensures rule { (events : ℕ) → result ≡ small_line (what.Call (read_call read.now)) (rule (running_state script.now events) the_process (read_call read.now)).0 }
-    ensures small { IsSmallLine result }
+/// The line of a read that was answered so.
+fn read_line(read: &Read, answer: Result<u32, Refusal>) -> Line
+    ensures { result ≡ small_line (what.Call (read_call read.now)) (replied answer) }
 {
     let of = slot_path(read.slot);
-    let reply = reply(script, read.slot, read.at);
+    let reply = match answer {
+        Ok(word) => Reply::Word(word),
+        Err(refusal) => Reply::No(refusal),
+    };
     line(What::Call(Call::Get { of, at: read.at }), reply)
 }
 
@@ -61,11 +56,11 @@ pub(crate) fn run(alloc: Global, script: &SmallScript) -> Result<Vec<Line>, NoMe
     ensures small { IfOk result (λ lines. All IsSmallLine lines.items) }
     ensures few { IfOk result (λ lines. length lines.items ≤ 4098) }
 {
-    let _ = PhantomData::<Refusal>;
     let mut lines = Items::new(alloc);
     lines.push(line(What::Dispatch, Reply::Done))?;
     for read in script.reads.as_slice() {
-        lines.push(read_line(script, read))?;
+        let answer = get(script, read.slot, read.at);
+        lines.push(read_line(read, answer))?;
     }
     let ended = What::Call(Call::Leave { give: None });
     lines.push(line(ended, Reply::Done))?;

@@ -18,15 +18,15 @@ loop-read-preserved c =
     let there : slice_get c.args.script.now.reads c.loop-read.read-index ≡ Some read =
         ap (λ (items : List Read). slice_get items c.loop-read.read-index) (sym c.as_slice-read-items.ensures)
         ∙ slice_get-get_or reads c.loop-read.read-index no_read c.loop-read-test.true in
-    run_reads c.args.script.now c.loop-read.read-index c.loop-read.lines c.push-in-loop-read.new.self read c.read_line.result c.requires.few_reads there
-    c.read_line.ensures.rule c.read_line.ensures.small c.in_ok-push-2.ensures.ok c.loop-read.invariant
+    run_reads c.args.script.now c.loop-read.read-index c.loop-read.lines c.push-in-loop-read.new.self read c.read_line.result c.get-answer.result c.requires there
+    c.get-answer.ensures.rule c.get-answer.ensures.small c.read_line.ensures c.in_ok-push-2.ensures.ok c.loop-read.invariant
 
 -- the whole run
 whole : (c : goal.After-into_vec) → IsRun c.args.script.now c.into_vec.result.items
 whole c =
     let all : c.loop-read.read-index ≡ length c.args.script.now.reads =
         omega (arith, c.loop-read-test.false, c.loop-read.auto.read-index-end, ap length c.as_slice-read-items.ensures) in
-    run_ends c.args.script.now c.loop-read.read-index c.loop-read.lines c.into_vec.result.items c.requires.few_reads all
+    run_ends c.args.script.now c.loop-read.read-index c.loop-read.lines c.into_vec.result.items c.requires all
     (c.into_vec.ensures ∙ c.in_ok-push-3.ensures.ok ∙ ap (λ (l : Line). c.loop-read.lines ++ l ∷ []) c.line-2.ensures) c.loop-read.invariant
 
 pub returns-clause-legal : goal.returns-clause-legal
