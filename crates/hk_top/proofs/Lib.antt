@@ -1,2 +1,3 @@
 mod SmallReads
 mod SmallSteps
+mod SmallRuns

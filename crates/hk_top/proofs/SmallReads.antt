@@ -1,48 +1,28 @@
 -- A read of a small script: what the rule of the call gives in its world, and what the code gives.
 use Rattle.std.proofs.Common.{◌≡◌, ℕ, ◌+◌, ◌<◌, ◌≤◌, Bool, true, false, List, [], ◌∷◌, ◌++◌, length, replicate, zero, suc, ◌-◌, Option, Some, None, Result, Ok, Err, refl, sym, subst, ◌∙◌, ap, arith}
-use Rattle.std.specs.Prelude.{IfOk, IfErr, not, cond, slice_get, slice_set, nat_lt, map, option_map, if◌then◌else◌}
-use Rattle.std.proofs.lemmas.Bool.Decides.{nat_tests}
-use Rattle.std.proofs.lemmas.Option.{slice_get-map, slice_get-get_or, slice_get_within}
+use Rattle.std.specs.Prelude.{not, cond, slice_get, map}
+use Rattle.std.proofs.lemmas.Option.{slice_get-get_or}
 use Rattle.std.proofs.lemmas.List.{get_or-replicate, length-replicate, length-map}
 use Rattle.hk_model.specs.declared.names.Inc.{Inc}
-use Rattle.hk_model.specs.declared.calls.Call.{Call}
 use Rattle.hk_model.specs.declared.calls.Call.TheVariants as call
-use Rattle.hk_model.specs.declared.calls.Reply.{Reply}
-use Rattle.hk_model.specs.declared.calls.Reply.TheVariants.{Done, Word, Waits, No}
-use Rattle.hk_model.specs.declared.lines.What.{What}
-use Rattle.hk_model.specs.declared.lines.What.TheVariants as what
-use Rattle.hk_model.specs.declared.lines.Line.{Line}
-use Rattle.hk_model.specs.declared.frames.Frame.{Frame}
-use Rattle.hk_model.specs.declared.frames.Todo.{Todo}
-use Rattle.hk_model.specs.declared.frames.Todo.TheVariants.{Do, Halt}
-use Rattle.hk_model.specs.declared.instructions.Instr.{Instr}
 use Rattle.hk_model.specs.declared.entries.Cap.{Cap}
 use Rattle.hk_model.specs.declared.entries.Entry.{Entry}
-use Rattle.hk_model.specs.declared.entries.Entry.TheVariants.{Empty, Held, Form}
+use Rattle.hk_model.specs.declared.entries.Entry.TheVariants.{Empty}
 use Rattle.hk_model.specs.declared.calls.Refusal.{Refusal}
 use Rattle.hk_model.specs.declared.calls.Refusal.TheVariants as refused
 use Rattle.hk_model.specs.declared.calls.Answer.TheVariants as answer
-use Rattle.hk_model.specs.Limits.{slot_limit, local_limit, usual_limit}
+use Rattle.hk_model.specs.Limits.{slot_limit}
 use Rattle.hk_model.specs.Refusing.{◌>>=◌, ◌>>◌, unless, allowed, item_at}
 use Rattle.hk_model.specs.Walking.{held, walk}
 use Rattle.hk_rights.specs.Rights.{GETDATA, has, first_missing, right_numbers, right_table}
-use Rattle.hk_model.specs.Setup.{Setup}
 use Rattle.hk_model.specs.State.{State, object}
 use Rattle.hk_model.specs.Opening.{opening, base_of}
-use Rattle.hk_model.specs.Control.{Context, Meaning, Calls, Local, next_from, next, after, behind, is_refusal, meaning, here, with_word, new_frame}
-use Rattle.hk_model.specs.Rule.{Outcome, rule, get_word, leave, settled, counted}
+use Rattle.hk_model.specs.Rule.{Outcome, rule, get_word, settled, counted}
 use Rattle.hk_model.specs.Targets.{is_general, target}
-use Rattle.hk_model.specs.Running.{Machine, opened, event, step, line_of, moved, AreSteps, AreStepsOf, after_lines, state_after}
-use Rattle.hk_model.specs.Legal.{IsLegal, end_word}
-use Rattle.hk_model.specs.declared.lines.End.TheVariants as end
-use Rattle.hk_model.specs.declared.objects.ProcessState.TheVariants.{Ended}
-use Rattle.hk_model.proofs.Appending.{AreSteps-push, after_lines-push}
-use Rattle.std.specs.Option.{unwrap_or}
-use Rattle.hk_top.specs.declared.small.Read.{Read}
 use Rattle.hk_top.specs.declared.small.SmallScript.{SmallScript}
-use Rattle.hk_top.specs.SmallScripts.{world_of, get_instr, cap_entry, the_object}
+use Rattle.hk_top.specs.SmallScripts.{cap_entry, the_object}
 use Rattle.hk_top.specs.SmallLines.{IsReadRefusal}
-use Rattle.hk_top.specs.SmallRuns.{the_process, the_base, the_processor, running_state, slot_entry, replied}
+use Rattle.hk_top.specs.SmallRuns.{the_process, the_base, running_state, slot_entry, replied}
 
 -- a capability for the object
 abbrev object_cap : ℕ → Cap
@@ -75,7 +55,7 @@ pub walk-slot : (script : SmallScript) (events slot : ℕ) → length script.rig
 unfolding opening
 walk-slot script events slot few low =
     let there : item_at (base_of the_process (map cap_entry script.rights)).slots slot 0 ≡ Ok (slot_entry (slice_get script.rights slot)) =
-        item_at-there (base_of the_process (map cap_entry script.rights)).slots slot 0 _ (slot-there script.rights slot few low) in
+    item_at-there (base_of the_process (map cap_entry script.rights)).slots slot 0 _ (slot-there script.rights slot few low) in
     ap (λ r. r >>= (λ entry. Ok entry)) there
 
 -- a test before a value, and what follows the value
@@ -109,12 +89,15 @@ get_word-is script events slot at few low =
   where
     words_of : Cap → Outcome
     words_of cap = item_at (object (running_state script events) cap.name).words at 1 >>= word_of (running_state script events)
+
     by_word : (r : Result ℕ Refusal) → (r >>= word_of (running_state script events)) ≡ outcome_of (running_state script events) r
     by_word (Ok word) = refl
     by_word (Err refusal) = refl
+
     by_test : (test : Result (Unit {0}) Refusal) → (test >> (item_at script.words at 1 >>= word_of (running_state script events))) ≡ outcome_of (running_state script events) (test >> item_at script.words at 1)
     by_test (Ok x) = by_word (item_at script.words at 1)
     by_test (Err refusal) = refl
+
     by_entry : (o : Option ℕ) → ((held (slot_entry o) 0 >>= (λ cap. unless (is_general (object (running_state script events) cap.name).of) (refused.WrongType 0) >> (allowed cap.rights GETDATA 0 >> Ok cap))) >>= words_of)
         ≡ outcome_of (running_state script events) (held (slot_entry o) 0 >>= read_by script at)
     by_entry None = refl
@@ -128,6 +111,7 @@ get_word_keeps s inc path at = by_cap (target s inc path is_general GETDATA)
     by_word : (r : Result ℕ Refusal) → (settled s (r >>= word_of s)).1 ≡ counted (s.events + 1) s
     by_word (Ok word) = refl
     by_word (Err refusal) = refl
+
     by_cap : (r : Result Cap Refusal) → (settled s (r >>= (λ cap. item_at (object s cap.name).words at (length path) >>= word_of s))).1 ≡ counted (s.events + 1) s
     by_cap (Ok cap) = by_word (item_at (object s cap.name).words at (length path))
     by_cap (Err refusal) = refl

@@ -3,4 +3,6 @@
 
 mod reading;
 mod run;
+#[cfg(test)]
+mod run_tests;
 mod small;

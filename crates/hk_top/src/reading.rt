@@ -63,7 +63,7 @@ fn word_at(words: &[u32], at: u32, step: u8) -> Result<u32, Refusal>
 
 /// The word that a read replies, or why it is refused: at each number of events this is the rule of
 /// the call. The type of the object needs no test, since DATA is general.
-pub fn get(script: &SmallScript, slot: Slot, at: u32) -> Result<u32, Refusal>
+pub(crate) fn get(script: &SmallScript, slot: Slot, at: u32) -> Result<u32, Refusal>
     requires rights { length script.now.rights ≤ slot_limit }
     requires slot { slot.0 < slot_limit }
     ensures rule { (events : ℕ) → (rule (running_state script.now events) the_process (call.Get (slot.0 ∷ []) at)).0 ≡ replied result }

@@ -49,7 +49,8 @@ fn read_line(read: &Read, answer: Result<u32, Refusal>) -> Line
 }
 
 /// Runs a small script on processor 0: a dispatch, each read in order, and the return that ends the
-/// process. The lines are all of a legal run that ends `done`. NoMemory comes for want of memory alone.
+/// process. The lines are all of a legal run that ends `done`, at most 4,098 of them. NoMemory comes
+/// for want of memory alone.
 pub(crate) fn run(alloc: Global, script: &SmallScript) -> Result<Vec<Line>, NoMemory>
     requires { IsSmall script.now }
     ensures legal { IfOk result (λ lines. IsLegal (world_of script.now) lines.items end.Done) }

@@ -1,4 +1,4 @@
-use Rattle.std.proofs.Common.{◌≡◌, ℕ, List, Result, Ok, Err, sym, ap, ◌∙◌}
+use Rattle.std.proofs.Common.{◌≡◌, ℕ, List, sym, ap, ◌∙◌}
 use Rattle.std.proofs.lemmas.Result.{err_from_is_err_and}
 use Rattle.hk_model.specs.Refusing.{item_at}
 use Rattle.hk_top.proofs.SmallReads.{read_unheld, read_denied, read_item, denied_getdata}
@@ -29,5 +29,5 @@ returns-clause-rule c =
     let held = sym c.held.ensures ∙ c.in_ok-cap.was in
     let allowed' = sym c.allowed.ensures ∙ c.in_ok-allowed.was in
     let item : item_at c.args.script.now.words c.args.at 1 ≡ c.word_at.result =
-        ap (λ (words : List ℕ). item_at words c.args.at 1) (sym c.as_slice.ensures.value) ∙ sym c.word_at.ensures in
+    ap (λ (words : List ℕ). item_at words c.args.at 1) (sym c.as_slice.ensures.value) ∙ sym c.word_at.ensures in
     read_item c.args.script.now c.args.slot.0 c.args.at c.requires.rights c.requires.slot c.entry_at.result c.entry_at.ensures c.in_ok-cap.cap tt c.word_at.result held allowed' item

@@ -1,4 +1,4 @@
-use Rattle.hk_top.proofs.SmallSteps.{IsRunTo}
+use Rattle.hk_top.proofs.SmallRuns.{IsRunTo}
 use Rattle.hk_top.proofs.run.run.Given as goal
 
 -- the lines are the run up to this read
