@@ -6,3 +6,4 @@ mod KernelRows
 mod LeastReaches
 mod LawRows
 pub mod ReachRules
+pub mod Appending

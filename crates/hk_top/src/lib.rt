@@ -3,8 +3,11 @@
 
 mod commands;
 mod parse;
+mod reading;
 mod record;
 mod run;
+#[cfg(test)]
+mod run_tests;
 mod small;
 pub mod status;
 mod words;
