@@ -3,3 +3,4 @@ mod KernelRows
 mod LeastReaches
 mod LawRows
 pub mod ReachRules
+pub mod OneExplanation
