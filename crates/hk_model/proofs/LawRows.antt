@@ -18,11 +18,12 @@ use Rattle.hk_model.specs.Rule.{get_word, put_word, add_word, store_entry, appen
 use Rattle.hk_model.specs.Running.{AreStepsOf, opened, step, state_at}
 use Rattle.hk_model.specs.Places.{Place, SlotOf, EntryOf, passed}
 use Rattle.hk_model.specs.Origins.{ByCreate}
-use Rattle.hk_model.specs.Descent.{Gate, Opened, MadeAt, Link, chains}
+use Rattle.hk_model.specs.Descent.{Gate, Opened, MadeAt, Link, chains, Descends}
 use Rattle.hk_model.specs.Under.{is_made_under, parameters}
 use Rattle.hk_model.specs.Reaches.{Hop, IsReach, IsModifiable}
-use Rattle.hk_model.specs.Changes.{Made, Param, AreChanges, touches}
-use Rattle.hk_model.specs.Marks.{marks}
+use Rattle.hk_model.specs.Changes.{Made, Param, AreChanges, bare_changes}
+use Rattle.hk_model.specs.Confinement.{IsConfinedCall, IsChange}
+use Rattle.hk_model.specs.Marks.{marks, IsLocalParam}
 use Rattle.hk_model.proofs.LeastReaches.{least_reach}
 use Rattle.hk_model.proofs.RowParts.{name, inc, slot, cap, route, object_line, procedure_line, code_line, process_line, dispatch, dispatch_in, line, line_of_process, return_line}
 
@@ -70,6 +71,14 @@ chain-through-a-merge-and-a-parameter : chains amplifying (take 4 amplifying_lin
 unfolding opened opening step next next_from after get_word merge_cap enter_procedure leave first_missing right_numbers right_table
 chain-through-a-merge-and-a-parameter = refl
 
+-- and so it descends from the opening
+merged-capability-descends : Descends amplifying (cap 8 0x1) (chains amplifying (take 4 amplifying_lines) (slot_of 1 2))
+unfolding opened opening step next next_from after get_word merge_cap enter_procedure leave first_missing right_numbers right_table
+merged-capability-descends = (
+  record { same = refl; special = refl; checked = refl; others = (refl, refl) },
+  (record { same = refl; special = refl; checked = refl; others = (refl, refl) }, refl),
+)
+
 -- a confined call changes an object that its parameter leads to over two lists
 abbrev reaching : Setup
 reaching = record {
@@ -99,6 +108,19 @@ reaching_lines =
 reaching-steps : AreStepsOf reaching reaching_lines
 unfolding opened opening step next next_from after put_word enter_procedure leave first_missing right_numbers right_table
 reaching-steps = (refl, (refl, (refl, (refl, (refl, tt)))))
+
+-- its call is confined and begins at moment 2, its parameter lacks ENV, and the line at that moment changes an object
+call-is-confined : IsConfinedCall reaching reaching_lines 2 (inc 1)
+unfolding opened opening step next next_from after put_word enter_procedure leave first_missing right_numbers right_table
+call-is-confined = record { is = record { earlier = 1; moment = refl; line = line 0 (call.Enter (1 ∷ []) (0 ∷ []) (slot 2)) Done; is = refl; enters = refl; made = refl }; confined = refl }
+
+parameter-lacks-environment : IsLocalParam reaching reaching_lines 2 (inc 1) 0
+unfolding opened opening step next next_from after put_word enter_procedure leave first_missing right_numbers right_table
+parameter-lacks-environment = record { is = call-is-confined.is; cap = record { name = name 9; rights = 0x508 }; holds = refl; lacks = refl }
+
+object-is-changed : IsChange reaching reaching_lines 2 (inc 1) 2 (name 7)
+unfolding opened opening step next next_from after put_word enter_procedure leave first_missing right_numbers right_table
+object-is-changed = record { line = line 1 (call.Put (0 ∷ 0 ∷ 0 ∷ []) 0 9) Done; is = refl; under = refl; changes = refl }
 
 -- the places that the walk of the change passes
 passed-places : passed (state_at reaching reaching_lines 2) (inc 1) (0 ∷ 0 ∷ 0 ∷ []) ≡ slot_of 1 0 ∷ EntryOf (name 9) 0 ∷ EntryOf (name 8) 0 ∷ []
@@ -169,6 +191,11 @@ making-steps : AreStepsOf making making_lines
 unfolding opened opening step next next_from after get_word add_word create_object enter_procedure leave first_missing right_numbers right_table
 making-steps = (refl, (refl, (refl, (refl, (refl, (refl, (refl, tt)))))))
 
+-- a call without parameters is closed
+call-has-no-parameters : parameters making making_lines 2 (inc 1) ≡ []
+unfolding opened opening step next next_from after get_word add_word create_object enter_procedure leave first_missing right_numbers right_table
+call-has-no-parameters = refl
+
 -- what was returned comes from the callee's slot, and was made there
 chain-of-a-made-object : chains making making_lines (slot_of 0 1) ≡
     Link 5 (slot_of 1 1) (cap 8 0x305) None (MadeAt 3 (ByCreate (name 8)) (Form (template.Create (name 1) 0x305)))
@@ -218,12 +245,12 @@ unfolding opened opening step next next_from after put_word store_entry append_e
 handing-steps = (refl, (refl, (refl, (refl, (refl, (refl, (refl, (refl, (refl, (refl, (refl, (refl, tt))))))))))))
 
 -- two objects are changed under the call
-handing-touches : touches handing handing_lines ≡
+changes-under-the-handing-call : bare_changes handing handing_lines ≡
     record { moment = 3; under = record { call = inc 2; moment = 2 }; object = name 7 }
     ∷ record { moment = 9; under = record { call = inc 2; moment = 2 }; object = name 8 }
     ∷ []
 unfolding opened opening step next next_from after put_word store_entry append_entry create_object enter_procedure leave first_missing right_numbers right_table
-handing-touches = refl
+changes-under-the-handing-call = refl
 
 -- the second change is explained by the new object, which was handed to the parameter's list, and its entry
 abbrev handed_hops : List Hop

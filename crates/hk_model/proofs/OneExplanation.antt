@@ -12,7 +12,7 @@ use Rattle.hk_model.specs.declared.names.Inc.{Inc}
 use Rattle.hk_model.specs.declared.lines.Line.{Line}
 use Rattle.hk_model.specs.Setup.{Setup}
 use Rattle.hk_model.specs.Reaches.{Hop}
-use Rattle.hk_model.specs.Changes.{hop_key, reach_key, is_at_most, Touch, Reach, Made, Param, Change, IsReason, IsExplained, AreExplained, AreChanges, touches}
+use Rattle.hk_model.specs.Changes.{hop_key, reach_key, is_at_most, BareChange, Reach, Made, Param, Change, IsReason, IsExplained, AreExplained, AreChanges, bare_changes}
 
 -- lists of numbers that come before each other are the same
 at_most_both : (a b : List ℕ) → is_at_most a b ≡ true → is_at_most b a ≡ true → a ≡ b
@@ -61,15 +61,15 @@ one_reason w lines k call moment name (Param p hops) Made f g = absurd (true≢f
 one_reason w lines k call moment name (Param p hops) (Param q others) f g =
     reach_same p q hops others (at_most_both (reach_key p hops) (reach_key q others) (f.1.least q others g.1.is) (g.1.least p hops f.1.is))
 
-one_explanation : (w : Setup) (lines : List Line) (touch : Touch) (a b : Change) → IsExplained w lines touch a → IsExplained w lines touch b → a ≡ b
-one_explanation w lines touch a b f g =
+one_explanation : (w : Setup) (lines : List Line) (bare : BareChange) (a b : Change) → IsExplained w lines bare a → IsExplained w lines bare b → a ≡ b
+one_explanation w lines bare a b f g =
     let line = f.line ∙ sym g.line in
     let under = f.under ∙ sym g.under in
     let object = f.object ∙ sym g.object in
-    let reach = one_reason w lines touch.under.moment touch.under.call touch.moment touch.object a.reach b.reach f.reason g.reason in
+    let reach = one_reason w lines bare.under.moment bare.under.call bare.moment bare.object a.reach b.reach f.reason g.reason in
     λ i. record { line = line i; under = under i; object = object i; reach = reach i }
 
-explained_once : (w : Setup) (lines : List Line) (all : List Touch) (a b : List Change) → AreExplained w lines all a → AreExplained w lines all b → a ≡ b
+explained_once : (w : Setup) (lines : List Line) (all : List BareChange) (a b : List Change) → AreExplained w lines all a → AreExplained w lines all b → a ≡ b
 explained_once w lines [] [] [] f g = refl
 explained_once w lines [] (x ∷ xs) b f g = absurd f
 explained_once w lines [] [] (y ∷ ys) f g = absurd g
@@ -82,4 +82,4 @@ explained_once w lines (t ∷ ts) (x ∷ xs) (y ∷ ys) f g =
 
 -- the changes of a history with their reasons
 pub one_list_of_changes : (w : Setup) (lines : List Line) (a b : List Change) → AreChanges w lines a → AreChanges w lines b → a ≡ b
-one_list_of_changes w lines a b f g = explained_once w lines (touches w lines) a b f g
+one_list_of_changes w lines a b f g = explained_once w lines (bare_changes w lines) a b f g
