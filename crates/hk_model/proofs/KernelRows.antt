@@ -16,16 +16,14 @@ use Rattle.hk_model.specs.Opening.{opening}
 use Rattle.hk_model.specs.Control.{next, next_from, after}
 use Rattle.hk_model.specs.Rule.{get_word, put_word, add_word, load_entry, look, merge_cap, enter_procedure, leave, take_token, give_token}
 use Rattle.hk_model.specs.Running.{AreStepsOf, opened, step, state_at}
-use Rattle.hk_model.proofs.RowParts.{name, inc, slot, cap, route, object_line, procedure_line, code_line, process_line, dispatch, line, line_of_process, return_line}
+use Rattle.hk_model.proofs.RowParts.{name, inc, slot, cap, route, plain, procedure, process, small_world, dispatch, line, line_of_process, return_line}
 
 -- a walk of eight steps is denied at the step whose capability lacks LOAD; one that ends there gives it
 abbrev eight_steps : Setup
-eight_steps = record {
-  limit = 10000;
-  objects = object_line 2 [] (cap 7 0x208 ∷ cap 7 0x200 ∷ []) ∷ [];
-  codes = code_line (instr.Look (route (0 ∷ 0 ∷ 0 ∷ 0 ∷ 1 ∷ 0 ∷ 0 ∷ 0 ∷ [])) 0 ∷ instr.Look (route (0 ∷ 0 ∷ 0 ∷ 0 ∷ 1 ∷ [])) 0 ∷ []) ∷ [];
-  tasks = process_line 0 (cap 7 0x208 ∷ []) ∷ [];
-}
+eight_steps = small_world
+  (plain 2 [] (cap 7 0x208 ∷ cap 7 0x200 ∷ []) ∷ [])
+  ((instr.Look (route (0 ∷ 0 ∷ 0 ∷ 0 ∷ 1 ∷ 0 ∷ 0 ∷ 0 ∷ [])) 0 ∷ instr.Look (route (0 ∷ 0 ∷ 0 ∷ 0 ∷ 1 ∷ [])) 0 ∷ []) ∷ [])
+  (process 0 (cap 7 0x208 ∷ []) ∷ [])
 
 walk-of-eight-steps : AreStepsOf eight_steps (
     dispatch 0
@@ -38,12 +36,10 @@ walk-of-eight-steps = (refl, (refl, (refl, (refl, tt))))
 
 -- a process writes a word through a capability with these rights
 abbrev writing : ℕ → Setup
-writing rights = record {
-  limit = 10000;
-  objects = object_line 1 (7 ∷ []) [] ∷ [];
-  codes = code_line (instr.Put (route (0 ∷ [])) (Number 0) (Number 5) ∷ []) ∷ [];
-  tasks = process_line 0 (cap 7 rights ∷ []) ∷ [];
-}
+writing rights = small_world
+  (plain 1 (7 ∷ []) [] ∷ [])
+  ((instr.Put (route (0 ∷ [])) (Number 0) (Number 5) ∷ []) ∷ [])
+  (process 0 (cap 7 rights ∷ []) ∷ [])
 
 -- PUTDATA alone does not do: MODIFY is needed besides
 modify-is-needed-besides : AreStepsOf (writing 0x2) (dispatch 0 ∷ line 0 (call.Put (0 ∷ []) 0 5) (No (refused.Denied 0 8)) ∷ return_line 0 ∷ [])
@@ -57,16 +53,14 @@ lowest-right-is-named = (refl, (refl, (refl, tt)))
 
 -- a capability that was loaded through one without UNCONF has neither MODIFY nor UNCONF
 abbrev loading : Setup
-loading = record {
-  limit = 10000;
-  objects = object_line 1 (7 ∷ []) [] ∷ object_line 2 [] (cap 7 0x703 ∷ []) ∷ [];
-  codes = code_line (
+loading = small_world
+  (plain 1 (7 ∷ []) [] ∷ plain 2 [] (cap 7 0x703 ∷ []) ∷ [])
+  ((
       instr.Load (route (0 ∷ 0 ∷ [])) (slot 1)
       ∷ instr.Put (route (1 ∷ [])) (Number 0) (Number 9)
       ∷ instr.Get (route (1 ∷ [])) (Number 0) 0
-      ∷ []) ∷ [];
-  tasks = process_line 0 (cap 8 0x208 ∷ []) ∷ [];
-}
+      ∷ []) ∷ [])
+  (process 0 (cap 8 0x208 ∷ []) ∷ [])
 
 abbrev loading_lines : List Line
 loading_lines =
@@ -87,25 +81,23 @@ loaded-capability = refl
 
 -- a merge gives PUTDATA, but not MODIFY, which the capability lacks; and the further refusals of a merge
 abbrev merging : Setup
-merging = record {
-  limit = 10000;
-  objects = record { label = []; kind = kind.TypeObject } ∷ object_line 7 (42 ∷ []) [] ∷ [];
-  codes = code_line (
+merging = small_world
+  (kind.TypeObject ∷ plain 7 (42 ∷ []) [] ∷ [])
+  ((
       instr.Merge (route (1 ∷ [])) (slot 0) (slot 2)
       ∷ instr.Look (route (2 ∷ [])) 0
       ∷ instr.Put (route (2 ∷ [])) (Number 0) (Number 5)
       ∷ instr.Merge (route (3 ∷ [])) (slot 0) (slot 2)
       ∷ instr.Merge (route (1 ∷ [])) (slot 4) (slot 2)
       ∷ instr.Merge (route (0 ∷ [])) (slot 0) (slot 2)
-      ∷ []) ∷ [];
-  tasks = process_line 0 (
+      ∷ []) ∷ [])
+  (process 0 (
       cap 8 0x200
       ∷ Form (template.Amplify (Some (name 7)) 0x200 0x102)
       ∷ Empty
       ∷ Form (template.Amplify (Some (name 7)) 0x8 0x1)
       ∷ cap 1 0
-      ∷ []) ∷ [];
-}
+      ∷ []) ∷ [])
 
 merge-gives-no-special-right : AreStepsOf merging (
     dispatch 0
@@ -123,15 +115,12 @@ merge-gives-no-special-right = (refl, (refl, (refl, (refl, (refl, (refl, (refl, 
 -- a call through a capability without UNCONF inherits without MODIFY, and one through a capability with UNCONF with it;
 -- templates are inherited as they are
 abbrev inheriting : Setup
-inheriting = record {
-  limit = 10000;
-  objects = object_line 1 [] [] ∷ procedure_line 0 [] (cap 7 0x304 ∷ Form (template.Amplify None 0 0) ∷ []) ∷ [];
-  codes =
-      code_line (instr.Look (route (1 ∷ [])) 0 ∷ instr.Add (route (0 ∷ [])) (Number 5) ∷ [])
-      ∷ code_line (instr.Enter (route (0 ∷ [])) [] (slot 2) ∷ instr.Enter (route (1 ∷ [])) [] (slot 2) ∷ [])
-      ∷ [];
-  tasks = process_line 1 (cap 8 0x10000 ∷ cap 8 0x10400 ∷ []) ∷ [];
-}
+inheriting = small_world
+  (plain 1 [] [] ∷ procedure 0 [] (cap 7 0x304 ∷ Form (template.Amplify None 0 0) ∷ []) ∷ [])
+  ((instr.Look (route (1 ∷ [])) 0 ∷ instr.Add (route (0 ∷ [])) (Number 5) ∷ [])
+      ∷ (instr.Enter (route (0 ∷ [])) [] (slot 2) ∷ instr.Enter (route (1 ∷ [])) [] (slot 2) ∷ [])
+      ∷ [])
+  (process 1 (cap 8 0x10000 ∷ cap 8 0x10400 ∷ []) ∷ [])
 
 confined-call-inherits-less : AreStepsOf inheriting (
     dispatch 0
@@ -150,15 +139,12 @@ confined-call-inherits-less = (refl, (refl, (refl, (refl, (refl, (refl, (refl, (
 
 -- the merged parameters come first in the name space of a call, and then what the procedure holds
 abbrev calling : Setup
-calling = record {
-  limit = 10000;
-  objects =
-      object_line 1 (7 ∷ []) []
-      ∷ procedure_line 0 (record { of = Some (name 1); check = 0x1; give = 0x3 } ∷ record { of = None; check = 0; give = 0x1 } ∷ []) (cap 1 0x1 ∷ [])
-      ∷ [];
-  codes = code_line [] ∷ code_line (instr.Enter (route (1 ∷ [])) (0 ∷ 0 ∷ []) (slot 2) ∷ []) ∷ [];
-  tasks = process_line 1 (cap 7 0x5 ∷ cap 8 0x10400 ∷ []) ∷ [];
-}
+calling = small_world
+  (plain 1 (7 ∷ []) []
+      ∷ procedure 0 (record { of = Some (name 1); check = 0x1; give = 0x3 } ∷ record { of = None; check = 0; give = 0x1 } ∷ []) (cap 1 0x1 ∷ [])
+      ∷ [])
+  ([] ∷ (instr.Enter (route (1 ∷ [])) (0 ∷ 0 ∷ []) (slot 2) ∷ []) ∷ [])
+  (process 1 (cap 7 0x5 ∷ cap 8 0x10400 ∷ []) ∷ [])
 
 abbrev calling_lines : List Line
 calling_lines = dispatch 0 ∷ line 0 (call.Enter (1 ∷ []) (0 ∷ 0 ∷ []) (slot 2)) Done ∷ return_line 1 ∷ return_line 0 ∷ []
@@ -173,15 +159,12 @@ parameters-come-first = refl
 
 -- two processes wait at a semaphore; each V wakes the one that waits longest, and the third is kept as a token
 abbrev waiting : Setup
-waiting = record {
-  limit = 10000;
-  objects = record { label = []; kind = kind.Semaphore 0 } ∷ [];
-  codes =
-      code_line (instr.P (route (0 ∷ [])) ∷ [])
-      ∷ code_line (instr.V (route (0 ∷ [])) ∷ instr.V (route (0 ∷ [])) ∷ instr.V (route (0 ∷ [])) ∷ instr.P (route (0 ∷ [])) ∷ [])
-      ∷ [];
-  tasks = process_line 0 (cap 7 0x10100 ∷ []) ∷ process_line 0 (cap 7 0x10100 ∷ []) ∷ process_line 1 (cap 7 0x30100 ∷ []) ∷ [];
-}
+waiting = small_world
+  (kind.Semaphore 0 ∷ [])
+  ((instr.P (route (0 ∷ [])) ∷ [])
+      ∷ (instr.V (route (0 ∷ [])) ∷ instr.V (route (0 ∷ [])) ∷ instr.V (route (0 ∷ [])) ∷ instr.P (route (0 ∷ [])) ∷ [])
+      ∷ [])
+  (process 0 (cap 7 0x10100 ∷ []) ∷ process 0 (cap 7 0x10100 ∷ []) ∷ process 1 (cap 7 0x30100 ∷ []) ∷ [])
 
 p-waits-and-v-wakes : AreStepsOf waiting (
     dispatch 0

@@ -25,26 +25,22 @@ use Rattle.hk_model.specs.Changes.{Made, Param, AreChanges, bare_changes}
 use Rattle.hk_model.specs.Confinement.{IsConfinedCall, IsChange}
 use Rattle.hk_model.specs.Marks.{marks, IsLocalParam}
 use Rattle.hk_model.proofs.LeastReaches.{least_reach}
-use Rattle.hk_model.proofs.RowParts.{name, inc, slot, cap, route, object_line, procedure_line, code_line, process_line, dispatch, dispatch_in, line, line_of_process, return_line}
+use Rattle.hk_model.proofs.RowParts.{name, inc, slot, cap, route, plain, procedure, process, small_world, dispatch, dispatch_in, line, line_of_process, return_line}
 
 abbrev slot_of : ℕ → ℕ → Place
 slot_of i n = SlotOf (inc i) n
 
 -- a procedure that amplifies what its caller may not read
 abbrev amplifying : Setup
-amplifying = record {
-  limit = 10000;
-  objects =
-      record { label = []; kind = kind.TypeObject }
-      ∷ object_line 7 (42 ∷ []) []
-      ∷ procedure_line 0 (record { of = Some (name 7); check = 0; give = 0x200 } ∷ []) (Form (template.Amplify (Some (name 7)) 0 0x1) ∷ [])
-      ∷ [];
-  codes =
-      code_line (instr.Merge (route (1 ∷ [])) (slot 0) (slot 2) ∷ instr.Get (route (2 ∷ [])) (Number 0) 0 ∷ [])
-      ∷ code_line (instr.Get (route (0 ∷ [])) (Number 0) 0 ∷ instr.Enter (route (1 ∷ [])) (0 ∷ []) (slot 2) ∷ [])
-      ∷ [];
-  tasks = process_line 1 (cap 8 0x200 ∷ cap 9 0x10000 ∷ []) ∷ [];
-}
+amplifying = small_world
+  (kind.TypeObject
+      ∷ plain 7 (42 ∷ []) []
+      ∷ procedure 0 (record { of = Some (name 7); check = 0; give = 0x200 } ∷ []) (Form (template.Amplify (Some (name 7)) 0 0x1) ∷ [])
+      ∷ [])
+  ((instr.Merge (route (1 ∷ [])) (slot 0) (slot 2) ∷ instr.Get (route (2 ∷ [])) (Number 0) 0 ∷ [])
+      ∷ (instr.Get (route (0 ∷ [])) (Number 0) 0 ∷ instr.Enter (route (1 ∷ [])) (0 ∷ []) (slot 2) ∷ [])
+      ∷ [])
+  (process 1 (cap 8 0x200 ∷ cap 9 0x10000 ∷ []) ∷ [])
 
 abbrev amplifying_lines : List Line
 amplifying_lines =
@@ -81,20 +77,16 @@ merged-capability-descends = (
 
 -- a confined call changes an object that its parameter leads to over two lists
 abbrev reaching : Setup
-reaching = record {
-  limit = 10000;
-  objects =
-      object_line 1 (7 ∷ []) []
-      ∷ object_line 2 [] (cap 7 0x702 ∷ [])
-      ∷ object_line 2 [] (cap 8 0x708 ∷ [])
-      ∷ procedure_line 0 (record { of = Some (name 2); check = 0x8; give = 0x508 } ∷ []) []
-      ∷ [];
-  codes =
-      code_line (instr.Put (route (0 ∷ 0 ∷ 0 ∷ [])) (Number 0) (Number 9) ∷ [])
-      ∷ code_line (instr.Enter (route (1 ∷ [])) (0 ∷ []) (slot 2) ∷ [])
-      ∷ [];
-  tasks = process_line 1 (cap 9 0x708 ∷ cap 10 0x10000 ∷ []) ∷ [];
-}
+reaching = small_world
+  (plain 1 (7 ∷ []) []
+      ∷ plain 2 [] (cap 7 0x702 ∷ [])
+      ∷ plain 2 [] (cap 8 0x708 ∷ [])
+      ∷ procedure 0 (record { of = Some (name 2); check = 0x8; give = 0x508 } ∷ []) []
+      ∷ [])
+  ((instr.Put (route (0 ∷ 0 ∷ 0 ∷ [])) (Number 0) (Number 9) ∷ [])
+      ∷ (instr.Enter (route (1 ∷ [])) (0 ∷ []) (slot 2) ∷ [])
+      ∷ [])
+  (process 1 (cap 9 0x708 ∷ cap 10 0x10000 ∷ []) ∷ [])
 
 abbrev reaching_lines : List Line
 reaching_lines =
@@ -166,15 +158,12 @@ change-through-two-lists = (
 
 -- a confined call changes an object that it has made, and returns it
 abbrev making : Setup
-making = record {
-  limit = 10000;
-  objects = procedure_line 0 [] (Form (template.Create (name 1) 0x305) ∷ []) ∷ [];
-  codes =
-      code_line (instr.Create (route (0 ∷ [])) (slot 1) ∷ instr.Add (route (1 ∷ [])) (Number 5) ∷ instr.Leave (Some (slot 1)) ∷ [])
-      ∷ code_line (instr.Enter (route (0 ∷ [])) [] (slot 1) ∷ instr.Get (route (1 ∷ [])) (Number 0) 0 ∷ [])
-      ∷ [];
-  tasks = process_line 1 (cap 7 0x10000 ∷ []) ∷ [];
-}
+making = small_world
+  (procedure 0 [] (Form (template.Create (name 1) 0x305) ∷ []) ∷ [])
+  ((instr.Create (route (0 ∷ [])) (slot 1) ∷ instr.Add (route (1 ∷ [])) (Number 5) ∷ instr.Leave (Some (slot 1)) ∷ [])
+      ∷ (instr.Enter (route (0 ∷ [])) [] (slot 1) ∷ instr.Get (route (1 ∷ [])) (Number 0) 0 ∷ [])
+      ∷ [])
+  (process 1 (cap 7 0x10000 ∷ []) ∷ [])
 
 abbrev making_lines : List Line
 making_lines =
@@ -209,20 +198,16 @@ change-of-a-made-object = (record { line = refl; under = refl; object = refl; re
 
 -- a confined call hands a new object over, and another process stores a capability there
 abbrev handing : Setup
-handing = record {
-  limit = 10000;
-  objects =
-      object_line 2 [] (Empty ∷ [])
-      ∷ object_line 1 (1 ∷ []) []
-      ∷ procedure_line 0 (record { of = Some (name 2); check = 0x10; give = 0x110 } ∷ []) (Form (template.Create (name 2) 0x738) ∷ [])
-      ∷ [];
-  codes =
-      code_line (instr.Create (route (1 ∷ [])) (slot 2) ∷ instr.Store (route (0 ∷ [])) (Number 0) (slot 2) ∷ instr.Yield ∷ instr.Put (route (2 ∷ 0 ∷ [])) (Number 0) (Number 5) ∷ [])
-      ∷ code_line (instr.Enter (route (1 ∷ [])) (0 ∷ []) (slot 2) ∷ [])
-      ∷ code_line (instr.Append (route (0 ∷ 0 ∷ [])) (slot 1) ∷ [])
-      ∷ [];
-  tasks = process_line 1 (cap 7 0x310 ∷ cap 9 0x10000 ∷ []) ∷ process_line 2 (cap 7 0x608 ∷ cap 8 0x702 ∷ []) ∷ [];
-}
+handing = small_world
+  (plain 2 [] (Empty ∷ [])
+      ∷ plain 1 (1 ∷ []) []
+      ∷ procedure 0 (record { of = Some (name 2); check = 0x10; give = 0x110 } ∷ []) (Form (template.Create (name 2) 0x738) ∷ [])
+      ∷ [])
+  ((instr.Create (route (1 ∷ [])) (slot 2) ∷ instr.Store (route (0 ∷ [])) (Number 0) (slot 2) ∷ instr.Yield ∷ instr.Put (route (2 ∷ 0 ∷ [])) (Number 0) (Number 5) ∷ [])
+      ∷ (instr.Enter (route (1 ∷ [])) (0 ∷ []) (slot 2) ∷ [])
+      ∷ (instr.Append (route (0 ∷ 0 ∷ [])) (slot 1) ∷ [])
+      ∷ [])
+  (process 1 (cap 7 0x310 ∷ cap 9 0x10000 ∷ []) ∷ process 2 (cap 7 0x608 ∷ cap 8 0x702 ∷ []) ∷ [])
 
 abbrev handing_lines : List Line
 handing_lines =
