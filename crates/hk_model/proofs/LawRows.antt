@@ -1,5 +1,5 @@
 -- Worked rows of the laws: chains, marks, reaches and changes of small worlds.
-use Rattle.std.specs.Prelude.{◌≡◌, ℕ, List, [], ◌∷◌, Some, None, true, false, take, refl}
+use Rattle.std.specs.Prelude.{◌≡◌, ℕ, ◌+◌, List, [], ◌∷◌, Some, None, true, false, take, refl}
 use Rattle.std.proofs.Common.{lit≤}
 use Rattle.hk_model.specs.declared.entries.Entry.TheVariants.{Empty, Form}
 use Rattle.hk_model.specs.declared.entries.Template.TheVariants as template
@@ -10,8 +10,9 @@ use Rattle.hk_model.specs.declared.instructions.Instr.TheVariants as instr
 use Rattle.hk_model.specs.declared.instructions.Operand.TheVariants.{Number}
 use Rattle.hk_model.specs.declared.world.Kind.TheVariants as kind
 use Rattle.hk_model.specs.declared.lines.Line.{Line}
-use Rattle.hk_rights.specs.Rights.{first_missing, right_numbers, right_table}
+use Rattle.hk_rights.specs.Rights.{GETDATA, PUTDATA, ADDDATA, LOAD, STORE, APPEND, MODIFY, ENV, UNCONF, A0, first_missing, right_numbers, right_table}
 use Rattle.hk_model.specs.Setup.{Setup}
+use Rattle.hk_model.specs.Targets.{DATA, UNIVERSAL}
 use Rattle.hk_model.specs.Opening.{opening}
 use Rattle.hk_model.specs.Control.{next, next_from, after}
 use Rattle.hk_model.specs.Rule.{get_word, put_word, add_word, store_entry, append_entry, create_object, merge_cap, enter_procedure, leave}
@@ -25,7 +26,7 @@ use Rattle.hk_model.specs.Changes.{Made, Param, AreChanges, bare_changes}
 use Rattle.hk_model.specs.Confinement.{IsConfinedCall, IsChange}
 use Rattle.hk_model.specs.Marks.{marks, IsLocalParam}
 use Rattle.hk_model.proofs.LeastReaches.{least_reach}
-use Rattle.hk_model.proofs.RowParts.{name, inc, slot, cap, route, plain, procedure, process, small_world, dispatch, dispatch_in, line, line_of_process, return_line}
+use Rattle.hk_model.proofs.RowParts.{getdata_right, name, inc, slot, cap, route, plain, procedure, process, small_world, dispatch, dispatch_in, line, line_of_process, return_line}
 
 abbrev slot_of : ℕ → ℕ → Place
 slot_of i n = SlotOf (inc i) n
@@ -33,19 +34,19 @@ slot_of i n = SlotOf (inc i) n
 -- a procedure that amplifies what its caller may not read
 abbrev amplifying : Setup
 amplifying = small_world
-  (kind.TypeObject
-      ∷ plain 7 (42 ∷ []) []
-      ∷ procedure 0 (record { of = Some (name 7); check = 0; give = 0x200 } ∷ []) (Form (template.Amplify (Some (name 7)) 0 0x1) ∷ [])
-      ∷ [])
-  ((instr.Merge (route (1 ∷ [])) (slot 0) (slot 2) ∷ instr.Get (route (2 ∷ [])) (Number 0) 0 ∷ [])
-      ∷ (instr.Get (route (0 ∷ [])) (Number 0) 0 ∷ instr.Enter (route (1 ∷ [])) (0 ∷ []) (slot 2) ∷ [])
-      ∷ [])
-  (process 1 (cap 8 0x200 ∷ cap 9 0x10000 ∷ []) ∷ [])
+    (kind.TypeObject
+    ∷ plain 7 (42 ∷ []) []
+    ∷ procedure 0 (record { of = Some (name 7); check = 0; give = ENV } ∷ []) (Form (template.Amplify (Some (name 7)) 0 GETDATA) ∷ [])
+    ∷ [])
+    ((instr.Merge (route (1 ∷ [])) (slot 0) (slot 2) ∷ instr.Get (route (2 ∷ [])) (Number 0) 0 ∷ [])
+    ∷ (instr.Get (route (0 ∷ [])) (Number 0) 0 ∷ instr.Enter (route (1 ∷ [])) (0 ∷ []) (slot 2) ∷ [])
+    ∷ [])
+    (process 1 (cap 8 ENV ∷ cap 9 A0 ∷ []) ∷ [])
 
 abbrev amplifying_lines : List Line
 amplifying_lines =
     dispatch 0
-    ∷ line 0 (call.Get (0 ∷ []) 0) (No (refused.Denied 0 0))
+    ∷ line 0 (call.Get (0 ∷ []) 0) (No (refused.Denied 0 getdata_right))
     ∷ line 0 (call.Enter (1 ∷ []) (0 ∷ []) (slot 2)) Done
     ∷ line 1 (call.Merge (1 ∷ []) (slot 0) (slot 2)) Done
     ∷ line 1 (call.Get (2 ∷ []) 0) (Word 42)
@@ -63,12 +64,12 @@ stack_gate give = record { form = record { of = Some (name 7); check = 0; give =
 
 -- the merged capability comes from the parameter by the merge, and that from the caller's slot by the call
 chain-through-a-merge-and-a-parameter : chains amplifying (take 4 amplifying_lines) (slot_of 1 2) ≡
-    Link 4 (slot_of 1 0) (cap 8 0x200) (Some (stack_gate 0x1)) (Link 3 (slot_of 0 0) (cap 8 0x200) (Some (stack_gate 0x200)) (Opened (slot_of 0 0)))
+    Link 4 (slot_of 1 0) (cap 8 ENV) (Some (stack_gate GETDATA)) (Link 3 (slot_of 0 0) (cap 8 ENV) (Some (stack_gate ENV)) (Opened (slot_of 0 0)))
 unfolding opened opening step next next_from after get_word merge_cap enter_procedure leave first_missing right_numbers right_table
 chain-through-a-merge-and-a-parameter = refl
 
 -- and so it descends from the opening
-merged-capability-descends : Descends amplifying (cap 8 0x1) (chains amplifying (take 4 amplifying_lines) (slot_of 1 2))
+merged-capability-descends : Descends amplifying (cap 8 GETDATA) (chains amplifying (take 4 amplifying_lines) (slot_of 1 2))
 unfolding opened opening step next next_from after get_word merge_cap enter_procedure leave first_missing right_numbers right_table
 merged-capability-descends = (
   record { same = refl; special = refl; checked = refl; others = (refl, refl) },
@@ -78,15 +79,15 @@ merged-capability-descends = (
 -- a confined call changes an object that its parameter leads to over two lists
 abbrev reaching : Setup
 reaching = small_world
-  (plain 1 (7 ∷ []) []
-      ∷ plain 2 [] (cap 7 0x702 ∷ [])
-      ∷ plain 2 [] (cap 8 0x708 ∷ [])
-      ∷ procedure 0 (record { of = Some (name 2); check = 0x8; give = 0x508 } ∷ []) []
-      ∷ [])
-  ((instr.Put (route (0 ∷ 0 ∷ 0 ∷ [])) (Number 0) (Number 9) ∷ [])
-      ∷ (instr.Enter (route (1 ∷ [])) (0 ∷ []) (slot 2) ∷ [])
-      ∷ [])
-  (process 1 (cap 9 0x708 ∷ cap 10 0x10000 ∷ []) ∷ [])
+    (plain DATA (7 ∷ []) []
+    ∷ plain UNIVERSAL [] (cap 7 (PUTDATA + MODIFY + ENV + UNCONF) ∷ [])
+    ∷ plain UNIVERSAL [] (cap 8 (LOAD + MODIFY + ENV + UNCONF) ∷ [])
+    ∷ procedure 0 (record { of = Some (name UNIVERSAL); check = LOAD; give = LOAD + MODIFY + UNCONF } ∷ []) []
+    ∷ [])
+    ((instr.Put (route (0 ∷ 0 ∷ 0 ∷ [])) (Number 0) (Number 9) ∷ [])
+    ∷ (instr.Enter (route (1 ∷ [])) (0 ∷ []) (slot 2) ∷ [])
+    ∷ [])
+    (process 1 (cap 9 (LOAD + MODIFY + ENV + UNCONF) ∷ cap 10 A0 ∷ []) ∷ [])
 
 abbrev reaching_lines : List Line
 reaching_lines =
@@ -108,7 +109,7 @@ call-is-confined = record { is = record { earlier = 1; moment = refl; line = lin
 
 parameter-lacks-environment : IsLocalParam reaching reaching_lines 2 (inc 1) 0
 unfolding opened opening step next next_from after put_word enter_procedure leave first_missing right_numbers right_table
-parameter-lacks-environment = record { is = call-is-confined.is; cap = record { name = name 9; rights = 0x508 }; holds = refl; lacks = refl }
+parameter-lacks-environment = record { is = call-is-confined.is; cap = record { name = name 9; rights = LOAD + MODIFY + UNCONF }; holds = refl; lacks = refl }
 
 object-is-changed : IsChange reaching reaching_lines 2 (inc 1) 2 (name 7)
 unfolding opened opening step next next_from after put_word enter_procedure leave first_missing right_numbers right_table
@@ -159,11 +160,11 @@ change-through-two-lists = (
 -- a confined call changes an object that it has made, and returns it
 abbrev making : Setup
 making = small_world
-  (procedure 0 [] (Form (template.Create (name 1) 0x305) ∷ []) ∷ [])
-  ((instr.Create (route (0 ∷ [])) (slot 1) ∷ instr.Add (route (1 ∷ [])) (Number 5) ∷ instr.Leave (Some (slot 1)) ∷ [])
-      ∷ (instr.Enter (route (0 ∷ [])) [] (slot 1) ∷ instr.Get (route (1 ∷ [])) (Number 0) 0 ∷ [])
-      ∷ [])
-  (process 1 (cap 7 0x10000 ∷ []) ∷ [])
+    (procedure 0 [] (Form (template.Create (name DATA) (GETDATA + ADDDATA + MODIFY + ENV)) ∷ []) ∷ [])
+    ((instr.Create (route (0 ∷ [])) (slot 1) ∷ instr.Add (route (1 ∷ [])) (Number 5) ∷ instr.Leave (Some (slot 1)) ∷ [])
+    ∷ (instr.Enter (route (0 ∷ [])) [] (slot 1) ∷ instr.Get (route (1 ∷ [])) (Number 0) 0 ∷ [])
+    ∷ [])
+    (process 1 (cap 7 A0 ∷ []) ∷ [])
 
 abbrev making_lines : List Line
 making_lines =
@@ -187,7 +188,7 @@ call-has-no-parameters = refl
 
 -- what was returned comes from the callee's slot, and was made there
 chain-of-a-made-object : chains making making_lines (slot_of 0 1) ≡
-    Link 5 (slot_of 1 1) (cap 8 0x305) None (MadeAt 3 (ByCreate (name 8)) (Form (template.Create (name 1) 0x305)))
+    Link 5 (slot_of 1 1) (cap 8 (GETDATA + ADDDATA + MODIFY + ENV)) None (MadeAt 3 (ByCreate (name 8)) (Form (template.Create (name DATA) (GETDATA + ADDDATA + MODIFY + ENV))))
 unfolding opened opening step next next_from after get_word add_word create_object enter_procedure leave first_missing right_numbers right_table
 chain-of-a-made-object = refl
 
@@ -199,15 +200,15 @@ change-of-a-made-object = (record { line = refl; under = refl; object = refl; re
 -- a confined call hands a new object over, and another process stores a capability there
 abbrev handing : Setup
 handing = small_world
-  (plain 2 [] (Empty ∷ [])
-      ∷ plain 1 (1 ∷ []) []
-      ∷ procedure 0 (record { of = Some (name 2); check = 0x10; give = 0x110 } ∷ []) (Form (template.Create (name 2) 0x738) ∷ [])
-      ∷ [])
-  ((instr.Create (route (1 ∷ [])) (slot 2) ∷ instr.Store (route (0 ∷ [])) (Number 0) (slot 2) ∷ instr.Yield ∷ instr.Put (route (2 ∷ 0 ∷ [])) (Number 0) (Number 5) ∷ [])
-      ∷ (instr.Enter (route (1 ∷ [])) (0 ∷ []) (slot 2) ∷ [])
-      ∷ (instr.Append (route (0 ∷ 0 ∷ [])) (slot 1) ∷ [])
-      ∷ [])
-  (process 1 (cap 7 0x310 ∷ cap 9 0x10000 ∷ []) ∷ process 2 (cap 7 0x608 ∷ cap 8 0x702 ∷ []) ∷ [])
+    (plain UNIVERSAL [] (Empty ∷ [])
+    ∷ plain DATA (1 ∷ []) []
+    ∷ procedure 0 (record { of = Some (name UNIVERSAL); check = STORE; give = STORE + MODIFY } ∷ []) (Form (template.Create (name UNIVERSAL) (LOAD + STORE + APPEND + MODIFY + ENV + UNCONF)) ∷ [])
+    ∷ [])
+    ((instr.Create (route (1 ∷ [])) (slot 2) ∷ instr.Store (route (0 ∷ [])) (Number 0) (slot 2) ∷ instr.Yield ∷ instr.Put (route (2 ∷ 0 ∷ [])) (Number 0) (Number 5) ∷ [])
+    ∷ (instr.Enter (route (1 ∷ [])) (0 ∷ []) (slot 2) ∷ [])
+    ∷ (instr.Append (route (0 ∷ 0 ∷ [])) (slot 1) ∷ [])
+    ∷ [])
+    (process 1 (cap 7 (STORE + MODIFY + ENV) ∷ cap 9 A0 ∷ []) ∷ process 2 (cap 7 (LOAD + ENV + UNCONF) ∷ cap 8 (PUTDATA + MODIFY + ENV + UNCONF) ∷ []) ∷ [])
 
 abbrev handing_lines : List Line
 handing_lines =

@@ -20,6 +20,16 @@ use Rattle.hk_model.specs.declared.world.Kind.TheVariants as kind
 use Rattle.hk_model.specs.Limits.{usual_limit}
 use Rattle.hk_model.specs.Setup.{Setup}
 
+-- the numbers of some rights
+abbrev pub getdata_right : ℕ
+getdata_right = 0
+
+abbrev pub putdata_right : ℕ
+putdata_right = 1
+
+abbrev pub load_right : ℕ
+load_right = 3
+
 abbrev pub name : ℕ → Name
 name n = record { 0 = n }
 
