@@ -3,6 +3,7 @@ use Rattle.std.specs.Prelude.{◌≡◌, ℕ, ◌+◌, List, [], ◌∷◌, Some
 use Rattle.std.proofs.Common.{lit≤}
 use Rattle.hk_model.specs.declared.entries.Entry.TheVariants.{Empty, Form}
 use Rattle.hk_model.specs.declared.entries.Template.TheVariants as template
+use Rattle.hk_model.specs.declared.entries.Making.TheVariants as making
 use Rattle.hk_model.specs.declared.calls.Call.TheVariants as call
 use Rattle.hk_model.specs.declared.calls.Reply.TheVariants.{Done, Word, No}
 use Rattle.hk_model.specs.declared.calls.Refusal.TheVariants as refused
@@ -10,15 +11,15 @@ use Rattle.hk_model.specs.declared.instructions.Instr.TheVariants as instr
 use Rattle.hk_model.specs.declared.instructions.Operand.TheVariants.{Number}
 use Rattle.hk_model.specs.declared.world.Kind.TheVariants as kind
 use Rattle.hk_model.specs.declared.lines.Line.{Line}
-use Rattle.hk_rights.specs.Rights.{GETDATA, PUTDATA, ADDDATA, LOAD, STORE, APPEND, MODIFY, ENV, UNCONF, A0, first_missing, right_numbers, right_table}
+use Rattle.hk_rights.specs.Rights.{GETDATA, PUTDATA, ADDDATA, LOAD, STORE, APPEND, COPY, MODIFY, ENV, UNCONF, A0, first_missing, right_numbers, right_table}
 use Rattle.hk_model.specs.Setup.{Setup}
 use Rattle.hk_model.specs.Targets.{DATA, UNIVERSAL}
 use Rattle.hk_model.specs.Opening.{opening}
 use Rattle.hk_model.specs.Control.{next, next_from, after}
-use Rattle.hk_model.specs.Rule.{get_word, put_word, add_word, store_entry, append_entry, create_object, merge_cap, enter_procedure, leave}
+use Rattle.hk_model.specs.Rule.{get_word, put_word, add_word, load_entry, restrict_slot, make_template, copy_object, store_entry, append_entry, create_object, merge_cap, enter_procedure, leave}
 use Rattle.hk_model.specs.Running.{AreStepsOf, opened, step, state_at}
 use Rattle.hk_model.specs.Places.{Place, SlotOf, EntryOf, passed}
-use Rattle.hk_model.specs.Origins.{ByCreate}
+use Rattle.hk_model.specs.Origins.{ByCreate, ByCopy, ByMakeTemplate}
 use Rattle.hk_model.specs.Descent.{Gate, Opened, MadeAt, Link, chains, Descends}
 use Rattle.hk_model.specs.Under.{is_made_under, parameters}
 use Rattle.hk_model.specs.Reaches.{Hop, IsReach, IsModifiable}
@@ -158,16 +159,16 @@ change-through-two-lists = (
 )
 
 -- a confined call changes an object that it has made, and returns it
-abbrev making : Setup
-making = small_world
+abbrev producing : Setup
+producing = small_world
     (procedure 0 [] (Form (template.Create (name DATA) (GETDATA + ADDDATA + MODIFY + ENV)) ∷ []) ∷ [])
     ((instr.Create (route (0 ∷ [])) (slot 1) ∷ instr.Add (route (1 ∷ [])) (Number 5) ∷ instr.Leave (Some (slot 1)) ∷ [])
     ∷ (instr.Enter (route (0 ∷ [])) [] (slot 1) ∷ instr.Get (route (1 ∷ [])) (Number 0) 0 ∷ [])
     ∷ [])
     (process 1 (cap 7 A0 ∷ []) ∷ [])
 
-abbrev making_lines : List Line
-making_lines =
+abbrev producing_lines : List Line
+producing_lines =
     dispatch 0
     ∷ line 0 (call.Enter (0 ∷ []) [] (slot 1)) Done
     ∷ line 1 (call.Create (0 ∷ []) (slot 1)) Done
@@ -177,25 +178,86 @@ making_lines =
     ∷ return_line 0
     ∷ []
 
-making-steps : AreStepsOf making making_lines
+producing-steps : AreStepsOf producing producing_lines
 unfolding opened opening step next next_from after get_word add_word create_object enter_procedure leave first_missing right_numbers right_table
-making-steps = (refl, (refl, (refl, (refl, (refl, (refl, (refl, tt)))))))
+producing-steps = (refl, (refl, (refl, (refl, (refl, (refl, (refl, tt)))))))
 
 -- a call without parameters is closed
-call-has-no-parameters : parameters making making_lines 2 (inc 1) ≡ []
+call-has-no-parameters : parameters producing producing_lines 2 (inc 1) ≡ []
 unfolding opened opening step next next_from after get_word add_word create_object enter_procedure leave first_missing right_numbers right_table
 call-has-no-parameters = refl
 
 -- what was returned comes from the callee's slot, and was made there
-chain-of-a-made-object : chains making making_lines (slot_of 0 1) ≡
+chain-of-a-made-object : chains producing producing_lines (slot_of 0 1) ≡
     Link 5 (slot_of 1 1) (cap 8 (GETDATA + ADDDATA + MODIFY + ENV)) None (MadeAt 3 (ByCreate (name 8)) (Form (template.Create (name DATA) (GETDATA + ADDDATA + MODIFY + ENV))))
 unfolding opened opening step next next_from after get_word add_word create_object enter_procedure leave first_missing right_numbers right_table
 chain-of-a-made-object = refl
 
 -- the change is explained by the making
-change-of-a-made-object : AreChanges making making_lines (record { line = 4; under = inc 1; object = name 8; reach = Made } ∷ [])
+change-of-a-made-object : AreChanges producing producing_lines (record { line = 4; under = inc 1; object = name 8; reach = Made } ∷ [])
 unfolding opened opening step next next_from after get_word add_word create_object enter_procedure leave first_missing right_numbers right_table
 change-of-a-made-object = (record { line = refl; under = refl; object = refl; reason = refl }, tt)
+
+-- a process copies an object, loads from the copy, restricts what it got, makes a template and calls a procedure
+abbrev copying : Setup
+copying = small_world
+  (kind.TypeObject
+      ∷ plain DATA [] []
+      ∷ plain UNIVERSAL [] (cap 8 (GETDATA + ENV) ∷ [])
+      ∷ procedure 0 [] (cap 8 (GETDATA + MODIFY) ∷ [])
+      ∷ [])
+  ((instr.Load (route (0 ∷ [])) (slot 1) ∷ [])
+      ∷ (instr.Copy (route (0 ∷ [])) (slot 3)
+          ∷ instr.Load (route (3 ∷ 0 ∷ [])) (slot 4)
+          ∷ instr.Restrict (slot 4) GETDATA
+          ∷ instr.MakeTemplate (route (1 ∷ [])) (making.Amplify 0 0) (slot 5)
+          ∷ instr.Enter (route (2 ∷ [])) [] (slot 6)
+          ∷ [])
+      ∷ [])
+  (process 1 (cap 9 (LOAD + COPY + ENV) ∷ cap 7 (ENV + A0) ∷ cap 10 A0 ∷ []) ∷ [])
+
+abbrev copying_lines : List Line
+copying_lines =
+    dispatch 0
+    ∷ line 0 (call.Copy (0 ∷ []) (slot 3)) Done
+    ∷ line 0 (call.Load (3 ∷ 0 ∷ []) (slot 4)) Done
+    ∷ line 0 (call.Restrict (slot 4) GETDATA) Done
+    ∷ line 0 (call.MakeTemplate (1 ∷ []) (making.Amplify 0 0) (slot 5)) Done
+    ∷ line 0 (call.Enter (2 ∷ []) [] (slot 6)) Done
+    ∷ line 1 (call.Load (0 ∷ []) (slot 1)) Done
+    ∷ return_line 1
+    ∷ return_line 0
+    ∷ []
+
+copying-steps : AreStepsOf copying copying_lines
+unfolding opened opening step next next_from after load_entry restrict_slot make_template copy_object enter_procedure leave first_missing right_numbers right_table
+copying-steps = (refl, (refl, (refl, (refl, (refl, (refl, (refl, (refl, (refl, tt)))))))))
+
+-- the restricted capability was loaded from the copy, whose entry comes from the same entry of the copied object
+chain-through-a-copy : chains copying copying_lines (slot_of 0 4) ≡
+    Link 4 (slot_of 0 4) (cap 8 (GETDATA + ENV)) None
+      (Link 3 (EntryOf (name 11) 0) (cap 8 (GETDATA + ENV)) None
+        (Link 2 (EntryOf (name 9) 0) (cap 8 (GETDATA + ENV)) None
+          (Opened (EntryOf (name 9) 0))))
+unfolding opened opening step next next_from after load_entry restrict_slot make_template copy_object enter_procedure leave first_missing right_numbers right_table
+chain-through-a-copy = refl
+
+-- the capability for the copy and the template were made
+chain-of-a-copy : chains copying copying_lines (slot_of 0 3) ≡ MadeAt 2 (ByCopy (name 11)) (cap 9 (LOAD + COPY + ENV))
+unfolding opened opening step next next_from after load_entry restrict_slot make_template copy_object enter_procedure leave first_missing right_numbers right_table
+chain-of-a-copy = refl
+
+chain-of-a-made-template : chains copying copying_lines (slot_of 0 5) ≡ MadeAt 5 ByMakeTemplate (cap 7 (ENV + A0))
+unfolding opened opening step next next_from after load_entry restrict_slot make_template copy_object enter_procedure leave first_missing right_numbers right_table
+chain-of-a-made-template = refl
+
+-- what the callee loaded is what it inherited from the procedure
+chain-of-an-inherited-capability : chains copying (take 7 copying_lines) (slot_of 1 1) ≡
+    Link 7 (slot_of 1 0) (cap 8 GETDATA) None
+      (Link 6 (EntryOf (name 10) 0) (cap 8 (GETDATA + MODIFY)) None
+        (Opened (EntryOf (name 10) 0)))
+unfolding opened opening step next next_from after load_entry restrict_slot make_template copy_object enter_procedure leave first_missing right_numbers right_table
+chain-of-an-inherited-capability = refl
 
 -- a confined call hands a new object over, and another process stores a capability there
 abbrev handing : Setup
@@ -229,6 +291,18 @@ handing_lines =
 handing-steps : AreStepsOf handing handing_lines
 unfolding opened opening step next next_from after put_word store_entry append_entry create_object enter_procedure leave first_missing right_numbers right_table
 handing-steps = (refl, (refl, (refl, (refl, (refl, (refl, (refl, (refl, (refl, (refl, (refl, (refl, tt))))))))))))
+
+-- what stands in the lists comes from the slots that were stored and appended
+chain-through-a-store : chains handing handing_lines (EntryOf (name 7) 0) ≡
+    Link 4 (slot_of 2 2) (cap 10 (LOAD + STORE + APPEND + MODIFY + ENV + UNCONF)) None
+      (MadeAt 3 (ByCreate (name 10)) (Form (template.Create (name UNIVERSAL) (LOAD + STORE + APPEND + MODIFY + ENV + UNCONF))))
+unfolding opened opening step next next_from after put_word store_entry append_entry create_object enter_procedure leave first_missing right_numbers right_table
+chain-through-a-store = refl
+
+chain-through-an-append : chains handing handing_lines (EntryOf (name 10) 0) ≡
+    Link 7 (slot_of 1 1) (cap 8 (PUTDATA + MODIFY + ENV + UNCONF)) None (Opened (slot_of 1 1))
+unfolding opened opening step next next_from after put_word store_entry append_entry create_object enter_procedure leave first_missing right_numbers right_table
+chain-through-an-append = refl
 
 -- two objects are changed under the call
 changes-under-the-handing-call : bare_changes handing handing_lines ≡
