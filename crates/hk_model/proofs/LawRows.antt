@@ -1,5 +1,5 @@
 -- Worked rows of the laws: chains, marks, reaches and changes of small worlds.
-use Rattle.std.specs.Prelude.{◌≡◌, ℕ, ◌+◌, List, [], ◌∷◌, Some, None, true, false, take, refl}
+use Rattle.std.specs.Prelude.{◌≡◌, ℕ, ◌+◌, Bool, map, List, [], ◌∷◌, Some, None, true, false, take, refl}
 use Rattle.std.proofs.Common.{lit≤}
 use Rattle.hk_model.specs.declared.entries.Entry.TheVariants.{Empty, Form}
 use Rattle.hk_model.specs.declared.entries.Template.TheVariants as template
@@ -16,7 +16,7 @@ use Rattle.hk_model.specs.Setup.{Setup}
 use Rattle.hk_model.specs.Targets.{DATA, UNIVERSAL}
 use Rattle.hk_model.specs.Opening.{opening}
 use Rattle.hk_model.specs.Control.{next, next_from, after}
-use Rattle.hk_model.specs.Rule.{get_word, put_word, add_word, load_entry, restrict_slot, make_template, copy_object, store_entry, append_entry, create_object, merge_cap, enter_procedure, leave}
+use Rattle.hk_model.specs.Rule.{drop_slot, get_word, put_word, add_word, load_entry, restrict_slot, make_template, copy_object, store_entry, append_entry, create_object, merge_cap, enter_procedure, leave}
 use Rattle.hk_model.specs.Running.{AreStepsOf, opened, step, state_at}
 use Rattle.hk_model.specs.Places.{Place, SlotOf, EntryOf, passed}
 use Rattle.hk_model.specs.Origins.{ByCreate, ByCopy, ByMakeTemplate}
@@ -197,6 +197,53 @@ chain-of-a-made-object = refl
 change-of-a-made-object : AreChanges producing producing_lines (record { line = 4; under = inc 1; object = name 8; reach = Made } ∷ [])
 unfolding opened opening step next next_from after get_word add_word create_object enter_procedure leave first_missing right_numbers right_table
 change-of-a-made-object = (record { line = refl; under = refl; object = refl; reason = refl }, tt)
+
+-- a call loads through its parameter without ENV, copies the object that it names, and drops what it loaded
+abbrev marking : Setup
+marking = small_world
+  (plain DATA [] []
+      ∷ plain UNIVERSAL [] (cap 7 (GETDATA + ENV) ∷ [])
+      ∷ procedure 0 (record { of = Some (name UNIVERSAL); check = LOAD; give = LOAD + COPY } ∷ []) []
+      ∷ [])
+  ((instr.Load (route (0 ∷ 0 ∷ [])) (slot 1) ∷ instr.Copy (route (0 ∷ [])) (slot 2) ∷ instr.Drop (slot 1) ∷ [])
+      ∷ (instr.Enter (route (1 ∷ [])) (0 ∷ []) (slot 2) ∷ [])
+      ∷ [])
+  (process 1 (cap 8 (LOAD + COPY + ENV) ∷ cap 9 A0 ∷ []) ∷ [])
+
+abbrev marking_lines : List Line
+marking_lines =
+    dispatch 0
+    ∷ line 0 (call.Enter (1 ∷ []) (0 ∷ []) (slot 2)) Done
+    ∷ line 1 (call.Load (0 ∷ 0 ∷ []) (slot 1)) Done
+    ∷ line 1 (call.Copy (0 ∷ []) (slot 2)) Done
+    ∷ line 1 (call.Drop (slot 1)) Done
+    ∷ return_line 1
+    ∷ return_line 0
+    ∷ []
+
+marking-steps : AreStepsOf marking marking_lines
+unfolding opened opening step next next_from after load_entry copy_object drop_slot enter_procedure leave first_missing right_numbers right_table
+marking-steps = (refl, (refl, (refl, (refl, (refl, (refl, (refl, tt)))))))
+
+-- what was loaded and the capability for the copy are marked, and no entry of the copy is, which has lost it
+abbrev marked_slots : ℕ → List Bool
+marked_slots moment = map (marks marking marking_lines 2 (inc 1) 0 moment) (slot_of 1 0 ∷ slot_of 1 1 ∷ slot_of 1 2 ∷ EntryOf (name 10) 0 ∷ [])
+
+parameter-alone-is-marked : marked_slots 2 ≡ true ∷ false ∷ false ∷ false ∷ []
+unfolding opened opening step next next_from after load_entry copy_object drop_slot enter_procedure leave first_missing right_numbers right_table
+parameter-alone-is-marked = refl
+
+loaded-and-copied-is-marked : marked_slots 4 ≡ true ∷ true ∷ true ∷ false ∷ []
+unfolding opened opening step next next_from after load_entry copy_object drop_slot enter_procedure leave first_missing right_numbers right_table
+loaded-and-copied-is-marked = refl
+
+dropped-is-not-marked : marked_slots 5 ≡ true ∷ false ∷ true ∷ false ∷ []
+unfolding opened opening step next next_from after load_entry copy_object drop_slot enter_procedure leave first_missing right_numbers right_table
+dropped-is-not-marked = refl
+
+nothing-is-marked-after : marked_slots 6 ≡ false ∷ false ∷ false ∷ false ∷ []
+unfolding opened opening step next next_from after load_entry copy_object drop_slot enter_procedure leave first_missing right_numbers right_table
+nothing-is-marked-after = refl
 
 -- a process copies an object, loads from the copy, restricts what it got, makes a template and calls a procedure
 abbrev copying : Setup
