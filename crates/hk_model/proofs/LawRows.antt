@@ -201,14 +201,14 @@ change-of-a-made-object = (record { line = refl; under = refl; object = refl; re
 -- a call loads through its parameter without ENV, copies the object that it names, and drops what it loaded
 abbrev marking : Setup
 marking = small_world
-  (plain DATA [] []
-      ∷ plain UNIVERSAL [] (cap 7 (GETDATA + ENV) ∷ [])
-      ∷ procedure 0 (record { of = Some (name UNIVERSAL); check = LOAD; give = LOAD + COPY } ∷ []) []
-      ∷ [])
-  ((instr.Load (route (0 ∷ 0 ∷ [])) (slot 1) ∷ instr.Copy (route (0 ∷ [])) (slot 2) ∷ instr.Drop (slot 1) ∷ [])
-      ∷ (instr.Enter (route (1 ∷ [])) (0 ∷ []) (slot 2) ∷ [])
-      ∷ [])
-  (process 1 (cap 8 (LOAD + COPY + ENV) ∷ cap 9 A0 ∷ []) ∷ [])
+    (plain DATA [] []
+    ∷ plain UNIVERSAL [] (cap 7 (GETDATA + ENV) ∷ [])
+    ∷ procedure 0 (record { of = Some (name UNIVERSAL); check = LOAD; give = LOAD + COPY } ∷ []) []
+    ∷ [])
+    ((instr.Load (route (0 ∷ 0 ∷ [])) (slot 1) ∷ instr.Copy (route (0 ∷ [])) (slot 2) ∷ instr.Drop (slot 1) ∷ [])
+    ∷ (instr.Enter (route (1 ∷ [])) (0 ∷ []) (slot 2) ∷ [])
+    ∷ [])
+    (process 1 (cap 8 (LOAD + COPY + ENV) ∷ cap 9 A0 ∷ []) ∷ [])
 
 abbrev marking_lines : List Line
 marking_lines =
@@ -248,20 +248,20 @@ nothing-is-marked-after = refl
 -- a process copies an object, loads from the copy, restricts what it got, makes a template and calls a procedure
 abbrev copying : Setup
 copying = small_world
-  (kind.TypeObject
-      ∷ plain DATA [] []
-      ∷ plain UNIVERSAL [] (cap 8 (GETDATA + ENV) ∷ [])
-      ∷ procedure 0 [] (cap 8 (GETDATA + MODIFY) ∷ [])
-      ∷ [])
-  ((instr.Load (route (0 ∷ [])) (slot 1) ∷ [])
-      ∷ (instr.Copy (route (0 ∷ [])) (slot 3)
-          ∷ instr.Load (route (3 ∷ 0 ∷ [])) (slot 4)
-          ∷ instr.Restrict (slot 4) GETDATA
-          ∷ instr.MakeTemplate (route (1 ∷ [])) (making.Amplify 0 0) (slot 5)
-          ∷ instr.Enter (route (2 ∷ [])) [] (slot 6)
-          ∷ [])
-      ∷ [])
-  (process 1 (cap 9 (LOAD + COPY + ENV) ∷ cap 7 (ENV + A0) ∷ cap 10 A0 ∷ []) ∷ [])
+    (kind.TypeObject
+    ∷ plain DATA [] []
+    ∷ plain UNIVERSAL [] (cap 8 (GETDATA + ENV) ∷ [])
+    ∷ procedure 0 [] (cap 8 (GETDATA + MODIFY) ∷ [])
+    ∷ [])
+    ((instr.Load (route (0 ∷ [])) (slot 1) ∷ [])
+    ∷ (instr.Copy (route (0 ∷ [])) (slot 3)
+    ∷ instr.Load (route (3 ∷ 0 ∷ [])) (slot 4)
+    ∷ instr.Restrict (slot 4) GETDATA
+    ∷ instr.MakeTemplate (route (1 ∷ [])) (making.Amplify 0 0) (slot 5)
+    ∷ instr.Enter (route (2 ∷ [])) [] (slot 6)
+    ∷ [])
+    ∷ [])
+    (process 1 (cap 9 (LOAD + COPY + ENV) ∷ cap 7 (ENV + A0) ∷ cap 10 A0 ∷ []) ∷ [])
 
 abbrev copying_lines : List Line
 copying_lines =
@@ -283,9 +283,9 @@ copying-steps = (refl, (refl, (refl, (refl, (refl, (refl, (refl, (refl, (refl, t
 -- the restricted capability was loaded from the copy, whose entry comes from the same entry of the copied object
 chain-through-a-copy : chains copying copying_lines (slot_of 0 4) ≡
     Link 4 (slot_of 0 4) (cap 8 (GETDATA + ENV)) None
-      (Link 3 (EntryOf (name 11) 0) (cap 8 (GETDATA + ENV)) None
-        (Link 2 (EntryOf (name 9) 0) (cap 8 (GETDATA + ENV)) None
-          (Opened (EntryOf (name 9) 0))))
+    (Link 3 (EntryOf (name 11) 0) (cap 8 (GETDATA + ENV)) None
+    (Link 2 (EntryOf (name 9) 0) (cap 8 (GETDATA + ENV)) None
+    (Opened (EntryOf (name 9) 0))))
 unfolding opened opening step next next_from after load_entry restrict_slot make_template copy_object enter_procedure leave first_missing right_numbers right_table
 chain-through-a-copy = refl
 
@@ -301,8 +301,8 @@ chain-of-a-made-template = refl
 -- what the callee loaded is what it inherited from the procedure
 chain-of-an-inherited-capability : chains copying (take 7 copying_lines) (slot_of 1 1) ≡
     Link 7 (slot_of 1 0) (cap 8 GETDATA) None
-      (Link 6 (EntryOf (name 10) 0) (cap 8 (GETDATA + MODIFY)) None
-        (Opened (EntryOf (name 10) 0)))
+    (Link 6 (EntryOf (name 10) 0) (cap 8 (GETDATA + MODIFY)) None
+    (Opened (EntryOf (name 10) 0)))
 unfolding opened opening step next next_from after load_entry restrict_slot make_template copy_object enter_procedure leave first_missing right_numbers right_table
 chain-of-an-inherited-capability = refl
 
@@ -342,7 +342,7 @@ handing-steps = (refl, (refl, (refl, (refl, (refl, (refl, (refl, (refl, (refl, (
 -- what stands in the lists comes from the slots that were stored and appended
 chain-through-a-store : chains handing handing_lines (EntryOf (name 7) 0) ≡
     Link 4 (slot_of 2 2) (cap 10 (LOAD + STORE + APPEND + MODIFY + ENV + UNCONF)) None
-      (MadeAt 3 (ByCreate (name 10)) (Form (template.Create (name UNIVERSAL) (LOAD + STORE + APPEND + MODIFY + ENV + UNCONF))))
+    (MadeAt 3 (ByCreate (name 10)) (Form (template.Create (name UNIVERSAL) (LOAD + STORE + APPEND + MODIFY + ENV + UNCONF))))
 unfolding opened opening step next next_from after put_word store_entry append_entry create_object enter_procedure leave first_missing right_numbers right_table
 chain-through-a-store = refl
 
