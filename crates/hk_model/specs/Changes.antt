@@ -99,6 +99,7 @@ pub record IsExplained (w : Setup) (lines : List Line) (bare : BareChange) (chan
   pub object : change.object ≡ bare.object
   pub reason : IsReason w lines bare.under.moment bare.under.call bare.moment bare.object change.reach
 
+-- the changes are these, each with its reason
 abbrev pub AreExplained : Setup → List Line → List BareChange → List Change → Type 0
 AreExplained w lines [] [] = Unit {0}
 AreExplained w lines (bare ∷ bares) (change ∷ changes) = IsExplained w lines bare change × AreExplained w lines bares changes
