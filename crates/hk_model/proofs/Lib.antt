@@ -7,3 +7,4 @@ mod LeastReaches
 mod LawRows
 pub mod ReachRules
 pub mod Appending
+pub mod OneExplanation
