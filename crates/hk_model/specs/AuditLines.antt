@@ -90,10 +90,10 @@ event_pieces line = Number line.cpu.0 ∷ Number line.proc.0 ∷ Number line.inc
 abbrev pub arrow : List ℕ
 arrow = codes "->"
 
--- the text of a line, without its line feed: the event, an arrow and the reply, with one space between pieces
-unfoldable pub line_text : Line → List ℕ
-line_text line = join_with_byte 32 (map spell (event_pieces line) ++ arrow ∷ map spell (reply_pieces line.reply))
+-- what stands on a line: the event, an arrow and the reply, with one space between pieces
+unfoldable pub line_body : Line → List ℕ
+line_body line = join_with_byte 32 (map spell (event_pieces line) ++ arrow ∷ map spell (reply_pieces line.reply))
 
--- the same with its line feed, as it stands in a record
-abbrev pub full_line_text : Line → List ℕ
-full_line_text line = ended_line (line_text line)
+-- the text of a line: its line feed too
+abbrev pub line_text : Line → List ℕ
+line_text line = ended_line (line_body line)

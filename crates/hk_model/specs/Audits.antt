@@ -12,7 +12,7 @@ use Rattle.hk_model.specs.Setup.{Setup}
 use Rattle.hk_model.specs.Texts.{is_none}
 use Rattle.hk_model.specs.Loading.{◌>>=◌}
 use Rattle.hk_model.specs.Worlds.{Refused, world_of}
-use Rattle.hk_model.specs.LineReading.{read_line}
+use Rattle.hk_model.specs.LineReading.{read_body}
 use Rattle.hk_model.specs.Records.{record_word, end_text}
 
 -- what the lines behind the script tell
@@ -90,7 +90,7 @@ whole_line n None line behind rest = audit_line n line rest
 abbrev pub events_from : ℕ → List (List ℕ) → Result Events Refused
 events_from n [] = Err (n, OfParse Missing)
 events_from n (x ∷ []) = if is_none x then Err (n, OfParse Missing) else Err (n, BadLine)
-events_from n (x ∷ y ∷ more) = whole_line n (end_of x) (read_line x) (y ∷ more) (events_from (n + 1) (y ∷ more))
+events_from n (x ∷ y ∷ more) = whole_line n (end_of x) (read_body x) (y ∷ more) (events_from (n + 1) (y ∷ more))
 
 -- `record` stands on line n, or is missing there
 abbrev pub events_behind : ℕ → Option (List (List ℕ)) → Result Events Refused

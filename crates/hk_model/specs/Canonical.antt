@@ -87,11 +87,12 @@ param_body s param = ParamIs (kind_text s param.of) (rights_text param.check) (r
 abbrev pub param_parts : Spoken → List Param → List Part
 param_parts s params = map (λ (p : Param). part (param_body s p)) params
 
--- the bytes of `words`, and of one number and the space before it
+-- the bytes of `words`
 abbrev pub words_bytes : ℕ
 words_bytes = 5
 
 -- the bytes of a number, and of the space before it
+-- the bytes of a number, and the space before it
 abbrev pub number_bytes : ℕ → ℕ
 number_bytes word = 1 + length (decimal word)
 

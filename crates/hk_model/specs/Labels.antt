@@ -1,4 +1,4 @@
--- Words, and which of them may be labels. docs/FORMATS.md, "Pieces" and "Names".
+-- Words, and which of them may name an object, a code or a process. docs/FORMATS.md, "Pieces" and "Names".
 use Rattle.std.specs.Prelude.{ℕ, ◌==◌, Bool, true, false, not, ◌&&◌, ◌||◌, List, [], ◌∷◌, length, nat_le, slice_index, codes, nat_eq}
 use Rattle.std.specs.List.{list_all, list_any}
 use Rattle.std.specs.Cmp.Lexicographic.{pointwise}

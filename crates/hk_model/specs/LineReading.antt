@@ -1,5 +1,5 @@
 -- The line of which bytes are the text: the reader guesses a line and compares. docs/FORMATS.md, "Audit lines and records".
-use Rattle.std.specs.Prelude.{ℕ, ◌==◌, Bool, false, ◌&&◌, List, [], ◌∷◌, Option, Some, None, Result, Ok, Err, if◌then◌else◌, nat_le, nat_lt, map, codes}
+use Rattle.std.specs.Prelude.{ℕ, ◌==◌, Bool, false, ◌&&◌, List, [], ◌∷◌, Option, Some, None, Result, Ok, Err, if◌then◌else◌, nat_le, nat_lt, map, codes, length, ◌-◌, take}
 use Rattle.std.specs.List.{list_all, find, slice_split}
 use Rattle.hk_rights.specs.Rights.{number_named}
 use Rattle.hk_model.specs.declared.names.Slot.{Slot}
@@ -32,7 +32,7 @@ use Rattle.hk_model.specs.Texts.{piece_onto}
 use Rattle.hk_model.specs.Reading.{Found, Reads, ◌>>=◌, onward, taken, wanted, optional, at_most, end, unknown}
 use Rattle.hk_model.specs.Forms.{as_verb, as_word, as_number_below, slot_numbered}
 use Rattle.hk_model.specs.WrittenLines.{before_last, last_of}
-use Rattle.hk_model.specs.AuditLines.{arrow, full_word, line_text}
+use Rattle.hk_model.specs.AuditLines.{arrow, full_word, line_body, line_text}
 
 -- forms: numbers are resolved, so paths have no registers, and slots may be such that the call is refused
 
@@ -331,11 +331,20 @@ from_halves h = applied (read_by event_line (wide_pieces h.event)) (read_by repl
 abbrev pub guess : List ℕ → Option Line
 guess bytes = from_halves (halves (slice_split (λ b. b == 32) bytes))
 
--- the guess, where its text is exactly these bytes
+-- the guess, where it stands on exactly these bytes
 abbrev pub if_spelled : List ℕ → Option Line → Option Line
-if_spelled bytes (Some line) = if same_text (line_text line) bytes then Some line else None
+if_spelled bytes (Some line) = if same_text (line_body line) bytes then Some line else None
 if_spelled bytes None = None
 
--- the line of which these bytes are the text, without its line feed
+-- the line on which these bytes stand, before its line feed
+unfoldable pub read_body : List ℕ → Option Line
+read_body bytes = if_spelled bytes (guess bytes)
+
+-- the line, where its text is exactly these bytes
+abbrev pub if_text : List ℕ → Option Line → Option Line
+if_text bytes (Some line) = if same_text (line_text line) bytes then Some line else None
+if_text bytes None = None
+
+-- the line of which these bytes are the text: the last of them is its line feed
 unfoldable pub read_line : List ℕ → Option Line
-read_line bytes = if_spelled bytes (guess bytes)
+read_line bytes = if_text bytes (read_body (take (length bytes - 1) bytes))

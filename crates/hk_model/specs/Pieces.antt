@@ -18,7 +18,7 @@ pub data Piece : Type 0 where
   Number : (n : ℕ) → Piece
   Path : (steps : List Index) → Piece
 
--- the largest number that a piece can be
+-- the largest number that a piece of a script can be
 abbrev pub largest_number : ℕ
 largest_number = 4294967295
 

@@ -1,4 +1,4 @@
--- The items that some script has, and the lines on which they stand. docs/FORMATS.md, "Grammar".
+-- Items in form and range, whatever the lines on which they stand. docs/FORMATS.md, "Grammar".
 use Rattle.std.specs.Prelude.{ℕ, ◌+◌, ◌≤◌, ◌||◌, List, [], ◌∷◌, length, IsTrue, if◌then◌else◌, codes}
 use Rattle.std.specs.List.{AllByRecursion}
 use Rattle.hk_model.specs.declared.syntax.MakingText.{MakingText}

@@ -1,4 +1,5 @@
--- What an instruction's line says: a piece of the rule is a line of the definition. docs/FORMATS.md, "Grammar".
+-- What an instruction's line says: each line of a definition reads one piece, from the left. docs/FORMATS.md, "Grammar" and
+-- "Texts of calls".
 use Rattle.std.specs.Prelude.{ℕ, List, [], ◌∷◌}
 use Rattle.hk_model.specs.declared.instructions.Route.{Route}
 use Rattle.hk_model.specs.declared.syntax.Verb.{Verb}
