@@ -1,1 +1,4 @@
 pub mod SmallScripts
+pub mod Pieces
+pub mod RightsLists
+pub mod Guesses

@@ -1,4 +1,7 @@
 //! The commands of `hydra`, from words and bytes to bytes and a status.
 #![tactic(auto)]
 
+mod guess;
+mod pieces;
 mod small;
+mod spelling;

@@ -1,0 +1,113 @@
+//! The text of a small script (`docs/FORMATS.md`, "Small scripts").
+
+ghost use Rattle.std.specs.Prelude.{◌≡◌, ◌++◌, ◌<◌, ◌^◌, ◌+◌, ◌∷◌, List, ℕ, [], IfOk, OnOk, string_bytes, Some, codes};
+ghost use Rattle.std.specs.List.{flat_map};
+ghost use Rattle.std.specs.Fmt.{decimal};
+ghost use Rattle.hk_rights.specs.Rights.{has, IsRightsWord, name_of};
+ghost use Rattle.hk_model.specs.RightsTexts.{rights_text};
+ghost use Rattle.hk_top.specs.SmallScripts.{small_text, words_text, words_line, read_line, cap_line, then_text};
+ghost use Rattle.hk_top.specs.RightsLists.{names_text, rights_of};
+
+use crate::small::{Read, SmallScript};
+use hk_model::NoMemory;
+use hk_rights::{Right, Rights};
+use std::alloc::Global;
+
+/// The text of a small script.
+pub(crate) fn text(alloc: Global, script: &SmallScript) -> Result<Vec<u8>, NoMemory>
+    ensures { IfOk result (λ v. v.items ≡ small_text script.now) }
+{
+    let object = script.object.as_str();
+    let code = script.code.as_str();
+    let process = script.process.as_str();
+    let mut out = String::new(alloc);
+    write!(out, "hydra 1\nobject {object} DATA\n")?;
+    write_words(&mut out, script.words.as_slice())?;
+    write!(out, "end\ncode {code}\n")?;
+    write_reads(&mut out, script.reads.as_slice())?;
+    write!(out, "end\nprocess {process} {code}\n")?;
+    write_caps(alloc, &mut out, object, script.rights.as_slice())?;
+    out.push_str("end\n")?;
+    Ok(out.into_bytes())
+}
+
+/// `words` and these numbers, as one line without its line feed.
+pub(crate) fn words_text(alloc: Global, words: &[u32]) -> Result<String, NoMemory>
+    ensures { IfOk result (λ t. string_bytes t ≡ words_text words.now) }
+{
+    let mut out = String::from_str(alloc, "words")?;
+    for word in words {
+        write!(out, " {word}")?;
+    }
+    Ok(out)
+}
+
+/// Writes the line of the words, if there are any.
+fn write_words(out: &mut String, words: &[u32]) -> Result<(), NoMemory>
+    ensures { OnOk result (string_bytes out.new ≡ string_bytes out.old ++ words_line words.now) }
+{
+    if words.is_empty() {
+        return Ok(());
+    }
+    out.push_str("words")?;
+    for word in words {
+        write!(out, " {word}")?;
+    }
+    out.push_str("\n")?;
+    Ok(())
+}
+
+/// Writes a line for each read.
+fn write_reads(out: &mut String, reads: &[Read]) -> Result<(), NoMemory>
+    ensures { OnOk result (string_bytes out.new ≡ string_bytes out.old ++ flat_map read_line reads.now) }
+{
+    for read in reads {
+        let slot = read.slot.0;
+        let at = read.at;
+        let reg = read.reg;
+        write!(out, "getdata {slot} {at} r{reg}\n")?;
+    }
+    Ok(())
+}
+
+/// Writes a line for each set of rights for the object.
+fn write_caps(alloc: Global, out: &mut String, object: &str, rights: &[Rights]) -> Result<(), NoMemory>
+    ensures { OnOk result (string_bytes out.new ≡ string_bytes out.old ++ flat_map (cap_line object.now) rights.now) }
+{
+    for set in rights {
+        let names = rights_text(alloc, *set)?;
+        write!(out, "cap {object} {names}\n")?;
+    }
+    Ok(())
+}
+
+/// How a set of rights is spelled (`docs/FORMATS.md`, "Rights").
+fn rights_text(alloc: Global, rights: Rights) -> Result<String, NoMemory>
+    ensures { IfOk result (λ t. string_bytes t ≡ rights_text rights) }
+{
+    if rights.bits() == 0 {
+        return Ok(String::from_str(alloc, "-")?);
+    }
+    if rights == Rights::all() {
+        return Ok(String::from_str(alloc, "ALL")?);
+    }
+    rights_names(alloc, rights)
+}
+
+/// The names of the rights of a set, by rising number and joined by `+`.
+fn rights_names(alloc: Global, rights: Rights) -> Result<String, NoMemory>
+    ensures { IfOk result (λ t. string_bytes t ≡ names_text (rights_of rights)) }
+{
+    let mut out = String::new(alloc);
+    for bit in 0..24 {
+        if let Some(right) = Right::new(bit) {
+            if rights.has(right) {
+                if !out.is_empty() {
+                    out.push_str("+")?;
+                }
+                out.push_str(right.name())?;
+            }
+        }
+    }
+    Ok(out)
+}
