@@ -1,3 +1,4 @@
 mod Cutting
+mod Heads
 mod Names
 mod Numbers
