@@ -1,4 +1,7 @@
 mod Cutting
 mod Heads
+mod Lists
 mod Names
 mod Numbers
+mod Remaining
+mod RightsAgain
