@@ -5,3 +5,4 @@ mod Names
 mod Numbers
 mod Remaining
 mod RightsAgain
+mod Whole

@@ -134,6 +134,7 @@ joined_bytes n [] more = refl
 joined_bytes n (k ∷ ns) more = append_assoc (name_of n) (43 ∷ join_with_byte 43 (map name_of (k ∷ ns))) (10 ∷ more) ∙ ap (λ (t : List ℕ). name_of n ++ 43 ∷ t) (joined_bytes k ns more)
 
 names_start : (rights : ℕ) (more bytes : List ℕ) → IsRightsWord rights → (rights ≡ 0 → ⊥) → bytes ≡ join_with_byte 43 (map name_of (rights_of rights)) ++ 10 ∷ more → SignsRemain rights 0 more bytes
+unfolding signs_of
 names_start rights more bytes word some e = record { to_come = signs_of (rights_of rights); all = all; good = kept_signs (has rights) right_numbers all_named; left = e ∙ go (rights_of rights) refl }
   where
     all : (n : ℕ) → (has 0 n || any_has n (signs_of (rights_of rights))) ≡ has rights n
@@ -142,7 +143,6 @@ names_start rights more bytes word some e = record { to_come = signs_of (rights_
     go [] k = absurd (some (same_rights rights 0 (λ n. sym (signs_has rights n word) ∙ ap (λ (ns : List ℕ). any_has n (signs_of ns)) k ∙ none n)))
       where
         none : (n : ℕ) → any_has n (signs_of []) ≡ has 0 n
-        unfolding signs_of
         none n = sym (has-zero n)
     go (n ∷ ns) k = joined_bytes n ns more
 

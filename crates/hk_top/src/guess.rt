@@ -3,13 +3,14 @@
 
 ghost use Rattle.std.specs.Prelude.{◌≡◌, ◌<◌, ◌≤◌, ◌^◌, ◌∷◌, ◌++◌, List, ℕ, false, IfOk, length, slice_index};
 ghost use Rattle.std.specs.List.{AllByRecursion};
+ghost use Rattle.std.specs.Fmt.{decimal};
 ghost use Rattle.hk_model.specs.Labels.{is_digit};
 ghost use Rattle.hk_model.specs.RightsTexts.{rights_text};
 ghost use Rattle.hk_rights.specs.Rights.{IsRightsWord};
 ghost use Rattle.hk_top.specs.declared.small.Read.{Read};
 ghost use Rattle.hk_top.specs.declared.small.SmallScript.{SmallScript};
-ghost use Rattle.hk_top.specs.Guesses.{object_text, words_part, code_text, reads_part, process_text, caps_part, IsName, AreWords, is_sign, Undoes, UndoesCap, UndoesNumbers};
-ghost use Rattle.hk_top.specs.SmallScripts.{small_text, IsSmall, IsRead, read_line};
+ghost use Rattle.hk_top.specs.Guesses.{object_text, words_part, code_text, reads_part, process_text, caps_part, IsName, AreWords, is_sign, Undoes, UndoesCap, UndoesNumbers, one_by_one};
+ghost use Rattle.hk_top.specs.SmallScripts.{small_text, IsSmall, IsRead, read_line, end_text};
 
 use crate::pieces::{Pieces, label, number, register, rights_named, small_number};
 use crate::small::{Read, SmallScript};
@@ -54,13 +55,20 @@ fn object_head(alloc: Global, pieces: &mut Pieces<'_>) -> Result<Text, NoMemory>
 fn words(alloc: Global, pieces: &mut Pieces<'_>) -> Result<Words, NoMemory>
     ensures { Undoes AreWords words_part result pieces.old.rest.now pieces.new.rest.now }
 {
-    if pieces.first() == b'w' {
-        pieces.next();
-    }
+    pass_words(pieces);
     let mut words = numbers(alloc, pieces)?;
     pieces.next();
     words.truncate(4096);
     Ok(Words::from_vec(words))
+}
+
+/// Passes the piece `words`, if it is the next.
+fn pass_words(pieces: &mut Pieces<'_>)
+    ensures { (ns : List ℕ) (more : List ℕ) → pieces.old.rest.now ≡ words_part ns ++ more → pieces.new.rest.now ≡ one_by_one decimal 32 (end_text ++ more) ns }
+{
+    if pieces.first() == b'w' {
+        pieces.next();
+    }
 }
 
 /// The pieces that begin with a digit, as numbers.

@@ -1,0 +1,14 @@
+-- The text of a small script is its parts one behind another.
+use Rattle.std.proofs.Common.{◌≡◌, ℕ, List, [], ◌∷◌, ◌++◌, refl, sym, ap, ◌∙◌}
+use Rattle.std.specs.Prelude.{codes}
+use Rattle.std.specs.List.{flat_map}
+use mathlib.Core.List.{append_assoc, append-nil}
+use Rattle.hk_top.specs.declared.small.SmallScript.{SmallScript}
+use Rattle.hk_top.specs.Guesses.{object_text, words_part, code_text, reads_part, process_text, caps_part}
+use Rattle.hk_top.specs.SmallScripts.{small_text, line, words_line, end_text, read_line, cap_line, then_text}
+
+parts : (a b w e c r p k : List ℕ) → a ++ (b ++ (w ++ (e ++ (c ++ (r ++ (e ++ (p ++ (k ++ e)))))))) ≡ (a ++ b) ++ ((w ++ e) ++ (c ++ ((r ++ e) ++ (p ++ ((k ++ e) ++ [])))))
+parts a b w e c r p k = simp (append_assoc, append-nil)
+
+pub small_parts : (s : SmallScript) → small_text s ≡ object_text s.object ++ (words_part s.words ++ (code_text s.code ++ (reads_part s.reads ++ (process_text s.code s.process ++ (caps_part s.object s.rights ++ [])))))
+small_parts s = parts (line (codes "hydra 1")) (line (codes "object" ++ (then_text s.object ++ then_text (codes "DATA")))) (words_line s.words) end_text (line (codes "code" ++ then_text s.code)) (flat_map read_line s.reads) (line (codes "process" ++ (then_text s.process ++ then_text s.code))) (flat_map (cap_line s.object) s.rights)
