@@ -5,7 +5,7 @@ use Rattle.std.specs.Fmt.{decimal}
 use Rattle.std.specs.declared.alloc.Global.{Global}
 use Rattle.std.specs.declared.vec.Vec.{Vec}
 use Rattle.hk_model.specs.declared.kernel.NoMemory.{NoMemory}
-use Rattle.hk_model.specs.Labels.{is_name, is_capital, is_digit}
+use Rattle.hk_model.specs.Labels.{is_name, is_capital, is_digit, are_apart}
 use Rattle.hk_model.specs.Limits.{line_bytes}
 use Rattle.hk_rights.specs.Rights.{IsRightsWord}
 use Rattle.hk_top.specs.declared.small.Read.{Read}
@@ -64,3 +64,7 @@ one_by_one text byte more (x ∷ xs) = text x ++ (closing byte xs ∷ one_by_one
 -- numbers with blanks between them are given, up to what begins with no digit
 abbrev pub UndoesNumbers : Result (Vec ℕ Global) NoMemory → List ℕ → List ℕ → Type 0
 UndoesNumbers result bytes left = (ns : List ℕ) (more : List ℕ) → AllByRecursion (λ n. n < 2 ^ 32) ns → is_digit (slice_index more 0) ≡ false → bytes ≡ one_by_one decimal 32 more ns → IfOk result (λ v. (v.items ≡ ns) × (left ≡ more))
+
+-- three names, of which no two are the same
+abbrev pub AreNames : List ℕ → List ℕ → List ℕ → Type 0
+AreNames object code process = IsName object × IsName code × IsName process × IsTrue (are_apart (object ∷ code ∷ process ∷ []))

@@ -2,6 +2,8 @@
 #![tactic(auto)]
 
 mod guess;
+mod parse;
 mod pieces;
+mod ranges;
 mod small;
 mod spelling;
