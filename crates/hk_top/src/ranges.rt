@@ -37,12 +37,14 @@ fn words_fit(alloc: Global, words: &[u32]) -> Result<bool, NoMemory>
 fn are_names(object: &[u8], code: &[u8], process: &[u8]) -> bool
     ensures { IsTrue result ↔ AreNames object.now code.now process.now }
 {
-    is_name(object)
-        && is_name(code)
-        && is_name(process)
-        && code != object
-        && process != object
-        && process != code
+    is_name(object) && is_name(code) && is_name(process) && are_apart(object, code, process)
+}
+
+/// Whether no two of three texts are the same.
+fn are_apart(object: &[u8], code: &[u8], process: &[u8]) -> bool
+    ensures { result ≡ are_apart (object.now ∷ code.now ∷ process.now ∷ []) }
+{
+    code != object && process != object && process != code
 }
 
 /// Whether each slot is 0 to 63 and each register 0 to 7.
