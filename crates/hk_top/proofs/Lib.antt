@@ -1,8 +1,10 @@
 mod Cutting
+mod Each
 mod Heads
 mod Lists
 mod Names
 mod Numbers
 mod Remaining
 mod RightsAgain
+mod Spelled
 mod Whole

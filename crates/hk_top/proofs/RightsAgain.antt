@@ -7,8 +7,8 @@ use Rattle.std.proofs.lemmas.Bool.Decides.{nat_tests}
 use mathlib.Core.List.{append_assoc}
 use Rattle.hk_rights.specs.Rights.{has, all_rights, right_numbers, right_table, name_of, number_named, is_right, IsRightsWord}
 use Rattle.hk_rights.proofs.Sets.{has-zero, has-pow, same_rights}
-use Rattle.hk_rights.proofs.Words.{HasAll-all_rights}
-use Rattle.hk_rights.proofs.Table.{has-all_rights, right_numbers-is_right}
+use Rattle.hk_rights.proofs.Words.{HasAll-all_rights, IsRightsWord-from_HasAll}
+use Rattle.hk_rights.proofs.Table.{has-all_rights, right_numbers-is_right, named-is_right}
 use Rattle.hk_model.specs.RightsTexts.{rights_text}
 use Rattle.hk_top.specs.RightsLists.{rights_of}
 use Rattle.hk_top.specs.Pieces.{is_gap, piece, after}
@@ -158,3 +158,18 @@ signs_start rights more bytes word e = go (rights == 0) refl (rights == all_righ
     go true k b l h = one_sign rights (codes "-") more bytes (record { whole = refl; begins = λ t. refl; means = λ given all one none. none refl ∙ sym (eqb-true rights 0 k) }) h
     go false k true l h = one_sign rights (codes "ALL") more bytes (record { whole = refl; begins = λ t. refl; means = λ given all one none. all refl ∙ sym (eqb-true rights all_rights l) }) h
     go false k false l h = names_start rights more bytes word (eqb-false rights 0 k) h
+
+-- a set has no number that is no right
+pub has_right : (rights n : ℕ) → IsRightsWord rights → (IsTrue (is_right n) → ⊥) → has rights n ≡ false
+has_right rights n word none = go (has rights n) refl
+  where
+    go : (b : Bool) → has rights n ≡ b → b ≡ false
+    go true e = absurd (none (sym (has-all_rights n) ∙ HasAll-all_rights rights word n e))
+    go false e = refl
+
+-- the set of a named right is a set of rights
+pub named_word : (name : List ℕ) (n : ℕ) → number_named name ≡ Some n → IsRightsWord (2 ^ n)
+named_word name n e =
+    IsRightsWord-from_HasAll (2 ^ n) (λ k there.
+        let same : k ≡ n = eqb-true k n (sym (has-pow n k) ∙ there) in
+        has-all_rights k ∙ (ap (λ (j : ℕ). is_right j) same ∙ named-is_right name n e))

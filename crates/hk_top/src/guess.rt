@@ -20,7 +20,8 @@ use std::alloc::Global;
 
 /// The small script whose text these bytes are, if there is one.
 pub(crate) fn guess(alloc: Global, bytes: &[u8]) -> Result<SmallScript, NoMemory>
-    ensures { (s : SmallScript) → IsSmall s → bytes.now ≡ small_text s → IfOk result (λ g. g ≡ s) }
+    ensures script { (s : SmallScript) → IsSmall s → bytes.now ≡ small_text s → IfOk result (λ g. g ≡ s) }
+    ensures rights { IfOk result (λ g. AllByRecursion IsRightsWord g.rights) }
 {
     let mut pieces = Pieces::of(bytes);
     let object = object_head(alloc, &mut pieces)?;
@@ -132,7 +133,8 @@ fn process_head(alloc: Global, pieces: &mut Pieces<'_>) -> Result<Text, NoMemory
 
 /// The rights of each slot.
 fn caps(alloc: Global, pieces: &mut Pieces<'_>) -> Result<Items<Rights>, NoMemory>
-    ensures { (object : List ℕ) → IsName object → Undoes (AllByRecursion IsRightsWord) (caps_part object) result pieces.old.rest.now pieces.new.rest.now }
+    ensures words { IfOk result (λ v. AllByRecursion IsRightsWord v) }
+    ensures caps { (object : List ℕ) → IsName object → Undoes (AllByRecursion IsRightsWord) (caps_part object) result pieces.old.rest.now pieces.new.rest.now }
 {
     let mut rights = Items::new(alloc);
     while pieces.first() == b'c' {
@@ -144,6 +146,7 @@ fn caps(alloc: Global, pieces: &mut Pieces<'_>) -> Result<Items<Rights>, NoMemor
 
 /// The rights of one line.
 fn cap(pieces: &mut Pieces<'_>) -> Rights
+    ensures word { IsRightsWord result }
     ensures cap { UndoesCap result pieces.old.rest.now pieces.new.rest.now }
     ensures less { 0 < length pieces.old.rest.now → length pieces.new.rest.now < length pieces.old.rest.now }
 {
@@ -154,6 +157,7 @@ fn cap(pieces: &mut Pieces<'_>) -> Rights
 
 /// The rights that the next pieces name.
 fn named_rights(pieces: &mut Pieces<'_>) -> Rights
+    ensures word { IsRightsWord result }
     ensures named { (rights : ℕ) (more : List ℕ) → IsRightsWord rights → is_sign (slice_index more 0) ≡ false → pieces.old.rest.now ≡ rights_text rights ++ 10 ∷ more → (result ≡ rights) × (pieces.new.rest.now ≡ more) }
     ensures less { length pieces.new.rest.now ≤ length pieces.old.rest.now }
 {

@@ -4,7 +4,7 @@ ghost use Rattle.std.specs.Prelude.{◌≡◌, ◌<◌, ◌≤◌, ◌^◌, ◌+
 ghost use Rattle.std.specs.List.{position_or_len};
 ghost use Rattle.std.specs.Fmt.{decimal};
 ghost use Rattle.hk_model.specs.Labels.{is_name};
-ghost use Rattle.hk_rights.specs.Rights.{number_named, all_rights};
+ghost use Rattle.hk_rights.specs.Rights.{number_named, all_rights, IsRightsWord};
 ghost use Rattle.hk_top.specs.Pieces.{is_gap, piece, after};
 
 use hk_model::{NoMemory, Text};
@@ -120,6 +120,7 @@ pub(crate) fn label(alloc: Global, piece: &[u8]) -> Result<Text, NoMemory>
 
 /// The rights that a piece names: all by `ALL`, one by its name, and none else.
 pub(crate) fn rights_named(piece: &[u8]) -> Rights
+    ensures word { IsRightsWord result }
     ensures all { piece.now ≡ codes "ALL" → result ≡ all_rights }
     ensures one { (n : ℕ) → number_named piece.now ≡ Some n → result ≡ 2 ^ n }
     ensures none { piece.now ≡ codes "-" → result ≡ 0 }

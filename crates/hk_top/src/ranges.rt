@@ -4,6 +4,7 @@ ghost use Rattle.std.specs.Prelude.{◌≡◌, ◌<◌, ◌≤◌, ◌↔◌, �
 ghost use Rattle.std.specs.List.{list_all, AllByRecursion};
 ghost use Rattle.hk_model.specs.Labels.{same_text, is_lower, is_digit, is_word_byte, is_word, is_register, is_name, are_apart};
 ghost use Rattle.hk_model.specs.Limits.{line_bytes};
+ghost use Rattle.hk_rights.specs.Rights.{IsRightsWord};
 ghost use Rattle.hk_top.specs.SmallScripts.{IsSmall, IsRead, words_text};
 ghost use Rattle.hk_top.specs.Guesses.{AreNames};
 
@@ -16,6 +17,7 @@ use std::alloc::Global;
 /// 1,000 bytes, it has at most 4,096 reads, of slots 0 to 63 into registers 0 to 7, and at most 64
 /// sets of rights.
 pub(crate) fn is_small(alloc: Global, script: &SmallScript) -> Result<bool, NoMemory>
+    requires { AllByRecursion IsRightsWord script.now.rights }
     ensures { IfOk result (λ b. IsTrue b ↔ IsSmall script.now) }
 {
     let fits = words_fit(alloc, script.words.as_slice())?;
@@ -52,11 +54,17 @@ fn are_reads(reads: &[Read]) -> bool
     ensures { IsTrue result ↔ AllByRecursion IsRead reads.now }
 {
     for read in reads {
-        if read.slot.0 > 63 || read.reg > 7 {
+        if !is_read(*read) {
             return false;
         }
     }
     true
+}
+
+fn is_read(read: Read) -> bool
+    ensures { IsTrue result ↔ IsRead read }
+{
+    read.slot.0 <= 63 && read.reg <= 7
 }
 
 /// Whether a text is a name: a word that is no register, and not `any`.

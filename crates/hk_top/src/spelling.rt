@@ -1,12 +1,12 @@
 //! The text of a small script (`docs/FORMATS.md`, "Small scripts").
 
-ghost use Rattle.std.specs.Prelude.{◌≡◌, ◌++◌, ◌<◌, ◌^◌, ◌+◌, ◌∷◌, List, ℕ, [], IfOk, OnOk, string_bytes, Some, codes};
-ghost use Rattle.std.specs.List.{flat_map};
+ghost use Rattle.std.specs.Prelude.{◌≡◌, ◌++◌, ◌<◌, ◌^◌, ◌+◌, ◌∷◌, List, ℕ, [], IfOk, OnOk, string_bytes, Some, None, codes, if◌then◌else◌};
+ghost use Rattle.std.specs.List.{flat_map, filter};
 ghost use Rattle.std.specs.Fmt.{decimal};
-ghost use Rattle.hk_rights.specs.Rights.{has, IsRightsWord, name_of};
+ghost use Rattle.hk_rights.specs.Rights.{has, IsRightsWord, name_of, right_numbers};
 ghost use Rattle.hk_model.specs.RightsTexts.{rights_text};
 ghost use Rattle.hk_top.specs.SmallScripts.{small_text, words_text, words_line, read_line, cap_line, then_text};
-ghost use Rattle.hk_top.specs.RightsLists.{names_text, rights_of};
+ghost use Rattle.hk_top.specs.RightsLists.{names_text};
 
 use crate::small::{Read, SmallScript};
 use hk_model::NoMemory;
@@ -95,19 +95,55 @@ fn rights_text(alloc: Global, rights: Rights) -> Result<String, NoMemory>
 }
 
 /// The names of the rights of a set, by rising number and joined by `+`.
+#[tactic(auto, unfolding(hk_rights::specs::Rights::right_numbers, hk_rights::specs::Rights::right_table))]
 fn rights_names(alloc: Global, rights: Rights) -> Result<String, NoMemory>
-    ensures { IfOk result (λ t. string_bytes t ≡ names_text (rights_of rights)) }
+    requires { IsRightsWord rights }
+    ensures { IfOk result (λ t. string_bytes t ≡ names_text (filter (has rights) right_numbers)) }
+{
+    names_among(alloc, &NUMBERS, rights)
+}
+
+/// The numbers of the rights, rising.
+const NUMBERS: [u8; 19] = [0, 1, 2, 3, 4, 5, 6, 7, 8, 9, 10, 16, 17, 18, 19, 20, 21, 22, 23];
+
+/// The names of those of these rights that a set has, joined by `+`.
+fn names_among(alloc: Global, numbers: &[u8], rights: Rights) -> Result<String, NoMemory>
+    requires { IsRightsWord rights }
+    ensures { IfOk result (λ t. string_bytes t ≡ names_text (filter (has rights) numbers.now)) }
 {
     let mut out = String::new(alloc);
-    for bit in 0..24 {
-        if let Some(right) = Right::new(bit) {
-            if rights.has(right) {
-                if !out.is_empty() {
-                    out.push_str("+")?;
-                }
-                out.push_str(right.name())?;
-            }
+    let mut separator = "";
+    for number in numbers {
+        if let Some(right) = right_in(rights, *number) {
+            push_name(&mut out, separator, right)?;
+            separator = "+";
         }
     }
     Ok(out)
+}
+
+/// The right of this number, if a set has it.
+fn right_in(rights: Rights, number: u8) -> Option<Right>
+    requires { IsRightsWord rights }
+    ensures { result ≡ (if has rights number then Some number else None) }
+{
+    match Right::new(number) {
+        Some(right) => {
+            if rights.has(right) {
+                Some(right)
+            } else {
+                None
+            }
+        }
+        None => None,
+    }
+}
+
+/// Writes a separator and the name of a right.
+fn push_name(out: &mut String, separator: &str, right: Right) -> Result<(), NoMemory>
+    ensures { OnOk result (string_bytes out.new ≡ string_bytes out.old ++ (separator.now ++ name_of right)) }
+{
+    out.push_str(separator)?;
+    out.push_str(right.name())?;
+    Ok(())
 }
