@@ -16,3 +16,10 @@ small_parts s = parts (line (codes "hydra 1")) (line (codes "object" ++ (then_te
 
 pub script_is : (s : SmallScript) (object words code : List ℕ) (reads : List Read) (process rights : List ℕ) → object ≡ s.object → words ≡ s.words → code ≡ s.code → reads ≡ s.reads → process ≡ s.process → rights ≡ s.rights → (let made : SmallScript = record { object = object; words = words; code = code; reads = reads; process = process; rights = rights } in made ≡ s)
 script_is s object words code reads process rights a b c d e f = rw (a, b, c, d, e, f) refl
+
+written : (o w e c r p k : List ℕ) → (((((((o ++ w) ++ e) ++ c) ++ r) ++ e) ++ p) ++ k) ++ e ≡ o ++ ((w ++ e) ++ (c ++ ((r ++ e) ++ (p ++ ((k ++ e) ++ [])))))
+written o w e c r p k = simp (append_assoc, append-nil)
+
+-- the text of a small script is what its parts are, written one by one
+pub small_written : (s : SmallScript) → (((((((object_text s.object ++ words_line s.words) ++ end_text) ++ code_text s.code) ++ flat_map read_line s.reads) ++ end_text) ++ process_text s.code s.process) ++ flat_map (cap_line s.object) s.rights) ++ end_text ≡ small_text s
+small_written s = written (object_text s.object) (words_line s.words) end_text (code_text s.code) (flat_map read_line s.reads) (process_text s.code s.process) (flat_map (cap_line s.object) s.rights) ∙ sym (small_parts s)

@@ -6,7 +6,7 @@ ghost use Rattle.hk_model.specs.Labels.{same_text, is_lower, is_digit, is_word_b
 ghost use Rattle.hk_model.specs.Limits.{line_bytes};
 ghost use Rattle.hk_rights.specs.Rights.{IsRightsWord};
 ghost use Rattle.hk_top.specs.SmallScripts.{IsSmall, IsRead, words_text};
-ghost use Rattle.hk_top.specs.Guesses.{AreNames};
+ghost use Rattle.hk_top.specs.Guesses.{AreNames, AreWords};
 
 use crate::small::{Read, SmallScript};
 use crate::spelling::words_text;
@@ -20,17 +20,21 @@ pub(crate) fn is_small(alloc: Global, script: &SmallScript) -> Result<bool, NoMe
     requires { AllByRecursion IsRightsWord script.now.rights }
     ensures { IfOk result (λ b. IsTrue b ↔ IsSmall script.now) }
 {
-    let fits = words_fit(alloc, script.words.as_slice())?;
-    Ok(fits
-        && are_names(script.object.as_bytes(), script.code.as_bytes(), script.process.as_bytes())
-        && script.reads.len() <= 4096
-        && are_reads(script.reads.as_slice())
-        && script.rights.len() <= 64)
+    if !are_names(script.object.as_bytes(), script.code.as_bytes(), script.process.as_bytes()) {
+        return Ok(false);
+    }
+    if script.reads.len() > 4096 || !are_reads(script.reads.as_slice()) {
+        return Ok(false);
+    }
+    if script.rights.len() > 64 {
+        return Ok(false);
+    }
+    words_fit(alloc, script.words.as_slice())
 }
 
 /// Whether the line of these words has at most 1,000 bytes.
 fn words_fit(alloc: Global, words: &[u32]) -> Result<bool, NoMemory>
-    ensures { IfOk result (λ b. IsTrue b ↔ (length (words_text words.now) ≤ line_bytes)) }
+    ensures { IfOk result (λ b. IsTrue b ↔ AreWords words.now) }
 {
     Ok(words_text(alloc, words)?.len() <= 1000)
 }

@@ -6,6 +6,7 @@ ghost use Rattle.std.specs.Fmt.{decimal};
 ghost use Rattle.hk_rights.specs.Rights.{has, IsRightsWord, name_of, right_numbers};
 ghost use Rattle.hk_model.specs.RightsTexts.{rights_text};
 ghost use Rattle.hk_top.specs.SmallScripts.{small_text, words_text, words_line, read_line, cap_line, then_text};
+ghost use Rattle.hk_top.specs.Guesses.{object_text, code_text, process_text};
 ghost use Rattle.hk_top.specs.RightsLists.{names_text};
 
 use crate::small::{Read, SmallScript};
@@ -21,14 +22,40 @@ pub(crate) fn text(alloc: Global, script: &SmallScript) -> Result<Vec<u8>, NoMem
     let code = script.code.as_str();
     let process = script.process.as_str();
     let mut out = String::new(alloc);
-    write!(out, "hydra 1\nobject {object} DATA\n")?;
+    write_object(&mut out, object)?;
     write_words(&mut out, script.words.as_slice())?;
-    write!(out, "end\ncode {code}\n")?;
+    out.push_str("end\n")?;
+    write_code(&mut out, code)?;
     write_reads(&mut out, script.reads.as_slice())?;
-    write!(out, "end\nprocess {process} {code}\n")?;
+    out.push_str("end\n")?;
+    write_process(&mut out, code, process)?;
     write_caps(alloc, &mut out, object, script.rights.as_slice())?;
     out.push_str("end\n")?;
     Ok(out.into_bytes())
+}
+
+/// Writes the lines up to the head of the object.
+fn write_object(out: &mut String, object: &str) -> Result<(), NoMemory>
+    ensures { OnOk result (string_bytes out.new ≡ string_bytes out.old ++ object_text object.now) }
+{
+    write!(out, "hydra 1\nobject {object} DATA\n")?;
+    Ok(())
+}
+
+/// Writes the head of the code.
+fn write_code(out: &mut String, code: &str) -> Result<(), NoMemory>
+    ensures { OnOk result (string_bytes out.new ≡ string_bytes out.old ++ code_text code.now) }
+{
+    write!(out, "code {code}\n")?;
+    Ok(())
+}
+
+/// Writes the head of the process.
+fn write_process(out: &mut String, code: &str, process: &str) -> Result<(), NoMemory>
+    ensures { OnOk result (string_bytes out.new ≡ string_bytes out.old ++ process_text code.now process.now) }
+{
+    write!(out, "process {process} {code}\n")?;
+    Ok(())
 }
 
 /// `words` and these numbers, as one line without its line feed.
@@ -82,6 +109,7 @@ fn write_caps(alloc: Global, out: &mut String, object: &str, rights: &[Rights]) 
 }
 
 /// How a set of rights is spelled (`docs/FORMATS.md`, "Rights").
+#[tactic(auto, unfolding(hk_model::specs::RightsTexts::rights_text))]
 fn rights_text(alloc: Global, rights: Rights) -> Result<String, NoMemory>
     ensures { IfOk result (λ t. string_bytes t ≡ rights_text rights) }
 {
