@@ -3,3 +3,6 @@ pub mod Outputs
 pub mod SmallLines
 pub mod LineParts
 pub mod SmallRuns
+pub mod Pieces
+pub mod RightsLists
+pub mod Guesses

@@ -2,13 +2,17 @@
 #![tactic(auto)]
 
 mod commands;
+mod guess;
 mod parse;
+mod pieces;
+mod ranges;
 mod reading;
 mod record;
 mod run;
 #[cfg(test)]
 mod run_tests;
 mod small;
+mod spelling;
 pub mod status;
 mod words;
 
