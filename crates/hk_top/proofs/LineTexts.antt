@@ -12,7 +12,7 @@ use Rattle.hk_model.specs.declared.calls.Reply.TheVariants as reply
 use Rattle.hk_model.specs.declared.lines.What.TheVariants as what
 use Rattle.hk_model.specs.declared.lines.What.{What}
 use Rattle.hk_model.specs.declared.lines.Line.{Line}
-use Rattle.hk_model.specs.Pieces.{Piece, spell}
+use Rattle.hk_model.specs.Pieces.{spell}
 use Rattle.hk_model.specs.AuditLines.{call_pieces, what_pieces, event_pieces, refusal_pieces, reply_pieces, line_body, line_text, arrow}
 use Rattle.hk_top.specs.LineParts.{what_text, reply_text}
 use Rattle.hk_top.proofs.CanonicalScripts.{joined}

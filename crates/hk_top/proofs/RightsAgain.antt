@@ -1,8 +1,8 @@
 -- The rights of a line are read again, name by name.
-use Rattle.std.proofs.Common.{◌≡◌, ℕ, ◌+◌, ◌<◌, ◌≤◌, ◌^◌, ◌==◌, ◌||◌, ◌&&◌, not, Bool, true, false, cond, List, [], ◌∷◌, ◌++◌, length, map, refl, sym, ap, ◌∙◌, arith, subst, Option, Some, None, eqb, IsTrue}
+use Rattle.std.proofs.Common.{◌≡◌, ℕ, ◌^◌, ◌==◌, ◌||◌, ◌&&◌, Bool, true, false, cond, List, [], ◌∷◌, ◌++◌, map, refl, sym, ap, ◌∙◌, arith, Some, IsTrue}
 use Rattle.std.specs.Prelude.{slice_index, codes}
-use Rattle.std.specs.List.{AllByRecursion, list_any, list_all, filter, join_with_byte}
-use Rattle.std.proofs.lemmas.Bool.{false≢true, eqb-true, eqb-false, and_parts}
+use Rattle.std.specs.List.{AllByRecursion, list_any, filter, join_with_byte}
+use Rattle.std.proofs.lemmas.Bool.{false≢true, eqb-true, eqb-false}
 use Rattle.std.proofs.lemmas.Bool.Decides.{nat_tests}
 use mathlib.Core.List.{append_assoc}
 use Rattle.hk_rights.specs.Rights.{has, all_rights, right_numbers, right_table, name_of, number_named, is_right, IsRightsWord}
@@ -11,7 +11,7 @@ use Rattle.hk_rights.proofs.Words.{HasAll-all_rights, IsRightsWord-from_HasAll}
 use Rattle.hk_rights.proofs.Table.{has-all_rights, right_numbers-is_right, named-is_right}
 use Rattle.hk_model.specs.RightsTexts.{rights_text}
 use Rattle.hk_top.specs.RightsLists.{rights_of}
-use Rattle.hk_top.specs.Pieces.{is_gap, piece, after}
+use Rattle.hk_top.specs.Pieces.{piece, after}
 use Rattle.hk_top.specs.Guesses.{one_by_one, closing, is_sign}
 use Rattle.hk_top.proofs.Cutting.{IsWhole}
 use Rattle.hk_top.proofs.Heads.{cut}
@@ -139,6 +139,7 @@ names_start rights more bytes word some e = record { to_come = signs_of (rights_
   where
     all : (n : ℕ) → (has 0 n || any_has n (signs_of (rights_of rights))) ≡ has rights n
     all n = rw (has-zero n) (signs_has rights n word)
+
     go : (ns : List ℕ) → rights_of rights ≡ ns → join_with_byte 43 (map name_of ns) ++ 10 ∷ more ≡ signs_stream more (signs_of ns)
     go [] k = absurd (some (same_rights rights 0 (λ n. sym (signs_has rights n word) ∙ ap (λ (ns : List ℕ). any_has n (signs_of ns)) k ∙ none n)))
       where
@@ -171,5 +172,5 @@ has_right rights n word none = go (has rights n) refl
 pub named_word : (name : List ℕ) (n : ℕ) → number_named name ≡ Some n → IsRightsWord (2 ^ n)
 named_word name n e =
     IsRightsWord-from_HasAll (2 ^ n) (λ k there.
-        let same : k ≡ n = eqb-true k n (sym (has-pow n k) ∙ there) in
-        has-all_rights k ∙ (ap (λ (j : ℕ). is_right j) same ∙ named-is_right name n e))
+    let same : k ≡ n = eqb-true k n (sym (has-pow n k) ∙ there) in
+    has-all_rights k ∙ (ap (λ (j : ℕ). is_right j) same ∙ named-is_right name n e))

@@ -2,6 +2,8 @@
 #![tactic(auto)]
 
 mod commands;
+#[cfg(test)]
+mod commands_tests;
 mod guess;
 mod parse;
 mod pieces;

@@ -20,7 +20,11 @@ pub(crate) fn is_small(alloc: Global, script: &SmallScript) -> Result<bool, NoMe
     requires { AllByRecursion IsRightsWord script.now.rights }
     ensures { IfOk result (λ b. IsTrue b ↔ IsSmall script.now) }
 {
-    if !are_names(script.object.as_bytes(), script.code.as_bytes(), script.process.as_bytes()) {
+    if !are_names(
+        script.object.as_bytes(),
+        script.code.as_bytes(),
+        script.process.as_bytes(),
+    ) {
         return Ok(false);
     }
     if script.reads.len() > 4096 || !are_reads(script.reads.as_slice()) {

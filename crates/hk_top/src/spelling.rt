@@ -98,7 +98,12 @@ fn write_reads(out: &mut String, reads: &[Read]) -> Result<(), NoMemory>
 }
 
 /// Writes a line for each set of rights for the object.
-fn write_caps(alloc: Global, out: &mut String, object: &str, rights: &[Rights]) -> Result<(), NoMemory>
+fn write_caps(
+    alloc: Global,
+    out: &mut String,
+    object: &str,
+    rights: &[Rights],
+) -> Result<(), NoMemory>
     ensures { OnOk result (string_bytes out.new ≡ string_bytes out.old ++ flat_map (cap_line object.now) rights.now) }
 {
     for set in rights {
@@ -132,7 +137,9 @@ fn rights_names(alloc: Global, rights: Rights) -> Result<String, NoMemory>
 }
 
 /// The numbers of the rights, rising.
-const NUMBERS: [u8; 19] = [0, 1, 2, 3, 4, 5, 6, 7, 8, 9, 10, 16, 17, 18, 19, 20, 21, 22, 23];
+const NUMBERS: [u8; 19] = [
+    0, 1, 2, 3, 4, 5, 6, 7, 8, 9, 10, 16, 17, 18, 19, 20, 21, 22, 23,
+];
 
 /// The names of those of these rights that a set has, joined by `+`.
 fn names_among(alloc: Global, numbers: &[u8], rights: Rights) -> Result<String, NoMemory>
@@ -156,13 +163,7 @@ fn right_in(rights: Rights, number: u8) -> Option<Right>
     ensures { result ≡ (if has rights number then Some number else None) }
 {
     match Right::new(number) {
-        Some(right) => {
-            if rights.has(right) {
-                Some(right)
-            } else {
-                None
-            }
-        }
+        Some(right) => { if rights.has(right) { Some(right) } else { None } }
         None => None,
     }
 }

@@ -1,4 +1,4 @@
-use Rattle.std.proofs.Common.{◌≡◌, ◌==◌, ◌++◌, ◌∷◌, [], rules, refl, true, false, ◌∙◌, arith}
+use Rattle.std.proofs.Common.{◌≡◌, ◌==◌, ◌++◌, ◌∷◌, [], rules, refl, true, false, ◌∙◌}
 use Rattle.std.specs.Prelude.{slice_index}
 use Rattle.hk_rights.specs.Rights.{IsRightsWord}
 use Rattle.hk_top.specs.SmallScripts.{cap_line}
@@ -13,7 +13,7 @@ loop-rights-preserved c =
     let begins : (slice_index c.loop-rights.pieces.rest.now 0 == 99) ≡ true = cc in
     rw pushed (record {
       words = each_pushed IsRightsWord c.loop-rights.rights c.cap.result c.loop-rights.invariant.words c.cap.ensures.word;
-      caps = λ object name rs more good e. turn IsRightsWord (items_stream (cap_line object) more) (λ b. b == 99) rs c.loop-rights.rights c.loop-rights.pieces.rest.now c.cap.new.pieces.rest.now c.cap.result refl begins (λ r xs h g l. c.cap.ensures.cap object r (items_stream (cap_line object) more xs) name h (caps_no_sign object xs more) (l ∙ items_front (cap_line object) r xs more)) (c.loop-rights.invariant.caps object name rs more good e)
+      caps = λ object name rs more good e. turn IsRightsWord (items_stream (cap_line object) more) (λ b. b == 99) rs c.loop-rights.rights c.loop-rights.pieces.rest.now c.cap.new.pieces.rest.now c.cap.result refl begins (λ r xs h g l. c.cap.ensures.cap object r (items_stream (cap_line object) more xs) name h (caps_no_sign object xs more) (l ∙ items_front (cap_line object) r xs more)) (c.loop-rights.invariant.caps object name rs more good e);
     })
 
 pub returns-clause-caps : goal.returns-clause-caps

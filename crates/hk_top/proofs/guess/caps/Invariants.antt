@@ -1,8 +1,8 @@
 use Rattle.std.proofs.Common.{◌≡◌, ℕ, List, ◌++◌, length}
-use Rattle.std.specs.List.{AllByRecursion, flat_map}
+use Rattle.std.specs.List.{AllByRecursion}
 use Rattle.hk_rights.specs.Rights.{IsRightsWord}
 use Rattle.hk_top.specs.Guesses.{caps_part, IsName}
-use Rattle.hk_top.specs.SmallScripts.{cap_line, end_text}
+use Rattle.hk_top.specs.SmallScripts.{cap_line}
 use Rattle.hk_top.proofs.Remaining.{Remains}
 use Rattle.hk_top.proofs.Lists.{items_stream}
 use Rattle.hk_top.proofs.guess.caps.Given as goal
@@ -10,7 +10,7 @@ use Rattle.hk_top.proofs.guess.caps.Given as goal
 abbrev pub invariant-loop-rights : goal.invariant-loop-rights
 invariant-loop-rights l = record {
   words : AllByRecursion IsRightsWord l.rights;
-  caps : (object : List ℕ) → IsName object → (rs : List ℕ) (more : List ℕ) → AllByRecursion IsRightsWord rs → l.initial.pieces.rest.now ≡ caps_part object rs ++ more → Remains IsRightsWord (items_stream (cap_line object) more) rs l.rights l.pieces.rest.now
+  caps : (object : List ℕ) → IsName object → (rs : List ℕ) (more : List ℕ) → AllByRecursion IsRightsWord rs → l.initial.pieces.rest.now ≡ caps_part object rs ++ more → Remains IsRightsWord (items_stream (cap_line object) more) rs l.rights l.pieces.rest.now;
 }
 
 abbrev pub decreases-loop-rights : goal.decreases-loop-rights

@@ -1,4 +1,4 @@
-use Rattle.std.proofs.Common.{◌≡◌, IfOk}
+use Rattle.std.proofs.Common.{◌≡◌}
 use Rattle.hk_top.proofs.Heads.{code_again, labelled}
 use Rattle.hk_top.proofs.guess.code_head.Goals as goal
 

@@ -10,7 +10,7 @@ abbrev pub invariant-loop-pieces : goal.invariant-loop-pieces
 invariant-loop-pieces l = record {
   word : IsRightsWord l.rights;
   named : (rights : ℕ) (more : List ℕ) → IsRightsWord rights → is_sign (slice_index more 0) ≡ false → l.initial.pieces.rest.now ≡ rights_text rights ++ 10 ∷ more → SignsRemain rights l.rights more l.pieces.rest.now;
-  less : length l.pieces.rest.now ≤ length l.initial.pieces.rest.now
+  less : length l.pieces.rest.now ≤ length l.initial.pieces.rest.now;
 }
 
 abbrev pub decreases-loop-pieces : goal.decreases-loop-pieces

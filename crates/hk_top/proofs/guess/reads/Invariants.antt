@@ -1,8 +1,8 @@
 use Rattle.std.proofs.Common.{◌≡◌, ℕ, List, ◌++◌, length}
-use Rattle.std.specs.List.{AllByRecursion, flat_map}
+use Rattle.std.specs.List.{AllByRecursion}
 use Rattle.hk_top.specs.declared.small.Read.{Read}
 use Rattle.hk_top.specs.Guesses.{reads_part}
-use Rattle.hk_top.specs.SmallScripts.{IsRead, read_line, end_text}
+use Rattle.hk_top.specs.SmallScripts.{IsRead, read_line}
 use Rattle.hk_top.proofs.Remaining.{Remains}
 use Rattle.hk_top.proofs.Lists.{items_stream}
 use Rattle.hk_top.proofs.guess.reads.Given as goal

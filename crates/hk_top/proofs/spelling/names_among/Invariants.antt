@@ -8,5 +8,5 @@ use Rattle.hk_top.proofs.spelling.names_among.Given as goal
 abbrev pub invariant-loop-number : goal.invariant-loop-number
 invariant-loop-number l = record {
   text : string_bytes l.out ≡ names_text (filter (has l.rights) (take l.number-index l.numbers));
-  before : l.separator ≡ separator (filter (has l.rights) (take l.number-index l.numbers))
+  before : l.separator ≡ separator (filter (has l.rights) (take l.number-index l.numbers));
 }
