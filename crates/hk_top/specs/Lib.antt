@@ -1,4 +1,4 @@
 pub mod SmallScripts
 pub mod Pieces
-pub mod RightsLists
-pub mod Guesses
+pub mod RightsNames
+pub mod ScriptParts
