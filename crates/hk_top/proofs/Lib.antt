@@ -1,17 +1,17 @@
-pub mod WordLemmas
-pub mod CanonicalScripts
-pub mod AnswerLemmas
-pub mod LineTexts
+mod AnswerLemmas
+mod CanonicalScripts
+mod EachItem
+mod HeadPieces
+mod LineTexts
+mod ListPieces
+mod NamePieces
+mod NamesWritten
+mod NumberPieces
+mod PieceCuts
+mod RightsPieces
 mod SmallReads
-mod SmallSteps
 mod SmallRuns
-mod Cutting
-mod Each
-mod Heads
-mod Lists
-mod Names
-mod Numbers
-mod Remaining
-mod RightsAgain
-mod Spelled
-mod Whole
+mod SmallSteps
+mod StillToRead
+mod WholeScripts
+mod WordLemmas

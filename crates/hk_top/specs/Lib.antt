@@ -1,8 +1,8 @@
 pub mod SmallScripts
-pub mod Outputs
-pub mod SmallLines
-pub mod LineParts
-pub mod SmallRuns
 pub mod Pieces
-pub mod RightsLists
-pub mod Guesses
+pub mod RightsNames
+pub mod ScriptParts
+pub mod SmallLines
+pub mod SmallRuns
+pub mod LineParts
+pub mod Outputs

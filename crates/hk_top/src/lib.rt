@@ -4,17 +4,13 @@
 mod commands;
 #[cfg(test)]
 mod commands_tests;
-mod guess;
 mod parse;
-mod pieces;
-mod ranges;
 mod reading;
 mod record;
 mod run;
 #[cfg(test)]
 mod run_tests;
 mod small;
-mod spelling;
 pub mod status;
 mod words;
 

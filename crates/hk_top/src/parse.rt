@@ -1,16 +1,22 @@
 //! Small scripts are read by guess and comparison: bytes are a script exactly where the text of the
 //! guess is these bytes (`docs/FORMATS.md`, "Small scripts").
 
-ghost use Rattle.std.specs.Prelude.{◌≡◌, IfOk, IfErr};
+ghost use Rattle.std.specs.Prelude.{◌≡◌, IfOk, IsErrOf};
 ghost use Rattle.hk_top.specs.declared.small.SmallScript.{SmallScript};
-ghost use Rattle.hk_top.specs.declared.parse.ScriptError.TheVariants.{Form};
 ghost use Rattle.hk_top.specs.SmallScripts.{small_text, IsSmall};
 
-use crate::guess::guess;
-use crate::ranges::is_small;
+mod guess;
+mod pieces;
+mod ranges;
+mod spelling;
+#[cfg(test)]
+mod tests;
+
 use crate::small::SmallScript;
-use crate::spelling::text;
+use guess::guess;
 use hk_model::NoMemory;
+use ranges::is_small;
+use spelling::text;
 use std::alloc::Global;
 
 /// Why no script was read.
@@ -35,7 +41,7 @@ impl From<NoMemory> for ScriptError {
 /// The small script whose text these bytes are. Form exactly where they are the text of none.
 pub(crate) fn small_script(alloc: Global, bytes: &[u8]) -> Result<SmallScript, ScriptError>
     ensures ok { IfOk result (λ script. IsSmall script × (bytes.now ≡ small_text script)) }
-    ensures form { IfErr result (λ error. error ≡ Form → (script : SmallScript) → IsSmall script → bytes.now ≡ small_text script → ⊥) }
+    ensures form { IsErrOf result ScriptError.Form → (script : SmallScript) → IsSmall script → bytes.now ≡ small_text script → ⊥ }
 {
     let script = guess(alloc, bytes)?;
     if !is_small(alloc, &script)? {
