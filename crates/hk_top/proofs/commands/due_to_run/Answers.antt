@@ -10,7 +10,7 @@ returns-in-Err-TooLong-clause-due g c =
 pub returns-in-Err-Form-clause-due : goal.returns-in-Err-Form-clause-due
 returns-in-Err-Form-clause-due g c =
     refused_due
-    (form_is (form c.in-Ok.bytes.items refl (c.in-Ok.ensures.bytes, c.in-Ok.ensures.end) (no_world c.deref.ensures.value (c.in-Err-Form.ensures.form c.in-Err-Form.field-0-is))))
+    (form_is (form c.in-Ok.bytes.items refl (c.in-Ok.ensures.bytes, c.in-Ok.ensures.end) (no_world c.deref.ensures.value (c.small_script.ensures.form (c.in-Err-Form.is ∙ ap (λ e. Err e) c.in-Err-Form.field-0-is)))))
     c.refused-in-Err-Form.result c.refused-in-Err-Form.ensures
 
 pub returns-in-Ok-record_bytes-clause-due : goal.returns-in-Ok-record_bytes-clause-due
