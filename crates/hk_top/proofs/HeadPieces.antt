@@ -1,12 +1,12 @@
 -- The parts of a script with no list in them are read again.
-use Rattle.std.proofs.Common.{◌≡◌, ℕ, ◌+◌, ◌<◌, ◌≤◌, ◌^◌, Bool, true, false, List, [], ◌∷◌, ◌++◌, length, refl, sym, ap, ◌∙◌, arith, take, drop, Result, Ok, Err, IfOk, subst}
+use Rattle.std.proofs.Common.{◌≡◌, ℕ, true, List, ◌∷◌, ◌++◌, refl, ◌∙◌, arith, Result, Ok, Err, IfOk, subst}
 use Rattle.std.specs.Prelude.{codes}
 use Rattle.std.specs.Fmt.{decimal}
 use mathlib.Core.List.{append_assoc}
 use Rattle.hk_top.specs.declared.small.Read.{Read}
 use Rattle.hk_top.specs.Pieces.{is_gap, piece, after}
 use Rattle.hk_top.specs.ScriptParts.{object_text, code_text, process_text, IsName}
-use Rattle.hk_top.specs.SmallScripts.{line, then_text, read_line, IsRead}
+use Rattle.hk_top.specs.SmallScripts.{read_line, IsRead}
 use Rattle.hk_top.proofs.PieceCuts.{IsWhole, piece_is, after_is}
 use Rattle.hk_top.proofs.NamePieces.{label_whole}
 use Rattle.hk_top.proofs.NumberPieces.{number_whole}

@@ -1,23 +1,20 @@
 -- The lists of a small script are read again, item by item.
-use Rattle.std.proofs.Common.{◌≡◌, ℕ, ◌+◌, ◌<◌, ◌≤◌, ◌^◌, ◌==◌, Bool, true, false, List, [], ◌∷◌, ◌++◌, length, refl, sym, ap, ◌∙◌, arith, subst}
+use Rattle.std.proofs.Common.{◌≡◌, ℕ, ◌<◌, ◌≤◌, ◌^◌, ◌==◌, true, false, List, [], ◌∷◌, ◌++◌, length, refl, sym, ap, ◌∙◌, arith}
 use Rattle.std.specs.Prelude.{slice_index, codes}
 use Rattle.std.specs.List.{AllByRecursion, flat_map}
 use Rattle.std.specs.Fmt.{decimal}
 use Rattle.std.proofs.lemmas.Bool.{false≢true}
-use mathlib.Core.List.{append_assoc, append-nil}
+use mathlib.Core.List.{append_assoc}
 use Rattle.hk_model.specs.Labels.{is_digit}
-use Rattle.hk_rights.specs.Rights.{IsRightsWord}
-use Rattle.hk_top.specs.declared.small.Read.{Read}
-use Rattle.hk_top.specs.Pieces.{is_gap, piece, after}
-use Rattle.hk_top.specs.ScriptParts.{reads_part, caps_part, words_part, one_by_one, closing, IsName, is_sign}
-use Rattle.hk_top.specs.SmallScripts.{line, then_text, read_line, cap_line, end_text, words_text, words_line, IsRead}
-use Rattle.hk_top.proofs.PieceCuts.{IsWhole, piece_is, after_is}
+use Rattle.hk_top.specs.Pieces.{piece, after}
+use Rattle.hk_top.specs.ScriptParts.{words_part, one_by_one, closing, IsName, is_sign}
+use Rattle.hk_top.specs.SmallScripts.{then_text, cap_line, end_text, words_text}
 use Rattle.hk_model.specs.RightsTexts.{rights_text}
 use Rattle.std.proofs.lemmas.List.{length-append}
 use Rattle.hk_top.proofs.HeadPieces.{cut}
 use Rattle.hk_top.proofs.NamePieces.{label_whole}
 use Rattle.hk_top.proofs.NumberPieces.{number_whole, number_begins}
-use Rattle.hk_top.proofs.StillToRead.{Remains, turn, over}
+use Rattle.hk_top.proofs.StillToRead.{Remains}
 
 -- `end` is passed
 pub end_again : (bytes more : List ℕ) → bytes ≡ end_text ++ more → after bytes ≡ more

@@ -1,16 +1,15 @@
 -- Labels and names of rights are ASCII text, and whole pieces.
-use Rattle.std.proofs.Common.{◌≡◌, ℕ, ◌+◌, ◌<◌, ◌≤◌, ◌^◌, Bool, true, false, cond, List, [], ◌∷◌, ◌++◌, length, refl, sym, ap, ◌∙◌, arith, not, Option, Some, None, option_map, IsTrue, find, ◌&&◌, zero, suc}
-use Rattle.std.specs.Prelude.{nat_eq, slice_index, codes, nat_lt}
+use Rattle.std.proofs.Common.{◌≡◌, ℕ, Bool, true, false, cond, List, [], ◌∷◌, refl, sym, arith, not, Some, None, option_map, IsTrue, find, ◌&&◌, zero, suc}
+use Rattle.std.specs.Prelude.{nat_eq, codes, nat_lt}
 use Rattle.std.specs.List.{list_all, AllByRecursion}
 use Rattle.std.specs.Str.{IsUtf8, IsAscii}
 use Rattle.std.specs.Cmp.Lexicographic.{pointwise, same_text}
 use Rattle.std.proofs.lemmas.Str.{IsUtf8-from_ascii}
-use Rattle.std.proofs.lemmas.Bool.{and_parts, and_from, false≢true}
+use Rattle.std.proofs.lemmas.Bool.{and_parts, and_from}
 use Rattle.std.proofs.lemmas.Bool.Decides.{nat_tests}
 use Rattle.hk_model.specs.Labels.{is_name, is_word, is_word_byte, is_register, is_lower, first}
 use Rattle.hk_model.specs.Labels as labels
 use Rattle.hk_rights.specs.Rights.{Row, right_table, number_named}
-use Rattle.hk_top.specs.Pieces.{is_gap}
 use Rattle.hk_top.proofs.PieceCuts.{IsWhole}
 
 pub word_bytes : (t : List ℕ) → IsTrue (is_name t) → list_all is_word_byte t ≡ true

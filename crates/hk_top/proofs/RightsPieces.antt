@@ -1,8 +1,8 @@
 -- The rights of a line are read again, name by name.
-use Rattle.std.proofs.Common.{◌≡◌, ℕ, ◌+◌, ◌<◌, ◌≤◌, ◌^◌, ◌==◌, ◌||◌, ◌&&◌, not, Bool, true, false, cond, List, [], ◌∷◌, ◌++◌, length, map, refl, sym, ap, ◌∙◌, arith, subst, Option, Some, None, eqb, IsTrue}
+use Rattle.std.proofs.Common.{◌≡◌, ℕ, ◌^◌, ◌==◌, ◌||◌, ◌&&◌, Bool, true, false, cond, List, [], ◌∷◌, ◌++◌, map, refl, sym, ap, ◌∙◌, arith, Some, IsTrue}
 use Rattle.std.specs.Prelude.{slice_index, codes}
-use Rattle.std.specs.List.{AllByRecursion, list_any, list_all, filter, join_with_byte}
-use Rattle.std.proofs.lemmas.Bool.{false≢true, eqb-true, eqb-false, and_parts}
+use Rattle.std.specs.List.{AllByRecursion, list_any, filter, join_with_byte}
+use Rattle.std.proofs.lemmas.Bool.{false≢true, eqb-true, eqb-false}
 use Rattle.std.proofs.lemmas.Bool.Decides.{nat_tests}
 use mathlib.Core.List.{append_assoc}
 use Rattle.hk_rights.specs.Rights.{has, all_rights, right_numbers, right_table, name_of, number_named, is_right, IsRightsWord}
@@ -11,7 +11,7 @@ use Rattle.hk_rights.proofs.Words.{HasAll-all_rights}
 use Rattle.hk_rights.proofs.Table.{has-all_rights, right_numbers-is_right}
 use Rattle.hk_model.specs.RightsTexts.{rights_text}
 use Rattle.hk_top.specs.RightsNames.{rights_of}
-use Rattle.hk_top.specs.Pieces.{is_gap, piece, after}
+use Rattle.hk_top.specs.Pieces.{piece, after}
 use Rattle.hk_top.specs.ScriptParts.{one_by_one, closing, is_sign}
 use Rattle.hk_top.proofs.PieceCuts.{IsWhole}
 use Rattle.hk_top.proofs.HeadPieces.{cut}

@@ -1,8 +1,6 @@
 -- Pieces of bytes, each of which ends at a blank, a line feed or a plus.
-use Rattle.std.specs.Prelude.{◌≡◌, ℕ, ◌+◌, ◌^◌, ◌==◌, Bool, ◌||◌, List, ◌∷◌, ◌++◌, take, drop, codes, Option, Some, None}
+use Rattle.std.specs.Prelude.{ℕ, ◌+◌, ◌==◌, Bool, ◌||◌, List, take, drop}
 use Rattle.std.specs.List.{position_or_len}
-use Rattle.hk_model.specs.Labels.{same_text}
-use Rattle.hk_rights.specs.Rights.{number_named, all_rights}
 
 -- a piece ends at such a byte
 abbrev pub is_gap : ℕ → Bool

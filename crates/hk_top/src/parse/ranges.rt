@@ -8,8 +8,8 @@ ghost use Rattle.hk_rights.specs.Rights.{IsRightsWord};
 ghost use Rattle.hk_top.specs.SmallScripts.{IsSmall, IsRead, words_text};
 ghost use Rattle.hk_top.specs.ScriptParts.{AreNames, AreWords};
 
-use crate::small::{Read, SmallScript};
 use crate::parse::spelling::words_text;
+use crate::small::{Read, SmallScript};
 use hk_model::NoMemory;
 use std::alloc::Global;
 

@@ -1,4 +1,4 @@
-use Rattle.std.proofs.Common.{◌≡◌, ◌==◌, ◌++◌, ◌∷◌, [], rules, refl, true, false, ◌∙◌, arith}
+use Rattle.std.proofs.Common.{◌≡◌, ◌==◌, ◌++◌, ◌∷◌, [], rules, refl, true, false, ◌∙◌}
 use Rattle.std.specs.Prelude.{slice_index}
 use Rattle.hk_rights.specs.Rights.{IsRightsWord}
 use Rattle.hk_top.specs.SmallScripts.{cap_line}

@@ -1,8 +1,8 @@
 use Rattle.std.proofs.Common.{◌≡◌, ℕ, List, ◌++◌, length}
-use Rattle.std.specs.List.{AllByRecursion, flat_map}
+use Rattle.std.specs.List.{AllByRecursion}
 use Rattle.hk_rights.specs.Rights.{IsRightsWord}
 use Rattle.hk_top.specs.ScriptParts.{caps_part, IsName}
-use Rattle.hk_top.specs.SmallScripts.{cap_line, end_text}
+use Rattle.hk_top.specs.SmallScripts.{cap_line}
 use Rattle.hk_top.proofs.StillToRead.{Remains}
 use Rattle.hk_top.proofs.ListPieces.{items_stream}
 use Rattle.hk_top.proofs.parse.guess.caps.Given as goal

@@ -1,4 +1,4 @@
-use Rattle.std.proofs.Common.{◌≡◌, IfOk}
+use Rattle.std.proofs.Common.{◌≡◌}
 use Rattle.hk_top.proofs.HeadPieces.{code_again, labelled}
 use Rattle.hk_top.proofs.parse.guess.code_head.Goals as goal
 

@@ -1,4 +1,4 @@
-use Rattle.std.proofs.Common.{◌≡◌, ◌∷◌, codes, rules, arith, refl, true, false, ap, ◌∙◌, sym}
+use Rattle.std.proofs.Common.{◌≡◌, rules, arith, refl, true, false, ap, ◌∙◌}
 use Rattle.std.specs.Prelude.{slice_index}
 use Rattle.hk_rights.specs.Rights.{number_named}
 use Rattle.hk_rights.proofs.Words.{IsRightsWord-bit_or}

@@ -1,4 +1,4 @@
-use Rattle.std.proofs.Common.{◌≡◌, IfOk}
+use Rattle.std.proofs.Common.{◌≡◌}
 use Rattle.hk_top.proofs.HeadPieces.{object_again, given_label}
 use Rattle.hk_top.proofs.parse.guess.object_head.Goals as goal
 

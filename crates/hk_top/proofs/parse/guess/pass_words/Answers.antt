@@ -1,6 +1,6 @@
 use Rattle.std.proofs.Common.{◌≡◌, ◌==◌, true, rules, ◌∙◌}
 use Rattle.std.specs.Prelude.{slice_index}
-use Rattle.hk_top.proofs.ListPieces.{words_passed, words_none}
+use Rattle.hk_top.proofs.ListPieces.{words_passed}
 use Rattle.hk_top.proofs.parse.guess.pass_words.Goals as goal
 
 pub returns-then-first-eq119 : goal.returns-then-first-eq119

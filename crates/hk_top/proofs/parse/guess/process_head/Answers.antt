@@ -1,4 +1,4 @@
-use Rattle.std.proofs.Common.{◌≡◌, IfOk}
+use Rattle.std.proofs.Common.{◌≡◌}
 use Rattle.hk_top.proofs.HeadPieces.{process_again, given_label}
 use Rattle.hk_top.proofs.parse.guess.process_head.Goals as goal
 

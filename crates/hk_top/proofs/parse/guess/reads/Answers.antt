@@ -1,4 +1,4 @@
-use Rattle.std.proofs.Common.{◌≡◌, ◌==◌, ◌++◌, ◌∷◌, [], rules, refl, true, false, ◌∙◌, arith}
+use Rattle.std.proofs.Common.{◌≡◌, ◌==◌, ◌++◌, ◌∷◌, [], rules, refl, true, false, ◌∙◌}
 use Rattle.std.specs.Prelude.{slice_index}
 use Rattle.hk_top.specs.SmallScripts.{IsRead, read_line}
 use Rattle.hk_top.proofs.ListPieces.{items_stream, items_front, end_again}

@@ -1,8 +1,8 @@
 use Rattle.std.proofs.Common.{◌≡◌, ℕ, List, ◌++◌, length}
-use Rattle.std.specs.List.{AllByRecursion, flat_map}
+use Rattle.std.specs.List.{AllByRecursion}
 use Rattle.hk_top.specs.declared.small.Read.{Read}
 use Rattle.hk_top.specs.ScriptParts.{reads_part}
-use Rattle.hk_top.specs.SmallScripts.{IsRead, read_line, end_text}
+use Rattle.hk_top.specs.SmallScripts.{IsRead, read_line}
 use Rattle.hk_top.proofs.StillToRead.{Remains}
 use Rattle.hk_top.proofs.ListPieces.{items_stream}
 use Rattle.hk_top.proofs.parse.guess.reads.Given as goal

@@ -1,5 +1,4 @@
-use Rattle.std.proofs.Common.{arith, rules, ◌≡◌, sym, ◌∙◌}
-use Rattle.std.specs.Fmt.{decimal}
+use Rattle.std.proofs.Common.{arith, rules}
 use Rattle.hk_top.proofs.NumberPieces.{decimal_utf8, parsed_number, parsed_none}
 use Rattle.hk_top.proofs.parse.pieces.number.Goals as goal
 

@@ -1,4 +1,4 @@
-use Rattle.std.proofs.Common.{◌≡◌, ◌++◌, ◌∷◌, [], rules, true, false, ◌∙◌, string_bytes, get_or, ap, Some, None, ℕ}
+use Rattle.std.proofs.Common.{◌≡◌, ◌++◌, rules, ◌∙◌, string_bytes, get_or, ap, None, ℕ}
 use Rattle.hk_rights.specs.Rights.{has, name_of}
 use Rattle.hk_top.proofs.NamesWritten.{name_pushed, name_passed, asked_some, asked_none}
 use Rattle.hk_top.proofs.parse.spelling.names_among.Goals as goal

@@ -1,5 +1,5 @@
-use Rattle.std.proofs.Common.{◌≡◌, None, Some, rules, false, IsTrue}
-use Rattle.hk_rights.specs.Rights.{has, is_right}
+use Rattle.std.proofs.Common.{rules, IsTrue}
+use Rattle.hk_rights.specs.Rights.{is_right}
 use Rattle.hk_top.proofs.RightsPieces.{has_right}
 use Rattle.hk_top.proofs.parse.spelling.right_in.Goals as goal
 

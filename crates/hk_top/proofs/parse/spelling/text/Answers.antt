@@ -1,4 +1,4 @@
-use Rattle.std.proofs.Common.{◌≡◌, ◌++◌, [], List, ℕ, ap, sym, ◌∙◌, string_bytes, rules}
+use Rattle.std.proofs.Common.{◌≡◌, ◌++◌, ◌∙◌, string_bytes, rules}
 use Rattle.std.specs.List.{flat_map}
 use Rattle.hk_top.specs.ScriptParts.{object_text, code_text, process_text}
 use Rattle.hk_top.specs.SmallScripts.{words_line, end_text, read_line, cap_line}

@@ -1,8 +1,7 @@
 use Rattle.std.proofs.Common.{◌≡◌, ◌++◌, take, string_bytes}
-use Rattle.std.specs.Prelude.{codes}
 use Rattle.std.specs.List.{flat_map}
 use Rattle.std.specs.Fmt.{decimal}
-use Rattle.hk_top.specs.SmallScripts.{read_line, cap_line, then_text}
+use Rattle.hk_top.specs.SmallScripts.{then_text}
 use Rattle.hk_top.proofs.parse.spelling.words_text.Given as goal
 
 abbrev pub invariant-loop-word : goal.invariant-loop-word

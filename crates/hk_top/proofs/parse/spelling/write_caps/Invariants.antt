@@ -1,8 +1,6 @@
 use Rattle.std.proofs.Common.{◌≡◌, ◌++◌, take, string_bytes}
-use Rattle.std.specs.Prelude.{codes}
 use Rattle.std.specs.List.{flat_map}
-use Rattle.std.specs.Fmt.{decimal}
-use Rattle.hk_top.specs.SmallScripts.{read_line, cap_line, then_text}
+use Rattle.hk_top.specs.SmallScripts.{cap_line}
 use Rattle.hk_top.proofs.parse.spelling.write_caps.Given as goal
 
 abbrev pub invariant-loop-set : goal.invariant-loop-set

@@ -1,4 +1,4 @@
-use Rattle.std.proofs.Common.{◌≡◌, ◌∙◌, rules}
+use Rattle.std.proofs.Common.{◌∙◌}
 use mathlib.Core.List.{append_assoc}
 use Rattle.hk_top.proofs.parse.spelling.write_object.Goals as goal
 
