@@ -8,3 +8,8 @@ mod LawRows
 pub mod ReachRules
 pub mod Appending
 pub mod OneExplanation
+pub mod Standing
+pub mod Tests
+pub mod RightsWithin
+pub mod WalkLemmas
+pub mod MergeLemmas
