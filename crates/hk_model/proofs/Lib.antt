@@ -13,3 +13,4 @@ pub mod Tests
 pub mod RightsWithin
 pub mod WalkLemmas
 pub mod MergeLemmas
+pub mod CallWays
