@@ -14,3 +14,7 @@ pub mod RightsWithin
 pub mod WalkLemmas
 pub mod MergeLemmas
 pub mod CallWays
+pub mod CallPlaces
+pub mod Steps
+pub mod NumbersRise
+pub mod LineWays

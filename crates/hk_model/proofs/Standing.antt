@@ -46,6 +46,25 @@ on_bool : (P : Bool → Type 0) → P true → P false → (b : Bool) → P b
 on_bool P h g true = h
 on_bool P h g false = g
 
+and_both : (a b : Bool) → (a && b) ≡ true → (a ≡ true) × (b ≡ true)
+and_both true b h = (refl, h)
+and_both false b h = absurd (cc)
+
+index_same : (m n : ℕ) → (m == n) ≡ true → m ≡ n
+index_same m n h = grind (arith, nat_tests)
+
+pub place_same : (p q : Place) → same_place p q ≡ true → p ≡ q
+place_same (SlotOf a m) (SlotOf b n) h =
+    let g = and_both (same_inc a b) (m == n) h in
+    let e : a ≡ b = inc_same a b g.0 in
+    let f : m ≡ n = index_same m n g.1 in rw (e, f) refl
+place_same (EntryOf a m) (EntryOf b n) h =
+    let g = and_both (same_name a b) (m == n) h in
+    let e : a ≡ b = name_same a b g.0 in
+    let f : m ≡ n = index_same m n g.1 in rw (e, f) refl
+place_same (SlotOf a m) (EntryOf b n) h = absurd (cc)
+place_same (EntryOf a m) (SlotOf b n) h = absurd (cc)
+
 pub name_laws : IsEquivalence same_name
 name_laws = record {
   refl = λ x. number_itself x.0;
