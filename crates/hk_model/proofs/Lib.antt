@@ -18,3 +18,7 @@ pub mod CallPlaces
 pub mod Steps
 pub mod NumbersRise
 pub mod LineWays
+pub mod Activations
+pub mod Stacks
+pub mod Turns
+pub mod UnderLemmas

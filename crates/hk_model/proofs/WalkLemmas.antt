@@ -1,5 +1,5 @@
 -- What a walk gives, and what a call's target is: a law of each hop is a law of the walk.
-use Rattle.std.proofs.Common.{◌≡◌, ℕ, ◌+◌, List, [], ◌∷◌, Bool, true, Ok, refl, sym, ◌∙◌, ap}
+use Rattle.std.proofs.Common.{◌≡◌, ℕ, ◌+◌, List, [], ◌∷◌, Bool, true, false, Ok, refl, sym, ◌∙◌, ap}
 use Rattle.std.specs.Prelude.{IfOk}
 use Rattle.hk_model.specs.declared.names.Name.{Name}
 use Rattle.hk_model.specs.declared.names.Inc.{Inc}
@@ -7,16 +7,19 @@ use Rattle.hk_model.specs.declared.entries.Cap.{Cap}
 use Rattle.hk_model.specs.declared.entries.Entry.{Entry}
 use Rattle.hk_model.specs.declared.entries.Entry.TheVariants.{Empty, Held, Form}
 use Rattle.hk_model.specs.declared.calls.Refusal.TheVariants as refused
-use Rattle.hk_rights.specs.Rights.{LOAD, ENV}
+use Rattle.hk_rights.specs.Rights.{LOAD, ENV, has}
 use Rattle.hk_model.specs.State.{State, object, incarnation}
 use Rattle.hk_model.specs.Refusing.{◌>>=◌, ◌>>◌, unless, allowed, item_at}
-use Rattle.hk_model.specs.Walking.{walk, walk_on, hop, held, obtained}
+use Rattle.hk_model.specs.Walking.{walk, walk_on, hop, held, obtained, reduced_rights, env_right}
 use Rattle.hk_model.specs.Targets.{last_step, target}
 use Rattle.hk_model.specs.Places.{Place, SlotOf, EntryOf, standing, named, end_from, end_of, named_by}
 use Rattle.hk_model.specs.Descent.{Reduces}
 use Rattle.hk_model.specs.Ways.{Within, LeadsTo}
 use Rattle.hk_model.proofs.Tests.{then_is, and_is, if_ok, ok_each, ok_both, held_is, unless_is, allowed_is, item_is}
-use Rattle.hk_model.proofs.RightsWithin.{Within-self, Within-reduced}
+use Rattle.hk_model.proofs.RightsWithin.{Within-self, Within-and, Within-reduced}
+use Rattle.hk_model.proofs.Standing.{on_cond}
+use Rattle.hk_model.specs.Merging.{inherited}
+use Rattle.hk_model.specs.Rule.{copied}
 
 -- what is given is a reduction of what stands there
 pub obtained_reduces : (by : ℕ) (next : Entry) (step : ℕ) → IfOk (obtained by next step) (Reduces next)
@@ -105,3 +108,15 @@ target_each s inc path types rights =
 
 pub target_is : (s : State) (inc : Inc) (path : List ℕ) (types : Name → Bool) (rights : ℕ) (c : Cap) → target s inc path types rights ≡ Ok c → IsTarget s inc path types rights c
 target_is s inc path types rights c h = if_ok (IsTarget s inc path types rights) (target s inc path types rights) c (target_each s inc path types rights) h
+
+-- what a copy keeps and what a call inherits are reductions
+pub copied_reduces : (by : ℕ) (e : Entry) → Reduces e (copied by e)
+copied_reduces by Empty = tt
+copied_reduces by (Form t) = on_cond (Reduces (Form t)) (has by env_right) (Form t) Empty (λ h. refl) (λ h. tt)
+copied_reduces by (Held c) = on_cond (Reduces (Held c)) (has (reduced_rights by c.rights) env_right) (Held (record c { rights = reduced_rights by c.rights })) Empty (λ h. (refl, Within-reduced by c.rights)) (λ h. tt)
+
+pub inherited_reduces : (confined : Bool) (e : Entry) → Reduces e (inherited confined e)
+inherited_reduces true Empty = tt
+inherited_reduces true (Held c) = (refl, Within-and c.rights 0xff02ff)
+inherited_reduces true (Form t) = refl
+inherited_reduces false e = Reduces-self e
