@@ -22,3 +22,5 @@ pub mod Activations
 pub mod Stacks
 pub mod Turns
 pub mod UnderLemmas
+pub mod NoEnv
+pub mod Histories

@@ -24,11 +24,11 @@ use Rattle.hk_model.specs.Rule.{Outcome, outcome, settled, counted, answered}
 use Rattle.hk_model.specs.Places.{Place, SlotOf, EntryOf, standing, cap_of, named_by, entry_given, cap_found}
 use Rattle.hk_model.specs.Processors.{halted}
 use Rattle.hk_model.specs.Lines.{done_by, done_call, changes_path, changed}
-use Rattle.hk_model.specs.Ways.{way, Wrote, IsModified, IsWritable, IsWrittenBy, IsWrittenByLine}
+use Rattle.hk_model.specs.Ways.{Way, way, Wrote, IsModified, IsWritable, IsWrittenBy, IsWrittenByLine}
 use Rattle.hk_model.proofs.Standing.{inc_laws}
 use Rattle.hk_model.proofs.Tests.{ok_both}
 use Rattle.hk_model.proofs.CallWays.{AreApart}
-use Rattle.hk_model.proofs.CallPlaces.{Modifies, outcome_modifies, outcome_written}
+use Rattle.hk_model.proofs.CallPlaces.{GoesTo, way_goes, Modifies, outcome_modifies, outcome_written}
 use Rattle.hk_model.proofs.Steps.{EachStep, given_to}
 use Rattle.hk_model.proofs.NumbersRise.{NumbersRise, numbers_apart}
 
@@ -37,6 +37,7 @@ use Rattle.hk_model.proofs.NumbersRise.{NumbersRise, numbers_apart}
 pub record DoneWrites (s : State) (inc : Inc) (done : Option Call) (t : State) : Type 0 where
   pub entries : (p : Place) → Wrote s inc (standing s p) (option_and_then (λ c. way s inc c p) done) (standing t p)
   pub places : (p : Place) → IsSome (option_and_then (λ c. way s inc c p) done) → IsWritable s inc done p
+  pub goes : (p : Place) (w : Way) → option_and_then (λ c. way s inc c p) done ≡ Some w → GoesTo s inc done w p
   pub modifies : (path : List ℕ) → changes_path done ≡ Some path → IsModified s inc done (named_by s inc path)
 
 abbrev pub LineWrites : State → Line → State → Type 0
@@ -52,12 +53,13 @@ same_standing u v (EntryOf a i) h g = ap (λ (os : List (Name × Object)). slice
 
 -- nothing is done, and no place has anything new
 nothing_done : (s : State) (inc : Inc) (t : State) → ((p : Place) → (standing t p ≡ Empty) ⊎ (standing t p ≡ standing s p)) → DoneWrites s inc None t
-nothing_done s inc t h = record { entries = h; places = λ p some. absurd (false≢true some); modifies = λ path e. absurd (cc) }
+nothing_done s inc t h = record { entries = h; places = λ p some. absurd (false≢true some); goes = λ p w e. absurd (cc); modifies = λ path e. absurd (cc) }
 
 call_done : (s u : State) (inc : Inc) (c : Call) (t : State) → u.objects ≡ t.objects → u.incarnations ≡ t.incarnations → IsWrittenBy s inc c t → Modifies s inc c → DoneWrites s inc (Some c) u
 call_done s u inc c t os is w m = record {
   entries = λ p. subst (λ e. Wrote s inc (standing s p) (way s inc c p) e) (sym (same_standing u t p os is)) (w.entries p);
   places = w.places;
+  goes = way_goes s inc c;
   modifies = m;
 }
 
