@@ -8,6 +8,7 @@
 
 ghost use Rattle.hk_model.specs.Running.{AreStepsOf};
 ghost use Rattle.hk_model.specs.Descent.{DescentLaw};
+ghost use Rattle.hk_model.specs.Marks.{EnvironmentLaw};
 
 use hk_model::{Line, World};
 
@@ -22,5 +23,18 @@ use hk_model::{Line, World};
 pub fn descent_law(world: &World, lines: &[Line])
     requires { AreStepsOf world.now lines.now }
     ensures { DescentLaw world.now lines.now }
+{
+}
+
+/// The environment law (`docs/RULES.md`, "Marks"): a parameter without ENV stays under its call. At
+/// every moment from the call's beginning on, each place that is marked for the parameter, since what
+/// stands there descends from it, is a slot of a live incarnation under the call. Once the call has
+/// gone, by a return or a halt, no place is marked.
+///
+/// `lines` are steps of `world` from its opening on, in the order of the history.
+#[tactic(auto, using(crate::proofs::Environment::environment))]
+pub fn environment_law(world: &World, lines: &[Line])
+    requires { AreStepsOf world.now lines.now }
+    ensures { EnvironmentLaw world.now lines.now }
 {
 }

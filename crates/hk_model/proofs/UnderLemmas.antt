@@ -212,3 +212,46 @@ under_turn c p us s line t n (Halt e) st u = rw (under_still s line t us (ap ent
         halted_keeps (activations_in s.incarnations) line.proc.0 c y (activations_apart s n) h (rw same found.1)
 under_turn c p us s line t n (Enter e) st u =
     rw (under_more s line t us e.is, e.activations, e.next) (entered_under c p us (activations_in s.incarnations) s.next_inc line.inc line.proc (activation (incarnation s line.inc)) u st.below (activation_live s.incarnations line.inc e.live) (st.own line.proc.0 line.inc (activation (incarnation s line.inc)) e.now (activation_live s.incarnations line.inc e.live)) (is_one_of line.inc us) refl)
+
+-- ---- the call at its beginning
+
+one_is : (c i : Inc) → is_one_of i (c ∷ []) ≡ true → i ≡ c
+one_is c i h = by (same_inc i c) refl h
+  where
+    by : (b : Bool) → same_inc i c ≡ b → (b || false) ≡ true → i ≡ c
+    by true e g = inc_same i c e
+    by false e g = absurd (cc)
+
+pub one_itself : (c : Inc) → is_one_of c (c ∷ []) ≡ true
+one_itself c = rw (inc_laws.refl c) refl
+
+-- a live incarnation is alone under itself
+pub under_begins : (s : State) (c : Inc) → IsStacked s → is_live s c ≡ true → UnderCall c (incarnation s c).proc.0 (c ∷ []) (activations_in s.incarnations) s.next_inc.0
+under_begins s c stacked live = record {
+  itself = one_itself c;
+  above = λ i h. let e = same i h in omega (arith, e);
+  fresh = λ i h. let e = same i h in let b = stacked.below c (activation (incarnation s c)) there in omega (arith, e, b);
+  kin = λ i x h g. let f : Some x ≡ Some (activation (incarnation s c)) = sym g ∙ (rw (one_is c i h) there) in let k : x ≡ activation (incarnation s c) = cc in ap (λ (z : Activation). z.proc.0) k;
+  alive = λ i x h g. rw there refl;
+}
+  where
+    there : look_up c (activations_in s.incarnations) ≡ Some (activation (incarnation s c))
+    there = activation_live s.incarnations c live
+    same : (i : Inc) → is_one_of i (c ∷ []) ≡ true → i.0 ≡ c.0
+    same i h = ap (λ (z : Inc). z.0) (one_is c i h)
+
+-- whose activation is found, lives
+pub found_live : (s : State) (i : Inc) → IsTrue (is_some (look_up i (activations_in s.incarnations))) → is_live s i ≡ true
+found_live s i h = by s.incarnations h
+  where
+    by : (es : List (Inc × Incarnation)) → IsTrue (is_some (look_up i (activations_in es))) → IsTrue (is_some (lookup (same_inc i) es))
+    by [] g = g
+    by (e ∷ es) g = on (same_inc i e.0) (by es) g
+      where
+        on : (b : Bool) → (IsTrue (is_some (look_up i (activations_in es))) → IsTrue (is_some (lookup (same_inc i) es))) → IsTrue (is_some (cond b (Some (activation e.1)) (look_up i (activations_in es)))) → IsTrue (is_some (cond b (Some e.1) (lookup (same_inc i) es)))
+        on true rest k = refl
+        on false rest k = rest k
+
+-- who lives under a call keeps it alive
+pub under_alive : (c : Inc) (p : ℕ) (us : List Inc) (s : State) (i : Inc) → UnderCall c p us (activations_in s.incarnations) s.next_inc.0 → is_one_of i us ≡ true → is_live s i ≡ true → is_live s c ≡ true
+under_alive c p us s i u h live = found_live s c (u.alive i (activation (incarnation s i)) h (activation_live s.incarnations i live))
