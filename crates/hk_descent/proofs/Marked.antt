@@ -110,7 +110,7 @@ module _ (us : List Inc) (s : State) (inc : Inc) (marks : Place → Bool) (m : A
   lands c more own new (Copied path index) x p k h full goes =
       let g = walk_marked path (Held h.cap) (copy_marked path index k) h.leads in
       absurd (not_empty_entry x full (h.is ∙ copied_no_env h.cap (standing s (EntryOf h.cap.name index)) g.1))
-  lands c more own new (CopyOf path) x p k h full goes = in_slot more inc p (own (writes_marked (CopyOf path) x k h).0) goes
+  lands c more own new (CopyOf path) x p k h full goes = in_slot more inc p (own (writes_marked (CopyOf path) x k h).0) goes.1
   lands c more own new (Inherited procedure index confined) x p k h full goes = absurd (false≢true k)
   lands c more own new (Created path) x p k h full goes = absurd (false≢true k)
   lands c more own new (Formed path kind) x p k h full goes = absurd (false≢true k)

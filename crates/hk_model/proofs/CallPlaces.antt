@@ -151,8 +151,8 @@ GoesTo s inc c (Lessened slot keep) p = SlotIn inc p
 GoesTo s inc c (Merged slot form) p = SlotIn inc p ⊎ IsNewSlot s c p
 GoesTo s inc c (Inherited procedure index confined) p = IsNewSlot s c p
 GoesTo s inc c (Copied path index) p = (makes_object c ≡ true) × EntryIn s.next_name p
-GoesTo s inc c (CopyOf path) p = SlotIn inc p
-GoesTo s inc c (Created path) p = SlotIn inc p
+GoesTo s inc c (CopyOf path) p = (makes_object c ≡ true) × SlotIn inc p
+GoesTo s inc c (Created path) p = (makes_object c ≡ true) × SlotIn inc p
 GoesTo s inc c (Formed path kind) p = SlotIn inc p
 GoesTo s inc c Gone p = Unit {0}
 
@@ -186,7 +186,7 @@ enter_goes s inc path args into (SlotOf i n) w e = by (same_inc i s.next_inc) re
     by false g f = absurd (cc)
 
 copy_goes : (s : State) (inc : Inc) (path : List ℕ) (into : Slot) (p : Place) (w : Way) → way s inc (call.Copy path into) p ≡ Some w → GoesTo s inc (Some (call.Copy path into)) w p
-copy_goes s inc path into (SlotOf i n) w e = on_way (λ q v. GoesTo s inc (Some (call.Copy path into)) v q) (SlotOf inc into.0) (SlotOf i n) (CopyOf path) w refl e
+copy_goes s inc path into (SlotOf i n) w e = on_way (λ q v. GoesTo s inc (Some (call.Copy path into)) v q) (SlotOf inc into.0) (SlotOf i n) (CopyOf path) w (refl, refl) e
 copy_goes s inc path into (EntryOf name index) w e = by (same_name name s.next_name) refl e
   where
     by : (b : Bool) → same_name name s.next_name ≡ b → ◌≡◌ {A = Option Way} (cond b (Some (Copied path index)) None) (Some w) → GoesTo s inc (Some (call.Copy path into)) w (EntryOf name index)
@@ -209,7 +209,7 @@ way_goes s inc (call.Erase path at) p w e = on_way (λ q v. GoesTo s inc (Some (
 way_goes s inc (call.Drop slot) p w e = on_way (λ q v. GoesTo s inc (Some (call.Drop slot)) v q) (SlotOf inc slot.0) p Gone w tt e
 way_goes s inc (call.Restrict slot keep) p w e = on_way (λ q v. GoesTo s inc (Some (call.Restrict slot keep)) v q) (SlotOf inc slot.0) p (Lessened slot.0 keep) w refl e
 way_goes s inc (call.MakeTemplate path kind into) p w e = on_way (λ q v. GoesTo s inc (Some (call.MakeTemplate path kind into)) v q) (SlotOf inc into.0) p (Formed path kind) w refl e
-way_goes s inc (call.Create path into) p w e = on_way (λ q v. GoesTo s inc (Some (call.Create path into)) v q) (SlotOf inc into.0) p (Created path) w refl e
+way_goes s inc (call.Create path into) p w e = on_way (λ q v. GoesTo s inc (Some (call.Create path into)) v q) (SlotOf inc into.0) p (Created path) w (refl, refl) e
 way_goes s inc (call.Merge path c into) p w e = on_way (λ q v. GoesTo s inc (Some (call.Merge path c into)) v q) (SlotOf inc into.0) p (Merged c.0 (form_of (standing s (end_of s inc path)))) w (inl refl) e
 way_goes s inc (call.Copy path into) p w e = copy_goes s inc path into p w e
 way_goes s inc (call.Enter path args into) p w e = enter_goes s inc path args into p w e

@@ -23,4 +23,6 @@ pub mod Stacks
 pub mod Turns
 pub mod UnderLemmas
 pub mod NoEnv
+pub mod NextNames
+pub mod NamesGiven
 pub mod Histories
