@@ -50,10 +50,10 @@ taken_stands (suc n) (y ∷ xs) (suc i) x h = taken_stands n xs i x h
 
 begins : (s : State) (call : Inc) (slot : ℕ) → Sound s → NoEnv (standing s (SlotOf call slot)) → is_empty (standing s (SlotOf call slot)) ≡ false → Safe call (incarnation s call).proc.0 s (λ p. same_place p (SlotOf call slot)) (call ∷ [])
 begins s call slot sound lacks full = (
-    sound,
-    under_begins s call sound.stacked (holder_lives s call slot full),
-    λ p h. subst (λ q. IsMarked (call ∷ []) s q) (sym (place_same p (SlotOf call slot) h)) (one_itself call, lacks, full),
-  )
+  sound,
+  under_begins s call sound.stacked (holder_lives s call slot full),
+  λ p h. subst (λ q. IsMarked (call ∷ []) s q) (sym (place_same p (SlotOf call slot) h)) (one_itself call, lacks, full),
+)
 
 -- ---- every later moment
 
@@ -74,6 +74,7 @@ ends w lines k call slot moment p safe = record {
     none : (b : Bool) → (b ≡ true → ⊥) → b ≡ false
     none true h = absurd (h refl)
     none false h = refl
+
     by : (q : Place) → IsMarked (under_after w (machine_at w lines k) (drop k (take moment lines)) call) (state_at w lines moment) q → IsSlotUnder w lines k call moment q
     by (SlotOf i n) h = (holder_lives (state_at w lines moment) i n h.2, h.0)
     by (EntryOf name index) h = h

@@ -138,6 +138,6 @@ line_marks s line t marks us h m p k =
     by None e (inr same) full marked = stays us (under_by s line t us) s t p (under_stays s line t us) (m p marked) same
     by (Some v) e (inr writes) full marked =
         landed us s line.inc marks m (under_by s line t us) t p
-          (lands us s line.inc marks m (done_call line) (under_by s line t us) (under_stays s line t us line.inc) (entered_is_under s line t us) v (standing t p) p marked writes full (h.goes p v e))
-          (writes_marked us s line.inc marks m v (standing t p) marked writes).1
-          full
+        (lands us s line.inc marks m (done_call line) (under_by s line t us) (under_stays s line t us line.inc) (entered_is_under s line t us) v (standing t p) p marked writes full (h.goes p v e))
+        (writes_marked us s line.inc marks m v (standing t p) marked writes).1
+        full

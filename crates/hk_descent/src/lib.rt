@@ -6,6 +6,9 @@
 //! lines that it has. The definitions are those of `hk_model`, and no law looks at a kernel.
 #![tactic(auto)]
 
+#[cfg(test)]
+mod tests;
+
 ghost use Rattle.hk_model.specs.Running.{AreStepsOf};
 ghost use Rattle.hk_model.specs.Descent.{DescentLaw};
 ghost use Rattle.hk_model.specs.Marks.{EnvironmentLaw};
@@ -23,8 +26,7 @@ use hk_model::{Line, World};
 pub fn descent_law(world: &World, lines: &[Line])
     requires { AreStepsOf world.now lines.now }
     ensures { DescentLaw world.now lines.now }
-{
-}
+{}
 
 /// The environment law (`docs/RULES.md`, "Marks"): a parameter without ENV stays under its call. At
 /// every moment from the call's beginning on, each place that is marked for the parameter, since what
@@ -36,5 +38,4 @@ pub fn descent_law(world: &World, lines: &[Line])
 pub fn environment_law(world: &World, lines: &[Line])
     requires { AreStepsOf world.now lines.now }
     ensures { EnvironmentLaw world.now lines.now }
-{
-}
+{}

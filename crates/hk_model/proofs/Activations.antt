@@ -66,8 +66,8 @@ pub activations_set : (k : Inc) (es : List (Inc × Incarnation)) (x : Incarnatio
 activations_set k [] x h = refl
 activations_set k (e ∷ es) x h =
     on_cond (λ l. activations_in l ≡ activations_in (e ∷ es)) (same_inc k e.0) ((e.0, x) ∷ es) (e ∷ set_value (same_inc k) es x)
-      (λ g. let same : activation x ≡ activation e.1 = rw g at h in rw same refl)
-      (λ g. let rest : activations_in (set_value (same_inc k) es x) ≡ activations_in es = activations_set k es x (rw g at h) in rw rest refl)
+    (λ g. let same : activation x ≡ activation e.1 = rw g at h in rw same refl)
+    (λ g. let rest : activations_in (set_value (same_inc k) es x) ≡ activations_in es = activations_set k es x (rw g at h) in rw rest refl)
 
 quiet_slot : (s u : State) (inc : Inc) (slot : ℕ) (e : Entry) → Quiet s u → Quiet s (put_slot u inc slot e)
 quiet_slot s u inc slot e h = record { activations = activations_set inc u.incarnations (record (incarnation u inc) { slots = slice_set (incarnation u inc).slots slot e }) refl ∙ h.activations; currents = h.currents; next = h.next }

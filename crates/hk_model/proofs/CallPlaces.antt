@@ -71,7 +71,7 @@ outcome_modifies s proc inc (call.P of) =
     ])) (λ cap t. modified s inc (call.P of) of (is_type SEMAPHORE) MODIFY+A0 cap refl refl refl t)
 outcome_modifies s proc inc (call.V of) =
     then_is (λ f. Modifies s inc (call.V of)) (target s inc of (is_type SEMAPHORE) MODIFY+A1) (λ cap. token_given s cap.name (object s cap.name) (object s cap.name).waiters) (λ cap t.
-      ok_each (λ f. Modifies s inc (call.V of)) (token_given s cap.name (object s cap.name) (object s cap.name).waiters) (λ f. modified s inc (call.V of) of (is_type SEMAPHORE) MODIFY+A1 cap refl refl refl t))
+    ok_each (λ f. Modifies s inc (call.V of)) (token_given s cap.name (object s cap.name) (object s cap.name).waiters) (λ f. modified s inc (call.V of) of (is_type SEMAPHORE) MODIFY+A1 cap refl refl refl t))
 outcome_modifies s proc inc c = ok_each (λ f. Modifies s inc c) (outcome s proc inc c) (λ f path e. absurd (cc))
 
 -- ---- where it is written
@@ -176,13 +176,14 @@ enter_goes s inc path args into (SlotOf i n) w e = by (same_inc i s.next_inc) re
   where
     here : Way
     here = call_way (named_by s inc path) (not (has (rights_of (found s inc path)) unconf_right)) args (object s (named_by s inc path)).params n
+
     by : (b : Bool) → same_inc i s.next_inc ≡ b → ◌≡◌ {A = Option Way} (cond b (Some (call_way (named_by s inc path) (not (has (rights_of (found s inc path)) unconf_right)) args (object s (named_by s inc path)).params n)) None) (Some w) → GoesTo s inc (Some (call.Enter path args into)) w (SlotOf i n)
     by true g f =
         let same : here ≡ w = cc in
         let new : s.next_inc ≡ i = sym (inc_same i s.next_inc g) in
         subst (λ j. GoesTo s inc (Some (call.Enter path args into)) w (SlotOf j n)) new
-          (subst (λ v. GoesTo s inc (Some (call.Enter path args into)) v (SlotOf s.next_inc n)) same
-            (call_way_goes s inc path args into (named_by s inc path) (not (has (rights_of (found s inc path)) unconf_right)) args (object s (named_by s inc path)).params n n))
+        (subst (λ v. GoesTo s inc (Some (call.Enter path args into)) v (SlotOf s.next_inc n)) same
+        (call_way_goes s inc path args into (named_by s inc path) (not (has (rights_of (found s inc path)) unconf_right)) args (object s (named_by s inc path)).params n n))
     by false g f = absurd (cc)
 
 copy_goes : (s : State) (inc : Inc) (path : List ℕ) (into : Slot) (p : Place) (w : Way) → way s inc (call.Copy path into) p ≡ Some w → GoesTo s inc (Some (call.Copy path into)) w p
@@ -221,6 +222,6 @@ way_goes s inc c p w e = absurd (cc)
 pub outcome_written : (s : State) (proc : Proc) (inc : Inc) (c : Call) → AreApart s → IfOk (outcome s proc inc c) (λ f. IsWrittenBy s inc c f.1)
 outcome_written s proc inc c h =
     ok_more (λ f. ((p : Place) → Wrote s inc (standing s p) (way s inc c p) (standing f.1 p)) × Modifies s inc c) (λ f. IsWrittenBy s inc c f.1) (outcome s proc inc c) (λ f g. record { entries = g.0; places = call_where s inc c g.1 })
-      (ok_both (λ f. (p : Place) → Wrote s inc (standing s p) (way s inc c p) (standing f.1 p)) (λ f. Modifies s inc c) (outcome s proc inc c)
-        (ok_all (λ p f. Wrote s inc (standing s p) (way s inc c p) (standing f.1 p)) (outcome s proc inc c) (λ p. outcome_wrote s proc inc c p h))
-        (outcome_modifies s proc inc c))
+    (ok_both (λ f. (p : Place) → Wrote s inc (standing s p) (way s inc c p) (standing f.1 p)) (λ f. Modifies s inc c) (outcome s proc inc c)
+    (ok_all (λ p f. Wrote s inc (standing s p) (way s inc c p) (standing f.1 p)) (outcome s proc inc c) (λ p. outcome_wrote s proc inc c p h))
+    (outcome_modifies s proc inc c))

@@ -63,24 +63,24 @@ wrote_slot s inc p into slot step w e h new = rw (slot_is into step slot h) (wro
 wrote_entry : (s : State) (inc : Inc) (p : Place) (name : Name) (at : ℕ) (w : Way) (e : Entry) → Writes s inc w e → Wrote s inc (standing s p) (written (EntryOf name at) p w) (standing (put_object s name (record (object s name) { entries = slice_set (object s name).entries at e })) p)
 wrote_entry s inc p name at w e new =
     put_object_holds (λ b x. Wrote s inc (standing s p) (cond b (Some w) None) x) s (wrote_empty s inc (standing s p) w) name at (record (object s name) { entries = slice_set (object s name).entries at e }) p
-      (λ m old. item_holds (λ b x. Wrote s inc (standing s p) (cond b (Some w) None) x) (object s name).entries at m e (inr new) (wrote_empty s inc (standing s p) w true) old)
-      (inr refl)
+    (λ m old. item_holds (λ b x. Wrote s inc (standing s p) (cond b (Some w) None) x) (object s name).entries at m e (inr new) (wrote_empty s inc (standing s p) w true) old)
+    (inr refl)
 
 wrote_appended : (s : State) (inc : Inc) (p : Place) (name : Name) (w : Way) (e : Entry) → Writes s inc w e → Wrote s inc (standing s p) (written (EntryOf name (length (object s name).entries)) p w) (standing (put_object s name (record (object s name) { entries = (object s name).entries ++ e ∷ [] })) p)
 wrote_appended s inc p name w e new =
     put_object_holds (λ b x. Wrote s inc (standing s p) (cond b (Some w) None) x) s (wrote_empty s inc (standing s p) w) name (length (object s name).entries) (record (object s name) { entries = (object s name).entries ++ e ∷ [] }) p
-      (λ m old. append_holds (λ b x. Wrote s inc (standing s p) (cond b (Some w) None) x) (object s name).entries m e (inr new) old)
-      (inr refl)
+    (λ m old. append_holds (λ b x. Wrote s inc (standing s p) (cond b (Some w) None) x) (object s name).entries m e (inr new) old)
+    (inr refl)
 
 -- an object is changed, but not its list
 wrote_object : (s : State) (inc : Inc) (p : Place) (name : Name) (o : Object) → o.entries ≡ (object s name).entries → Wrote s inc (standing s p) None (standing (put_object s name o) p)
 wrote_object s inc (SlotOf a i) name o same = inr refl
 wrote_object s inc (EntryOf a i) name o same =
     set_holds same_name name_laws (λ b x. b ≡ same_name a name → (slice_index_or x.entries i Empty ≡ Empty) ⊎ (slice_index_or x.entries i Empty ≡ slice_index_or (object s a).entries i Empty)) name a s.objects o no_object
-      (λ h. let e : a ≡ name = name_same a name (sym h) in inr (rw (same, e) refl))
-      (λ h. inl refl)
-      (λ h. inr refl)
-      refl
+    (λ h. let e : a ≡ name = name_same a name (sym h) in inr (rw (same, e) refl))
+    (λ h. inl refl)
+    (λ h. inr refl)
+    refl
 
 -- a new object without entries
 wrote_new : (s : State) (inc : Inc) (p : Place) (of : Name) → Wrote s inc (standing s p) None (standing (add_object s (plain_object of [] [])) p)
@@ -146,15 +146,15 @@ erases s inc path at p c t = rw ((target_is s inc path is_listed KILL+MODIFY c t
 creates : (s : State) (inc : Inc) (path : List ℕ) (into : Slot) (p : Place) (slot a b : ℕ) (entry : Entry) (form : Name × ℕ) → slot_at into a ≡ Ok slot → walk s inc path ≡ Ok entry → create_form entry b ≡ Ok form → Wrote s inc (standing s p) (way s inc (call.Create path into) p) (standing (put_slot (add_object s (plain_object form.0 [] [])) inc slot (Held (record { name = s.next_name; rights = form.1 }))) p)
 creates s inc path into p slot a b entry form h w f =
     rw (slot_is into a slot h) (wrote_on s (add_object s (plain_object form.0 [] [])) inc inc p into.0 (Created path) (Held (record { name = s.next_name; rights = form.1 })) (wrote_new s inc p form.0)
-      (record { of = form.0; give = form.1; leads = w ∙ ap Ok (create_form_is entry b form f); is = refl }))
+    (record { of = form.0; give = form.1; leads = w ∙ ap Ok (create_form_is entry b form f); is = refl }))
 
 copies : (s : State) (inc : Inc) (path : List ℕ) (into : Slot) (p : Place) (slot st : ℕ) (c : Cap) → slot_at into st ≡ Ok slot → target s inc path is_general COPY ≡ Ok c → Wrote s inc (standing s p) (way s inc (call.Copy path into) p) (standing (put_slot (add_object s (plain_object (object s c.name).of (object s c.name).words (map (copied c.rights) (object s c.name).entries))) inc slot (Held (record { name = s.next_name; rights = c.rights }))) p)
 copies s inc path into (SlotOf q i) slot st c h t =
     rw (slot_is into st slot h) (wrote_on s (add_object s (plain_object (object s c.name).of (object s c.name).words (map (copied c.rights) (object s c.name).entries))) inc inc (SlotOf q i) into.0 (CopyOf path) (Held (record { name = s.next_name; rights = c.rights })) (inr refl)
-      (record { cap = c; leads = (target_is s inc path is_general COPY c t).leads; is = refl }))
+    (record { cap = c; leads = (target_is s inc path is_general COPY c t).leads; is = refl }))
 copies s inc path into (EntryOf a i) slot st c h t =
     add_object_holds (λ b x. Wrote s inc (standing s (EntryOf a i)) (cond b (Some (Copied path i)) None) x) s (wrote_empty s inc (standing s (EntryOf a i)) (Copied path i)) (plain_object (object s c.name).of (object s c.name).words (map (copied c.rights) (object s c.name).entries)) (EntryOf a i)
-      (inr (record { cap = c; leads = (target_is s inc path is_general COPY c t).leads; is = at (object s c.name).entries i })) (inr refl)
+    (inr (record { cap = c; leads = (target_is s inc path is_general COPY c t).leads; is = at (object s c.name).entries i })) (inr refl)
   where
     at : (xs : List Entry) (n : ℕ) → slice_index_or (map (copied c.rights) xs) n Empty ≡ copied c.rights (slice_index_or xs n Empty)
     at [] n = refl
@@ -182,10 +182,10 @@ args_wrote s inc procedure confined rest h [] params step = h
 args_wrote s inc procedure confined rest h (slot ∷ args) [] step = h
 args_wrote s inc procedure confined rest h (slot ∷ args) (param ∷ params) step =
     then_is (ArgsWrote s inc procedure confined (slot ∷ args) (param ∷ params) rest) (held (slice_index_or (incarnation s inc).slots slot Empty) step) (λ c. merged c (object s c.name).of param step >>= (λ new. merged_args s (incarnation s inc).slots args params (step + 1) >>= (λ others. Ok (new ∷ others)))) (λ c e.
-      then_is (ArgsWrote s inc procedure confined (slot ∷ args) (param ∷ params) rest) (merged c (object s c.name).of param step) (λ new. merged_args s (incarnation s inc).slots args params (step + 1) >>= (λ others. Ok (new ∷ others))) (λ new m.
-        then_is (ArgsWrote s inc procedure confined (slot ∷ args) (param ∷ params) rest) (merged_args s (incarnation s inc).slots args params (step + 1)) (λ others. Ok (new ∷ others)) (λ others o.
-          first c new others (held_is (slice_index_or (incarnation s inc).slots slot Empty) step c e) m
-            (if_ok (ArgsWrote s inc procedure confined args params rest) (merged_args s (incarnation s inc).slots args params (step + 1)) others (args_wrote s inc procedure confined rest h args params (step + 1)) o))))
+    then_is (ArgsWrote s inc procedure confined (slot ∷ args) (param ∷ params) rest) (merged c (object s c.name).of param step) (λ new. merged_args s (incarnation s inc).slots args params (step + 1) >>= (λ others. Ok (new ∷ others))) (λ new m.
+    then_is (ArgsWrote s inc procedure confined (slot ∷ args) (param ∷ params) rest) (merged_args s (incarnation s inc).slots args params (step + 1)) (λ others. Ok (new ∷ others)) (λ others o.
+    first c new others (held_is (slice_index_or (incarnation s inc).slots slot Empty) step c e) m
+    (if_ok (ArgsWrote s inc procedure confined args params rest) (merged_args s (incarnation s inc).slots args params (step + 1)) others (args_wrote s inc procedure confined rest h args params (step + 1)) o))))
   where
     first : (c new : Cap) (others : List Cap) → standing s (SlotOf inc slot) ≡ Held c → merged c (object s c.name).of param step ≡ Ok new → ArgsWrote s inc procedure confined args params rest others → ArgsWrote s inc procedure confined (slot ∷ args) (param ∷ params) rest (new ∷ others)
     first c new others e m o zero = inr (record { cap = c; new = new; step = step; held = e; merges = m; is = refl })
@@ -200,9 +200,9 @@ enters s proc inc path args into (SlotOf a i) step c caps t m =
     let confined : Bool = not (has c.rights unconf_right) in
     let rest : List Entry = map (inherited confined) (object s c.name).entries ++ replicate k Empty in
     rw (g.name, g.leads) (enter_holds (λ b x. Wrote s inc old (cond b (Some (call_way c.name confined args (object s c.name).params i)) None) x) s (wrote_empty s inc old (call_way c.name confined args (object s c.name).params i)) (called_incarnation proc c.name inc into confined (call_slots caps (object s c.name).entries confined)) (SlotOf a i)
-      (if_ok (ArgsWrote s inc c.name confined args (object s c.name).params rest) (merged_args s (incarnation s inc).slots args (object s c.name).params step) caps
-        (args_wrote s inc c.name confined rest (inherits confined k (object s c.name).entries) args (object s c.name).params step) m i)
-      (inr refl))
+    (if_ok (ArgsWrote s inc c.name confined args (object s c.name).params rest) (merged_args s (incarnation s inc).slots args (object s c.name).params step) caps
+    (args_wrote s inc c.name confined rest (inherits confined k (object s c.name).entries) args (object s c.name).params step) m i)
+    (inr refl))
 
 -- ---- returns
 
@@ -217,9 +217,9 @@ unfolding Given
 given_is slots None = refl
 given_is slots (Some slot) =
     then_is (Given slots (Some slot)) (slot_at slot 0) (λ at. held (slice_index_or slots at Empty) 0 >>= (λ c. allowed c.rights ENV 0 >> Ok (Some c))) (λ at h.
-      then_is (Given slots (Some slot)) (held (slice_index_or slots at Empty) 0) (λ c. allowed c.rights ENV 0 >> Ok (Some c)) (λ c g.
-        and_is (Given slots (Some slot)) (allowed c.rights ENV 0) (Ok (Some c)) (λ u a.
-          (ap (λ n. slice_index_or slots n Empty) (sym (slot_is slot 0 at h)) ∙ held_is (slice_index_or slots at Empty) 0 c g, allowed_is c.rights ENV 0 u a))))
+    then_is (Given slots (Some slot)) (held (slice_index_or slots at Empty) 0) (λ c. allowed c.rights ENV 0 >> Ok (Some c)) (λ c g.
+    and_is (Given slots (Some slot)) (allowed c.rights ENV 0) (Ok (Some c)) (λ u a.
+    (ap (λ n. slice_index_or slots n Empty) (sym (slot_is slot 0 at h)) ∙ held_is (slice_index_or slots at Empty) 0 c g, allowed_is c.rights ENV 0 u a))))
 
 leaves : (s : State) (proc : Proc) (inc : Inc) (give : Option Slot) (p : Place) (caller : Option Inc) (into : ℕ) (c : Option Cap) → AreApart s → Given (incarnation s inc).slots give c → Wrote s inc (standing s p) (returned_way caller into give p) (standing (leave_to (record s { incarnations = remove_entry (same_inc inc) s.incarnations }) proc caller into c) p)
 unfolding Given
@@ -239,7 +239,7 @@ leave_wrote : (s : State) (proc : Proc) (inc : Inc) (give : Option Slot) (p : Pl
 unfolding leave
 leave_wrote s proc inc give p h =
     then_is (λ f. Wrote s inc (standing s p) (way s inc (call.Leave give) p) (standing f.1 p)) (given (incarnation s inc).slots give) (λ c. Ok (Done, leave_to (record s { incarnations = remove_entry (same_inc inc) s.incarnations }) proc (incarnation s inc).caller (incarnation s inc).into.0 c)) (λ c g.
-      leaves s proc inc give p (incarnation s inc).caller (incarnation s inc).into.0 c h (if_ok (Given (incarnation s inc).slots give) (given (incarnation s inc).slots give) c (given_is (incarnation s inc).slots give) g))
+    leaves s proc inc give p (incarnation s inc).caller (incarnation s inc).into.0 c h (if_ok (Given (incarnation s inc).slots give) (given (incarnation s inc).slots give) c (given_is (incarnation s inc).slots give) g))
 
 -- ---- semaphores
 

@@ -75,8 +75,8 @@ Laws s line t = ((NumbersRise s → NumbersRise t) × (NumbersRise s → LineWri
 laws_each : EachStep Laws
 laws_each =
     each_both (λ s line t. (NumbersRise s → NumbersRise t) × (NumbersRise s → LineWrites s line t)) (λ s line t. (NumbersRise s → Turn s line t) × NextName s (done_call line) t)
-      (each_both (λ s line t. NumbersRise s → NumbersRise t) (λ s line t. NumbersRise s → LineWrites s line t) rises_each writes_each)
-      (each_both (λ s line t. NumbersRise s → Turn s line t) (λ s line t. NextName s (done_call line) t) turn_each next_each)
+    (each_both (λ s line t. NumbersRise s → NumbersRise t) (λ s line t. NumbersRise s → LineWrites s line t) rises_each writes_each)
+    (each_both (λ s line t. NumbersRise s → Turn s line t) (λ s line t. NextName s (done_call line) t) turn_each next_each)
 
 pub known_each : EachStep (λ s line t. Sound s → LineKnown s line t)
 known_each = each_more Laws (λ s line t. Sound s → LineKnown s line t)
@@ -107,7 +107,7 @@ pub given_at : (w : Setup) (lines : List Line) (moment : ℕ) → IsWorld w → 
 unfolding opened
 given_at w lines moment world h =
     (state_kept (λ s. Sound s × NamesGiven s) (each_more (λ s line t. Sound s → LineKnown s line t) (λ s line t. Sound s × NamesGiven s → Sound t × NamesGiven t) (λ s line t k g. ((k g.0).after, given_line s line t (k g.0).writes (k g.0).next g.1)) known_each)
-      w (opened w) (take moment lines) (first_steps w (opened w) lines moment h) (opening_sound w, opening_given w world)).1
+    w (opened w) (take moment lines) (first_steps w (opened w) lines moment h) (opening_sound w, opening_given w world)).1
 
 -- ---- the beginning of a call
 

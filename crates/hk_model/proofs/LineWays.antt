@@ -82,6 +82,7 @@ halted_leaves s proc (SlotOf a i) h =
     kept : (b : Bool) (x : Incarnation) → (slice_index_or (unwrap_or (cond b (Some x) None) no_incarnation).slots i Empty ≡ Empty) ⊎ (slice_index_or (unwrap_or (cond b (Some x) None) no_incarnation).slots i Empty ≡ slice_index_or x.slots i Empty)
     kept true x = inr refl
     kept false x = inl refl
+
     by : (o : Option Incarnation) → (slice_index_or (unwrap_or (option_filter (λ (x : Incarnation). not (x.proc.0 == proc.0)) o) no_incarnation).slots i Empty ≡ Empty) ⊎ (slice_index_or (unwrap_or (option_filter (λ (x : Incarnation). not (x.proc.0 == proc.0)) o) no_incarnation).slots i Empty ≡ slice_index_or (unwrap_or o no_incarnation).slots i Empty)
     by None = inl refl
     by (Some x) = kept (not (x.proc.0 == proc.0)) x
@@ -90,7 +91,7 @@ halted_leaves s proc (SlotOf a i) h =
 pub writes_each : EachStep (λ s line t. NumbersRise s → LineWrites s line t)
 writes_each = record {
   calls = λ s cpu proc c r h. settled_writes s (process s proc).current c (outcome s proc (process s proc).current c)
-    (ok_both (λ f. IsWrittenBy s (process s proc).current c f.1) (λ f. Modifies s (process s proc).current c) (outcome s proc (process s proc).current c)
+      (ok_both (λ f. IsWrittenBy s (process s proc).current c f.1) (λ f. Modifies s (process s proc).current c) (outcome s proc (process s proc).current c)
       (outcome_written s proc (process s proc).current c (numbers_apart s h))
       (outcome_modifies s proc (process s proc).current c));
   halts = λ s cpu proc r h. nothing_done s (process s proc).current (halted s proc) (λ p. halted_leaves s proc p (numbers_apart s h));
@@ -103,8 +104,10 @@ changed_modifies s line t name h e = by (changes_path (done_call line)) refl e
   where
     same_path : {x y : List ℕ} → ◌≡◌ {A = Option (List ℕ)} (Some x) (Some y) → x ≡ y
     same_path k = cc
+
     same_name_of : {x y : Name} → ◌≡◌ {A = Option Name} (Some x) (Some y) → x ≡ y
     same_name_of k = cc
+
     by : (o : Option (List ℕ)) → changes_path (done_call line) ≡ o → option_map (λ (cap : Cap). cap.name) (option_and_then (cap_found s line.inc) o) ≡ Some name → IsModified s line.inc (done_call line) name
     by None k g = absurd (cc)
     by (Some path) k g =

@@ -107,11 +107,14 @@ lists_given s line t h next g name index full = by (line_way s line (EntryOf nam
   where
     up : s.next_name.0 ≤ t.next_name.0
     up = next_up s (done_call line) t next
+
     old : name.0 < s.next_name.0 → name.0 < t.next_name.0
     old l = let u = up in omega (arith, l, u)
+
     written_in : IsWritable s line.inc (done_call line) (EntryOf name index) → name.0 < t.next_name.0
     written_in (inl made) = let a = next_made s (done_call line) t next made.0 in let b : name.0 ≡ s.next_name.0 = ap (λ (n : Name). n.0) made.1 in omega (arith, a, b)
     written_in (inr m) = let a : m.cap.name.0 < s.next_name.0 = walk_below s line.inc g m.path (Held m.cap) m.leads in let b : name.0 ≡ m.cap.name.0 = ap (λ (n : Name). n.0) m.same in old (omega (arith, a, b))
+
     by : (o : Option Way) → line_way s line (EntryOf name index) ≡ o → Wrote s line.inc (standing s (EntryOf name index)) o (standing t (EntryOf name index)) → name.0 < t.next_name.0
     by None e (inl none) = absurd (full_not (standing t (EntryOf name index)) full none)
     by None e (inr same) = old (g.lists name index (ap is_empty (sym same) ∙ full))

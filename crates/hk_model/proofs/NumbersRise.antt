@@ -55,16 +55,16 @@ rises_remove : (k : Inc) (low : ℕ) (es : List (Inc × Incarnation)) (high : �
 rises_remove k low [] high r = r
 rises_remove k low (e ∷ es) high r =
     on_cond (λ l. RisesFrom low l high) (same_inc k e.0) es (e ∷ remove_entry (same_inc k) es)
-      (λ h. let a : low ≤ e.0.0 = r.0 in rises_lower (e.0.0 + 1) low es high (omega arith) r.1)
-      (λ h. (r.0, rises_remove k (e.0.0 + 1) es high r.1))
+    (λ h. let a : low ≤ e.0.0 = r.0 in rises_lower (e.0.0 + 1) low es high (omega arith) r.1)
+    (λ h. (r.0, rises_remove k (e.0.0 + 1) es high r.1))
 
 rises_filter : (test : Inc × Incarnation → Bool) (low : ℕ) (es : List (Inc × Incarnation)) (high : ℕ) → RisesFrom low es high → RisesFrom low (filter test es) high
 rises_filter test low [] high r = r
 rises_filter test low (e ∷ es) high r =
     let rest = rises_filter test (e.0.0 + 1) es high r.1 in
     on_cond (λ l. RisesFrom low l high) (test e) (e ∷ filter test es) (filter test es)
-      (λ h. (r.0, rest))
-      (λ h. let a : low ≤ e.0.0 = r.0 in rises_lower (e.0.0 + 1) low (filter test es) high (omega arith) rest)
+    (λ h. (r.0, rest))
+    (λ h. let a : low ≤ e.0.0 = r.0 in rises_lower (e.0.0 + 1) low (filter test es) high (omega arith) rest)
 
 pub rises_below : (low : ℕ) (es : List (Inc × Incarnation)) (high : ℕ) → RisesFrom low es high → low ≤ high
 rises_below low [] high r = r

@@ -44,6 +44,7 @@ HasAll-reduced by a = outer (has by env_right) (cond (has by unconf_right) a (co
     inner : (b : Bool) → HasAll a (cond b a (confined_rights a))
     inner true = HasAll-self a
     inner false = HasAll-confined a
+
     outer : (b : Bool) (kept : ℕ) → HasAll a kept → HasAll a (cond b kept (local_rights kept))
     outer true kept h = h
     outer false kept h = HasAll-trans a kept (local_rights kept) h (HasAll-local kept)
@@ -73,6 +74,7 @@ reduced_needs_unconf by a right off h = outer (has by unconf_right) (has by env_
     inner : (e : Bool) → has (cond e (confined_rights a) (local_rights (confined_rights a))) right ≡ true → has (confined_rights a) right ≡ true
     inner true g = g
     inner false g = has-bit_and_left (confined_rights a) 0xff05ff right g
+
     outer : (u e : Bool) → has (let kept = cond u a (confined_rights a) in cond e kept (local_rights kept)) right ≡ true → u ≡ true
     outer true e g = refl
     outer false e g = absurd (false≢true (sym (masked_off a 0xff02ff right off) ∙ inner e g))
@@ -88,16 +90,18 @@ lacks_env rights h g = by (first_missing-pow rights env_right refl h)
 pub merged_special : (of : Option Name) (rights give : ℕ) → Within (bit_and (merged_rights rights of give) special_rights) rights
 merged_special None rights give =
     Within-all (bit_and (bit_and give rights) special_rights) rights
-      (HasAll-trans rights (bit_and give rights) (bit_and (bit_and give rights) special_rights) (HasAll-bit_and_right give rights) (HasAll-bit_and_left (bit_and give rights) special_rights))
+    (HasAll-trans rights (bit_and give rights) (bit_and (bit_and give rights) special_rights) (HasAll-bit_and_right give rights) (HasAll-bit_and_left (bit_and give rights) special_rights))
 merged_special (Some wanted) rights give = Within-all (bit_and (bit_or (bit_and give 0xff00ff) (bit_and (bit_and give special_rights) rights)) special_rights) rights (λ n h.
     by n (has-bit_and_right (bit_or (bit_and give 0xff00ff) (bit_and (bit_and give special_rights) rights)) special_rights n h)
-      (has-bit_or_cases (bit_and give 0xff00ff) (bit_and (bit_and give special_rights) rights) n (has-bit_and_left (bit_or (bit_and give 0xff00ff) (bit_and (bit_and give special_rights) rights)) special_rights n h)))
+    (has-bit_or_cases (bit_and give 0xff00ff) (bit_and (bit_and give special_rights) rights) n (has-bit_and_left (bit_or (bit_and give 0xff00ff) (bit_and (bit_and give special_rights) rights)) special_rights n h)))
   where
     both : (n : ℕ) → (x : Bool) → has 0xff00ff n ≡ x → has special_rights n ≡ true → (has 0xff00ff n && has special_rights n) ≡ false → x ≡ false
     both n true e g none = absurd (true≢false (let k : (has 0xff00ff n && has special_rights n) ≡ true = rw (e, g) refl in sym k ∙ none))
     both n false e g none = refl
+
     apart : (n : ℕ) → has special_rights n ≡ true → has 0xff00ff n ≡ true → ⊥
     apart n g h = true≢false (sym h ∙ both n (has 0xff00ff n) refl g (sym (has-bit_and 0xff00ff special_rights n) ∙ has-zero n))
+
     by : (n : ℕ) → has special_rights n ≡ true → (has (bit_and give 0xff00ff) n ≡ true) ⊎ (has (bit_and (bit_and give special_rights) rights) n ≡ true) → has rights n ≡ true
     by n special (inl h) = absurd (apart n special (has-bit_and_right give 0xff00ff n h))
     by n special (inr h) = has-bit_and_right (bit_and give special_rights) rights n h

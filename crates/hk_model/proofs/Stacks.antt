@@ -156,9 +156,11 @@ left_stacked fs gs cur next p inc caller f s fewer gone now live called =
   where
     Then : ℕ → Inc → Type 0
     Then q k = ((q ≡ p) × (k ≡ caller)) ⊎ ((q ≡ p → ⊥) × (slice_get cur q ≡ Some k))
+
     current : (q : ℕ) (k : Inc) → ((q ≡ p) × (k ≡ caller)) ⊎ ((q ≡ p → ⊥) × (slice_get cur q ≡ Some k)) → k.0 < next
     current q k (inl h) = let a = s.caller_below inc caller f live called in let b = s.below inc f live in let c : k.0 ≡ caller.0 = ap (λ (x : Inc). x.0) h.1 in omega arith
     current q k (inr h) = s.current_below q k h.1
+
     tops : (i k : Inc) (x : Activation) → look_up i gs ≡ Some x → ((x.proc.0 ≡ p) × (k ≡ caller)) ⊎ ((x.proc.0 ≡ p → ⊥) × (slice_get cur x.proc.0 ≡ Some k)) → i.0 ≤ k.0
     tops i k x h (inl g) =
         let here = fewer i x h in
@@ -170,6 +172,7 @@ left_stacked fs gs cur next p inc caller f s fewer gone now live called =
         let b = s.between inc i caller f x live here same less called in
         let c : k.0 ≡ caller.0 = ap (λ (x : Inc). x.0) g.1 in omega arith
     tops i k x h (inr g) = s.top i k x (fewer i x h) g.1
+
     owns : (q : ℕ) (k : Inc) (x : Activation) → ((q ≡ p) × (k ≡ caller)) ⊎ ((q ≡ p → ⊥) × (slice_get cur q ≡ Some k)) → look_up k fs ≡ Some x → x.proc.0 ≡ q
     owns q k x (inl g) h =
         let there : look_up caller fs ≡ Some x = rw g.1 at h in

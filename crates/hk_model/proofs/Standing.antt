@@ -85,12 +85,12 @@ module _ {K X : Type 0} (eq : K → K → Bool) (laws : IsEquivalence eq) (P : B
   set_holds k q [] w none new gone old = on_bool (λ b. P b none) gone old (eq q k)
   set_holds k q (e ∷ es) w none new gone old =
       on_cond (λ l. P (eq q k) (unwrap_or (lookup (eq q) l) none)) (eq k e.0) ((e.0, w) ∷ es) (e ∷ set_value (eq k) es w)
-        (λ a. on_cond (λ o. P (eq q k) (unwrap_or o none)) (eq q e.0) (Some w) (lookup (eq q) es)
-          (λ b. let f : eq q k ≡ true = cc (laws.congr q e.0 k b, laws.symm e.0 k) in rw f new)
-          (λ b. let f : eq q k ≡ false = cc (laws.congr k e.0 q a, laws.symm e.0 q, laws.symm k q) in rw f (rw b at old)))
-        (λ a. on_cond (λ o. P (eq q k) (unwrap_or o none)) (eq q e.0) (Some e.1) (lookup (eq q) (set_value (eq k) es w))
-          (λ b. let f : eq q k ≡ false = cc (laws.congr q e.0 k b, laws.symm e.0 k) in rw f (rw b at old))
-          (λ b. set_holds k q es w none new gone (rw b at old)))
+      (λ a. on_cond (λ o. P (eq q k) (unwrap_or o none)) (eq q e.0) (Some w) (lookup (eq q) es)
+      (λ b. let f : eq q k ≡ true = cc (laws.congr q e.0 k b, laws.symm e.0 k) in rw f new)
+      (λ b. let f : eq q k ≡ false = cc (laws.congr k e.0 q a, laws.symm e.0 q, laws.symm k q) in rw f (rw b at old)))
+      (λ a. on_cond (λ o. P (eq q k) (unwrap_or o none)) (eq q e.0) (Some e.1) (lookup (eq q) (set_value (eq k) es w))
+      (λ b. let f : eq q k ≡ false = cc (laws.congr q e.0 k b, laws.symm e.0 k) in rw f (rw b at old))
+      (λ b. set_holds k q es w none new gone (rw b at old)))
 
 -- what holds of a new item at its index, and of the old ones at the others
 module _ (P : Bool → Entry → Type 0) where
@@ -134,15 +134,15 @@ module _ {K X : Type 0} (cmp : K → K → Ordering) (laws : IsEquivalence (λ x
       on_cond2 false h g = g
   insert_holds k q (e ∷ es) w none new old =
       on_ordering (λ l. P (is_eq (cmp q k)) (unwrap_or (lookup (λ x. is_eq (cmp q x)) l) none)) (cmp k e.0) ((k, w) ∷ e ∷ es) ((e.0, w) ∷ es) (e ∷ insert_entry cmp es k w)
-        (λ a. front (is_eq (cmp q k)) new old)
-        (λ a. let same : is_eq (cmp k e.0) ≡ true = ap is_eq a in
-          on_cond (λ o. P (is_eq (cmp q k)) (unwrap_or o none)) (is_eq (cmp q e.0)) (Some w) (lookup (λ x. is_eq (cmp q x)) es)
-            (λ b. let f : is_eq (cmp q k) ≡ true = cc (laws.congr q e.0 k b, laws.symm e.0 k) in rw f new)
-            (λ b. let f : is_eq (cmp q k) ≡ false = cc (laws.congr k e.0 q same, laws.symm e.0 q, laws.symm k q) in rw f (rw b at old)))
-        (λ a. let apart : is_eq (cmp k e.0) ≡ false = ap is_eq a in
-          on_cond (λ o. P (is_eq (cmp q k)) (unwrap_or o none)) (is_eq (cmp q e.0)) (Some e.1) (lookup (λ x. is_eq (cmp q x)) (insert_entry cmp es k w))
-            (λ b. let f : is_eq (cmp q k) ≡ false = cc (laws.congr q e.0 k b, laws.symm e.0 k) in rw f (rw b at old))
-            (λ b. insert_holds k q es w none new (rw b at old)))
+      (λ a. front (is_eq (cmp q k)) new old)
+      (λ a. let same : is_eq (cmp k e.0) ≡ true = ap is_eq a in
+      on_cond (λ o. P (is_eq (cmp q k)) (unwrap_or o none)) (is_eq (cmp q e.0)) (Some w) (lookup (λ x. is_eq (cmp q x)) es)
+      (λ b. let f : is_eq (cmp q k) ≡ true = cc (laws.congr q e.0 k b, laws.symm e.0 k) in rw f new)
+      (λ b. let f : is_eq (cmp q k) ≡ false = cc (laws.congr k e.0 q same, laws.symm e.0 q, laws.symm k q) in rw f (rw b at old)))
+      (λ a. let apart : is_eq (cmp k e.0) ≡ false = ap is_eq a in
+      on_cond (λ o. P (is_eq (cmp q k)) (unwrap_or o none)) (is_eq (cmp q e.0)) (Some e.1) (lookup (λ x. is_eq (cmp q x)) (insert_entry cmp es k w))
+      (λ b. let f : is_eq (cmp q k) ≡ false = cc (laws.congr q e.0 k b, laws.symm e.0 k) in rw f (rw b at old))
+      (λ b. insert_holds k q es w none new (rw b at old)))
     where
       front : (b : Bool) → P true w → P false (unwrap_or (lookup (λ x. is_eq (cmp q x)) (e ∷ es)) none) → P b (unwrap_or (cond b (Some w) (lookup (λ x. is_eq (cmp q x)) (e ∷ es))) none)
       front true h g = h
@@ -167,19 +167,19 @@ module _ (P : Bool → Entry → Type 0) (s : State) (gone : (b : Bool) → P b 
   put_slot_holds inc n e (EntryOf a i) new old = old
   put_slot_holds inc n e (SlotOf a i) new old =
       set_holds same_inc inc_laws (λ b x. b ≡ same_inc a inc → P (b && i == n) (slice_index_or x.slots i Empty)) inc a s.incarnations (record (incarnation s inc) { slots = slice_set (incarnation s inc).slots n e }) no_incarnation
-        (λ h. let same : a ≡ inc = inc_same a inc (sym h) in item_holds P (incarnation s inc).slots n i e new (gone true) (rw (← same) old))
-        (λ h. gone (i == n))
-        (λ h. old)
-        refl
+      (λ h. let same : a ≡ inc = inc_same a inc (sym h) in item_holds P (incarnation s inc).slots n i e new (gone true) (rw (← same) old))
+      (λ h. gone (i == n))
+      (λ h. old)
+      refl
 
   pub put_object_holds : (name : Name) (n : ℕ) (o : Object) (p : Place) → ((m : ℕ) → P false (slice_index_or (object s name).entries m Empty) → P (m == n) (slice_index_or o.entries m Empty)) → P false (standing s p) → P (same_place p (EntryOf name n)) (standing (put_object s name o) p)
   put_object_holds name n o (SlotOf a i) new old = old
   put_object_holds name n o (EntryOf a i) new old =
       set_holds same_name name_laws (λ b x. b ≡ same_name a name → P (b && i == n) (slice_index_or x.entries i Empty)) name a s.objects o no_object
-        (λ h. let same : a ≡ name = name_same a name (sym h) in new i (rw (← same) old))
-        (λ h. gone (i == n))
-        (λ h. old)
-        refl
+      (λ h. let same : a ≡ name = name_same a name (sym h) in new i (rw (← same) old))
+      (λ h. gone (i == n))
+      (λ h. old)
+      refl
 
   pub add_object_holds : (o : Object) (p : Place) → P true (slice_index_or o.entries (place_index p) Empty) → P false (standing s p) → P (is_of s.next_name p) (standing (add_object s o) p)
   add_object_holds o (SlotOf a i) new old = old
@@ -198,11 +198,13 @@ append_holds P xs m e new old = by (m == length xs) refl
     here : (ys : List Entry) → slice_index_or (ys ++ e ∷ []) (length ys) Empty ≡ e
     here [] = refl
     here (y ∷ ys) = here ys
+
     there : (ys : List Entry) (n : ℕ) → (n ≡ length ys → ⊥) → slice_index_or (ys ++ e ∷ []) n Empty ≡ slice_index_or ys n Empty
     there [] zero apart = absurd (apart refl)
     there [] (suc n) apart = refl
     there (y ∷ ys) zero apart = refl
     there (y ∷ ys) (suc n) apart = there ys n (λ h. apart (ap suc h))
+
     by : (b : Bool) → (m == length xs) ≡ b → P b (slice_index_or (xs ++ e ∷ []) m Empty)
     by true h = let same : m ≡ length xs = grind (arith, nat_tests) in rw (same, here xs) new
     by false h = rw (there xs m (λ e. grind (arith, nat_tests))) old

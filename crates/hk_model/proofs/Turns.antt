@@ -115,6 +115,7 @@ halted_found fs p i x h g = by (look_up i fs) (sym (lookup-filter-values inc_law
     of_test : (b : Bool) (y : Activation) → (y.proc.0 == p) ≡ b → ◌≡◌ {A = Option Activation} (cond (not b) (Some y) None) (Some x) → (◌≡◌ {A = Option Activation} (Some y) (Some x)) × ((x.proc.0 == p) ≡ false)
     of_test true y e f = absurd (cc)
     of_test false y e f = let same : y ≡ x = cc in (f, rw same at e)
+
     by : (o : Option Activation) → option_filter (λ (y : Activation). not (y.proc.0 == p)) o ≡ Some x → (o ≡ Some x) × ((x.proc.0 == p) ≡ false)
     by None e = absurd (cc)
     by (Some y) e = of_test (y.proc.0 == p) y refl e
@@ -262,6 +263,7 @@ call_turn s cpu proc (call.Enter path args into) n r = by (enter_procedure s pro
     entered_currents : (x : Incarnation) → activation x ≡ record { proc = proc; caller = Some ((process s proc).current) } → currents_in (slice_set s.processes x.proc.0 (record (process s x.proc) { current = s.next_inc })) ≡ slice_set (currents_in s.processes) proc.0 s.next_inc
     entered_currents x e =
         currents_set_to s.processes x.proc.0 s.next_inc (record { run = Ended; current = record { 0 = 0 } }) ∙ ap (λ (y : Activation). slice_set (currents_in s.processes) y.proc.0 s.next_inc) e
+
     by : (o : Outcome) → IfOk o (EntersBy s proc (process s proc).current) → Turn s (proc_line s cpu proc (what.Call (call.Enter path args into)) (settled s o).0) (settled s o).1
     by (Ok f) h = Enter (record {
       now = r;

@@ -38,6 +38,7 @@ stack_turn s line t n (Leave e) h = rw (e.activations, ap (λ (i : Inc). i.0) e.
   where
     gone : (x : Activation) → look_up line.inc (remove_entry (same_inc line.inc) (activations_in s.incarnations)) ≡ Some x → ⊥
     gone x g = let a = (left_found (activations_in s.incarnations) line.inc line.inc x (activations_apart s n) g).1 in let b = inc_laws.refl line.inc in absurd (cc)
+
     by : (o : Option Inc) → (incarnation s line.inc).caller ≡ o → CurrentAfter s line.proc.0 o t.processes → Stacked (remove_entry (same_inc line.inc) (activations_in s.incarnations)) (currents_in t.processes) s.next_inc.0
     by None o g = rw g (fewer_stacked (activations_in s.incarnations) (remove_entry (same_inc line.inc) (activations_in s.incarnations)) (currents_in s.processes) s.next_inc.0 h (remove_fewer s line.inc n))
     by (Some k) o g = rw g (left_stacked (activations_in s.incarnations) (remove_entry (same_inc line.inc) (activations_in s.incarnations)) (currents_in s.processes) s.next_inc.0 line.proc.0 line.inc k (activation (incarnation s line.inc)) h (remove_fewer s line.inc n) gone e.now (activation_live s.incarnations line.inc (caller_live s line.inc k o)) o)
@@ -237,6 +238,7 @@ under_begins s c stacked live = record {
   where
     there : look_up c (activations_in s.incarnations) ≡ Some (activation (incarnation s c))
     there = activation_live s.incarnations c live
+
     same : (i : Inc) → is_one_of i (c ∷ []) ≡ true → i.0 ≡ c.0
     same i h = ap (λ (z : Inc). z.0) (one_is c i h)
 

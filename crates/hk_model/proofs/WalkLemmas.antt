@@ -49,9 +49,9 @@ module _ (s : State) (P : Place → Entry → Type 0) (hops : HopLaw s P) where
   hop_keeps : (place : Place) (cap : Cap) (at step : ℕ) → P place (Held cap) → IfOk (hop s (Held cap) at step) (Arrives (EntryOf cap.name at))
   hop_keeps place cap at step p =
       and_is (Arrives (EntryOf cap.name at)) (allowed cap.rights LOAD step) (item_at (object s cap.name).entries at (step + 1) >>= (λ next. obtained cap.rights next step)) (λ u h.
-        then_is (Arrives (EntryOf cap.name at)) (item_at (object s cap.name).entries at (step + 1)) (λ next. obtained cap.rights next step) (λ next g.
-          let same = item_is (object s cap.name).entries at (step + 1) next g in
-          rw same (ok_both (Reduces (standing s (EntryOf cap.name at))) (P (EntryOf cap.name at)) (obtained cap.rights (standing s (EntryOf cap.name at)) step) (obtained_reduces cap.rights (standing s (EntryOf cap.name at)) step) (hops place cap at step p))))
+      then_is (Arrives (EntryOf cap.name at)) (item_at (object s cap.name).entries at (step + 1)) (λ next. obtained cap.rights next step) (λ next g.
+      let same = item_is (object s cap.name).entries at (step + 1) next g in
+      rw same (ok_both (Reduces (standing s (EntryOf cap.name at))) (P (EntryOf cap.name at)) (obtained cap.rights (standing s (EntryOf cap.name at)) step) (obtained_reduces cap.rights (standing s (EntryOf cap.name at)) step) (hops place cap at step p))))
 
   walk_on_keeps : (place : Place) (entry : Entry) (path : List ℕ) (step : ℕ) → Arrives place entry → IfOk (walk_on s entry path step) (Arrives (end_from s place path))
   walk_on_keeps place entry [] step h = h
@@ -60,15 +60,15 @@ module _ (s : State) (P : Place → Entry → Type 0) (hops : HopLaw s P) where
   walk_on_keeps place (Held cap) (at ∷ rest) step h =
       let same = named_is (standing s place) cap h.0 in
       then_is (Arrives (end_from s place (at ∷ rest))) (hop s (Held cap) at step) (λ next. walk_on s next rest (step + 1)) (λ next g.
-        let there = if_ok (Arrives (EntryOf cap.name at)) (hop s (Held cap) at step) next (hop_keeps place cap at step h.1) g in
-        walk_on_keeps (EntryOf (named (standing s place)) at) next rest (step + 1) (rw same at there))
+      let there = if_ok (Arrives (EntryOf cap.name at)) (hop s (Held cap) at step) next (hop_keeps place cap at step h.1) g in
+      walk_on_keeps (EntryOf (named (standing s place)) at) next rest (step + 1) (rw same at there))
 
   -- the walk of an incarnation, from a slot of which the law holds
   pub walk_keeps : (inc : Inc) (at : ℕ) (rest : List ℕ) (x : Entry) → P (SlotOf inc at) (standing s (SlotOf inc at)) → walk s inc (at ∷ rest) ≡ Ok x → Arrives (end_of s inc (at ∷ rest)) x
   walk_keeps inc at rest x h e = if_ok (Arrives (end_of s inc (at ∷ rest))) (walk s inc (at ∷ rest)) x
       (then_is (Arrives (end_of s inc (at ∷ rest))) (item_at (incarnation s inc).slots at 0) (λ entry. walk_on s entry rest 0) (λ entry g.
-        let same = item_is (incarnation s inc).slots at 0 entry g in
-        walk_on_keeps (SlotOf inc at) entry rest 0 (rw same (Reduces-self (standing s (SlotOf inc at)), h)))) e
+      let same = item_is (incarnation s inc).slots at 0 entry g in
+      walk_on_keeps (SlotOf inc at) entry rest 0 (rw same (Reduces-self (standing s (SlotOf inc at)), h)))) e
 
 -- a walk that is not refused begins at a slot
 pub walk_begins : (s : State) (inc : Inc) (path : List ℕ) (x : Entry) → walk s inc path ≡ Ok x → (at : ℕ) × (rest : List ℕ) × (path ≡ at ∷ rest)
@@ -95,16 +95,16 @@ pub record IsTarget (s : State) (inc : Inc) (path : List ℕ) (types : Name → 
 target_each : (s : State) (inc : Inc) (path : List ℕ) (types : Name → Bool) (rights : ℕ) → IfOk (target s inc path types rights) (IsTarget s inc path types rights)
 target_each s inc path types rights =
     then_is (IsTarget s inc path types rights) (walk s inc path) (λ entry. held entry (last_step path) >>= (λ cap. unless (types (object s cap.name).of) (refused.WrongType (last_step path)) >> (allowed cap.rights rights (last_step path) >> Ok cap))) (λ entry h.
-      then_is (IsTarget s inc path types rights) (held entry (last_step path)) (λ cap. unless (types (object s cap.name).of) (refused.WrongType (last_step path)) >> (allowed cap.rights rights (last_step path) >> Ok cap)) (λ cap g.
-        and_is (IsTarget s inc path types rights) (unless (types (object s cap.name).of) (refused.WrongType (last_step path))) (allowed cap.rights rights (last_step path) >> Ok cap) (λ u t.
-          and_is (IsTarget s inc path types rights) (allowed cap.rights rights (last_step path)) (Ok cap) (λ v a.
-            let there : walk s inc path ≡ Ok (Held cap) = h ∙ ap Ok (held_is entry (last_step path) cap g) in
-            record {
-              leads = there;
-              name = leads_named s inc path cap there;
-              typed = unless_is (types (object s cap.name).of) (refused.WrongType (last_step path)) u t;
-              allowed = allowed_is cap.rights rights (last_step path) v a;
-            }))))
+    then_is (IsTarget s inc path types rights) (held entry (last_step path)) (λ cap. unless (types (object s cap.name).of) (refused.WrongType (last_step path)) >> (allowed cap.rights rights (last_step path) >> Ok cap)) (λ cap g.
+    and_is (IsTarget s inc path types rights) (unless (types (object s cap.name).of) (refused.WrongType (last_step path))) (allowed cap.rights rights (last_step path) >> Ok cap) (λ u t.
+    and_is (IsTarget s inc path types rights) (allowed cap.rights rights (last_step path)) (Ok cap) (λ v a.
+    let there : walk s inc path ≡ Ok (Held cap) = h ∙ ap Ok (held_is entry (last_step path) cap g) in
+    record {
+      leads = there;
+      name = leads_named s inc path cap there;
+      typed = unless_is (types (object s cap.name).of) (refused.WrongType (last_step path)) u t;
+      allowed = allowed_is cap.rights rights (last_step path) v a;
+    }))))
 
 pub target_is : (s : State) (inc : Inc) (path : List ℕ) (types : Name → Bool) (rights : ℕ) (c : Cap) → target s inc path types rights ≡ Ok c → IsTarget s inc path types rights c
 target_is s inc path types rights c h = if_ok (IsTarget s inc path types rights) (target s inc path types rights) c (target_each s inc path types rights) h
