@@ -14,6 +14,7 @@ use Rattle.hk_model.specs.Places.{Place, SlotOf, EntryOf, same_place, standing, 
 use Rattle.hk_model.specs.Setup.{Setup}
 use Rattle.hk_model.specs.Lines.{done_call, param_count, line_before}
 use Rattle.hk_model.specs.Running.{Machine, opened, machine_at, state_at, after_lines, AreSteps, AreStepsOf}
+use Rattle.std.proofs.lemmas.Bool.{false_from_ne_true}
 use Rattle.hk_model.specs.Under.{is_live, under_by, under_after}
 use Rattle.hk_model.specs.Marks.{mark, marks, IsSlotUnder, StaysUnder, EnvironmentLaw}
 use Rattle.hk_model.proofs.Standing.{place_same}
@@ -68,13 +69,9 @@ marked_lives call p s g us safe q h = by q (safe.2 q h)
 ends : (w : Setup) (lines : List Line) (k : ℕ) (call : Inc) (slot moment p : ℕ) → Safe call p (state_at w lines moment) (marks w lines k call slot moment) (under_after w (machine_at w lines k) (drop k (take moment lines)) call) → StaysUnder w lines k call slot moment
 ends w lines k call slot moment p safe = record {
   under = λ q h. by q (safe.2 q h);
-  gone = λ gone q. none (marks w lines k call slot moment q) (λ h. true≢false (sym (marked_lives call p (state_at w lines moment) (marks w lines k call slot moment) (under_after w (machine_at w lines k) (drop k (take moment lines)) call) safe q h) ∙ gone));
+  gone = λ gone q. false_from_ne_true (marks w lines k call slot moment q) (λ h. true≢false (sym (marked_lives call p (state_at w lines moment) (marks w lines k call slot moment) (under_after w (machine_at w lines k) (drop k (take moment lines)) call) safe q h) ∙ gone));
 }
   where
-    none : (b : Bool) → (b ≡ true → ⊥) → b ≡ false
-    none true h = absurd (h refl)
-    none false h = refl
-
     by : (q : Place) → IsMarked (under_after w (machine_at w lines k) (drop k (take moment lines)) call) (state_at w lines moment) q → IsSlotUnder w lines k call moment q
     by (SlotOf i n) h = (holder_lives (state_at w lines moment) i n h.2, h.0)
     by (EntryOf name index) h = h

@@ -1,6 +1,6 @@
 -- What is marked lacks ENV, and stands in slots under the call.
 use Rattle.std.proofs.Common.{◌≡◌, ℕ, List, [], ◌∷◌, Bool, true, false, Option, Some, None, Ok, refl, sym, ◌∙◌, ap, bit_and, subst}
-use Rattle.std.specs.Prelude.{not, ◌&&◌, ◌||◌}
+use Rattle.std.specs.Prelude.{not, ◌||◌}
 use mathlib.Core.Logic.{inl, inr}
 use Rattle.std.specs.List.{list_any}
 use Rattle.std.proofs.lemmas.Bool.{true≢false, false≢true}
@@ -15,6 +15,7 @@ use Rattle.hk_model.specs.Walking.{walk}
 use Rattle.hk_model.specs.Places.{Place, SlotOf, EntryOf, standing, is_empty, named, passed_from, named_by}
 use Rattle.hk_model.specs.Lines.{done_call, enters_call}
 use Rattle.hk_model.specs.Ways.{Way, Walked, Stored, Lessened, Merged, Inherited, Copied, CopyOf, Created, Formed, Gone, line_way, Writes, Wrote}
+use Rattle.std.proofs.lemmas.Bool.{and_parts, false_from_ne_true}
 use Rattle.hk_model.specs.Under.{is_one_of, under_by}
 use Rattle.hk_model.specs.Marks.{passes_mark, carries, marked_by, mark}
 use Rattle.hk_model.proofs.RightsWithin.{Within-and}
@@ -30,14 +31,6 @@ IsMarked us s (EntryOf name index) = ⊥
 
 abbrev pub AreMarked : List Inc → State → (Place → Bool) → Type 0
 AreMarked us s marks = (p : Place) → marks p ≡ true → IsMarked us s p
-
-and_both : (a b : Bool) → (a && b) ≡ true → (a ≡ true) × (b ≡ true)
-and_both true b h = (refl, h)
-and_both false b h = absurd (cc)
-
-not_true : (b : Bool) → (b ≡ true → ⊥) → b ≡ false
-not_true true h = absurd (h refl)
-not_true false h = refl
 
 or_first : (a b : Bool) → b ≡ false → (a || b) ≡ true → a ≡ true
 or_first true b h g = refl
@@ -56,8 +49,8 @@ not_empty_entry x h e = true≢false (sym (ap is_empty e) ∙ h)
 module _ (us : List Inc) (s : State) (inc : Inc) (marks : Place → Bool) (m : AreMarked us s marks) where
   -- a walk that passes a marked place begins at one, since no list has any
   lists_unmarked : (name : Name) (index : ℕ) (rest : List ℕ) → list_any marks (passed_from s (EntryOf name index) rest) ≡ false
-  lists_unmarked name index [] = rw (not_true (marks (EntryOf name index)) (m (EntryOf name index))) refl
-  lists_unmarked name index (at ∷ rest) = rw (not_true (marks (EntryOf name index)) (m (EntryOf name index))) (lists_unmarked (named (standing s (EntryOf name index))) at rest)
+  lists_unmarked name index [] = rw (false_from_ne_true (marks (EntryOf name index)) (m (EntryOf name index))) refl
+  lists_unmarked name index (at ∷ rest) = rw (false_from_ne_true (marks (EntryOf name index)) (m (EntryOf name index))) (lists_unmarked (named (standing s (EntryOf name index))) at rest)
 
   passed_first : (at : ℕ) (rest : List ℕ) → passes_mark s inc marks (at ∷ rest) ≡ true → marks (SlotOf inc at) ≡ true
   passed_first at [] h = or_first (marks (SlotOf inc at)) false refl h
@@ -68,7 +61,7 @@ module _ (us : List Inc) (s : State) (inc : Inc) (marks : Place → Bool) (m : A
   walk_marked (at ∷ rest) x k h = let g = m (SlotOf inc at) (passed_first at rest k) in (g.0, walk_no_env s inc at rest x g.1 h)
 
   copy_marked : (path : List ℕ) (index : ℕ) → carries s inc marks (Copied path index) ≡ true → passes_mark s inc marks path ≡ true
-  copy_marked path index k = or_first (passes_mark s inc marks path) (marks (EntryOf (named_by s inc path) index)) (not_true (marks (EntryOf (named_by s inc path) index)) (m (EntryOf (named_by s inc path) index))) k
+  copy_marked path index k = or_first (passes_mark s inc marks path) (marks (EntryOf (named_by s inc path) index)) (false_from_ne_true (marks (EntryOf (named_by s inc path) index)) (m (EntryOf (named_by s inc path) index))) k
 
   -- what a way that marks has written, in an incarnation under the call, has no ENV
   writes_marked : (v : Way) (x : Entry) → carries s inc marks v ≡ true → Writes s inc v x → (is_one_of inc us ≡ true) × NoEnv x
@@ -129,7 +122,7 @@ stays us more s t (EntryOf name index) mono h e = h
 
 pub line_marks : (s : State) (line : Line) (t : State) (marks : Place → Bool) (us : List Inc) → LineWrites s line t → AreMarked us s marks → AreMarked (under_by s line t us) t (mark s line t marks)
 line_marks s line t marks us h m p k =
-    let both = and_both (not (is_empty (standing t p))) (marked_by s line.inc marks (line_way s line p) p) k in
+    let both = and_parts (not (is_empty (standing t p))) (marked_by s line.inc marks (line_way s line p) p) k in
     by (line_way s line p) refl (h.entries p) (stands (standing t p) both.0) both.1
   where
     by : (o : Option Way) → line_way s line p ≡ o → Wrote s line.inc (standing s p) o (standing t p) → is_empty (standing t p) ≡ false → marked_by s line.inc marks o p ≡ true → IsMarked (under_by s line t us) t p

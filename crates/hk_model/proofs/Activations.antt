@@ -41,6 +41,11 @@ activations_in es = map (λ (e : Inc × Incarnation). let y : Inc × Activation 
 abbrev pub activations : State → List (Inc × Activation)
 activations s = activations_in s.incarnations
 
+-- the activation of this incarnation
+abbrev pub look_up : Inc → List (Inc × Activation) → Option Activation
+look_up i fs = lookup (same_inc i) fs
+
+-- where each process is
 abbrev pub currents_in : List Process → List Inc
 currents_in ps = map (λ (q : Process). q.current) ps
 
@@ -62,6 +67,7 @@ quiet_object s u name o h = record { activations = h.activations; currents = h.c
 quiet_added : (s u : State) (o : Object) → Quiet s u → Quiet s (add_object u o)
 quiet_added s u o h = record { activations = h.activations; currents = h.currents; next = h.next }
 
+-- the same activations where an incarnation changes but keeps its process and caller
 pub activations_set : (k : Inc) (es : List (Inc × Incarnation)) (x : Incarnation) → activation x ≡ activation (unwrap_or (lookup (same_inc k) es) no_incarnation) → activations_in (set_value (same_inc k) es x) ≡ activations_in es
 activations_set k [] x h = refl
 activations_set k (e ∷ es) x h =
@@ -77,6 +83,7 @@ currents_set [] n r d = refl
 currents_set (p ∷ ps) zero r d = refl
 currents_set (p ∷ ps) (suc n) r d = let rest : currents_in (slice_set ps n (record (unwrap_or (slice_get ps n) d) { run = r })) ≡ currents_in ps = currents_set ps n r d in rw rest refl
 
+-- what a process does is no matter
 pub quiet_process : (s u : State) (proc : Proc) (r : ProcessState) → Quiet s u → Quiet s (put_process u proc (record (process u proc) { run = r }))
 quiet_process s u proc r h = record { activations = h.activations; currents = currents_set u.processes proc.0 r (record { run = Ended; current = record { 0 = 0 } }) ∙ h.currents; next = h.next }
 
@@ -114,6 +121,7 @@ QuietCall s proc inc (call.Enter path args into) = Unit {0}
 QuietCall s proc inc (call.Leave give) = Unit {0}
 QuietCall s proc inc c = IsQuiet s (outcome s proc inc c)
 
+-- all calls but Enter and Leave
 pub outcome_quiet : (s : State) (proc : Proc) (inc : Inc) (c : Call) → QuietCall s proc inc c
 unfolding get_word put_word add_word word_count load_entry store_entry append_entry erase_entry drop_slot restrict_slot look make_template create_object merge_cap copy_object give_token
 outcome_quiet s proc inc (call.Get of at) = search (then_is, quiet_self)

@@ -57,6 +57,7 @@ appends s inc path from cap t = modified s inc (call.Append path from) path is_l
 erases : (s : State) (inc : Inc) (path : List ℕ) (at : ℕ) (cap : Cap) → target s inc path is_listed KILL+MODIFY ≡ Ok cap → Modifies s inc (call.Erase path at)
 erases s inc path at cap t = modified s inc (call.Erase path at) path is_listed KILL+MODIFY cap refl refl refl t
 
+-- every call
 pub outcome_modifies : (s : State) (proc : Proc) (inc : Inc) (c : Call) → IfOk (outcome s proc inc c) (λ f. Modifies s inc c)
 unfolding put_word add_word store_entry append_entry erase_entry take_token give_token
 outcome_modifies s proc inc (call.Put of at word) = search (then_is, puts)
@@ -202,6 +203,7 @@ leave_goes s inc give p w e = by (incarnation s inc).caller give e
     by (Some caller) None f = absurd (cc)
     by (Some caller) (Some slot) f = on_way (λ q v. GoesTo s inc (Some (call.Leave give)) v q) (SlotOf caller (incarnation s inc).into.0) p (Stored slot.0) w tt f
 
+-- every call
 pub way_goes : (s : State) (inc : Inc) (c : Call) (p : Place) (w : Way) → way s inc c p ≡ Some w → GoesTo s inc (Some c) w p
 way_goes s inc (call.Load path into) p w e = on_way (λ q v. GoesTo s inc (Some (call.Load path into)) v q) (SlotOf inc into.0) p (Walked path) w refl e
 way_goes s inc (call.Store path at from) p w e = on_way (λ q v. GoesTo s inc (Some (call.Store path at from)) v q) (EntryOf (named_by s inc path) at) p (Stored from.0) w tt e
@@ -219,6 +221,7 @@ way_goes s inc c p w e = absurd (cc)
 
 -- ---- all that a call that nothing refuses has written
 
+-- of every call, whose state has no two incarnations of one number
 pub outcome_written : (s : State) (proc : Proc) (inc : Inc) (c : Call) → AreApart s → IfOk (outcome s proc inc c) (λ f. IsWrittenBy s inc c f.1)
 outcome_written s proc inc c h =
     ok_more (λ f. ((p : Place) → Wrote s inc (standing s p) (way s inc c p) (standing f.1 p)) × Modifies s inc c) (λ f. IsWrittenBy s inc c f.1) (outcome s proc inc c) (λ f g. record { entries = g.0; places = call_where s inc c g.1 })

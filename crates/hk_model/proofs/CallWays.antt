@@ -44,6 +44,7 @@ use Rattle.hk_model.proofs.WalkLemmas.{walk_reduces, target_is}
 abbrev pub AreApart : State → Type 0
 AreApart s = IsDistinct same_inc (keys_of s.incarnations)
 
+-- what stands at a place after a call that nothing refuses, by this way
 abbrev pub WroteBy : State → Inc → Place → Option Way → Outcome → Type 0
 WroteBy s inc p w o = IfOk o (λ f. Wrote s inc (standing s p) w (standing f.1 p))
 

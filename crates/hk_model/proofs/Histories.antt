@@ -17,10 +17,10 @@ use Rattle.hk_model.proofs.NumbersRise.{NumbersRise, rises_each, opening_rises}
 use Rattle.hk_model.proofs.LineWays.{LineWrites, writes_each}
 use Rattle.hk_model.proofs.NextNames.{NextName, next_each}
 use Rattle.hk_model.proofs.NamesGiven.{NamesGiven, given_line, opening_given}
-use Rattle.hk_model.proofs.Activations.{Activation, activations_in, currents_in}
-use Rattle.hk_model.proofs.Stacks.{look_up}
+use Rattle.hk_model.proofs.Activations.{look_up, Activation, activations_in, currents_in}
 use Rattle.hk_model.proofs.Turns.{Turn, Still, Enter, Leave, Halt, Enters, turn_each}
-use Rattle.hk_model.proofs.UnderLemmas.{IsStacked, stack_turn, UnderCall, under_begins, found_live}
+use Rattle.hk_model.proofs.Stacks.{IsStacked, stack_turn}
+use Rattle.hk_model.proofs.UnderLemmas.{UnderCall, under_begins, found_live}
 
 -- ---- the opening
 
@@ -42,6 +42,7 @@ ready_found n [] q k h = absurd (cc)
 ready_found n (t ∷ ts) zero k h = let e : ◌≡◌ {A = Inc} (record { 0 = n }) k = cc in let a : n ≡ k.0 = ap (λ (z : Inc). z.0) e in (omega arith, omega arith)
 ready_found n (t ∷ ts) (suc q) k h = let r = ready_found (n + 1) ts q k h in (omega (arith, r.0), omega (arith, r.1))
 
+-- no incarnation has a caller yet, and each process has one
 pub opening_stacked : (w : Setup) → IsStacked (opening w)
 unfolding opening
 opening_stacked w = record {
@@ -78,6 +79,7 @@ laws_each =
     (each_both (λ s line t. NumbersRise s → NumbersRise t) (λ s line t. NumbersRise s → LineWrites s line t) rises_each writes_each)
     (each_both (λ s line t. NumbersRise s → Turn s line t) (λ s line t. NextName s (done_call line) t) turn_each next_each)
 
+-- in a sound state each line is known
 pub known_each : EachStep (λ s line t. Sound s → LineKnown s line t)
 known_each = each_more Laws (λ s line t. Sound s → LineKnown s line t)
     (λ s line t h g. record {
@@ -91,6 +93,7 @@ known_each = each_more Laws (λ s line t. Sound s → LineKnown s line t)
 opening_sound : (w : Setup) → Sound (opening w)
 opening_sound w = record { rises = opening_rises w; stacked = opening_stacked w }
 
+-- every state of a history is sound
 pub sound_at : (w : Setup) (lines : List Line) (moment : ℕ) → AreStepsOf w lines → Sound (state_at w lines moment)
 unfolding opened
 sound_at w lines moment h =
@@ -111,6 +114,7 @@ given_at w lines moment world h =
 
 -- ---- the beginning of a call
 
+-- the turn of a line that enters a procedure
 pub enters_turn : (s : State) (line : Line) (t : State) → Turn s line t → enters_call (done_call line) ≡ true → Enters s line t
 enters_turn s line t (Still q e) h = absurd (false≢true (sym e ∙ h))
 enters_turn s line t (Enter e) h = e

@@ -19,6 +19,7 @@ pub mod Steps
 pub mod NumbersRise
 pub mod LineWays
 pub mod Activations
+pub mod ActivationLists
 pub mod Stacks
 pub mod Turns
 pub mod UnderLemmas

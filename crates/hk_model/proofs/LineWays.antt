@@ -40,9 +40,11 @@ pub record DoneWrites (s : State) (inc : Inc) (done : Option Call) (t : State) :
   pub goes : (p : Place) (w : Way) → option_and_then (λ c. way s inc c p) done ≡ Some w → GoesTo s inc done w p
   pub modifies : (path : List ℕ) → changes_path done ≡ Some path → IsModified s inc done (named_by s inc path)
 
+-- what a line has written
 abbrev pub LineWrites : State → Line → State → Type 0
 LineWrites s line t = DoneWrites s line.inc (done_call line) t
 
+-- it keeps the bound that the definitions state
 pub line_written : (s : State) (line : Line) (t : State) → LineWrites s line t → IsWrittenByLine s line t
 line_written s line t h = h.entries
 

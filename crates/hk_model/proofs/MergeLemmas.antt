@@ -17,6 +17,7 @@ others_of : (wanted : Option Name) (of : Name) (rights give : ℕ) → matches w
 others_of None of rights give h = Within-all (bit_and give rights) rights (HasAll-bit_and_right give rights)
 others_of (Some wanted) of rights give h = (name_same wanted of h, merged_others wanted rights give)
 
+-- what comes of a merge
 pub merged_is : (cap : Cap) (of : Name) (form : Param) (step : ℕ) (new : Cap) → merged cap of form step ≡ Ok new → Amplified cap form of new
 merged_is cap of form step new e = if_ok (Amplified cap form of) (merged cap of form step) new
     (and_is (Amplified cap form of) (unless (matches form.of of) (refused.WrongType step)) (allowed cap.rights form.check step >> Ok (record { name = cap.name; rights = merged_rights cap.rights form.of form.give })) (λ u h.

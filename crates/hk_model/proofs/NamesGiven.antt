@@ -53,6 +53,7 @@ below_more low high Empty h g = tt
 below_more low high (Held cap) h g = omega (arith, h, g)
 below_more low high (Form form) h g = tt
 
+-- a reduction names no other object
 pub below_reduces : (high : ℕ) (from x : Entry) → Reduces from x → IsBelow high from → IsBelow high x
 below_reduces high from Empty r h = tt
 below_reduces high from (Form form) r h = tt
@@ -120,6 +121,7 @@ lists_given s line t h next g name index full = by (line_way s line (EntryOf nam
     by None e (inr same) = old (g.lists name index (ap is_empty (sym same) ∙ full))
     by (Some v) e w = written_in (h.places (EntryOf name index) (ap is_some e))
 
+-- each line keeps it
 pub given_line : (s : State) (line : Line) (t : State) → LineWrites s line t → NextName s (done_call line) t → NamesGiven s → NamesGiven t
 given_line s line t h next g = record { entries = entries_given s line t h next g; lists = lists_given s line t h next g }
 
@@ -189,6 +191,7 @@ born_count : (bs : List Born) → length (map (λ (b : Born). object_of b.kind) 
 born_count [] = refl
 born_count (b ∷ bs) = ap suc (born_count bs)
 
+-- in a world that can be run all names are those of its objects
 pub opening_given : (w : Setup) → IsWorld w → NamesGiven (opening w)
 unfolding opening
 opening_given w world = record {

@@ -57,6 +57,7 @@ leave_next s give proc inc None into cap = refl
 leave_next s give proc inc (Some caller) into None = refl
 leave_next s give proc inc (Some caller) into (Some cap) = refl
 
+-- every call
 pub outcome_next : (s : State) (proc : Proc) (inc : Inc) (c : Call) → NextBy s c (outcome s proc inc c)
 unfolding get_word put_word add_word word_count load_entry store_entry append_entry erase_entry drop_slot restrict_slot look make_template create_object merge_cap copy_object enter_procedure leave give_token
 outcome_next s proc inc (call.Get of at) = search (then_is)
@@ -89,6 +90,7 @@ settled_next : (s : State) (c : Call) (o : Outcome) → NextBy s c o → NextNam
 settled_next s c (Ok f) h = done_next s c f.0 (counted (s.events + 1) f.1) h
 settled_next s c (Err e) h = refl
 
+-- every line
 pub next_each : EachStep (λ s line t. NextName s (done_call line) t)
 next_each = record {
   calls = λ s cpu proc c r. settled_next s c (outcome s proc (process s proc).current c) (outcome_next s proc (process s proc).current c);

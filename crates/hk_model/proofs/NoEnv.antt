@@ -1,5 +1,5 @@
 -- What comes of a capability without ENV has no ENV, by a walk, a copy, a merge or a reduction.
-use Rattle.std.proofs.Common.{◌≡◌, ℕ, List, ◌∷◌, Bool, true, false, Ok, refl, sym, ◌∙◌}
+use Rattle.std.proofs.Common.{◌≡◌, ℕ, List, ◌∷◌, false, Ok, refl, sym, ◌∙◌}
 use Rattle.std.specs.Prelude.{IfOk}
 use Rattle.std.proofs.lemmas.Bool.{true≢false}
 use Rattle.hk_model.specs.declared.names.Name.{Name}
@@ -21,6 +21,7 @@ use Rattle.hk_model.proofs.Tests.{and_is, allowed_is}
 use Rattle.hk_model.proofs.RightsWithin.{Within-has, reduced_lacks_env, lacks_env}
 use Rattle.hk_model.proofs.WalkLemmas.{walk_keeps}
 use Rattle.hk_model.proofs.MergeLemmas.{merged_has}
+use Rattle.std.proofs.lemmas.Bool.{false_from_ne_true}
 
 -- nothing, or a capability without ENV
 abbrev pub NoEnv : Entry → Type 0
@@ -28,18 +29,16 @@ NoEnv Empty = Unit {0}
 NoEnv (Held c) = has c.rights env_right ≡ false
 NoEnv (Form t) = ⊥
 
-not_true : (b : Bool) → (b ≡ true → ⊥) → b ≡ false
-not_true true h = absurd (h refl)
-not_true false h = refl
-
+-- it cannot be stored or returned
 pub has_no_env : (x : Entry) → NoEnv x → HasEnv x → ⊥
 has_no_env (Held c) h g = lacks_env c.rights h g
 has_no_env Empty h g = g
 has_no_env (Form t) h g = h
 
+-- a reduction and a merge of it are so too
 pub reduces_no_env : (from x : Entry) → NoEnv from → Reduces from x → NoEnv x
 reduces_no_env from Empty h r = tt
-reduces_no_env (Held a) (Held b) h r = not_true (has b.rights env_right) (λ e. true≢false (sym (Within-has b.rights a.rights env_right r.1 refl e) ∙ h))
+reduces_no_env (Held a) (Held b) h r = false_from_ne_true (has b.rights env_right) (λ e. true≢false (sym (Within-has b.rights a.rights env_right r.1 refl e) ∙ h))
 reduces_no_env (Held a) (Form b) h r = absurd r
 reduces_no_env Empty (Held b) h r = absurd r
 reduces_no_env Empty (Form b) h r = absurd r
@@ -47,7 +46,7 @@ reduces_no_env (Form t) (Held b) h r = absurd h
 reduces_no_env (Form t) (Form b) h r = absurd h
 
 pub merged_no_env : (cap : Cap) (of : Name) (form : Param) (step : ℕ) (new : Cap) → merged cap of form step ≡ Ok new → NoEnv (Held cap) → NoEnv (Held new)
-merged_no_env cap of form step new e h = not_true (has new.rights env_right) (λ g. true≢false (sym (merged_has cap of form step new env_right e refl refl g) ∙ h))
+merged_no_env cap of form step new e h = false_from_ne_true (has new.rights env_right) (λ g. true≢false (sym (merged_has cap of form step new env_right e refl refl g) ∙ h))
 
 obtained_no_env : (by : ℕ) (next : Entry) (step : ℕ) → has by env_right ≡ false → IfOk (obtained by next step) NoEnv
 obtained_no_env by Empty step h = tt

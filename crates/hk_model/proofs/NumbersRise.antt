@@ -39,6 +39,7 @@ abbrev pub RisesFrom : ℕ → List (Inc × Incarnation) → ℕ → Type 0
 RisesFrom low [] high = low ≤ high
 RisesFrom low (e ∷ es) high = (low ≤ e.0.0) × RisesFrom (e.0.0 + 1) es high
 
+-- the numbers of the incarnations that live
 abbrev pub NumbersRise : State → Type 0
 NumbersRise s = RisesFrom 0 s.incarnations s.next_inc.0
 
@@ -66,6 +67,7 @@ rises_filter test low (e ∷ es) high r =
     (λ h. (r.0, rest))
     (λ h. let a : low ≤ e.0.0 = r.0 in rises_lower (e.0.0 + 1) low (filter test es) high (omega arith) rest)
 
+-- the end is no lower than the beginning
 pub rises_below : (low : ℕ) (es : List (Inc × Incarnation)) (high : ℕ) → RisesFrom low es high → low ≤ high
 rises_below low [] high r = r
 rises_below low (e ∷ es) high r = let a : low ≤ e.0.0 = r.0 in let b = rises_below (e.0.0 + 1) es high r.1 in omega arith
@@ -153,6 +155,7 @@ outcome_rises s proc inc (call.P of) h = take_rises s proc inc of h
 outcome_rises s proc inc (call.V of) h = search (then_is, token_rises)
 outcome_rises s proc inc call.Yield h = h
 
+-- every line
 pub rises_each : EachStep (λ s line t. NumbersRise s → NumbersRise t)
 rises_each = record {
   calls = λ s cpu proc c r h. settled_keeps NumbersRise s (outcome s proc (process s proc).current c) h (outcome_rises s proc (process s proc).current c h);
@@ -164,6 +167,7 @@ base_rises : (n : ℕ) (ts : List Task) → RisesFrom n (bases n ts) (n + length
 base_rises n [] = omega arith
 base_rises n (t ∷ ts) = let r = base_rises (n + 1) ts in let e : n + 1 + length ts ≡ n + length (t ∷ ts) = omega arith in (omega arith, rw (← e) r)
 
+-- the base incarnations
 pub opening_rises : (w : Setup) → NumbersRise (opening w)
 unfolding opening
 opening_rises w = let r = base_rises 0 w.tasks in let e : 0 + length w.tasks ≡ length w.tasks = omega arith in rw e at r

@@ -14,6 +14,7 @@ use Rattle.hk_rights.proofs.Sets.{HasAll-self, HasAll-trans, HasAll-bit_and_left
 use Rattle.hk_rights.proofs.Missing.{first_missing-none, first_missing-pow, has-from_first_missing, HasAll-from_first_missing}
 use Rattle.hk_model.specs.Ways.{Within}
 
+-- all of the first are in the second
 pub Within-all : (a b : ℕ) → HasAll b a → Within a b
 Within-all a b h = first_missing-none b a h
 
@@ -38,6 +39,7 @@ HasAll-confined a = HasAll-bit_and_left a 0xff02ff
 HasAll-local : (a : ℕ) → HasAll a (local_rights a)
 HasAll-local a = HasAll-bit_and_left a 0xff05ff
 
+-- whatever it is obtained through
 pub HasAll-reduced : (by a : ℕ) → HasAll a (reduced_rights by a)
 HasAll-reduced by a = outer (has by env_right) (cond (has by unconf_right) a (confined_rights a)) (inner (has by unconf_right))
   where

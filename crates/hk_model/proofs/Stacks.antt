@@ -1,26 +1,35 @@
 -- The current incarnation of a process is the last of its incarnations, and callers come before what they call.
 use Rattle.std.proofs.Common.{◌≡◌, ℕ, zero, suc, ◌+◌, ◌<◌, ◌≤◌, List, [], ◌∷◌, ◌++◌, Bool, true, false, Option, Some, None, refl, sym, ◌∙◌, ap, arith, cond}
-use Rattle.std.specs.Prelude.{slice_set, slice_get, ◌⊎◌}
+use Rattle.std.specs.Prelude.{IsTrue, not, slice_set, slice_get, ◌==◌, ◌⊎◌, is_some, filter}
 use mathlib.Core.Logic.{inl, inr}
-use Rattle.std.specs.Map.{lookup}
+use Rattle.std.specs.Option.{unwrap_or}
+use Rattle.std.specs.Map.{lookup, remove_entry}
 use Rattle.hk_model.specs.declared.names.Inc.{Inc}
 use Rattle.hk_model.specs.declared.names.Proc.{Proc}
-use Rattle.hk_model.specs.State.{same_inc}
+use Rattle.hk_model.specs.declared.lines.Line.{Line}
+use Rattle.hk_model.specs.declared.objects.Incarnation.{Incarnation}
+use Rattle.hk_model.specs.State.{State, incarnation, same_inc, no_incarnation}
 use Rattle.hk_model.proofs.Standing.{inc_same}
-use Rattle.hk_model.proofs.Activations.{Activation}
+use Rattle.hk_model.proofs.Activations.{Activation, look_up}
+use Rattle.hk_model.specs.Under.{is_live}
+use Rattle.hk_model.proofs.Standing.{inc_laws}
+use Rattle.hk_model.proofs.NumbersRise.{NumbersRise}
+use Rattle.hk_model.proofs.Activations.{activation, activations_in, currents_in}
+use Rattle.hk_model.proofs.ActivationLists.{activation_live, activations_apart, left_found, halted_found}
+use Rattle.hk_model.proofs.Turns.{Turn, Still, Enter, Leave, Halt, CurrentAfter}
 
-abbrev Calls : Type 0
-Calls = List (Inc × Activation)
-
-abbrev pub look_up : Inc → List (Inc × Activation) → Option Activation
-look_up i fs = lookup (same_inc i) fs
-
+-- the incarnations of each process are a stack, whose current one is the last; `cur` has the current one of each process, and
+-- `next` is the next incarnation's number
 pub record Stacked (fs : List (Inc × Activation)) (cur : List Inc) (next : ℕ) : Type 0 where
+  -- all numbers are below the next one
   pub below : (i : Inc) (x : Activation) → look_up i fs ≡ Some x → i.0 < next
   pub current_below : (q : ℕ) (k : Inc) → slice_get cur q ≡ Some k → k.0 < next
+  -- a caller comes before whom it called
   pub caller_below : (i j : Inc) (x : Activation) → look_up i fs ≡ Some x → x.caller ≡ Some j → j.0 < i.0
+  -- no live incarnation of a process is later than its current one, which is its own where it lives
   pub top : (i k : Inc) (x : Activation) → look_up i fs ≡ Some x → slice_get cur x.proc.0 ≡ Some k → i.0 ≤ k.0
   pub own : (q : ℕ) (k : Inc) (x : Activation) → slice_get cur q ≡ Some k → look_up k fs ≡ Some x → x.proc.0 ≡ q
+  -- a caller that lives is of the same process, and none of the process lives between them
   pub kin : (i j : Inc) (x y : Activation) → look_up i fs ≡ Some x → x.caller ≡ Some j → look_up j fs ≡ Some y → y.proc.0 ≡ x.proc.0
   pub between : (i j k : Inc) (x y : Activation) → look_up i fs ≡ Some x → look_up j fs ≡ Some y → y.proc.0 ≡ x.proc.0 → j.0 < i.0 → x.caller ≡ Some k → j.0 ≤ k.0
 
@@ -178,3 +187,35 @@ left_stacked fs gs cur next p inc caller f s fewer gone now live called =
         let there : look_up caller fs ≡ Some x = rw g.1 at h in
         s.kin inc caller f x live called there ∙ s.own p inc f now live ∙ sym g.0
     owns q k x (inr g) h = s.own q k x g.1 h
+
+-- ---- the turn of a line
+
+-- who has a caller lives
+caller_live : (s : State) (inc k : Inc) → (incarnation s inc).caller ≡ Some k → IsTrue (is_live s inc)
+caller_live s inc k h = by (lookup (same_inc inc) s.incarnations) h
+  where
+    by : (o : Option Incarnation) → (unwrap_or o no_incarnation).caller ≡ Some k → IsTrue (is_some o)
+    by (Some x) g = refl
+    by None g = absurd (cc)
+
+-- the incarnations of each process of the state are a stack
+abbrev pub IsStacked : State → Type 0
+IsStacked s = Stacked (activations_in s.incarnations) (currents_in s.processes) s.next_inc.0
+
+pub remove_fewer : (s : State) (inc : Inc) → NumbersRise s → Fewer (activations_in s.incarnations) (remove_entry (same_inc inc) (activations_in s.incarnations))
+remove_fewer s inc n i x g = (left_found (activations_in s.incarnations) inc i x (activations_apart s n) g).0
+
+-- each turn keeps it
+pub stack_turn : (s : State) (line : Line) (t : State) → NumbersRise s → Turn s line t → IsStacked s → IsStacked t
+stack_turn s line t n (Still q e) h = rw (q.activations, q.currents, ap (λ (i : Inc). i.0) q.next) h
+stack_turn s line t n (Enter e) h = rw (e.activations, e.currents, e.next) (entered_stacked (activations_in s.incarnations) (currents_in s.processes) s.next_inc line.inc line.proc h e.now)
+stack_turn s line t n (Leave e) h = rw (e.activations, ap (λ (i : Inc). i.0) e.next) (by (incarnation s line.inc).caller refl e.currents)
+  where
+    gone : (x : Activation) → look_up line.inc (remove_entry (same_inc line.inc) (activations_in s.incarnations)) ≡ Some x → ⊥
+    gone x g = let a = (left_found (activations_in s.incarnations) line.inc line.inc x (activations_apart s n) g).1 in let b = inc_laws.refl line.inc in absurd (cc)
+
+    by : (o : Option Inc) → (incarnation s line.inc).caller ≡ o → CurrentAfter s line.proc.0 o t.processes → Stacked (remove_entry (same_inc line.inc) (activations_in s.incarnations)) (currents_in t.processes) s.next_inc.0
+    by None o g = rw g (fewer_stacked (activations_in s.incarnations) (remove_entry (same_inc line.inc) (activations_in s.incarnations)) (currents_in s.processes) s.next_inc.0 h (remove_fewer s line.inc n))
+    by (Some k) o g = rw g (left_stacked (activations_in s.incarnations) (remove_entry (same_inc line.inc) (activations_in s.incarnations)) (currents_in s.processes) s.next_inc.0 line.proc.0 line.inc k (activation (incarnation s line.inc)) h (remove_fewer s line.inc n) gone e.now (activation_live s.incarnations line.inc (caller_live s line.inc k o)) o)
+stack_turn s line t n (Halt e) h =
+    rw (e.activations, e.currents, ap (λ (i : Inc). i.0) e.next) (fewer_stacked (activations_in s.incarnations) (filter (λ (y : Inc × Activation). not (y.1.proc.0 == line.proc.0)) (activations_in s.incarnations)) (currents_in s.processes) s.next_inc.0 h (λ i x g. (halted_found (activations_in s.incarnations) line.proc.0 i x (activations_apart s n) g).0))

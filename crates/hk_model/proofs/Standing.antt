@@ -19,6 +19,7 @@ use Rattle.hk_model.specs.declared.objects.Incarnation.{Incarnation}
 use Rattle.hk_model.specs.State.{State, object, incarnation, put_object, put_slot, add_object, same_name, same_inc, name_cmp, inc_cmp, no_object, no_incarnation}
 use Rattle.hk_model.specs.Rule.{enter}
 use Rattle.hk_model.specs.Places.{Place, SlotOf, EntryOf, same_place, standing}
+use Rattle.std.proofs.lemmas.Bool.{and_parts}
 
 -- numbers in their order
 
@@ -31,6 +32,7 @@ number_itself a = grind (arith, nat_tests)
 number_turned : (a b : ℕ) → is_eq (nat_cmp a b) ≡ is_eq (nat_cmp b a)
 number_turned a b = grind (arith, nat_tests)
 
+-- names and numbers that are the same are one
 pub name_same : (a b : Name) → same_name a b ≡ true → a ≡ b
 name_same a b h = ap (λ (n : ℕ). let x : Name = record { 0 = n } in x) (number_same a.0 b.0 h)
 
@@ -46,25 +48,23 @@ on_bool : (P : Bool → Type 0) → P true → P false → (b : Bool) → P b
 on_bool P h g true = h
 on_bool P h g false = g
 
-and_both : (a b : Bool) → (a && b) ≡ true → (a ≡ true) × (b ≡ true)
-and_both true b h = (refl, h)
-and_both false b h = absurd (cc)
-
 index_same : (m n : ℕ) → (m == n) ≡ true → m ≡ n
 index_same m n h = grind (arith, nat_tests)
 
+-- places that are the same are one
 pub place_same : (p q : Place) → same_place p q ≡ true → p ≡ q
 place_same (SlotOf a m) (SlotOf b n) h =
-    let g = and_both (same_inc a b) (m == n) h in
+    let g = and_parts (same_inc a b) (m == n) h in
     let e : a ≡ b = inc_same a b g.0 in
     let f : m ≡ n = index_same m n g.1 in rw (e, f) refl
 place_same (EntryOf a m) (EntryOf b n) h =
-    let g = and_both (same_name a b) (m == n) h in
+    let g = and_parts (same_name a b) (m == n) h in
     let e : a ≡ b = name_same a b g.0 in
     let f : m ≡ n = index_same m n g.1 in rw (e, f) refl
 place_same (SlotOf a m) (EntryOf b n) h = absurd (cc)
 place_same (EntryOf a m) (SlotOf b n) h = absurd (cc)
 
+-- being the same is an equivalence
 pub name_laws : IsEquivalence same_name
 name_laws = record {
   refl = λ x. number_itself x.0;

@@ -1,14 +1,8 @@
 -- What a line does to the incarnations: a call, a return, a halt, or nothing.
-use Rattle.std.proofs.Common.{◌≡◌, ℕ, zero, suc, ◌+◌, List, [], ◌∷◌, ◌++◌, Bool, true, false, Option, Some, None, Ok, Err, refl, sym, ◌∙◌, ap, arith, cond, subst}
+use Rattle.std.proofs.Common.{◌≡◌, ℕ, zero, suc, ◌+◌, List, [], ◌∷◌, ◌++◌, Bool, true, false, Option, Some, None, Ok, Err, refl, ◌∙◌, ap, arith, cond}
 use Rattle.std.specs.Prelude.{IfOk, IsTrue, not, slice_set, slice_get, ◌==◌, is_some, filter}
 use Rattle.std.specs.Option.{unwrap_or}
-use Rattle.std.specs.List.{IsDistinct}
-use Rattle.std.specs.Map.{lookup, remove_entry, keys_of}
-use Rattle.std.specs.BTreeMap.{insert_entry}
-use Rattle.std.specs.declared.cmp.Ordering.TheVariants.{Greater}
-use Rattle.std.proofs.lemmas.Map.{lookup-remove_entry}
-use Rattle.std.proofs.lemmas.Map.Entries.{lookup-filter-values, option_filter}
-use Rattle.std.proofs.lemmas.Bool.Decides.{nat_tests}
+use Rattle.std.specs.Map.{lookup, remove_entry}
 use Rattle.hk_model.specs.declared.names.Inc.{Inc}
 use Rattle.hk_model.specs.declared.names.Proc.{Proc}
 use Rattle.hk_model.specs.declared.names.Cpu.{Cpu}
@@ -28,7 +22,7 @@ use Rattle.hk_model.specs.declared.objects.Incarnation.{Incarnation}
 use Rattle.hk_model.specs.declared.objects.Process.{Process}
 use Rattle.hk_model.specs.declared.objects.ProcessState.TheVariants.{Running, Ended}
 use Rattle.hk_rights.specs.Rights.{A0, has}
-use Rattle.hk_model.specs.State.{State, incarnation, process, put_process, same_inc, inc_cmp, no_incarnation}
+use Rattle.hk_model.specs.State.{State, incarnation, process, put_process, same_inc, no_incarnation}
 use Rattle.hk_model.specs.Refusing.{◌>>=◌, item_at}
 use Rattle.hk_model.specs.Walking.{walk, walk_on, unconf_right}
 use Rattle.hk_model.specs.Targets.{PROCEDURE, is_type, target}
@@ -36,92 +30,12 @@ use Rattle.hk_model.specs.Rule.{Outcome, outcome, rule, settled, answered, calle
 use Rattle.hk_model.specs.Processors.{runner, runner_from, is_on}
 use Rattle.hk_model.specs.Lines.{done_by, done_call, enters_call, leaves_call}
 use Rattle.hk_model.specs.Under.{is_live}
-use Rattle.hk_model.proofs.Standing.{inc_same, inc_laws}
 use Rattle.hk_model.proofs.Tests.{then_is, and_is}
 use Rattle.hk_model.proofs.WalkLemmas.{target_is}
 use Rattle.hk_model.proofs.Steps.{EachStep, proc_line}
-use Rattle.hk_model.proofs.NumbersRise.{RisesFrom, NumbersRise, rises_below, numbers_apart}
-use Rattle.hk_model.proofs.Activations.{Activation, activation, activations, activations_in, currents, currents_in, Quiet, quiet_self, quiet_process, quiet_ready, quiet_counted, outcome_quiet, activations_set}
-use Rattle.hk_model.proofs.Stacks.{look_up}
-
--- a activation that is found
-pub activation_found : (es : List (Inc × Incarnation)) (i : Inc) (x : Activation) → look_up i (activations_in es) ≡ Some x → activation (unwrap_or (lookup (same_inc i) es) no_incarnation) ≡ x
-activation_found [] i x h = absurd (cc)
-activation_found (e ∷ es) i x h = by (same_inc i e.0) (activation_found es i x) h
-  where
-    by : (b : Bool) → (look_up i (activations_in es) ≡ Some x → activation (unwrap_or (lookup (same_inc i) es) no_incarnation) ≡ x) → cond b (Some (activation e.1)) (look_up i (activations_in es)) ≡ Some x → activation (unwrap_or (cond b (Some e.1) (lookup (same_inc i) es)) no_incarnation) ≡ x
-    by true rest g = cc
-    by false rest g = rest g
-
-pub activation_live : (es : List (Inc × Incarnation)) (i : Inc) → IsTrue (is_some (lookup (same_inc i) es)) → look_up i (activations_in es) ≡ Some (activation (unwrap_or (lookup (same_inc i) es) no_incarnation))
-activation_live [] i h = absurd (cc)
-activation_live (e ∷ es) i h = by (same_inc i e.0) (activation_live es i) h
-  where
-    by : (b : Bool) → (IsTrue (is_some (lookup (same_inc i) es)) → look_up i (activations_in es) ≡ Some (activation (unwrap_or (lookup (same_inc i) es) no_incarnation))) → IsTrue (is_some (cond b (Some e.1) (lookup (same_inc i) es))) → cond b (Some (activation e.1)) (look_up i (activations_in es)) ≡ Some (activation (unwrap_or (cond b (Some e.1) (lookup (same_inc i) es)) no_incarnation))
-    by true rest g = refl
-    by false rest g = rest g
-
-keys_activations : (es : List (Inc × Incarnation)) → keys_of (activations_in es) ≡ keys_of es
-keys_activations [] = refl
-keys_activations (e ∷ es) = let rest : keys_of (activations_in es) ≡ keys_of es = keys_activations es in rw rest refl
-
-pub activations_apart : (s : State) → NumbersRise s → IsDistinct same_inc (keys_of (activations s))
-activations_apart s h = subst (λ ks. IsDistinct same_inc ks) (sym (keys_activations s.incarnations)) (numbers_apart s h)
-
--- the incarnations after an entry, a return and a halt
-activations_insert : (k : Inc) (low : ℕ) (es : List (Inc × Incarnation)) (x : Incarnation) → RisesFrom low es k.0 → activations_in (insert_entry inc_cmp es k x) ≡ activations_in es ++ (k, activation x) ∷ []
-activations_insert k low [] x r = refl
-activations_insert k low (e ∷ es) x r =
-    let b = rises_below (e.0.0 + 1) es k.0 r.1 in
-    let g : inc_cmp k e.0 ≡ Greater = grind (arith, nat_tests) in
-    let rest : activations_in (insert_entry inc_cmp es k x) ≡ activations_in es ++ (k, activation x) ∷ [] = activations_insert k (e.0.0 + 1) es x r.1 in
-    rw g (rw rest refl)
-
-activations_remove : (k : Inc) (es : List (Inc × Incarnation)) → activations_in (remove_entry (same_inc k) es) ≡ remove_entry (same_inc k) (activations_in es)
-activations_remove k [] = refl
-activations_remove k (e ∷ es) = by (same_inc k e.0) (activations_remove k es)
-  where
-    by : (b : Bool) → activations_in (remove_entry (same_inc k) es) ≡ remove_entry (same_inc k) (activations_in es) → activations_in (cond b es (e ∷ remove_entry (same_inc k) es)) ≡ cond b (activations_in es) ((e.0, activation e.1) ∷ remove_entry (same_inc k) (activations_in es))
-    by true rest = refl
-    by false rest = rw rest refl
-
-activations_filter : (p : ℕ) (es : List (Inc × Incarnation)) → activations_in (filter (λ e. not (e.1.proc.0 == p)) es) ≡ filter (λ (e : Inc × Activation). not (e.1.proc.0 == p)) (activations_in es)
-activations_filter p [] = refl
-activations_filter p (e ∷ es) = by (not (e.1.proc.0 == p)) (activations_filter p es)
-  where
-    by : (b : Bool) → activations_in (filter (λ e. not (e.1.proc.0 == p)) es) ≡ filter (λ (e : Inc × Activation). not (e.1.proc.0 == p)) (activations_in es) → activations_in (cond b (e ∷ filter (λ e. not (e.1.proc.0 == p)) es) (filter (λ e. not (e.1.proc.0 == p)) es)) ≡ cond b ((e.0, activation e.1) ∷ filter (λ (e : Inc × Activation). not (e.1.proc.0 == p)) (activations_in es)) (filter (λ (e : Inc × Activation). not (e.1.proc.0 == p)) (activations_in es))
-    by true rest = rw rest refl
-    by false rest = rest
-
-currents_set_to : (ps : List Process) (n : ℕ) (k : Inc) (d : Process) → currents_in (slice_set ps n (record (unwrap_or (slice_get ps n) d) { current = k })) ≡ slice_set (currents_in ps) n k
-currents_set_to [] n k d = refl
-currents_set_to (p ∷ ps) zero k d = refl
-currents_set_to (p ∷ ps) (suc n) k d = let rest : currents_in (slice_set ps n (record (unwrap_or (slice_get ps n) d) { current = k })) ≡ slice_set (currents_in ps) n k = currents_set_to ps n k d in rw rest refl
-
--- what is left after a return and a halt
-pub left_found : (fs : List (Inc × Activation)) (k i : Inc) (x : Activation) → IsDistinct same_inc (keys_of fs) → look_up i (remove_entry (same_inc k) fs) ≡ Some x → (look_up i fs ≡ Some x) × (same_inc k i ≡ false)
-left_found fs k i x h g = by (same_inc k i) (sym (lookup-remove_entry inc_laws (same_inc k) (λ a b e. ap (λ (q : Inc). same_inc q b) (inc_same k a e)) i fs h) ∙ g)
-  where
-    by : (b : Bool) → cond b None (look_up i fs) ≡ Some x → (look_up i fs ≡ Some x) × (b ≡ false)
-    by true e = absurd (cc)
-    by false e = (e, refl)
-
-pub left_keeps : (fs : List (Inc × Activation)) (k i : Inc) (x : Activation) → IsDistinct same_inc (keys_of fs) → look_up i fs ≡ Some x → same_inc k i ≡ false → look_up i (remove_entry (same_inc k) fs) ≡ Some x
-left_keeps fs k i x h g a = lookup-remove_entry inc_laws (same_inc k) (λ a b e. ap (λ (q : Inc). same_inc q b) (inc_same k a e)) i fs h ∙ (rw a g)
-
-pub halted_found : (fs : List (Inc × Activation)) (p : ℕ) (i : Inc) (x : Activation) → IsDistinct same_inc (keys_of fs) → look_up i (filter (λ (e : Inc × Activation). not (e.1.proc.0 == p)) fs) ≡ Some x → (look_up i fs ≡ Some x) × ((x.proc.0 == p) ≡ false)
-halted_found fs p i x h g = by (look_up i fs) (sym (lookup-filter-values inc_laws (λ (y : Activation). not (y.proc.0 == p)) i fs h) ∙ g)
-  where
-    of_test : (b : Bool) (y : Activation) → (y.proc.0 == p) ≡ b → ◌≡◌ {A = Option Activation} (cond (not b) (Some y) None) (Some x) → (◌≡◌ {A = Option Activation} (Some y) (Some x)) × ((x.proc.0 == p) ≡ false)
-    of_test true y e f = absurd (cc)
-    of_test false y e f = let same : y ≡ x = cc in (f, rw same at e)
-
-    by : (o : Option Activation) → option_filter (λ (y : Activation). not (y.proc.0 == p)) o ≡ Some x → (o ≡ Some x) × ((x.proc.0 == p) ≡ false)
-    by None e = absurd (cc)
-    by (Some y) e = of_test (y.proc.0 == p) y refl e
-
-pub halted_keeps : (fs : List (Inc × Activation)) (p : ℕ) (i : Inc) (x : Activation) → IsDistinct same_inc (keys_of fs) → look_up i fs ≡ Some x → (x.proc.0 == p) ≡ false → look_up i (filter (λ (e : Inc × Activation). not (e.1.proc.0 == p)) fs) ≡ Some x
-halted_keeps fs p i x h g a = lookup-filter-values inc_laws (λ (y : Activation). not (y.proc.0 == p)) i fs h ∙ (rw g (rw a refl))
+use Rattle.hk_model.proofs.NumbersRise.{NumbersRise}
+use Rattle.hk_model.proofs.Activations.{Activation, activation, activations_in, currents, currents_in, Quiet, quiet_self, quiet_process, quiet_ready, quiet_counted, outcome_quiet, activations_set}
+use Rattle.hk_model.proofs.ActivationLists.{activations_insert, activations_remove, activations_filter, currents_set_to}
 
 -- the process that a processor runs has a current incarnation
 runs_at : (ps : List Process) (cpu : Cpu) (n : ℕ) (proc : Proc) → runner_from ps cpu n ≡ Some proc → (j : ℕ) × (proc.0 ≡ n + j) × IsTrue (is_some (slice_get ps j))
@@ -137,6 +51,7 @@ current_at [] j d h = absurd (cc)
 current_at (p ∷ ps) zero d h = refl
 current_at (p ∷ ps) (suc j) d h = current_at ps j d h
 
+-- and that is the incarnation of its lines
 pub runs_current : (s : State) (cpu : Cpu) (proc : Proc) → runner s cpu ≡ Some proc → slice_get (currents s) proc.0 ≡ Some ((process s proc).current)
 runs_current s cpu proc h =
     let r = runs_at s.processes cpu 0 proc h in
@@ -159,6 +74,7 @@ abbrev pub CurrentAfter : State → ℕ → Option Inc → List Process → Type
 CurrentAfter s p None ps = currents_in ps ≡ currents_in s.processes
 CurrentAfter s p (Some k) ps = currents_in ps ≡ slice_set (currents_in s.processes) p k
 
+-- the line's incarnation goes, which its process was in
 pub record Leaves (s : State) (line : Line) (t : State) : Type 0 where
   pub now : slice_get (currents s) line.proc.0 ≡ Some line.inc
   pub activations : activations_in t.incarnations ≡ remove_entry (same_inc line.inc) (activations_in s.incarnations)
@@ -174,6 +90,7 @@ pub record Halts (s : State) (line : Line) (t : State) : Type 0 where
   pub next : t.next_inc ≡ s.next_inc
   pub is : done_call line ≡ None
 
+-- the turn of a line
 pub data Turn : State → Line → State → Type 0 where
   Still : {s : State} {line : Line} {t : State} → Quiet s t → enters_call (done_call line) ≡ false → Turn s line t
   Enter : {s : State} {line : Line} {t : State} → Enters s line t → Turn s line t
@@ -188,6 +105,7 @@ pub record EntersBy (s : State) (proc : Proc) (inc : Inc) (f : Answer × State) 
   pub activation : activation new ≡ record { proc = proc; caller = Some inc }
   pub live : IsTrue (is_live s inc)
 
+-- who walks lives
 pub walks_live : (s : State) (inc : Inc) (path : List ℕ) (x : Entry) → walk s inc path ≡ Ok x → IsTrue (is_live s inc)
 walks_live s inc [] x h = absurd (cc)
 walks_live s inc (at ∷ rest) x h = by (lookup (same_inc inc) s.incarnations) h
@@ -281,6 +199,7 @@ call_turn s cpu proc (call.Leave give) n r = by (leave s proc (process s proc).c
     by (Err e) h = Still (quiet_counted s s (s.events + 1) (quiet_self s)) refl
 call_turn s cpu proc c n r = settled_turn s (proc_line s cpu proc (what.Call c) (rule s proc c).0) (outcome s proc (process s proc).current c) (enters_not c (rule s proc c).0 refl) (outcome_quiet s proc (process s proc).current c)
 
+-- every line has a turn
 pub turn_each : EachStep (λ s line t. NumbersRise s → Turn s line t)
 turn_each = record {
   calls = λ s cpu proc c r n. call_turn s cpu proc c n (runs_current s cpu proc r);

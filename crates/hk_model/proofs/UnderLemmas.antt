@@ -2,48 +2,21 @@
 use Rattle.std.proofs.Common.{◌≡◌, ℕ, ◌+◌, ◌<◌, ◌≤◌, List, [], ◌∷◌, ◌++◌, Bool, true, false, Option, Some, None, refl, sym, ◌∙◌, ap, arith, cond}
 use Rattle.std.specs.Prelude.{IsTrue, not, slice_get, ◌||◌, ◌==◌, ◌⊎◌, is_some, filter}
 use mathlib.Core.Logic.{inl, inr}
-use Rattle.std.specs.Option.{unwrap_or}
 use Rattle.std.specs.Map.{lookup, remove_entry}
 use Rattle.std.proofs.lemmas.Bool.{false≢true}
 use Rattle.hk_model.specs.declared.names.Inc.{Inc}
 use Rattle.hk_model.specs.declared.names.Proc.{Proc}
 use Rattle.hk_model.specs.declared.lines.Line.{Line}
 use Rattle.hk_model.specs.declared.objects.Incarnation.{Incarnation}
-use Rattle.hk_model.specs.State.{State, incarnation, same_inc, no_incarnation}
+use Rattle.hk_model.specs.State.{State, incarnation, same_inc}
 use Rattle.hk_model.specs.Lines.{done_call, enters_call}
 use Rattle.hk_model.specs.Under.{is_one_of, is_live, under_by}
 use Rattle.hk_model.proofs.Standing.{inc_same, inc_laws}
 use Rattle.hk_model.proofs.NumbersRise.{NumbersRise}
-use Rattle.hk_model.proofs.Activations.{Activation, activation, activations_in, currents_in}
-use Rattle.hk_model.proofs.Stacks.{look_up, Stacked, entered_stacked, found_last, Fewer, fewer_stacked, left_stacked}
-use Rattle.hk_model.proofs.Turns.{Turn, Still, Enter, Leave, Halt, CurrentAfter, activation_live, activations_apart, left_found, left_keeps, halted_found, halted_keeps}
-
-caller_live : (s : State) (inc k : Inc) → (incarnation s inc).caller ≡ Some k → IsTrue (is_live s inc)
-caller_live s inc k h = by (lookup (same_inc inc) s.incarnations) h
-  where
-    by : (o : Option Incarnation) → (unwrap_or o no_incarnation).caller ≡ Some k → IsTrue (is_some o)
-    by (Some x) g = refl
-    by None g = absurd (cc)
-
-abbrev pub IsStacked : State → Type 0
-IsStacked s = Stacked (activations_in s.incarnations) (currents_in s.processes) s.next_inc.0
-
-remove_fewer : (s : State) (inc : Inc) → NumbersRise s → Fewer (activations_in s.incarnations) (remove_entry (same_inc inc) (activations_in s.incarnations))
-remove_fewer s inc n i x g = (left_found (activations_in s.incarnations) inc i x (activations_apart s n) g).0
-
-pub stack_turn : (s : State) (line : Line) (t : State) → NumbersRise s → Turn s line t → IsStacked s → IsStacked t
-stack_turn s line t n (Still q e) h = rw (q.activations, q.currents, ap (λ (i : Inc). i.0) q.next) h
-stack_turn s line t n (Enter e) h = rw (e.activations, e.currents, e.next) (entered_stacked (activations_in s.incarnations) (currents_in s.processes) s.next_inc line.inc line.proc h e.now)
-stack_turn s line t n (Leave e) h = rw (e.activations, ap (λ (i : Inc). i.0) e.next) (by (incarnation s line.inc).caller refl e.currents)
-  where
-    gone : (x : Activation) → look_up line.inc (remove_entry (same_inc line.inc) (activations_in s.incarnations)) ≡ Some x → ⊥
-    gone x g = let a = (left_found (activations_in s.incarnations) line.inc line.inc x (activations_apart s n) g).1 in let b = inc_laws.refl line.inc in absurd (cc)
-
-    by : (o : Option Inc) → (incarnation s line.inc).caller ≡ o → CurrentAfter s line.proc.0 o t.processes → Stacked (remove_entry (same_inc line.inc) (activations_in s.incarnations)) (currents_in t.processes) s.next_inc.0
-    by None o g = rw g (fewer_stacked (activations_in s.incarnations) (remove_entry (same_inc line.inc) (activations_in s.incarnations)) (currents_in s.processes) s.next_inc.0 h (remove_fewer s line.inc n))
-    by (Some k) o g = rw g (left_stacked (activations_in s.incarnations) (remove_entry (same_inc line.inc) (activations_in s.incarnations)) (currents_in s.processes) s.next_inc.0 line.proc.0 line.inc k (activation (incarnation s line.inc)) h (remove_fewer s line.inc n) gone e.now (activation_live s.incarnations line.inc (caller_live s line.inc k o)) o)
-stack_turn s line t n (Halt e) h =
-    rw (e.activations, e.currents, ap (λ (i : Inc). i.0) e.next) (fewer_stacked (activations_in s.incarnations) (filter (λ (y : Inc × Activation). not (y.1.proc.0 == line.proc.0)) (activations_in s.incarnations)) (currents_in s.processes) s.next_inc.0 h (λ i x g. (halted_found (activations_in s.incarnations) line.proc.0 i x (activations_apart s n) g).0))
+use Rattle.hk_model.proofs.Activations.{look_up, Activation, activation, activations_in, currents_in}
+use Rattle.hk_model.proofs.Stacks.{IsStacked, remove_fewer, found_last, Fewer}
+use Rattle.hk_model.proofs.Turns.{Turn, Still, Enter, Leave, Halt}
+use Rattle.hk_model.proofs.ActivationLists.{activation_live, activations_apart, left_found, left_keeps, halted_found, halted_keeps}
 
 -- one more member at the end
 pub member_cases : (us : List Inc) (n i : Inc) → is_one_of i (us ++ n ∷ []) ≡ true → (is_one_of i us ≡ true) ⊎ (i ≡ n)
@@ -94,11 +67,13 @@ under_stays s line t us i h = by (enters_call (done_call line)) (is_one_of line.
 pub entered_is_under : (s : State) (line : Line) (t : State) (us : List Inc) → enters_call (done_call line) ≡ true → is_one_of line.inc us ≡ true → is_one_of s.next_inc (under_by s line t us) ≡ true
 entered_is_under s line t us e h = rw (under_more s line t us e, h) (member_new us s.next_inc)
 
--- those under the call c of the process p
+-- those under the call c of the process p, among these activations
 pub record UnderCall (c : Inc) (p : ℕ) (us : List Inc) (fs : List (Inc × Activation)) (next : ℕ) : Type 0 where
   pub itself : is_one_of c us ≡ true
+  -- their numbers are no lower than the call's, and below the next one
   pub above : (i : Inc) → is_one_of i us ≡ true → c.0 ≤ i.0
   pub fresh : (i : Inc) → is_one_of i us ≡ true → i.0 < next
+  -- who lives is of the call's process, and the call lives
   pub kin : (i : Inc) (x : Activation) → is_one_of i us ≡ true → look_up i fs ≡ Some x → x.proc.0 ≡ p
   pub alive : (i : Inc) (x : Activation) → is_one_of i us ≡ true → look_up i fs ≡ Some x → IsTrue (is_some (look_up c fs))
 
@@ -109,6 +84,7 @@ some_is None h = absurd (cc)
 is_some_of : (o : Option Activation) (x : Activation) → o ≡ Some x → IsTrue (is_some o)
 is_some_of o x h = rw h refl
 
+-- where some go, but the call only with all under it
 pub under_fewer : (c : Inc) (p : ℕ) (us : List Inc) (fs gs : List (Inc × Activation)) (next : ℕ) → UnderCall c p us fs next → Fewer fs gs → ((i : Inc) (x y : Activation) → is_one_of i us ≡ true → look_up i gs ≡ Some x → look_up c fs ≡ Some y → look_up c gs ≡ Some y) → UnderCall c p us gs next
 under_fewer c p us fs gs next u f a = record {
   itself = u.itself;
@@ -180,6 +156,7 @@ module _ (c : Inc) (p : ℕ) (us : List Inc) (fs : List (Inc × Activation)) (n 
     alive = λ i x m g. n_alive i x (member b i e m) (found_last fs n i called x g);
   }
 
+-- a line keeps it, of those who are under the call after it
 pub under_turn : (c : Inc) (p : ℕ) (us : List Inc) (s : State) (line : Line) (t : State) → NumbersRise s → Turn s line t → IsStacked s → UnderCall c p us (activations_in s.incarnations) s.next_inc.0 → UnderCall c p (under_by s line t us) (activations_in t.incarnations) t.next_inc.0
 under_turn c p us s line t n (Still q e) st u = rw (under_still s line t us e, q.activations, ap (λ (i : Inc). i.0) q.next) u
 under_turn c p us s line t n (Leave e) st u = rw (under_still s line t us e.is, e.activations, ap (λ (i : Inc). i.0) e.next) (under_fewer c p us (activations_in s.incarnations) (remove_entry (same_inc line.inc) (activations_in s.incarnations)) s.next_inc.0 u (remove_fewer s line.inc n) stays)

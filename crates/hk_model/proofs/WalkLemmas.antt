@@ -11,15 +11,15 @@ use Rattle.hk_rights.specs.Rights.{LOAD, ENV, has}
 use Rattle.hk_model.specs.State.{State, object, incarnation}
 use Rattle.hk_model.specs.Refusing.{◌>>=◌, ◌>>◌, unless, allowed, item_at}
 use Rattle.hk_model.specs.Walking.{walk, walk_on, hop, held, obtained, reduced_rights, env_right}
+use Rattle.hk_model.specs.Merging.{inherited}
 use Rattle.hk_model.specs.Targets.{last_step, target}
+use Rattle.hk_model.specs.Rule.{copied}
 use Rattle.hk_model.specs.Places.{Place, SlotOf, EntryOf, standing, named, end_from, end_of, named_by}
 use Rattle.hk_model.specs.Descent.{Reduces}
 use Rattle.hk_model.specs.Ways.{Within, LeadsTo}
 use Rattle.hk_model.proofs.Tests.{then_is, and_is, if_ok, ok_each, ok_both, held_is, unless_is, allowed_is, item_is}
 use Rattle.hk_model.proofs.RightsWithin.{Within-self, Within-and, Within-reduced}
 use Rattle.hk_model.proofs.Standing.{on_cond}
-use Rattle.hk_model.specs.Merging.{inherited}
-use Rattle.hk_model.specs.Rule.{copied}
 
 -- what is given is a reduction of what stands there
 pub obtained_reduces : (by : ℕ) (next : Entry) (step : ℕ) → IfOk (obtained by next step) (Reduces next)
@@ -70,11 +70,6 @@ module _ (s : State) (P : Place → Entry → Type 0) (hops : HopLaw s P) where
       let same = item_is (incarnation s inc).slots at 0 entry g in
       walk_on_keeps (SlotOf inc at) entry rest 0 (rw same (Reduces-self (standing s (SlotOf inc at)), h)))) e
 
--- a walk that is not refused begins at a slot
-pub walk_begins : (s : State) (inc : Inc) (path : List ℕ) (x : Entry) → walk s inc path ≡ Ok x → (at : ℕ) × (rest : List ℕ) × (path ≡ at ∷ rest)
-walk_begins s inc [] x e = absurd (cc)
-walk_begins s inc (at ∷ rest) x e = (at, rest, refl)
-
 -- what a walk gives is a reduction of what stands at its end
 pub walk_reduces : (s : State) (inc : Inc) (path : List ℕ) (x : Entry) → walk s inc path ≡ Ok x → Reduces (standing s (end_of s inc path)) x
 walk_reduces s inc [] x e = absurd (cc)
@@ -106,6 +101,7 @@ target_each s inc path types rights =
       allowed = allowed_is cap.rights rights (last_step path) v a;
     }))))
 
+-- of a target that is not refused
 pub target_is : (s : State) (inc : Inc) (path : List ℕ) (types : Name → Bool) (rights : ℕ) (c : Cap) → target s inc path types rights ≡ Ok c → IsTarget s inc path types rights c
 target_is s inc path types rights c h = if_ok (IsTarget s inc path types rights) (target s inc path types rights) c (target_each s inc path types rights) h
 
