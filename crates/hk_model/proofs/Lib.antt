@@ -5,6 +5,7 @@ mod RowParts
 mod KernelRows
 mod LeastReaches
 mod LawRows
+mod LawRefusals
 pub mod ReachRules
 pub mod Appending
 pub mod OneExplanation
