@@ -1,6 +1,7 @@
 -- Worked rows of the laws: chains, marks, reaches and changes of small worlds.
 use Rattle.std.specs.Prelude.{◌≡◌, ℕ, ◌+◌, Bool, map, List, [], ◌∷◌, Some, None, true, false, take, refl}
 use Rattle.std.proofs.Common.{lit≤}
+use Rattle.std.proofs.lemmas.Bool.{false≢true}
 use Rattle.hk_model.specs.declared.entries.Entry.TheVariants.{Empty, Form}
 use Rattle.hk_model.specs.declared.entries.Template.TheVariants as template
 use Rattle.hk_model.specs.declared.entries.Making.TheVariants as making
@@ -25,7 +26,7 @@ use Rattle.hk_model.specs.Under.{is_made_under, parameters}
 use Rattle.hk_model.specs.Reaches.{Hop, IsReach, IsModifiable}
 use Rattle.hk_model.specs.Changes.{Made, Param, AreChanges, bare_changes}
 use Rattle.hk_model.specs.Confinement.{IsConfinedCall, IsChange}
-use Rattle.hk_model.specs.Marks.{marks, IsLocalParam}
+use Rattle.hk_model.specs.Marks.{marks, IsLocalParam, IsSlotUnder}
 use Rattle.hk_model.proofs.LeastReaches.{least_reach}
 use Rattle.hk_model.proofs.RowParts.{getdata_right, name, inc, slot, cap, route, plain, procedure, process, small_world, dispatch, dispatch_in, line, line_of_process, return_line}
 
@@ -129,6 +130,14 @@ parameter-is-marked = refl
 mark-goes-with-the-call : marks reaching reaching_lines 2 (inc 1) 0 4 (slot_of 1 0) ≡ false
 unfolding opened opening step next next_from after put_word enter_procedure leave first_missing right_numbers right_table
 mark-goes-with-the-call = refl
+
+-- the environment law refuses a mark that stayed there after the call, or that came to a list
+stale-mark : IsSlotUnder reaching reaching_lines 2 (inc 1) 4 (slot_of 1 0) → ⊥
+unfolding opened opening step next next_from after put_word enter_procedure leave first_missing right_numbers right_table
+stale-mark h = absurd (false≢true h.0)
+
+mark-in-a-list : IsSlotUnder reaching reaching_lines 2 (inc 1) 3 (EntryOf (name 9) 0) → ⊥
+mark-in-a-list h = h
 
 -- a hop by an entry
 abbrev entry_hop : ℕ → ℕ → Hop

@@ -5,6 +5,26 @@ mod RowParts
 mod KernelRows
 mod LeastReaches
 mod LawRows
+mod LawRefusals
 pub mod ReachRules
 pub mod Appending
 pub mod OneExplanation
+pub mod Standing
+pub mod Tests
+pub mod RightsWithin
+pub mod WalkLemmas
+pub mod MergeLemmas
+pub mod CallWays
+pub mod CallPlaces
+pub mod Steps
+pub mod NumbersRise
+pub mod LineWays
+pub mod Activations
+pub mod ActivationLists
+pub mod Stacks
+pub mod Turns
+pub mod UnderLemmas
+pub mod NoEnv
+pub mod NextNames
+pub mod NamesGiven
+pub mod Histories

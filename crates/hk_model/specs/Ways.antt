@@ -161,8 +161,9 @@ Writes s inc (Created path) x = IsCreated s inc path x
 Writes s inc (Formed path kind) x = IsFormed s inc path kind x
 Writes s inc Gone x = x ≡ Empty
 
--- what stands at a place after a call: what its way gives, or what was there; or nothing, since places go with their
--- incarnation or object
+-- what can stand at a place after a call: where it has a way, nothing but what the way gives, and else nothing but what was
+-- there. This is an upper bound: nothing comes but by its way, and a place may become empty, as one does that goes with its
+-- incarnation
 abbrev pub Wrote : State → Inc → Entry → Option Way → Entry → Type 0
 Wrote s inc old None x = (x ≡ Empty) ⊎ (x ≡ old)
 Wrote s inc old (Some w) x = (x ≡ Empty) ⊎ Writes s inc w x
@@ -183,11 +184,13 @@ IsWritable s inc c (SlotOf i n) =
     (i ≡ inc) ⊎ (((enters_call c ≡ true) × (i ≡ s.next_inc)) ⊎ ((leaves_call c ≡ true) × ((incarnation s inc).caller ≡ Some i)))
 IsWritable s inc c (EntryOf name index) = ((makes_object c ≡ true) × (name ≡ s.next_name)) ⊎ IsModified s inc c name
 
--- what a call that nothing refuses has written, everywhere: by the ways of the places, and where it may
+-- what a call that nothing refuses can have written, everywhere: an upper bound, by which nothing comes but by the way of its
+-- place, and only where the call may write; a place may become empty
 pub record IsWrittenBy (s : State) (inc : Inc) (c : Call) (t : State) : Type 0 where
   pub entries : (p : Place) → Wrote s inc (standing s p) (way s inc c p) (standing t p)
   pub places : (p : Place) → IsSome (way s inc c p) → IsWritable s inc (Some c) p
 
--- what a line has written, everywhere
+-- what a line can have written, everywhere: the same upper bound, by which nothing comes but by its way and a place may become
+-- empty
 abbrev pub IsWrittenByLine : State → Line → State → Type 0
 IsWrittenByLine s line t = (p : Place) → Wrote s line.inc (standing s p) (line_way s line p) (standing t p)

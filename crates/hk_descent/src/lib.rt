@@ -1,0 +1,41 @@
+//! The laws of descent and of environment: where what stands somewhere came from, and that a
+//! parameter without ENV stays under its call. They hold of every history, whichever processors made
+//! its lines (`docs/RULES.md`, "Descent" and "Marks").
+//!
+//! A law is a function without a body: calling it costs nothing, and gives its caller the law of the
+//! lines that it has. The definitions are those of `hk_model`, and no law looks at a kernel.
+#![tactic(auto)]
+
+#[cfg(test)]
+mod tests;
+
+ghost use Rattle.hk_model.specs.Running.{AreStepsOf};
+ghost use Rattle.hk_model.specs.Descent.{DescentLaw};
+ghost use Rattle.hk_model.specs.Marks.{EnvironmentLaw};
+
+use hk_model::{Line, World};
+
+/// The descent law (`docs/RULES.md`, "Descent"): at every moment of a history, what stands in a slot
+/// or in a list descends by the chain of its place. The chain goes back, line by line, to the opening
+/// or to the call that made the entry. Every capability in it names the same object, and has no right
+/// that its origin lacks, but those that a template for the object's type gives, which are never
+/// MODIFY, ENV or UNCONF. A template is its origin.
+///
+/// `lines` are steps of `world` from its opening on, in the order of the history.
+#[tactic(auto, using(crate::proofs::Chains::descent))]
+pub fn descent_law(world: &World, lines: &[Line])
+    requires { AreStepsOf world.now lines.now }
+    ensures { DescentLaw world.now lines.now }
+{}
+
+/// The environment law (`docs/RULES.md`, "Marks"): a parameter without ENV stays under its call. At
+/// every moment from the call's beginning on, each place that is marked for the parameter, since what
+/// stands there descends from it, is a slot of a live incarnation under the call. Once the call has
+/// gone, by a return or a halt, no place is marked.
+///
+/// `lines` are steps of `world` from its opening on, in the order of the history.
+#[tactic(auto, using(crate::proofs::Environment::environment))]
+pub fn environment_law(world: &World, lines: &[Line])
+    requires { AreStepsOf world.now lines.now }
+    ensures { EnvironmentLaw world.now lines.now }
+{}
