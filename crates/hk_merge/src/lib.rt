@@ -6,7 +6,7 @@ mod merging;
 mod name_space;
 mod refusing;
 
-pub use merging::merge;
+pub use merging::{amplify_form, merge};
 pub use name_space::{Arg, build_space};
 pub use refusing::{allowed, confined_rights, held};
 

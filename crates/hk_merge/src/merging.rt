@@ -29,8 +29,10 @@ pub fn merge(
     merged(cap, of, &form, step)
 }
 
-// What an Amplify template asks for and gives.
-fn amplify_form(template: &Template, step: u8) -> Result<Param, Refusal>
+/// What an Amplify template asks for and gives (`docs/RULES.md`, "Templates").
+///
+/// `BadTemplate` where it is a Create template.
+pub fn amplify_form(template: &Template, step: u8) -> Result<Param, Refusal>
     ensures { result ≡ amplify_form (Form template.now) step }
 {
     match template {

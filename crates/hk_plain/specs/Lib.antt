@@ -1,0 +1,4 @@
+pub mod Numbers
+pub mod Giving
+pub mod Kinds
+pub mod Additions

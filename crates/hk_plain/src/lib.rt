@@ -1,0 +1,14 @@
+//! The plain kernel: the rule table over ordered maps (`docs/RULES.md`, "The table of the calls").
+//!
+//! Each call is one small function, whose contract is its row of the table. The files are by
+//! subject: `tables` has the state, `walks` and `targets` the tests that the calls share, `plain`
+//! the kernel over them.
+#![tactic(auto)]
+mod lists;
+mod slots;
+mod templates;
+mod stop;
+mod tables;
+mod targets;
+mod walks;
+mod words;
