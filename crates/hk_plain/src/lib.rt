@@ -5,6 +5,7 @@
 //! the kernel over them.
 #![tactic(auto)]
 mod lists;
+mod objects;
 mod slots;
 mod templates;
 mod stop;
