@@ -2,3 +2,4 @@ pub mod Numbers
 pub mod Giving
 pub mod Kinds
 pub mod Additions
+pub mod Entering

@@ -4,8 +4,13 @@
 //! subject: `tables` has the state, `walks` and `targets` the tests that the calls share, `plain`
 //! the kernel over them.
 #![tactic(auto)]
+mod calls;
+mod incarnations;
 mod lists;
 mod objects;
+mod procedures;
+mod processors;
+mod semaphores;
 mod slots;
 mod templates;
 mod stop;
