@@ -3,3 +3,4 @@ pub mod Giving
 pub mod Kinds
 pub mod Additions
 pub mod Entering
+pub mod Opening

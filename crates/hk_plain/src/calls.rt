@@ -7,7 +7,7 @@ ghost use Rattle.hk_model.specs.Walking.{walk};
 ghost use Rattle.hk_model.specs.Rule.{outcome, rule, answered};
 ghost use Rattle.hk_model.specs.Processors.{may_step, code_found, entered, is_running};
 ghost use Rattle.hk_plain.specs.Giving.{Gives};
-ghost use Rattle.hk_plain.specs.Numbers.{HasNumbers, TakesOne};
+ghost use Rattle.hk_plain.specs.Numbers.{HasNumbers, FewNumbers};
 
 use crate::stop::Stop;
 use crate::tables::Tables;
@@ -96,12 +96,11 @@ impl Tables {
         call: &Call,
     ) -> Result<Acted, NoMemory>
         requires below { IsTrue (may_step self.old) }
-        requires numbers { HasNumbers self.old }
+        requires numbers { FewNumbers self.old }
         ensures reply { IfOk result (λ acted. rule self.old proc call.now ≡ (acted.reply, self.new)) }
         ensures code { IfOk result (λ acted. acted.code ≡ entered self.old (process self.old proc).current call.now acted.reply) }
         ensures gone { IfOk result (λ acted. acted.gone ≡ not (is_running (process self.new proc).run)) }
-        ensures events { OnOk result (self.new.events ≡ self.old.events + 1) }
-        ensures numbers { OnOk result (TakesOne self.old self.new) }
+        ensures numbers { OnOk result (FewNumbers self.new) }
         ensures err { OnErr result (self.new ≡ self.old) }
     {
         let inc = self.current_of(proc);

@@ -8,9 +8,12 @@ mod calls;
 mod incarnations;
 mod lists;
 mod objects;
+mod opening;
+mod plain;
 mod procedures;
 mod processors;
 mod semaphores;
+mod shows;
 mod slots;
 mod templates;
 mod stop;
@@ -18,3 +21,5 @@ mod tables;
 mod targets;
 mod walks;
 mod words;
+
+pub use plain::Plain;

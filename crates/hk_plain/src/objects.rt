@@ -24,7 +24,7 @@ use std::alloc::{AllocError, Global};
 use std::marker::PhantomData;
 
 // An object without tokens, waiters and code.
-fn plain_object(alloc: Global, of: Name, words: Words, entries: Entries) -> Object
+pub(crate) fn plain_object(alloc: Global, of: Name, words: Words, entries: Entries) -> Object
     ensures { result ≡ plain_object of words entries }
 {
     Object {

@@ -1,6 +1,6 @@
 //! What processors run: the dispatch, the halt, and who runs where.
 
-ghost use Rattle.std.specs.Prelude.{◌≡◌, ◌<◌, ◌≤◌, ◌+◌, ◌∷◌, [], ◌==◌, ◌||◌, not, length, IsTrue, IfSome, IfNone, Some, None, filter};
+ghost use Rattle.std.specs.Prelude.{◌≡◌, ◌<◌, ◌≤◌, ◌+◌, ◌^◌, ◌∷◌, [], ◌==◌, ◌||◌, not, length, IsTrue, IfSome, IfNone, Some, None, filter};
 ghost use Rattle.std.specs.List.{list_any};
 ghost use Rattle.hk_model.specs.declared.objects.Process.{Process};
 ghost use Rattle.hk_model.specs.State.{process};
@@ -92,10 +92,18 @@ impl Tables {
     // The number of events with one more.
     pub(crate) fn next_event(&self) -> u32
         requires { IsTrue (may_step self.now) }
-        ensures { result ≡ self.now.events + 1 }
+        ensures value { result ≡ self.now.events + 1 }
+        ensures small { self.now.events < 2 ^ 32 }
     {
         let _limit = self.limit;
         self.events + 1
+    }
+
+    /// Whether the events number the limit.
+    pub(crate) fn limit_reached(&self) -> bool
+        ensures { result ≡ not (may_step self.now) }
+    {
+        self.events >= self.limit
     }
 
     // Writes the number of events.
