@@ -47,7 +47,7 @@ same_at_end : (n : ℕ) → replicate n no_object ++ no_object ∷ [] ≡ replic
 same_at_end n = replicate-append-replicate n 1 no_object
 
 -- one more kernel type
-pub next_kernel_type : (n : ℕ) → insert_entry name_cmp (named (replicate n no_object)) (name n) no_object ≡ named (replicate (n + 1) no_object)
+next_kernel_type : (n : ℕ) → insert_entry name_cmp (named (replicate n no_object)) (name n) no_object ≡ named (replicate (n + 1) no_object)
 next_kernel_type n =
     let many : n ≡ 0 + length (replicate n no_object) = omega (arith, length-replicate n no_object) in
     next_object 0 n (replicate n no_object) no_object many ∙ ap named (same_at_end n)
@@ -56,7 +56,7 @@ abbrev opened : List Born → List Object
 opened born = map (λ (b : Born). object_of b.kind) born
 
 -- one more object of the script
-pub next_born : (born : List Born) (i : ℕ) (d : Born) → i < length born → insert_entry name_cmp (named (replicate 7 no_object ++ opened (take i born))) (name (7 + i)) (object_of (get_or born i d).kind) ≡ named (replicate 7 no_object ++ opened (take (i + 1) born))
+next_born : (born : List Born) (i : ℕ) (d : Born) → i < length born → insert_entry name_cmp (named (replicate 7 no_object ++ opened (take i born))) (name (7 + i)) (object_of (get_or born i d).kind) ≡ named (replicate 7 no_object ++ opened (take (i + 1) born))
 next_born born i d there =
     let so_far : List Object = opened (take i born) in
     let some : length so_far ≡ i = length-map (take i born) (λ (b : Born). object_of b.kind) ∙ length-take-le i born (omega arith) in
@@ -67,7 +67,7 @@ next_born born i d there =
     ∙ ap named (append_assoc (replicate 7 no_object) so_far (o ∷ []) ∙ ap (λ rest. replicate 7 no_object ++ rest) (sym more))
 
 -- one more base incarnation
-pub next_task : (tasks : List Task) (i : ℕ) (d : Task) → i < length tasks → insert_entry inc_cmp (bases 0 (take i tasks)) (record { 0 = i }) (base_of (record { 0 = i }) (get_or tasks i d).slots) ≡ bases 0 (take (i + 1) tasks)
+next_task : (tasks : List Task) (i : ℕ) (d : Task) → i < length tasks → insert_entry inc_cmp (bases 0 (take i tasks)) (record { 0 = i }) (base_of (record { 0 = i }) (get_or tasks i d).slots) ≡ bases 0 (take (i + 1) tasks)
 next_task tasks i d there =
     let many : i ≡ 0 + length (take i tasks) = omega (arith, length-take-le i tasks (omega arith)) in
     next_base 0 i (take i tasks) (get_or tasks i d) many ∙ ap (bases 0) (sym (take_more tasks i d there))
@@ -97,3 +97,26 @@ next_number tasks i d there =
     let many : i ≡ 0 + length (take i tasks) = omega (arith, length-take-le i tasks (omega arith)) in
     ap (λ (k : ℕ). proc_numbers 0 (take i tasks) ++ record { 0 = k } ∷ []) many
     ∙ number_at_end 0 (take i tasks) (get_or tasks i d) ∙ ap (proc_numbers 0) (sym (take_more tasks i d there))
+
+-- the steps of the loops, which insert one after another
+
+pub kernel_type_step : (n : ℕ) (so_far now : List (Name × Object)) (o : Object) → so_far ≡ named (replicate n no_object) → o ≡ no_object → now ≡ insert_entry name_cmp so_far (name n) o → now ≡ named (replicate (n + 1) no_object)
+kernel_type_step n so_far now o before is inserted =
+    inserted
+    ∙ ap (λ (es : List (Name × Object)). insert_entry name_cmp es (name n) o) before
+    ∙ ap (λ (p : Object). insert_entry name_cmp (named (replicate n no_object)) (name n) p) is
+    ∙ next_kernel_type n
+
+pub born_step : (born : List Born) (i : ℕ) (b : Born) (so_far now : List (Name × Object)) (o : Object) → i < length born → b ≡ get_or born i b → so_far ≡ named (replicate 7 no_object ++ opened (take i born)) → o ≡ object_of b.kind → now ≡ insert_entry name_cmp so_far (name (7 + i)) o → now ≡ named (replicate 7 no_object ++ opened (take (i + 1) born))
+born_step born i b so_far now o there read before is inserted =
+    inserted
+    ∙ ap (λ (es : List (Name × Object)). insert_entry name_cmp es (name (7 + i)) o) before
+    ∙ ap (λ (p : Object). insert_entry name_cmp (named (replicate 7 no_object ++ opened (take i born))) (name (7 + i)) p) (is ∙ ap (λ (x : Born). object_of x.kind) read)
+    ∙ next_born born i b there
+
+pub task_step : (tasks : List Task) (i : ℕ) (t : Task) (so_far now : List (Inc × Incarnation)) (base : Incarnation) → i < length tasks → t ≡ get_or tasks i t → so_far ≡ bases 0 (take i tasks) → base ≡ base_of (record { 0 = i }) t.slots → now ≡ insert_entry inc_cmp so_far (record { 0 = i }) base → now ≡ bases 0 (take (i + 1) tasks)
+task_step tasks i t so_far now base there read before is inserted =
+    inserted
+    ∙ ap (λ (es : List (Inc × Incarnation)). insert_entry inc_cmp es (record { 0 = i }) base) before
+    ∙ ap (λ (p : Incarnation). insert_entry inc_cmp (bases 0 (take i tasks)) (record { 0 = i }) p) (is ∙ ap (λ (x : Task). base_of (record { 0 = i }) x.slots) read)
+    ∙ next_task tasks i t there

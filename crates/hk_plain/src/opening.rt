@@ -55,7 +55,6 @@ fn object_of(alloc: Global, kind: &Kind) -> Result<Object, AllocError>
 }
 
 // The kernel types, which have the names 0 to 6.
-#[tactic(auto, using(crate::proofs::Numbered::next_kernel_type))]
 fn kernel_types(alloc: Global) -> Result<BTreeMap<Name, Object>, NoMemory>
     ensures { IfOk result (λ objects. objects.entries ≡ named (replicate 7 no_object)) }
 {
@@ -67,7 +66,6 @@ fn kernel_types(alloc: Global) -> Result<BTreeMap<Name, Object>, NoMemory>
 }
 
 // All objects, those of the script behind the kernel types.
-#[tactic(auto, using(crate::proofs::Numbered::next_born))]
 fn objects_of(alloc: Global, born: &[Born]) -> Result<BTreeMap<Name, Object>, NoMemory>
     ensures { IfOk result (λ objects. objects.entries ≡ named (replicate 7 no_object ++ map (λ (b : Born). object_of b.kind) born.now)) }
 {
@@ -106,7 +104,6 @@ fn base_of(alloc: Global, proc: Proc, task: &Task) -> Result<Incarnation, AllocE
 }
 
 // The base incarnations of all processes.
-#[tactic(auto, using(crate::proofs::Numbered::next_task))]
 fn bases(alloc: Global, tasks: &[Task]) -> Result<BTreeMap<Inc, Incarnation>, NoMemory>
     requires { length tasks.now ≤ 256 }
     ensures { IfOk result (λ incarnations. incarnations.entries ≡ bases 0 tasks.now) }
