@@ -6,3 +6,5 @@ mod KernelRows
 mod LeastReaches
 mod LawRows
 pub mod ReachRules
+pub mod Appending
+pub mod OneExplanation

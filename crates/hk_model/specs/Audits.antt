@@ -12,7 +12,7 @@ use Rattle.hk_model.specs.Setup.{Setup}
 use Rattle.hk_model.specs.Texts.{is_none}
 use Rattle.hk_model.specs.Loading.{◌>>=◌}
 use Rattle.hk_model.specs.Worlds.{Refused, world_of}
-use Rattle.hk_model.specs.LineReading.{read_line}
+use Rattle.hk_model.specs.LineReading.{read_body}
 use Rattle.hk_model.specs.Records.{record_word, end_text}
 
 -- what the lines behind the script tell
@@ -20,14 +20,17 @@ pub record Events : Type 0 where
   pub lines : List Line
   pub end : End
 
+-- these lines and this end word
 abbrev pub events : List Line → End → Events
 events lines end = record { lines = lines; end = end }
 
+-- what a record tells
 pub record Audited : Type 0 where
   pub world : Setup
   pub lines : List Line
   pub end : End
 
+-- this world, and these events
 abbrev pub audited : Setup → Events → Audited
 audited w found = record { world = w; lines = found.lines; end = found.end }
 
@@ -36,12 +39,15 @@ pub record Cut : Type 0 where
   pub script : List (List ℕ)
   pub behind : Option (List (List ℕ))
 
+-- these lines of the script, and these texts behind it
 abbrev pub cut : List (List ℕ) → Option (List (List ℕ)) → Cut
 cut script behind = record { script = script; behind = behind }
 
+-- a line in front of the script's
 abbrev pub one_more : List ℕ → Cut → Cut
 one_more line c = cut (line ∷ c.script) c.behind
 
+-- the line is exactly `record`
 abbrev pub is_record : List ℕ → Bool
 is_record line = same_text line record_word
 
@@ -84,7 +90,7 @@ whole_line n None line behind rest = audit_line n line rest
 abbrev pub events_from : ℕ → List (List ℕ) → Result Events Refused
 events_from n [] = Err (n, OfParse Missing)
 events_from n (x ∷ []) = if is_none x then Err (n, OfParse Missing) else Err (n, BadLine)
-events_from n (x ∷ y ∷ more) = whole_line n (end_of x) (read_line x) (y ∷ more) (events_from (n + 1) (y ∷ more))
+events_from n (x ∷ y ∷ more) = whole_line n (end_of x) (read_body x) (y ∷ more) (events_from (n + 1) (y ∷ more))
 
 -- `record` stands on line n, or is missing there
 abbrev pub events_behind : ℕ → Option (List (List ℕ)) → Result Events Refused

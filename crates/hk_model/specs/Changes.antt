@@ -52,25 +52,25 @@ abbrev pub confined_calls : Setup → List Line → List Beginning
 confined_calls w lines = told confined_by w (opened w) lines []
 
 -- the line at a moment changes an object under a confined call
-pub record Touch : Type 0 where
+pub record BareChange : Type 0 where
   pub moment : ℕ
   pub under : Beginning
   pub object : Name
 
--- those calls that the incarnation of a line is under
+-- of some calls those that the incarnation of a line is under
 abbrev pub calls_over : Setup → List Line → List Beginning → Line → List Beginning
 calls_over w lines calls line = filter (λ (b : Beginning). is_under w lines b.moment b.call line.inc) calls
 
 -- the changes by one more line: for each confined call that its incarnation is under, by rising call
-abbrev pub touched_by : Setup → List Line → List Beginning → State → Line → State → List Touch → List Touch
-touched_by w lines calls s line t touches = elim (changed s line) [
-  | None ↦ touches
-  | Some name ↦ touches ++ map (λ b. record { moment = s.events; under = b; object = name }) (calls_over w lines calls line)
+abbrev pub bare_changes_by : Setup → List Line → List Beginning → State → Line → State → List BareChange → List BareChange
+bare_changes_by w lines calls s line t so_far = elim (changed s line) [
+  | None ↦ so_far
+  | Some name ↦ so_far ++ map (λ b. record { moment = s.events; under = b; object = name }) (calls_over w lines calls line)
 ]
 
 -- all changes of a history under confined calls, by line and then by call
-abbrev pub touches : Setup → List Line → List Touch
-touches w lines = told (touched_by w lines (confined_calls w lines)) w (opened w) lines []
+abbrev pub bare_changes : Setup → List Line → List BareChange
+bare_changes w lines = told (bare_changes_by w lines (confined_calls w lines)) w (opened w) lines []
 
 -- why a call may change an object: it was made under the call, or a parameter and hops lead to it
 pub data Reach : Type 0 where
@@ -93,18 +93,19 @@ IsReason w lines k call moment name (Param param hops) =
     × IsLeastReach (state_at w lines) (is_made_under w lines k call) (parameters w lines k call) k moment name param hops
 
 -- the change is this one, with its reason
-pub record IsExplained (w : Setup) (lines : List Line) (touch : Touch) (change : Change) : Type 0 where
-  pub line : change.line ≡ touch.moment + 1
-  pub under : change.under ≡ touch.under.call
-  pub object : change.object ≡ touch.object
-  pub reason : IsReason w lines touch.under.moment touch.under.call touch.moment touch.object change.reach
+pub record IsExplained (w : Setup) (lines : List Line) (bare : BareChange) (change : Change) : Type 0 where
+  pub line : change.line ≡ bare.moment + 1
+  pub under : change.under ≡ bare.under.call
+  pub object : change.object ≡ bare.object
+  pub reason : IsReason w lines bare.under.moment bare.under.call bare.moment bare.object change.reach
 
-abbrev pub AreExplained : Setup → List Line → List Touch → List Change → Type 0
+-- the changes are these, each with its reason
+abbrev pub AreExplained : Setup → List Line → List BareChange → List Change → Type 0
 AreExplained w lines [] [] = Unit {0}
-AreExplained w lines (touch ∷ touches) (change ∷ changes) = IsExplained w lines touch change × AreExplained w lines touches changes
+AreExplained w lines (bare ∷ bares) (change ∷ changes) = IsExplained w lines bare change × AreExplained w lines bares changes
 AreExplained w lines [] (change ∷ changes) = ⊥
-AreExplained w lines (touch ∷ touches) [] = ⊥
+AreExplained w lines (bare ∷ bares) [] = ⊥
 
 -- these are the changes of a history under confined calls, in order, each with its reason
 abbrev pub AreChanges : Setup → List Line → List Change → Type 0
-AreChanges w lines changes = AreExplained w lines (touches w lines) changes
+AreChanges w lines changes = AreExplained w lines (bare_changes w lines) changes

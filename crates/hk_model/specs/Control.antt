@@ -113,6 +113,7 @@ with_word f (Some i) Waits = f
 with_word f (Some i) (No refusal) = f
 with_word f None reply = f
 
+-- the reply is a refusal
 abbrev pub is_refusal : Reply → Bool
 is_refusal Done = false
 is_refusal (Word n) = false

@@ -39,6 +39,7 @@ extended s chains (Some (Through q form)) p =
     Link (s.events + 1) q (standing s q) (Some (record { form = form; of = (object s (named (standing s q))).of })) (chains q)
 extended s chains (Some (Made by target)) p = MadeAt (s.events + 1) by target
 
+-- the chains after one more line
 abbrev pub extend : State → Line → State → (Place → Chain) → (Place → Chain)
 extend s line t chains p = extended s chains (line_origin s line p) p
 
@@ -103,7 +104,7 @@ IsMade ByMakeTemplate (Held a) (Form b) = (of_template b ≡ Some a.name) × Wit
 IsMade ByMakeTemplate _ (Form b) = ⊥
 IsMade ByMakeTemplate _ (Held b) = ⊥
 
--- P, where an entry stands
+-- P where something stands, and nothing where nothing does
 abbrev pub IfThere : Entry → Type 0 → Type 0
 IfThere Empty P = Unit {0}
 IfThere (Held cap) P = P

@@ -48,3 +48,4 @@ pub mod Reaches
 pub mod Confinement
 pub mod Changes
 pub mod Marks
+pub mod CauseTexts

@@ -15,12 +15,13 @@ use Rattle.hk_model.specs.Control.{is_refusal}
 use Rattle.hk_model.specs.Running.{Machine, moved}
 use Rattle.hk_model.specs.Places.{cap_found}
 
--- the call that a line has done: none for a refusal, a dispatch or a halt
+-- the call that is done by an event with this reply: none for a refusal, a dispatch or a halt
 abbrev pub done_by : What → Reply → Option Call
 done_by (what.Call c) reply = if is_refusal reply then None else Some c
 done_by what.Dispatch reply = None
 done_by what.Halt reply = None
 
+-- the call that a line has done
 abbrev pub done_call : Line → Option Call
 done_call line = done_by line.what line.reply
 

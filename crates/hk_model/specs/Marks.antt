@@ -33,6 +33,7 @@ carries s inc marks (Created path) = false
 carries s inc marks (Formed path kind) = false
 carries s inc marks Gone = false
 
+-- what is marked by the ways of the places that are written, and elsewhere as before
 abbrev pub marked_by : State → Inc → (Place → Bool) → Option Way → Place → Bool
 marked_by s inc marks None p = marks p
 marked_by s inc marks (Some way) p = carries s inc marks way

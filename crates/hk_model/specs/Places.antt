@@ -17,6 +17,7 @@ pub data Place : Type 0 where
   SlotOf : (inc : Inc) (slot : ℕ) → Place
   EntryOf : (name : Name) (index : ℕ) → Place
 
+-- the same slot, or the same index of the same list
 abbrev pub same_place : Place → Place → Bool
 same_place (SlotOf a m) (SlotOf b n) = same_inc a b && m == n
 same_place (EntryOf a m) (EntryOf b n) = same_name a b && m == n
@@ -28,6 +29,7 @@ abbrev pub standing : State → Place → Entry
 standing s (SlotOf inc slot) = slice_index_or (incarnation s inc).slots slot Empty
 standing s (EntryOf name index) = slice_index_or (object s name).entries index Empty
 
+-- nothing stands there
 abbrev pub is_empty : Entry → Bool
 is_empty Empty = true
 is_empty (Held cap) = false
@@ -39,18 +41,19 @@ cap_of Empty = None
 cap_of (Held cap) = Some cap
 cap_of (Form form) = None
 
--- the object that a capability names, and its rights; of another entry a type's name, and no rights
+-- the object that a capability names; of another entry the name 0, which stands for none
 abbrev pub named : Entry → Name
 named (Held cap) = cap.name
 named Empty = record { 0 = 0 }
 named (Form form) = record { 0 = 0 }
 
+-- the rights of a capability; of another entry none
 abbrev pub rights_of : Entry → ℕ
 rights_of (Held cap) = cap.rights
 rights_of Empty = 0
 rights_of (Form form) = 0
 
--- an Amplify template, as it merges
+-- an Amplify template, as it merges; of another entry a template that no merge uses
 abbrev pub form_of : Entry → Param
 form_of (Form (template.Amplify of check give)) = record { of = of; check = check; give = give }
 form_of (Form (template.Create of give)) = record { of = Some of; check = 0; give = give }
@@ -61,11 +64,12 @@ form_of (Held cap) = record { of = None; check = 0; give = 0 }
 abbrev pub next_place : State → Place → ℕ → Place
 next_place s place at = EntryOf (named (standing s place)) at
 
--- the last place of a walk, and all places that it passes, from a place on
+-- the last place of a walk from a place on
 abbrev pub end_from : State → Place → List ℕ → Place
 end_from s place [] = place
 end_from s place (at ∷ rest) = end_from s (next_place s place at) rest
 
+-- all places that a walk passes from a place on, that place too
 abbrev pub passed_from : State → Place → List ℕ → List Place
 passed_from s place [] = place ∷ []
 passed_from s place (at ∷ rest) = place ∷ passed_from s (next_place s place at) rest
@@ -84,14 +88,15 @@ passed s inc (at ∷ rest) = passed_from s (SlotOf inc at) rest
 abbrev pub named_by : State → Inc → List ℕ → Name
 named_by s inc path = named (standing s (end_of s inc path))
 
--- what a walk gives, nothing where it is refused
+-- what an answer gives, nothing where it is a refusal
 abbrev pub entry_given : Result Entry Refusal → Entry
 entry_given (Ok entry) = entry
 entry_given (Err refusal) = Empty
 
+-- what an incarnation's path leads to, nothing where the walk is refused
 abbrev pub found : State → Inc → List ℕ → Entry
 found s inc path = entry_given (walk s inc path)
 
--- an incarnation's path leads to this capability
+-- the capability that an incarnation's path leads to, if it does
 abbrev pub cap_found : State → Inc → List ℕ → Option Cap
 cap_found s inc path = cap_of (found s inc path)

@@ -25,6 +25,7 @@ is_on cpu (Running other) = other.0 == cpu.0
 is_on cpu (Waiting at) = false
 is_on cpu Ended = false
 
+-- what a process does, as tests
 abbrev pub is_ready : ProcessState → Bool
 is_ready Ready = true
 is_ready (Running cpu) = false
@@ -93,11 +94,12 @@ entered_by s (Some proc) c reply = entered s (process s proc).current c reply
 abbrev pub entered_on : State → Cpu → Call → Reply → Option ℕ
 entered_on s cpu c reply = entered_by s (runner s cpu) c reply
 
--- the process that ran on the processor before runs no more after
+-- the process, if any, runs no more
 abbrev pub left_by : Option Proc → State → Bool
 left_by None after = false
 left_by (Some proc) after = not (is_running (process after proc).run)
 
+-- the process that the processor ran before has given it up after: it waits, has yielded or has ended
 abbrev pub has_left : State → Cpu → State → Bool
 has_left before cpu after = left_by (runner before cpu) after
 

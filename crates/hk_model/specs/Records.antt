@@ -6,7 +6,7 @@ use Rattle.hk_model.specs.declared.lines.End.{End}
 use Rattle.hk_model.specs.declared.lines.End.TheVariants as end
 use Rattle.hk_model.specs.Setup.{Setup}
 use Rattle.hk_model.specs.Texts.{ended_line}
-use Rattle.hk_model.specs.AuditLines.{full_line_text}
+use Rattle.hk_model.specs.AuditLines.{line_text}
 use Rattle.hk_model.specs.Canonical.{canon}
 
 -- the line between the script and the audit lines
@@ -21,7 +21,7 @@ end_text end.Limit = codes "end limit"
 
 -- the audit lines, each with its line feed
 abbrev pub lines_text : List Line → List ℕ
-lines_text lines = flat_map full_line_text lines
+lines_text lines = flat_map line_text lines
 
 -- the canonical script, the line `record`, the audit lines and the end line
 unfoldable pub record_text : Setup → List Line → End → List ℕ

@@ -196,7 +196,7 @@ copy_object s inc path into = do
   let new = plain_object o.of o.words (map (copied cap.rights) o.entries)
   Ok (Done, put_slot (add_object s new) inc slot (Held (record { name = s.next_name; rights = cap.rights })))
 
--- the slots are all below 64, numbered from a step on
+-- the arguments' slots are all below 64; their steps count on from this one
 abbrev pub slots_at : List ℕ → ℕ → Result (List ℕ) Refusal
 slots_at [] step = Ok []
 slots_at (slot ∷ rest) step = do
@@ -234,8 +234,8 @@ enter s new =
 -- Enter: a new incarnation, with the merged parameters and what the procedure holds
 unfoldable pub enter_procedure : State → Proc → Inc → List ℕ → List ℕ → Slot → Outcome
 enter_procedure s proc inc path args into = do
-  slots ← slots_at args (length path)
-  slot ← slot_at into (length path + length args)
+  slots_at args (length path)
+  slot_at into (length path + length args)
   cap ← target s inc path (is_type PROCEDURE) A0
   let o = object s cap.name
   let confined = not (has cap.rights unconf_right)
@@ -327,6 +327,7 @@ outcome s proc inc call.Yield = Ok (Done, yielded s proc)
 abbrev pub counted : ℕ → State → State
 counted events s = record s { events = events }
 
+-- an answer as a reply
 abbrev pub answered : Answer → Reply
 answered Done = reply.Done
 answered (Word word) = reply.Word word

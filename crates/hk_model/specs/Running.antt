@@ -22,9 +22,11 @@ pub record Machine : Type 0 where
   pub state : State
   pub contexts : List Context
 
+-- the machine in which a world opens: each process stands at the beginning of its code
 unfoldable pub opened : Setup → Machine
 opened w = record { state = opening w; contexts = map (λ (t : Task). new_frame t.code ∷ []) w.tasks }
 
+-- the control of a process
 abbrev pub context_of : Machine → Proc → Context
 context_of m proc = unwrap_or (slice_get m.contexts proc.0) []
 
@@ -50,6 +52,7 @@ dispatch_event m cpu (Some (proc, s)) =
       record m { state = s },
     )
 
+-- the event of a processor: of the process that it runs, or else a dispatch
 abbrev pub event_of : Setup → Machine → Cpu → Option Proc → Option (Line × Machine)
 event_of w m cpu (Some proc) = Some (event w m cpu proc (next w (context_of m proc)))
 event_of w m cpu None = dispatch_event m cpu (dispatched m.state cpu)
@@ -59,6 +62,7 @@ unfoldable pub step : Setup → Machine → Cpu → Option (Line × Machine)
 step w m cpu =
     if may_step m.state then (if nat_lt cpu.0 cpu_limit then event_of w m cpu (runner m.state cpu) else None) else None
 
+-- the line of that step
 abbrev pub line_of : Setup → Machine → Cpu → Option Line
 line_of w m cpu = option_map (λ found. found.0) (step w m cpu)
 

@@ -28,12 +28,14 @@ pub record State : Type 0 where
   pub events : ℕ
   pub limit : ℕ
 
+-- names and incarnations in the order of their numbers
 abbrev pub name_cmp : Name → Name → Ordering
 name_cmp a b = nat_cmp a.0 b.0
 
 abbrev pub inc_cmp : Inc → Inc → Ordering
 inc_cmp a b = nat_cmp a.0 b.0
 
+-- the same object, and the same incarnation
 abbrev pub same_name : Name → Name → Bool
 same_name a b = is_eq (name_cmp a b)
 

@@ -12,9 +12,11 @@ use Rattle.hk_model.specs.State.{State, incarnation, same_name, same_inc}
 use Rattle.hk_model.specs.Running.{Machine, machine_at, state_at}
 use Rattle.hk_model.specs.Lines.{done_call, makes_object, enters_call, param_count, line_before, told}
 
+-- the incarnation is one of these
 abbrev pub is_one_of : Inc → List Inc → Bool
 is_one_of inc incs = list_any (same_inc inc) incs
 
+-- the incarnation lives
 abbrev pub is_live : State → Inc → Bool
 is_live s inc = is_some (lookup (same_inc inc) s.incarnations)
 

@@ -34,19 +34,17 @@ reduced_rights by rights =
     let kept = if has by unconf_right then rights else confined_rights rights in
     if has by env_right then kept else local_rights kept
 
--- an entry that was obtained through a capability with these rights
-abbrev pub reduced : ℕ → Entry → Entry
-reduced by Empty = Empty
-reduced by (Held cap) = Held (record cap { rights = reduced_rights by cap.rights })
-reduced by (Form form) = Form form
+-- a capability that was obtained through one with these rights
+abbrev pub reduced : ℕ → Cap → Cap
+reduced by cap = record cap { rights = reduced_rights by cap.rights }
 
--- a template is given only with ENV
+-- an entry that is obtained through a capability with these rights: a template only with ENV, and then as it is
 abbrev pub obtained : ℕ → Entry → ℕ → Result Entry Refusal
 obtained by (Form form) step = do
   allowed by ENV step
   Ok (Form form)
 obtained by Empty step = Ok Empty
-obtained by (Held cap) step = Ok (reduced by (Held cap))
+obtained by (Held cap) step = Ok (Held (reduced by cap))
 
 -- a capability is needed
 abbrev pub held : Entry → ℕ → Result Cap Refusal

@@ -54,6 +54,7 @@ call_way procedure confined (arg ∷ args) (param ∷ params) (suc n) = call_way
 call_way procedure confined [] params n = Inherited procedure n confined
 call_way procedure confined (arg ∷ args) [] n = Inherited procedure n confined
 
+-- the slots of the incarnation that a call makes
 abbrev pub entered_way : State → Name → Bool → List ℕ → Place → Option Way
 entered_way s procedure confined args (SlotOf inc n) =
     if same_inc inc s.next_inc then Some (call_way procedure confined args (object s procedure).params n) else None
@@ -127,13 +128,13 @@ pub record IsCopied (s : State) (inc : Inc) (path : List ℕ) (index : ℕ) (x :
   pub leads : LeadsTo s inc path cap
   pub is : x ≡ copied cap.rights (standing s (EntryOf cap.name index))
 
--- a capability for the new object: after a Copy with the rights of the path's capability, after a Create with those of
--- the template
+-- the capability for a copy: with the rights of the path's capability
 pub record IsCopyOf (s : State) (inc : Inc) (path : List ℕ) (x : Entry) : Type 0 where
   pub cap : Cap
   pub leads : LeadsTo s inc path cap
   pub is : x ≡ Held (record { name = s.next_name; rights = cap.rights })
 
+-- the capability for a new object: with the rights that the path's template gives
 pub record IsCreated (s : State) (inc : Inc) (path : List ℕ) (x : Entry) : Type 0 where
   pub of : Name
   pub give : ℕ

@@ -19,9 +19,10 @@ pub enum ParseCause {
     /// The first piece is no word that is allowed here, or a piece is not of the form that is
     /// wanted.
     UnknownWord,
-    /// The line ends before a piece that is wanted.
+    /// The line ends before a piece that is wanted; or a script has no piece, or a record no line
+    /// `record` or no end line.
     Missing,
-    /// A piece is left over.
+    /// A piece is left over, or bytes stand behind the end line of a record.
     Extra,
     /// A second limit, or a name or label for the second time.
     Repeated,
@@ -34,13 +35,13 @@ pub enum ParseCause {
 /// Why a line can not be loaded (`docs/FORMATS.md`, "Loading").
 #[derive(Clone, Copy, PartialEq, Eq, Debug)]
 pub enum LoadCause {
-    /// No line declares the name as what is wanted.
+    /// No line declares the name as what is wanted, or it is written in capitals and no kernel type.
     UnknownName,
     /// An object of a kernel type other than DATA and UNIVERSAL, or an entry of a DATA object.
     WrongPart,
     /// The line passes a limit.
     TooMany,
-    /// A name is the name of no right.
+    /// A name is the name of no right, and the text is not `ALL`.
     BadRights,
 }
 
@@ -76,8 +77,8 @@ pub enum Misstep {
 pub enum Verdict {
     Legal,
     Illegal {
-        /// The number of the first bad line, from 1; for a bad end word the number of lines plus
-        /// one.
+        /// The number of the first bad line, counted from 1 behind the line `record`; for a bad
+        /// end word the number of lines plus one.
         line: u32,
         cause: Misstep,
     },

@@ -18,6 +18,8 @@ pub mod objects;
 pub mod paths;
 pub mod snapshot;
 pub mod syntax;
+#[cfg(test)]
+mod tests;
 pub mod world;
 
 pub use calls::{Answer, Call, Refusal, Reply, What8};

@@ -1,20 +1,21 @@
 -- How answers come about: a text that is due and said, and a text that is due to an input.
-use Rattle.std.proofs.Common.{◌≡◌, ◌++◌, refl, ◌⊎◌, ◌<◌, ◌↔◌, ◌∷◌, [], ℕ, List, length, codes, Option, Ok, Err, IfOk, IsErrOf, MatchResult, Bool, true, false, subst, sym, ◌∙◌, ap, Vec, Global, Result}
+use Rattle.std.proofs.Common.{◌≡◌, ◌++◌, refl, ◌<◌, ◌↔◌, ◌∷◌, [], ℕ, List, length, codes, Option, Ok, Err, IfOk, IsErrOf, MatchResult, Bool, true, false, subst, sym, ◌∙◌, ap, Vec, Global, Result}
 use Rattle.std.proofs.Common.{inl, inr}
 use Rattle.hk_io.specs.Streams.{Took}
 use Rattle.hk_io.specs.declared.whole.ReadError.{ReadError}
-use Rattle.hk_io.specs.declared.whole.ReadError.TheVariants.{TooLong}
 use Rattle.hk_top.specs.declared.commands.DueText.{DueText}
 use Rattle.hk_top.specs.declared.commands.Silence.{Silence}
 use Rattle.hk_model.specs.declared.lines.Line.{Line}
 use Rattle.hk_model.specs.declared.lines.End.TheVariants as end
+use Rattle.std.specs.Fmt.{digits}
+use Rattle.hk_model.specs.CauseTexts.{too_long_text}
 use Rattle.hk_model.specs.Limits.{script_bytes}
 use Rattle.hk_model.specs.Setup.{Setup}
 use Rattle.hk_model.specs.Legal.{IsLegal}
 use Rattle.hk_model.specs.Records.{record_text}
 use Rattle.hk_top.specs.declared.small.SmallScript.{SmallScript}
 use Rattle.hk_top.specs.SmallScripts.{IsSmall, Spells, small_text, world_of}
-use Rattle.hk_top.specs.Outputs.{Due, Answer, Stream, IsRun, IsSaid, WasRead, written, write_fault, record_of, behind_script}
+use Rattle.hk_top.specs.Outputs.{Due, Answer, Stream, IsSaid, WasRead, written, write_fault, record_of, form_text, behind_script}
 use Rattle.hk_top.proofs.CanonicalScripts.{canon-small}
 
 -- a text that is due and said is an answer
@@ -54,4 +55,13 @@ pub record_due : {before after : Option (List ℕ)} {bytes read text : List ℕ}
     → WasRead before after bytes → IsSmall script → read ≡ small_text script → read ≡ bytes → IsLegal (world_of script) lines end.Done → text ≡ bytes ++ behind_script lines → Due (codes "run" ∷ []) before after 0 text
 record_due {before} {after} {bytes} script lines was_read small spelled same legal is =
     subst (λ text. Due (codes "run" ∷ []) before after 0 text) (sym (record_is script lines small spelled same is))
-      (record_of bytes (world_of script) lines refl was_read (record { script = script; small = small; text = sym same ∙ spelled; world = refl }) legal)
+    (record_of bytes (world_of script) lines refl was_read (record { script = script; small = small; text = sym same ∙ spelled; world = refl }) legal)
+
+-- the two refusals, letter by letter
+pub too_long_is : {words : List (List ℕ)} {before after : Option (List ℕ)} → Due words before after 3 too_long_text → Due words before after 3 (codes "line 0: TooLong\n")
+unfolding digits
+too_long_is due = due
+
+pub form_is : {words : List (List ℕ)} {before after : Option (List ℕ)} → Due words before after 3 form_text → Due words before after 3 (codes "line 0: Form\n")
+unfolding digits
+form_is due = due

@@ -1,9 +1,8 @@
 -- The text of a small script is the canonical script of its world.
-use Rattle.std.proofs.Common.{◌≡◌, refl, ◌≤◌, ◌<◌, ◌+◌, ◌==◌, ℕ, zero, suc, List, [], ◌∷◌, ◌++◌, length, map, Bool, true, false, nat_le, codes, ap, sym, ◌∙◌, arith, if◌then◌else◌, length-append, append-nil, append_assoc}
+use Rattle.std.proofs.Common.{◌≡◌, refl, ◌≤◌, ◌<◌, ◌+◌, ℕ, zero, suc, List, [], ◌∷◌, ◌++◌, length, map, Bool, true, false, codes, ap, sym, ◌∙◌, arith, if◌then◌else◌, length-append, append-nil, append_assoc}
 use Rattle.std.specs.List.{flat_map, list_any, join_with_byte, onto_first, AllByRecursion}
 use Rattle.std.specs.Fmt.{decimal, digits}
 use Rattle.std.proofs.lemmas.Bool.{le-leb}
-use Rattle.std.specs.Str.{bytes_eq}
 use Rattle.std.proofs.lemmas.Slice.Eq.{bytes_eq-Decides}
 use Rattle.std.proofs.lemmas.List.Folds.{flat_map-map}
 use Rattle.std.proofs.lemmas.Grind.{flat_map-append}
@@ -14,12 +13,12 @@ use Rattle.hk_model.specs.declared.syntax.Part.{Part}
 use Rattle.hk_model.specs.declared.syntax.Item.{Item}
 use Rattle.hk_model.specs.Labels.{is_word, same_text}
 use Rattle.hk_model.specs.Limits.{line_bytes}
-use Rattle.hk_model.specs.Pieces.{Piece, Word, Upper, Dash, Number, spell, register_text}
+use Rattle.hk_model.specs.Pieces.{Piece, Word, Upper, Dash, Number, spell}
 use Rattle.hk_model.specs.Operands.{type_piece, rights_piece}
 use Rattle.hk_model.specs.Texts.{spell_line, spell_lines, ended_line}
 use Rattle.hk_model.specs.RightsTexts.{rights_text}
 use Rattle.hk_model.specs.Spelling.{body_pieces, head_pieces, item_lines, end_line}
-use Rattle.hk_model.specs.Canonical.{words_from, word_lines, word_parts, number_bytes, words_bytes, jumps_to, label_parts, code_parts, part, written_of, entry_parts, code_item, task_item, spoken, canon}
+use Rattle.hk_model.specs.Canonical.{words_from, word_parts, number_bytes, words_bytes, jumps_to, code_parts, part, written_of, entry_parts, code_item, task_item, spoken, canon}
 use Rattle.hk_top.specs.declared.small.Read.{Read}
 use Rattle.hk_top.specs.declared.small.SmallScript.{SmallScript}
 use Rattle.hk_top.specs.SmallScripts.{IsSmall, IsRead, small_text, world_of, then_text, words_text, words_line, read_line, cap_line, end_text, line, get_instr, cap_entry, code_of, task_of}
@@ -117,22 +116,23 @@ item_then : (head : List Piece) (parts : List Part) (text : List ℕ) (more : Li
     → spell_lines ((head ∷ (map (λ (p : Part). body_pieces p.body) parts ++ end_line ∷ [])) ++ more) ≡ ended_line (spell_line head) ++ (text ++ (end_text ++ spell_lines more))
 item_then head parts text more h =
     ap (λ t. ended_line (spell_line head) ++ t)
-      (flat_map-append (λ line. ended_line (spell_line line)) (map (λ (p : Part). body_pieces p.body) parts ++ end_line ∷ []) more
-      ∙ ap (λ t. t ++ spell_lines more) (parts_between parts text h)
-      ∙ append_assoc text end_text (spell_lines more))
+    (flat_map-append (λ line. ended_line (spell_line line)) (map (λ (p : Part). body_pieces p.body) parts ++ end_line ∷ []) more
+    ∙ ap (λ t. t ++ spell_lines more) (parts_between parts text h)
+    ∙ append_assoc text end_text (spell_lines more))
 
 -- the canonical script of a small world is the text of its script
 pub canon-small : (s : SmallScript) → IsSmall s → canon (world_of s) ≡ small_text s
 unfolding canon digits
 canon-small s h =
     ap (λ t. line (codes "hydra 1") ++ t)
-      (item_then (head_pieces (ObjectIs s.object (codes "DATA"))) (word_parts s.words ++ []) (words_line s.words) (item_lines code ++ (item_lines task ++ [])) (word_text s.words h.words_fit)
-      ∙ ap (λ t. line (codes "object" ++ (then_text s.object ++ then_text (codes "DATA"))) ++ (words_line s.words ++ (end_text ++ t)))
-        (item_then (head_pieces (CodeIs s.code)) code.parts (flat_map read_line s.reads) (item_lines task ++ []) (code_lines (map get_instr s.reads) 0 s.reads (λ n. no_labels n s.reads) h.reads)
-        ∙ ap (λ t. line (codes "code" ++ then_text s.code) ++ (flat_map read_line s.reads ++ (end_text ++ t)))
-          (item_then (head_pieces (ProcessIs s.process s.code)) task.parts (flat_map (cap_line s.object) s.rights) [] (cap_lines s s.rights))))
+    (item_then (head_pieces (ObjectIs s.object (codes "DATA"))) (word_parts s.words ++ []) (words_line s.words) (item_lines code ++ (item_lines task ++ [])) (word_text s.words h.words_fit)
+    ∙ ap (λ t. line (codes "object" ++ (then_text s.object ++ then_text (codes "DATA"))) ++ (words_line s.words ++ (end_text ++ t)))
+    (item_then (head_pieces (CodeIs s.code)) code.parts (flat_map read_line s.reads) (item_lines task ++ []) (code_lines (map get_instr s.reads) 0 s.reads (λ n. no_labels n s.reads) h.reads)
+    ∙ ap (λ t. line (codes "code" ++ then_text s.code) ++ (flat_map read_line s.reads ++ (end_text ++ t)))
+    (item_then (head_pieces (ProcessIs s.process s.code)) task.parts (flat_map (cap_line s.object) s.rights) [] (cap_lines s s.rights))))
   where
     code : Item
     code = code_item (code_of s.code s.reads)
+
     task : Item
     task = task_item (spoken (world_of s)) (task_of s.process s.rights)

@@ -1,4 +1,17 @@
-pub mod WordLemmas
-pub mod CanonicalScripts
-pub mod AnswerLemmas
-pub mod LineTexts
+mod AnswerLemmas
+mod CanonicalScripts
+mod EachItem
+mod HeadPieces
+mod LineTexts
+mod ListPieces
+mod NamePieces
+mod NamesWritten
+mod NumberPieces
+mod PieceCuts
+mod RightsPieces
+mod SmallReads
+mod SmallRuns
+mod SmallSteps
+mod StillToRead
+mod WholeScripts
+mod WordLemmas

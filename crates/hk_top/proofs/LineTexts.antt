@@ -12,8 +12,8 @@ use Rattle.hk_model.specs.declared.calls.Reply.TheVariants as reply
 use Rattle.hk_model.specs.declared.lines.What.TheVariants as what
 use Rattle.hk_model.specs.declared.lines.What.{What}
 use Rattle.hk_model.specs.declared.lines.Line.{Line}
-use Rattle.hk_model.specs.Pieces.{Piece, spell}
-use Rattle.hk_model.specs.AuditLines.{call_pieces, what_pieces, event_pieces, refusal_pieces, reply_pieces, line_text, full_line_text, arrow}
+use Rattle.hk_model.specs.Pieces.{spell}
+use Rattle.hk_model.specs.AuditLines.{call_pieces, what_pieces, event_pieces, refusal_pieces, reply_pieces, line_body, line_text, arrow}
 use Rattle.hk_top.specs.LineParts.{what_text, reply_text}
 use Rattle.hk_top.proofs.CanonicalScripts.{joined}
 
@@ -85,9 +85,9 @@ event-text : (line : Line) → join_with_byte 32 (map spell (event_pieces line))
 event-text line = ap (λ t. decimal line.cpu.0 ++ (32 ∷ (decimal line.proc.0 ++ (32 ∷ t)))) (join-cons 32 (decimal line.inc.0) (map spell (what_pieces line.what)) (what_some line.what))
 
 -- the text of a line: the three numbers, what happened, an arrow and the reply
-pub line_text-parts : (line : Line) → line_text line ≡ (decimal line.cpu.0 ++ (32 ∷ (decimal line.proc.0 ++ (32 ∷ (decimal line.inc.0 ++ (32 ∷ what_text line.what)))))) ++ (32 ∷ 45 ∷ 62 ∷ 32 ∷ reply_text line.reply)
-unfolding line_text
-line_text-parts line =
+pub line_body-parts : (line : Line) → line_body line ≡ (decimal line.cpu.0 ++ (32 ∷ (decimal line.proc.0 ++ (32 ∷ (decimal line.inc.0 ++ (32 ∷ what_text line.what)))))) ++ (32 ∷ 45 ∷ 62 ∷ 32 ∷ reply_text line.reply)
+unfolding line_body
+line_body-parts line =
     join-append 32 (decimal line.cpu.0) (decimal line.proc.0 ∷ decimal line.inc.0 ∷ map spell (what_pieces line.what)) arrow (map spell (reply_pieces line.reply))
     ∙ ap (λ t. t ++ (32 ∷ join_with_byte 32 (arrow ∷ map spell (reply_pieces line.reply)))) (event-text line)
     ∙ ap (λ t. (decimal line.cpu.0 ++ (32 ∷ (decimal line.proc.0 ++ (32 ∷ (decimal line.inc.0 ++ (32 ∷ what_text line.what)))))) ++ (32 ∷ t)) (join-cons 32 arrow (map spell (reply_pieces line.reply)) (reply_some line.reply))
@@ -95,5 +95,5 @@ line_text-parts line =
 -- a line that is written piece by piece
 pub written_line : (line : Line) (old numbers said pointed replied new : List ℕ)
     → numbers ≡ old ++ (decimal line.cpu.0 ++ (32 ∷ (decimal line.proc.0 ++ (32 ∷ (decimal line.inc.0 ++ (32 ∷ [])))))) → said ≡ numbers ++ what_text line.what → pointed ≡ said ++ (32 ∷ 45 ∷ 62 ∷ 32 ∷ [])
-    → replied ≡ pointed ++ reply_text line.reply → new ≡ replied ++ (10 ∷ []) → new ≡ old ++ full_line_text line
-written_line line old numbers said pointed replied new a b c d e = rw (e, d, c, b, a, line_text-parts line) (simp append_assoc refl)
+    → replied ≡ pointed ++ reply_text line.reply → new ≡ replied ++ (10 ∷ []) → new ≡ old ++ line_text line
+written_line line old numbers said pointed replied new a b c d e = rw (e, d, c, b, a, line_body-parts line) (simp append_assoc refl)

@@ -1,4 +1,8 @@
 pub mod SmallScripts
-pub mod Outputs
+pub mod Pieces
+pub mod RightsNames
+pub mod ScriptParts
 pub mod SmallLines
+pub mod SmallRuns
 pub mod LineParts
+pub mod Outputs

@@ -5,6 +5,7 @@ use Rattle.hk_io.specs.Causes.{Rose}
 use Rattle.hk_io.specs.Streams.{Took}
 use Rattle.hk_model.specs.declared.lines.Line.{Line}
 use Rattle.hk_model.specs.declared.lines.End.TheVariants as end
+use Rattle.hk_model.specs.CauseTexts.{refusal_text, too_long_text}
 use Rattle.hk_model.specs.Limits.{script_bytes}
 use Rattle.hk_model.specs.Setup.{Setup}
 use Rattle.hk_model.specs.Legal.{IsLegal}
@@ -16,15 +17,13 @@ use Rattle.hk_top.specs.SmallScripts.{Spells}
 abbrev pub IsRun : List (List ℕ) → Type 0
 IsRun words = words ≡ codes "run" ∷ []
 
+-- what is written of words that are no command
 abbrev pub usage_text : List ℕ
 usage_text = codes "usage: hydra COMMAND [NUMBER]" ++ 10 ∷ []
 
--- what is written of an input that is refused
-abbrev pub too_long_text : List ℕ
-too_long_text = codes "line 0: TooLong" ++ 10 ∷ []
-
+-- what is written of bytes that are the script of no world
 abbrev pub form_text : List ℕ
-form_text = codes "line 0: Form" ++ 10 ∷ []
+form_text = refusal_text 0 (codes "Form")
 
 -- these bytes were read: they are all that the source had, up to its end
 abbrev pub WasRead : Option (List ℕ) → Option (List ℕ) → List ℕ → Type 0

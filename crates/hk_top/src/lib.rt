@@ -2,9 +2,14 @@
 #![tactic(auto)]
 
 mod commands;
+#[cfg(test)]
+mod commands_tests;
 mod parse;
+mod reading;
 mod record;
 mod run;
+#[cfg(test)]
+mod run_tests;
 mod small;
 pub mod status;
 mod words;

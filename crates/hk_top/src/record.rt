@@ -2,7 +2,7 @@
 
 ghost use Rattle.std.specs.Prelude.{◌≡◌, ◌++◌, All, IfOk, OnOk, string_bytes};
 ghost use Rattle.hk_model.specs.declared.calls.Reply.TheVariants as reply;
-ghost use Rattle.hk_model.specs.AuditLines.{full_line_text};
+ghost use Rattle.hk_model.specs.AuditLines.{line_text};
 ghost use Rattle.hk_model.specs.Records.{lines_text};
 ghost use Rattle.hk_top.specs.LineParts.{what_text, reply_text};
 ghost use Rattle.hk_top.specs.Outputs.{behind_script};
@@ -42,7 +42,7 @@ fn write_lines(out: &mut String, lines: &[Line]) -> Result<(), AllocError>
 // Writes a line with its line feed.
 fn write_line(out: &mut String, line: &Line) -> Result<(), AllocError>
     requires { IsSmallLine line.now }
-    ensures { OnOk result (string_bytes out.new ≡ string_bytes out.old ++ full_line_text line.now) }
+    ensures { OnOk result (string_bytes out.new ≡ string_bytes out.old ++ line_text line.now) }
 {
     let cpu = line.cpu.0;
     let proc = line.proc.0;

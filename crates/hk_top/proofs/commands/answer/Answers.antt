@@ -1,6 +1,6 @@
-use Rattle.std.proofs.Common.{◌≡◌, ◌∷◌, [], codes, Err, refl, sym, subst, ap, ◌∙◌}
+use Rattle.std.proofs.Common.{Err, refl, sym, ap, ◌∙◌}
 use Rattle.hk_top.proofs.AnswerLemmas.{not_both, due_at}
-use Rattle.hk_top.specs.Outputs.{Answer, Due, IsSaid, usage, read_fault, no_memory}
+use Rattle.hk_top.specs.Outputs.{usage, read_fault, no_memory}
 use Rattle.hk_top.proofs.AnswerLemmas.{said}
 use Rattle.hk_top.proofs.commands.answer.Goals as goal
 
@@ -10,8 +10,8 @@ returns-then-not-is_run-clause-answer g c = said (usage (λ run. not_both c.if-n
 pub returns-in-Ok-clause-answer : goal.returns-in-Ok-clause-answer
 returns-in-Ok-clause-answer g c =
     said
-      (due_at (sym (c.is_run.ensures.0 c.if-not-is_run.false)) (sym c.deref.ensures.value) c.in-Ok.ensures.due)
-      c.say-in-Ok.ensures
+    (due_at (sym (c.is_run.ensures.0 c.if-not-is_run.false)) (sym c.deref.ensures.value) c.in-Ok.ensures.due)
+    c.say-in-Ok.ensures
 
 pub returns-in-Err-ReadFault-clause-answer : goal.returns-in-Err-ReadFault-clause-answer
 returns-in-Err-ReadFault-clause-answer g c = read_fault (c.is_run.ensures.0 c.if-not-is_run.false) (c.due_to_run.ensures.fault (c.in-Err-ReadFault.is ∙ ap (λ e. Err e) c.in-Err-ReadFault.field-0-is))
