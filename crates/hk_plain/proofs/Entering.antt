@@ -30,13 +30,13 @@ then_same (Ok x) f g same = same x
 then_same (Err e) f g same = refl
 
 -- one slot further
-one_slot : {B : Type 0} (test : Bool) (refusal : Refusal) (slot : ℕ) (others : Result (List ℕ) Refusal) (rest : Result (Unit {0}) Refusal) (next : Result B Refusal) → others >>= (λ _. next) ≡ rest >> next → (unless test refusal >> (others >>= (λ more. Ok (slot ∷ more)))) >>= (λ _. next) ≡ (unless test refusal >> rest) >> next
+one_slot : {B : Type 0} (test : Bool) (refusal : Refusal) (slot : ℕ) (others : Result (List ℕ) Refusal) (rest : Result (Unit {0}) Refusal) (next : Result B Refusal) → others >> next ≡ rest >> next → (unless test refusal >> (others >>= (λ more. Ok (slot ∷ more)))) >> next ≡ (unless test refusal >> rest) >> next
 one_slot true refusal slot (Ok more) rest next later = later
 one_slot true refusal slot (Err e) rest next later = later
 one_slot false refusal slot others rest next later = refl
 
 -- only whether all slots are below 64 is used of them
-slots_are : {B : Type 0} (slots : List ℕ) (step : ℕ) (next : Result B Refusal) → slots_at slots step >>= (λ _. next) ≡ in_range slots step >> next
+slots_are : {B : Type 0} (slots : List ℕ) (step : ℕ) (next : Result B Refusal) → slots_at slots step >> next ≡ in_range slots step >> next
 slots_are [] step next = refl
 slots_are (slot ∷ rest) step next =
     one_slot (nat_lt slot slot_limit) (refused.Range step) slot (slots_at rest (step + 1)) (in_range rest (step + 1)) next (slots_are rest (step + 1) next)
@@ -102,7 +102,7 @@ rest_is s proc inc path args into cap =
 pub enter_is : (s : State) (proc : Proc) (inc : Inc) (path args : List ℕ) (into : Slot) → enter_procedure s proc inc path args into ≡ entered s proc inc path args into
 unfolding enter_procedure
 enter_is s proc inc path args into =
-    slots_are args (length path) (slot_at into (length path + length args) >>= (λ _. target s inc path (is_type PROCEDURE) A0 >>= rest_by_state s proc inc path args into))
-    ∙ ap (λ (next : Outcome). in_range args (length path) >> next)
-      (then_same (slot_at into (length path + length args)) (λ _. target s inc path (is_type PROCEDURE) A0 >>= rest_by_state s proc inc path args into) (λ _. target s inc path (is_type PROCEDURE) A0 >>= rest_by_lists s proc inc path args into)
-        (λ _. then_same (target s inc path (is_type PROCEDURE) A0) (rest_by_state s proc inc path args into) (rest_by_lists s proc inc path args into) (rest_is s proc inc path args into)))
+    let found : Result Cap Refusal = target s inc path (is_type PROCEDURE) A0 in
+    slots_are args (length path) (slot_at into (length path + length args) >> (found >>= rest_by_state s proc inc path args into))
+    ∙ ap (λ (next : Outcome). in_range args (length path) >> (slot_at into (length path + length args) >> next))
+      (then_same found (rest_by_state s proc inc path args into) (rest_by_lists s proc inc path args into) (rest_is s proc inc path args into))

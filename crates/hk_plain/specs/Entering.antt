@@ -41,7 +41,7 @@ arg_of s inc slot =
 abbrev pub entered : State → Proc → Inc → List ℕ → List ℕ → Slot → Outcome
 entered s proc inc path args into = do
   in_range args (length path)
-  slot ← slot_at into (length path + length args)
+  slot_at into (length path + length args)
   cap ← target s inc path (is_type PROCEDURE) A0
   let o = object s cap.name
   let confined = not (has cap.rights unconf_right)

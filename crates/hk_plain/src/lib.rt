@@ -23,3 +23,6 @@ mod walks;
 mod words;
 
 pub use plain::Plain;
+
+#[cfg(test)]
+mod tests;
