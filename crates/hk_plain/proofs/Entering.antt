@@ -105,4 +105,4 @@ enter_is s proc inc path args into =
     let found : Result Cap Refusal = target s inc path (is_type PROCEDURE) A0 in
     slots_are args (length path) (slot_at into (length path + length args) >> (found >>= rest_by_state s proc inc path args into))
     ∙ ap (λ (next : Outcome). in_range args (length path) >> (slot_at into (length path + length args) >> next))
-      (then_same found (rest_by_state s proc inc path args into) (rest_by_lists s proc inc path args into) (rest_is s proc inc path args into))
+    (then_same found (rest_by_state s proc inc path args into) (rest_by_lists s proc inc path args into) (rest_is s proc inc path args into))

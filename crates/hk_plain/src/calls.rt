@@ -27,13 +27,7 @@ fn answered(answer: Answer) -> Reply
 
 impl Tables {
     // What a call does, before it is counted.
-    fn serve(
-        &mut self,
-        alloc: Global,
-        proc: Proc,
-        inc: Inc,
-        call: &Call,
-    ) -> Result<Answer, Stop>
+    fn serve(&mut self, alloc: Global, proc: Proc, inc: Inc, call: &Call) -> Result<Answer, Stop>
         requires { HasNumbers self.old }
         ensures { Gives self.old (outcome self.old proc inc call.now) result self.new }
     {
@@ -89,12 +83,7 @@ impl Tables {
     }
 
     /// Makes a call of a process in its current incarnation. It is one event, refused or not.
-    pub(crate) fn act(
-        &mut self,
-        alloc: Global,
-        proc: Proc,
-        call: &Call,
-    ) -> Result<Acted, NoMemory>
+    pub(crate) fn act(&mut self, alloc: Global, proc: Proc, call: &Call) -> Result<Acted, NoMemory>
         requires below { IsTrue (may_step self.old) }
         requires numbers { FewNumbers self.old }
         ensures reply { IfOk result (λ acted. rule self.old proc call.now ≡ (acted.reply, self.new)) }

@@ -4,6 +4,7 @@
 //! subject: `tables` has the state, `walks` and `targets` the tests that the calls share, `plain`
 //! the kernel over them.
 #![tactic(auto)]
+
 mod calls;
 mod incarnations;
 mod lists;
@@ -15,10 +16,10 @@ mod processors;
 mod semaphores;
 mod shows;
 mod slots;
-mod templates;
 mod stop;
 mod tables;
 mod targets;
+mod templates;
 mod walks;
 mod words;
 

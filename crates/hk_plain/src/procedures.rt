@@ -90,7 +90,13 @@ impl Tables {
         match self.object(procedure) {
             Some(object) => {
                 let params = object.params.as_slice();
-                build_space(args, params, object.entries.as_slice(), confined, first_step)
+                build_space(
+                    args,
+                    params,
+                    object.entries.as_slice(),
+                    confined,
+                    first_step,
+                )
             }
             None => build_space(args, &[], &[], confined, first_step),
         }
@@ -149,12 +155,7 @@ impl Tables {
 
     /// Leave: the incarnation goes, and its caller goes on, with a capability where a slot is named.
     #[tactic(auto, unfolding(hk_model::specs::Rule::leave))]
-    pub(crate) fn leave(
-        &mut self,
-        proc: Proc,
-        inc: Inc,
-        give: Option<Slot>,
-    ) -> Result<Answer, Stop>
+    pub(crate) fn leave(&mut self, proc: Proc, inc: Inc, give: Option<Slot>) -> Result<Answer, Stop>
         ensures { Gives self.old (leave self.old proc inc give) result self.new }
     {
         let cap = self.given(inc, give)?;

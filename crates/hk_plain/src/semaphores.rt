@@ -41,11 +41,7 @@ impl Tables {
     }
 
     // The first who waits at a semaphore and the others, or None where nobody waits.
-    fn waiting(
-        &self,
-        alloc: Global,
-        name: Name,
-    ) -> Result<Option<(Proc, Items<Proc>)>, AllocError>
+    fn waiting(&self, alloc: Global, name: Name) -> Result<Option<(Proc, Items<Proc>)>, AllocError>
         ensures { IfOk result (λ o. let waiters = (object self.now name).waiters in MatchOption o (waiters ≡ []) (λ p. waiters ≡ p.0 ∷ p.1)) }
     {
         match self.object(name) {

@@ -5,9 +5,7 @@ ghost use Rattle.std.specs.Map.{lookup};
 ghost use Rattle.hk_model.specs.State.{object, process, same_name, put_slot, put_process, add_object};
 ghost use Rattle.hk_plain.specs.Numbers.{HasNumbers};
 
-use hk_model::{
-    Entry, Inc, Incarnation, Name, NoMemory, Object, Proc, Process, ProcessState,
-};
+use hk_model::{Entry, Inc, Incarnation, Name, NoMemory, Object, Proc, Process, ProcessState};
 use std::collections::{BTreeMap, VecDeque};
 use std::marker::Model;
 

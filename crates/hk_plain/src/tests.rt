@@ -1,11 +1,11 @@
-// The smallest run, and calls that refuse and change.
+// The smallest run, call by call.
 
 ghost use Rattle.std.specs.Prelude.{◌≡◌, IfOk};
 
 use crate::Plain;
 use hk_model::{
-    Acted, Answer, Born, Call, Cap, Code, Cpu, Entries, Entry, Items, Kernel, Kind, Name, Path,
-    Proc, Refusal, Reply, Slot, Task, Text, Words, World,
+    Born, Call, Cap, Code, Cpu, Entries, Entry, Inc, Items, Kernel, Kind, Name, Path, Proc,
+    Refusal, Reply, Task, Text, Words, World,
 };
 use hk_rights::{Right, Rights};
 use std::alloc::{AllocError, Global};
@@ -64,5 +64,50 @@ fn the_opening_shows_the_object(rt: HostRuntime) -> Result<(), Fail> {
     assert_eq!(rt; shown.incarnations.as_slice()[0].slots.len(), 64);
     assert_eq!(rt; shown.ready.as_slice(), [Proc(0)].as_slice());
     assert_eq!(rt; shown.next_name, Name(8));
+    Ok(())
+}
+
+// The process that a processor is given, if it runs none.
+fn dispatched(kernel: &mut Plain) -> Option<Proc> {
+    if kernel.current(Cpu(0)).is_some() || kernel.limit_reached() {
+        return None;
+    }
+    kernel.dispatch(Cpu(0))
+}
+
+// The reply to a call of the process that the processor runs.
+fn reply_to(alloc: Global, kernel: &mut Plain, call: Call) -> Option<Reply> {
+    if kernel.current(Cpu(0)).is_none() || kernel.limit_reached() {
+        return None;
+    }
+    match kernel.act(alloc, Cpu(0), call) {
+        Ok(acted) => Some(acted.reply),
+        Err(_) => None,
+    }
+}
+
+#[test]
+fn a_process_reads_and_is_halted(rt: HostRuntime) -> Result<(), Fail> {
+    let alloc = rt.alloc();
+    let mut kernel = Plain::new(alloc, &world(alloc)?).ok().ok_or("a kernel")?;
+    let slot_0 = Path::new(&[0]).ok_or("a path")?;
+    assert_eq!(rt; dispatched(&mut kernel), Some(Proc(0)));
+    assert_eq!(rt; kernel.current(Cpu(0)), Some((Proc(0), Inc(0))));
+    let call = Call::Get { of: slot_0, at: 0 };
+    assert_eq!(rt; reply_to(alloc, &mut kernel, call), Some(Reply::Word(7)));
+    let call = Call::Add {
+        of: slot_0,
+        word: 8,
+    };
+    let denied = Refusal::Denied {
+        step: 0,
+        right: Right::ADDDATA,
+    };
+    assert_eq!(rt; reply_to(alloc, &mut kernel, call), Some(Reply::No(denied)));
+    assert!(rt; !kernel.over());
+    if kernel.current(Cpu(0)).is_some() && !kernel.limit_reached() {
+        kernel.halt(Cpu(0));
+    }
+    assert!(rt; kernel.over());
     Ok(())
 }
