@@ -1,0 +1,14 @@
+//! Merging a capability with a template, and the name space of a call (`docs/RULES.md`, "Merging"
+//! and "Calls of procedures").
+#![tactic(auto)]
+
+mod merging;
+mod name_space;
+mod refusing;
+
+pub use merging::{amplify_form, merge};
+pub use name_space::{Arg, build_space};
+pub use refusing::{allowed, confined_rights, held};
+
+#[cfg(test)]
+mod tests;

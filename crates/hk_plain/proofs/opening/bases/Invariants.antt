@@ -1,0 +1,6 @@
+use Rattle.std.proofs.Common.{◌≡◌, take}
+use Rattle.hk_model.specs.Opening.{bases}
+use Rattle.hk_plain.proofs.opening.bases.Given as goal
+
+abbrev pub invariant-loop-n : goal.invariant-loop-n
+invariant-loop-n l = l.incarnations.entries ≡ bases 0 (take l.n l.tasks)

@@ -1,0 +1,6 @@
+pub mod Numbers
+pub mod Giving
+pub mod Kinds
+pub mod Additions
+pub mod Entering
+pub mod Opening

@@ -1,0 +1,29 @@
+//! The plain kernel: the rule table over ordered maps (`docs/RULES.md`, "The table of the calls").
+//!
+//! Each call is one small function, whose contract is its row of the table. The files are by
+//! subject: `tables` has the state, `walks` and `targets` the tests that the calls share, `plain`
+//! the kernel over them.
+#![tactic(auto)]
+
+mod calls;
+mod incarnations;
+mod lists;
+mod objects;
+mod opening;
+mod plain;
+mod procedures;
+mod processors;
+mod semaphores;
+mod shows;
+mod slots;
+mod stop;
+mod tables;
+mod targets;
+mod templates;
+mod walks;
+mod words;
+
+pub use plain::Plain;
+
+#[cfg(test)]
+mod tests;

@@ -1,0 +1,82 @@
+//! The plain kernel.
+
+ghost use Rattle.std.specs.Prelude.{◌≡◌, IfOk};
+ghost use Rattle.hk_model.specs.Opening.{opening};
+
+use crate::tables::Tables;
+use hk_model::{Acted, Call, Cpu, Inc, Kernel, NoMemory, Proc, Snapshot, World};
+use std::alloc::Global;
+use std::marker::Model;
+
+/// The plain kernel: its state in ordered maps, and each call as its row of the rule table says
+/// (`docs/RULES.md`, "Steps of processors"). Contracts see the state.
+#[derive(Drop)]
+pub struct Plain {
+    tables: Tables,
+}
+
+impl Model for Plain {
+    ghost use Rattle.hk_model.specs.State.{State};
+    ghost use Rattle.hk_plain.specs.Numbers.{FewNumbers};
+
+    ghost Value = { State };
+
+    ghost view = { λ k. k.tables };
+
+    ghost invariant = { λ k. FewNumbers k.tables };
+}
+
+impl Plain {
+    /// The kernel in the state in which a world opens (`docs/RULES.md`, "The opening"). NoMemory
+    /// is want of memory.
+    pub fn new(alloc: Global, world: &World) -> Result<Plain, NoMemory>
+        ensures { IfOk result (λ k. k ≡ opening world.now) }
+    {
+        let tables = Tables::open(alloc, world)?;
+        Ok(Plain { tables })
+    }
+}
+
+impl Kernel for Plain {
+    ghost use Rattle.hk_model.specs.State.{State};
+    ghost use Rattle.std.specs.Prelude.{true};
+
+    ghost state = { λ k. k };
+
+    ghost wants = { λ _. true };
+
+    fn act(&mut self, alloc: Global, cpu: Cpu, call: Call) -> Result<Acted, NoMemory> {
+        match self.tables.runner(cpu) {
+            Some(proc) => self.tables.act(alloc, proc, &call),
+            None => unreachable!(),
+        }
+    }
+
+    fn dispatch(&mut self, cpu: Cpu) -> Option<Proc> {
+        self.tables.dispatch(cpu)
+    }
+
+    fn halt(&mut self, cpu: Cpu) {
+        match self.tables.runner(cpu) {
+            Some(proc) => self.tables.halt(proc),
+            None => unreachable!(),
+        }
+    }
+
+    fn current(&self, cpu: Cpu) -> Option<(Proc, Inc)> {
+        let proc = self.tables.runner(cpu)?;
+        Some((proc, self.tables.current_of(proc)))
+    }
+
+    fn over(&self) -> bool {
+        self.tables.over()
+    }
+
+    fn limit_reached(&self) -> bool {
+        self.tables.limit_reached()
+    }
+
+    fn snapshot(&self, alloc: Global) -> Result<Snapshot, NoMemory> {
+        Ok(self.tables.shown(alloc)?)
+    }
+}

@@ -1,0 +1,161 @@
+//! What processors run: the dispatch, the halt, and who runs where.
+
+ghost use Rattle.std.specs.Prelude.{◌≡◌, ◌<◌, ◌≤◌, ◌+◌, ◌^◌, ◌∷◌, [], ◌==◌, ◌||◌, not, length, IsTrue, IfSome, IfNone, Some, None, filter};
+ghost use Rattle.std.specs.List.{list_any};
+ghost use Rattle.hk_model.specs.declared.objects.Process.{Process};
+ghost use Rattle.hk_model.specs.State.{process};
+ghost use Rattle.hk_model.specs.Rule.{counted};
+ghost use Rattle.hk_model.specs.Processors.{runner, runner_from, is_on, is_ready, is_running, may_step, dispatched, halted, is_over};
+
+use crate::tables::Tables;
+use hk_model::{Cpu, Inc, Incarnation, Proc, Process, ProcessState};
+use std::collections::BTreeMap;
+
+// The number of the process that runs on a processor.
+fn runner_among(processes: &[Process], cpu: Cpu) -> Option<Proc>
+    requires { length processes.now ≤ 256 }
+    ensures { result ≡ runner_from processes.now cpu 0 }
+{
+    for (n, process) in processes.iter().enumerate() {
+        if is_on(process.run, cpu) {
+            return Some(Proc(n as u16));
+        }
+    }
+    None
+}
+
+// Whether a process runs on this processor.
+fn is_on(run: ProcessState, cpu: Cpu) -> bool
+    ensures { result ≡ is_on cpu run }
+{
+    match run {
+        ProcessState::Running(other) => other.0 == cpu.0,
+        _ => false,
+    }
+}
+
+// Whether a process is ready or runs.
+fn is_live(run: ProcessState) -> bool
+    ensures { result ≡ (is_ready run || is_running run) }
+{
+    match run {
+        ProcessState::Ready | ProcessState::Running(_) => true,
+        ProcessState::Waiting(_) | ProcessState::Ended => false,
+    }
+}
+
+// Whether some process is ready or runs.
+fn some_live(processes: &[Process]) -> bool
+    ensures { result ≡ list_any (λ (p : Process). is_ready p.run || is_running p.run) processes.now }
+{
+    processes.iter().any(|process| is_live(process.run))
+}
+
+// The incarnations but those of a process.
+fn forget_process(incarnations: &mut BTreeMap<Inc, Incarnation>, proc: Proc)
+    ensures { incarnations.new.entries ≡ filter (λ e. not (e.1.proc.0 == proc.0)) incarnations.old.entries }
+{
+    incarnations.retain(|_inc, incarnation| incarnation.proc.0 != proc.0);
+}
+
+impl Tables {
+    // The process that a processor runs.
+    pub(crate) fn runner(&self, cpu: Cpu) -> Option<Proc>
+        ensures { result ≡ runner self.now cpu }
+    {
+        runner_among(self.processes.as_slice(), cpu)
+    }
+
+    // The current incarnation of a process.
+    pub(crate) fn current_of(&self, proc: Proc) -> Inc
+        ensures { result ≡ (process self.now proc).current }
+    {
+        match self.processes.as_slice().get(proc.0 as usize) {
+            Some(process) => process.current,
+            None => Inc(0),
+        }
+    }
+
+    // Whether a process does not run.
+    pub(crate) fn rests(&self, proc: Proc) -> bool
+        ensures { result ≡ not (is_running (process self.now proc).run) }
+    {
+        match self.processes.as_slice().get(proc.0 as usize) {
+            Some(process) => match process.run {
+                ProcessState::Running(_) => false,
+                _ => true,
+            },
+            None => true,
+        }
+    }
+
+    // The number of events with one more.
+    pub(crate) fn next_event(&self) -> u32
+        requires { IsTrue (may_step self.now) }
+        ensures value { result ≡ self.now.events + 1 }
+        ensures small { self.now.events < 2 ^ 32 }
+    {
+        let _limit = self.limit;
+        self.events + 1
+    }
+
+    /// Whether the events number the limit.
+    pub(crate) fn limit_reached(&self) -> bool
+        ensures { result ≡ not (may_step self.now) }
+    {
+        self.events >= self.limit
+    }
+
+    // Writes the number of events.
+    pub(crate) fn set_events(&mut self, events: u32)
+        ensures { self.new ≡ counted events self.old }
+    {
+        self.events = events;
+    }
+
+    // Takes the first ready process from its list.
+    fn take_ready(&mut self) -> Option<Proc>
+        ensures some { IfSome result (λ proc. (self.old.ready ≡ proc ∷ self.new.ready) × (self.new ≡ record self.old { ready = self.new.ready })) }
+        ensures none { IfNone result ((self.old.ready ≡ []) × (self.new ≡ self.old)) }
+    {
+        self.ready.pop_front()
+    }
+
+    /// Gives the processor the first ready process.
+    pub(crate) fn dispatch(&mut self, cpu: Cpu) -> Option<Proc>
+        requires { IsTrue (may_step self.old) }
+        ensures given { IfSome result (λ proc. dispatched self.old cpu ≡ Some (proc, self.new)) }
+        ensures none { IfNone result ((dispatched self.old cpu ≡ None) × (self.new ≡ self.old)) }
+    {
+        let events = self.next_event();
+        let first = self.take_ready()?;
+        self.set_run(first, ProcessState::Running(cpu));
+        self.set_events(events);
+        Some(first)
+    }
+
+    // All incarnations of a process go.
+    fn remove_incarnations(&mut self, proc: Proc)
+        ensures { self.new ≡ record self.old { incarnations = filter (λ e. not (e.1.proc.0 == proc.0)) self.old.incarnations } }
+    {
+        forget_process(&mut self.incarnations, proc);
+    }
+
+    /// Ends a process, with all its incarnations.
+    pub(crate) fn halt(&mut self, proc: Proc)
+        requires { IsTrue (may_step self.old) }
+        ensures { self.new ≡ halted self.old proc }
+    {
+        let events = self.next_event();
+        self.set_run(proc, ProcessState::Ended);
+        self.remove_incarnations(proc);
+        self.set_events(events);
+    }
+
+    /// Whether no process is ready and none runs.
+    pub(crate) fn over(&self) -> bool
+        ensures { result ≡ is_over self.now }
+    {
+        !some_live(self.processes.as_slice())
+    }
+}

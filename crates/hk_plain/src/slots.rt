@@ -1,0 +1,86 @@
+//! The calls on slots: Load, Drop, Restrict and Look.
+
+ghost use Rattle.std.specs.Prelude.{◌≡◌};
+ghost use Rattle.hk_model.specs.declared.entries.Entry.TheVariants.{Form};
+ghost use Rattle.hk_model.specs.Rule.{load_entry, drop_slot, restrict_slot, look, looked};
+ghost use Rattle.hk_plain.specs.Giving.{Gives};
+
+use crate::stop::Stop;
+use crate::tables::Tables;
+use crate::targets::{not_empty, slot_at};
+use hk_merge::held;
+use hk_model::{Answer, Cap, Entry, Inc, Path, Slot, Template};
+use hk_rights::Rights;
+use std::marker::PhantomData;
+
+// What Look replies for an entry: its kind in the highest byte, and its rights.
+fn looked(entry: Entry) -> u32
+    ensures { result ≡ looked entry }
+{
+    match entry {
+        Entry::Empty => 0,
+        Entry::Held(cap) => 0x0100_0000 + cap.rights.bits(),
+        Entry::Form(form) => form_looked(form),
+    }
+}
+
+// What Look replies for a template: its kind, and the rights that it gives.
+fn form_looked(form: Template) -> u32
+    ensures { result ≡ looked (Form form) }
+{
+    match form {
+        Template::Amplify { give, .. } => 0x0200_0000 + give.bits(),
+        Template::Create { give, .. } => 0x0300_0000 + give.bits(),
+    }
+}
+
+impl Tables {
+    /// Load: the slot becomes what the path leads to.
+    #[tactic(auto, unfolding(hk_model::specs::Rule::load_entry))]
+    pub(crate) fn load(&mut self, inc: Inc, path: &Path, into: Slot) -> Result<Answer, Stop>
+        ensures { Gives self.old (load_entry self.old inc path.now into) result self.new }
+    {
+        let _ = PhantomData::<Template>; // Rattle is to know what an Entry holds
+        let step = path.len() as u8;
+        let slot = slot_at(into, step)?;
+        let found = self.walk(inc, path)?;
+        let entry = not_empty(found, step - 1)?;
+        self.set_slot(inc, slot, entry);
+        Ok(Answer::Done)
+    }
+
+    /// Drop: the slot becomes Empty.
+    #[tactic(auto, unfolding(hk_model::specs::Rule::drop_slot))]
+    pub(crate) fn drop_slot(&mut self, inc: Inc, from: Slot) -> Result<Answer, Stop>
+        ensures { Gives self.old (drop_slot self.old inc from) result self.new }
+    {
+        let slot = slot_at(from, 0)?;
+        self.set_slot(inc, slot, Entry::Empty);
+        Ok(Answer::Done)
+    }
+
+    /// Restrict: the capability in the slot keeps only these rights.
+    #[tactic(auto, unfolding(hk_model::specs::Rule::restrict_slot))]
+    pub(crate) fn restrict(&mut self, inc: Inc, from: Slot, keep: Rights) -> Result<Answer, Stop>
+        ensures { Gives self.old (restrict_slot self.old inc from keep) result self.new }
+    {
+        let slot = slot_at(from, 0)?;
+        let cap = held(self.slot(inc, slot), 0)?;
+        let kept = Cap {
+            name: cap.name,
+            rights: cap.rights.intersection(keep),
+        };
+        self.set_slot(inc, slot, Entry::Held(kept));
+        Ok(Answer::Done)
+    }
+
+    /// Look: replies what the path leads to.
+    #[tactic(auto, unfolding(hk_model::specs::Rule::look))]
+    pub(crate) fn look(&self, inc: Inc, path: &Path) -> Result<Answer, Stop>
+        ensures { Gives self.now (look self.now inc path.now) result self.now }
+    {
+        let _ = PhantomData::<Template>; // Rattle is to know what an Entry holds
+        let found = self.walk(inc, path)?;
+        Ok(Answer::Word(looked(found)))
+    }
+}

@@ -1,0 +1,23 @@
+-- Name spaces and stacks of them. docs/RULES.md, "Objects, incarnations, processes".
+use Rattle.std.specs.Prelude.{ℕ, ◌-◌, List, length, Option, Some, None, replicate, slice_get, slice_set}
+use Rattle.hk_model.specs.declared.entries.Entry.{Entry}
+use Rattle.hk_model.specs.declared.entries.Entry.TheVariants.{Empty}
+use Rattle.hk_model.specs.Limits.{slot_limit}
+use Rattle.hk_spaces.specs.declared.stack.StackFrame.{StackFrame}
+
+-- 64 slots in which nothing stands
+unfoldable pub empty_slots : List Entry
+empty_slots = replicate slot_limit Empty
+
+-- the frame with an entry in a slot
+abbrev pub with_slot : StackFrame → ℕ → Entry → StackFrame
+with_slot frame slot entry = record frame { space = slice_set frame.space slot entry }
+
+-- the frames with an entry in a slot of the frame at a place, if there is one
+abbrev pub with_changed : List StackFrame → ℕ → Option StackFrame → ℕ → Entry → List StackFrame
+with_changed frames at None slot entry = frames
+with_changed frames at (Some frame) slot entry = slice_set frames at (with_slot frame slot entry)
+
+-- the frames with an entry in a slot of the last one
+abbrev pub with_top : List StackFrame → ℕ → Entry → List StackFrame
+with_top frames slot entry = let last = length frames - 1 in with_changed frames last (slice_get frames last) slot entry
