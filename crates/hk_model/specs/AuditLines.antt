@@ -49,6 +49,7 @@ call_pieces (call.P of) = verb_piece verb.P ∷ path_piece of ∷ []
 call_pieces (call.V of) = verb_piece verb.V ∷ path_piece of ∷ []
 call_pieces call.Yield = verb_piece verb.Yield ∷ []
 
+-- what happened: `dispatch`, `halt`, or the call
 abbrev pub what_pieces : What → List Piece
 what_pieces what.Dispatch = Word (codes "dispatch") ∷ []
 what_pieces (what.Call c) = call_pieces c
@@ -74,6 +75,7 @@ refusal_pieces refused.Count = Word (codes "count") ∷ []
 refusal_pieces (refused.Full kind) = Word (codes "full") ∷ Word (full_word kind) ∷ []
 refusal_pieces refused.Deep = Word (codes "deep") ∷ []
 
+-- a reply: its word, and what it tells
 abbrev pub reply_pieces : Reply → List Piece
 reply_pieces reply.Done = Word (codes "done") ∷ []
 reply_pieces (reply.Word n) = Word (codes "word") ∷ Number n ∷ []
@@ -84,6 +86,7 @@ reply_pieces (reply.No refusal) = refusal_pieces refusal
 abbrev pub event_pieces : Line → List Piece
 event_pieces line = Number line.cpu.0 ∷ Number line.proc.0 ∷ Number line.inc.0 ∷ what_pieces line.what
 
+-- what stands between the event and the reply
 abbrev pub arrow : List ℕ
 arrow = codes "->"
 

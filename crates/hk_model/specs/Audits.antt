@@ -20,14 +20,17 @@ pub record Events : Type 0 where
   pub lines : List Line
   pub end : End
 
+-- these lines and this end word
 abbrev pub events : List Line → End → Events
 events lines end = record { lines = lines; end = end }
 
+-- what a record tells
 pub record Audited : Type 0 where
   pub world : Setup
   pub lines : List Line
   pub end : End
 
+-- this world, and these events
 abbrev pub audited : Setup → Events → Audited
 audited w found = record { world = w; lines = found.lines; end = found.end }
 
@@ -36,12 +39,15 @@ pub record Cut : Type 0 where
   pub script : List (List ℕ)
   pub behind : Option (List (List ℕ))
 
+-- these lines of the script, and these texts behind it
 abbrev pub cut : List (List ℕ) → Option (List (List ℕ)) → Cut
 cut script behind = record { script = script; behind = behind }
 
+-- a line in front of the script's
 abbrev pub one_more : List ℕ → Cut → Cut
 one_more line c = cut (line ∷ c.script) c.behind
 
+-- the line is exactly `record`
 abbrev pub is_record : List ℕ → Bool
 is_record line = same_text line record_word
 

@@ -41,12 +41,15 @@ pub record Spoken : Type 0 where
   pub objects : List (List ℕ)
   pub codes : List (List ℕ)
 
+-- the labels of a world, the names of the kernel types before those of the objects
 abbrev pub spoken : Setup → Spoken
 spoken w = record { objects = kernel_names ++ map (λ (b : Born). b.label) w.objects; codes = map (λ (c : Code). c.label) w.codes }
 
+-- the label of an object
 abbrev pub object_text : Spoken → Name → List ℕ
 object_text s name = slice_index_or s.objects name.0 []
 
+-- the label of a code
 abbrev pub code_text : Spoken → ℕ → List ℕ
 code_text s code = slice_index_or s.codes code []
 
@@ -57,24 +60,30 @@ kind_text s (Some name) = object_text s name
 
 -- lines and items, which are given no numbers here
 
+-- a line inside an item
 abbrev pub part : Body → Part
 part body = record { line = 0; body = body }
 
+-- an item with these lines inside
 abbrev pub item : Head → List Part → Item
 item head parts = record { line = 0; head = head; parts = parts }
 
+-- the line of an entry
 abbrev pub entry_body : Spoken → Entry → Body
 entry_body s Empty = EmptyEntry
 entry_body s (Held cap) = CapEntry (object_text s cap.name) (rights_text cap.rights)
 entry_body s (Form (template.Amplify of check give)) = AmplifyEntry (kind_text s of) (rights_text check) (rights_text give)
 entry_body s (Form (template.Create of give)) = CreateEntry (object_text s of) (rights_text give)
 
+-- the lines of entries
 abbrev pub entry_parts : Spoken → List Entry → List Part
 entry_parts s entries = map (λ (e : Entry). part (entry_body s e)) entries
 
+-- the line of a parameter
 abbrev pub param_body : Spoken → Param → Body
 param_body s param = ParamIs (kind_text s param.of) (rights_text param.check) (rights_text param.give)
 
+-- the lines of parameters
 abbrev pub param_parts : Spoken → List Param → List Part
 param_parts s params = map (λ (p : Param). part (param_body s p)) params
 
@@ -82,6 +91,7 @@ param_parts s params = map (λ (p : Param). part (param_body s p)) params
 abbrev pub words_bytes : ℕ
 words_bytes = 5
 
+-- the bytes of a number, and of the space before it
 abbrev pub number_bytes : ℕ → ℕ
 number_bytes word = 1 + length (decimal word)
 
@@ -101,6 +111,7 @@ abbrev pub word_lines : List ℕ → List (List ℕ)
 word_lines [] = []
 word_lines (word ∷ words) = words_from words_bytes (word ∷ words)
 
+-- the `words` lines
 abbrev pub word_parts : List ℕ → List Part
 word_parts words = map (λ line. part (WordsAre line)) (word_lines words)
 
@@ -108,6 +119,7 @@ word_parts words = map (λ line. part (WordsAre line)) (word_lines words)
 abbrev pub label_text : ℕ → List ℕ
 label_text n = 108 ∷ decimal n
 
+-- the kind of template that an instruction makes, with its rights in canonical spelling
 abbrev pub making_text : Making → MakingText
 making_text (making.Amplify check give) = written_making.Amplify (rights_text check) (rights_text give)
 making_text (making.Create give) = written_making.Create (rights_text give)
@@ -165,12 +177,15 @@ kind_item s label (kind.Plain of words entries) = item (ObjectIs label (object_t
 kind_item s label (kind.Semaphore count) = item (SemaphoreIs label count) []
 kind_item s label (kind.Procedure code params entries) = item (ProcedureIs label (code_text s code)) (param_parts s params ++ entry_parts s entries)
 
+-- the item of an object
 abbrev pub object_item : Spoken → Born → Item
 object_item s born = kind_item s born.label born.kind
 
+-- the item of a code
 abbrev pub code_item : Code → Item
 code_item code = item (CodeIs code.label) (code_parts code.steps 0 code.steps)
 
+-- the item of a process
 abbrev pub task_item : Spoken → Task → Item
 task_item s task = item (ProcessIs task.label (code_text s task.code)) (entry_parts s task.slots)
 

@@ -16,6 +16,7 @@ use Rattle.hk_model.specs.Limits.{slot_limit, index_bound}
 use Rattle.hk_model.specs.Pieces.{Piece, Word, Upper, Dash, Number, Path, register_of}
 use Rattle.hk_model.specs.Verbs.{verb_word, all_verbs}
 
+-- a verb, or UnknownWord
 abbrev pub verb_found : Option Verb → Result Verb ParseCause
 verb_found (Some v) = Ok v
 verb_found None = Err UnknownWord
@@ -62,6 +63,7 @@ abbrev pub as_number_below : ℕ → Piece → Result ℕ ParseCause
 as_number_below bound (Number n) = if nat_lt n bound then Ok n else Err OutOfRange
 as_number_below bound _ = Err UnknownWord
 
+-- the slot of this number
 abbrev pub slot_numbered : ℕ → Slot
 slot_numbered n = record { 0 = n }
 
@@ -70,6 +72,7 @@ abbrev pub as_slot : Piece → Result Slot ParseCause
 as_slot (Number n) = if nat_lt n slot_limit then Ok (slot_numbered n) else Err OutOfRange
 as_slot _ = Err UnknownWord
 
+-- `r0` to `r7`
 abbrev pub as_register : Piece → Result ℕ ParseCause
 as_register (Word t) = if is_register t then Ok (register_of t) else Err UnknownWord
 as_register _ = Err UnknownWord
@@ -90,6 +93,7 @@ abbrev pub is_route : List Index → Bool
 is_route [] = false
 is_route (first ∷ more) = is_index_below slot_limit first && list_all (is_index_below index_bound) more
 
+-- the path of these indices
 abbrev pub route_of : List Index → Route
 route_of indices = record { at = indices }
 

@@ -23,20 +23,25 @@ use Rattle.hk_model.specs.Setup.{Setup, setup}
 
 -- sets of rights
 
+-- to read and write words, without the right to change
 abbrev pub GETDATA+PUTDATA : ℕ
 GETDATA+PUTDATA = 0x3
 
+-- to read and write words
 abbrev pub GETDATA+PUTDATA+MODIFY : ℕ
 GETDATA+PUTDATA+MODIFY = 0x103
 
+-- to take and give the tokens of a semaphore
 abbrev pub MODIFY+A0+A1 : ℕ
 MODIFY+A0+A1 = 0x30100
 
 -- parts of worlds
 
+-- the name of this number
 abbrev pub name : ℕ → Name
 name n = record { 0 = n }
 
+-- the slot of this number
 abbrev pub slot : ℕ → Slot
 slot n = record { 0 = n }
 
@@ -44,32 +49,41 @@ slot n = record { 0 = n }
 abbrev pub at_slot : ℕ → Route
 at_slot n = record { at = Fixed n ∷ [] }
 
+-- an object of the script
 abbrev pub born : List ℕ → Kind → Born
 born label kind = record { label = label; kind = kind }
 
+-- a code of the script
 abbrev pub code : List ℕ → List Instr → Code
 code label steps = record { label = label; steps = steps }
 
+-- a process of the script
 abbrev pub task : List ℕ → ℕ → List Entry → Task
 task label code slots = record { label = label; code = code; slots = slots }
 
+-- a capability
 abbrev pub held : ℕ → ℕ → Entry
 held n rights = Held (record { name = name n; rights = rights })
 
 -- the names of the objects, and the numbers of the codes
 
+-- the word that is counted up
 abbrev pub total : ℕ
 total = 7
 
+-- the semaphore
 abbrev pub lock : ℕ
 lock = 8
 
+-- the procedure
 abbrev pub bump : ℕ
 bump = 9
 
+-- the code of the procedure
 abbrev pub cbump : ℕ
 cbump = 0
 
+-- the code of the processes
 abbrev pub main : ℕ
 main = 1
 

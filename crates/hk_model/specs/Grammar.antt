@@ -24,6 +24,7 @@ use Rattle.hk_model.specs.Spelling.{has_parts}
 
 -- the lines, each by the word that it begins with
 
+-- the line that begins with this word is the header
 abbrev pub header_of : Verb → Reads (Unit {0})
 header_of verb.Hydra = do
   version ← wanted (as_number_in 1 1)
@@ -100,6 +101,7 @@ procedure_part verb.Param = do
   end (ParamIs kind check give)
 procedure_part word = entry_of word
 
+-- an instruction as a line of a code
 abbrev pub step_part : Reads Written → Reads Body
 step_part step pieces = onward (step pieces) (λ written rest. Ok (StepIs written, rest))
 
@@ -118,6 +120,7 @@ body_of (CodeIs name) word = code_part word
 body_of (ProcessIs name code) word = entry_of word
 body_of _ _ = unknown
 
+-- a line that is not `end`
 abbrev pub some_part : Reads Body → Reads (Option Body)
 some_part body pieces = onward (body pieces) (λ found rest. Ok (Some found, rest))
 
@@ -140,6 +143,7 @@ part_line head = do
 
 -- the names that were given, which stand once
 
+-- the name is one of these
 abbrev pub is_among : List (List ℕ) → List ℕ → Bool
 is_among names name = list_any (same_text name) names
 
@@ -149,6 +153,7 @@ pub record Seen : Type 0 where
   pub names : List (List ℕ)
   pub limited : Bool
 
+-- before the first item
 abbrev pub nothing_seen : Seen
 nothing_seen = record { names = []; limited = false }
 
@@ -167,6 +172,7 @@ abbrev pub is_new : Seen → Head → Bool
 is_new seen (LimitIs n) = not seen.limited
 is_new seen head = not (is_among seen.names (head_name head))
 
+-- what was seen, and this head
 abbrev pub noted : Seen → Head → Seen
 noted seen (LimitIs n) = record seen { limited = true }
 noted seen head = record seen { names = seen.names ++ head_name head ∷ [] }
@@ -176,6 +182,7 @@ abbrev pub is_new_label : List (List ℕ) → Body → Bool
 is_new_label labels (LabelIs label) = not (is_among labels label)
 is_new_label labels _ = true
 
+-- the labels of a code, and the one that this line may give
 abbrev pub noted_label : List (List ℕ) → Body → List (List ℕ)
 noted_label labels (LabelIs label) = labels ++ label ∷ []
 noted_label labels _ = labels
@@ -193,15 +200,19 @@ pub record Read : Type 0 where
   pub seen : Seen
   pub unclosed : Option Open
 
+-- an item whose head stands on this line
 abbrev pub item_at : ℕ → Head → List Part → Item
 item_at line head parts = record { line = line; head = head; parts = parts }
 
+-- a part that stands on this line
 abbrev pub part_at : ℕ → Body → Part
 part_at line body = record { line = line; body = body }
 
+-- no item is open
 abbrev pub between_items : List Item → Seen → Read
 between_items items seen = record { items = items; seen = seen; unclosed = None }
 
+-- this item is open, and has given these labels
 abbrev pub in_item : List Item → Seen → Item → List (List ℕ) → Read
 in_item items seen item labels = record { items = items; seen = seen; unclosed = Some (record { item = item; labels = labels }) }
 
@@ -236,6 +247,7 @@ abbrev pub next_line : Read → Option Open → ℕ → List Piece → Result Re
 next_line r None line pieces = and_then (head_line pieces) (begun r line)
 next_line r (Some o) line pieces = and_then (part_line o.item.head pieces) (joined r o line)
 
+-- what the lines before have given, and this one
 abbrev pub after_line : Read → ℕ → List Piece → Result Read ParseCause
 after_line r line pieces = next_line r r.unclosed line pieces
 

@@ -7,15 +7,19 @@ use Rattle.std.specs.Cmp.Lexicographic.{pointwise}
 abbrev pub same_text : List ℕ → List ℕ → Bool
 same_text a b = pointwise nat_eq a b
 
+-- the number is in this range
 abbrev pub between : ℕ → ℕ → ℕ → Bool
 between low high n = nat_le low n && nat_le n high
 
+-- `0` to `9`
 abbrev pub is_digit : ℕ → Bool
 is_digit b = between 48 57 b
 
+-- `a` to `z`
 abbrev pub is_lower : ℕ → Bool
 is_lower b = between 97 122 b
 
+-- `A` to `Z`
 abbrev pub is_capital : ℕ → Bool
 is_capital b = between 65 90 b
 
@@ -23,6 +27,7 @@ is_capital b = between 65 90 b
 abbrev pub is_word_byte : ℕ → Bool
 is_word_byte b = is_lower b || is_digit b || b == 95
 
+-- the first byte of a text
 abbrev pub first : List ℕ → ℕ
 first t = slice_index t 0
 

@@ -1,4 +1,4 @@
--- Legal histories, and the first misstep of one that is not. docs/RULES.md, "Steps of processors"; docs/FORMATS.md, "Legal records".
+-- Legal histories. docs/RULES.md, "Steps of processors"; docs/FORMATS.md, "Legal records".
 use Rattle.std.specs.Prelude.{◌≡◌, ◌&&◌, not, List, Option, Some, None, if◌then◌else◌}
 use Rattle.std.specs.List.{list_all, list_any}
 use Rattle.hk_model.specs.declared.lines.Line.{Line}

@@ -23,10 +23,12 @@ IsPathValue path = (0 < length path) × (length path ≤ path_limit) × AllByRec
 abbrev pub IsAnySlot : Slot → Type 0
 IsAnySlot slot = slot.0 < slot_bound
 
+-- a slot of a call, if there is one
 abbrev pub IsAnySlotOrNone : Option Slot → Type 0
 IsAnySlotOrNone None = Unit {0}
 IsAnySlotOrNone (Some slot) = IsAnySlot slot
 
+-- at most eight slots, the arguments of a call
 abbrev pub AreAnySlots : List ℕ → Type 0
 AreAnySlots args = (length args ≤ argument_limit) × AllByRecursion (λ slot. slot < slot_bound) args
 
@@ -53,6 +55,7 @@ IsCall (call.P of) = IsPathValue of
 IsCall (call.V of) = IsPathValue of
 IsCall call.Yield = Unit {0}
 
+-- what happened
 abbrev pub IsWhat : What → Type 0
 IsWhat what.Dispatch = Unit {0}
 IsWhat (what.Call c) = IsCall c
@@ -62,6 +65,7 @@ IsWhat what.Halt = Unit {0}
 abbrev pub IsStep : ℕ → Type 0
 IsStep step = step < 256
 
+-- a refusal: its step, and a right that there is
 abbrev pub IsRefusal : Refusal → Type 0
 IsRefusal (refused.Range step) = IsStep step
 IsRefusal (refused.Empty step) = IsStep step
@@ -73,6 +77,7 @@ IsRefusal refused.Count = Unit {0}
 IsRefusal (refused.Full kind) = Unit {0}
 IsRefusal refused.Deep = Unit {0}
 
+-- a reply
 abbrev pub IsReply : Reply → Type 0
 IsReply reply.Done = Unit {0}
 IsReply (reply.Word n) = IsWord32 n

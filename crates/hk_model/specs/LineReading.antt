@@ -36,10 +36,12 @@ use Rattle.hk_model.specs.AuditLines.{arrow, full_word, line_text}
 
 -- forms: numbers are resolved, so paths have no registers, and slots may be such that the call is refused
 
+-- a number that an index of a path can be
 abbrev pub is_number_index : Index → Bool
 is_number_index (Fixed n) = nat_lt n index_bound
 is_number_index (ByReg reg) = false
 
+-- the number of an index that is one
 abbrev pub index_number : Index → ℕ
 index_number (Fixed n) = n
 index_number (ByReg reg) = 0
@@ -54,10 +56,12 @@ as_path (Number n) = if nat_lt n index_bound then Ok (n ∷ []) else Err OutOfRa
 as_path (Path indices) = if list_all is_number_index indices then Ok (map index_number indices) else Err OutOfRange
 as_path _ = Err UnknownWord
 
+-- a slot of a call
 abbrev pub as_any_slot : Piece → Result Slot ParseCause
 as_any_slot (Number n) = if nat_lt n slot_bound then Ok (slot_numbered n) else Err OutOfRange
 as_any_slot _ = Err UnknownWord
 
+-- what was found, or UnknownWord
 abbrev pub set_found : Option ℕ → Result ℕ ParseCause
 set_found (Some rights) = Ok rights
 set_found None = Err UnknownWord
@@ -174,6 +178,7 @@ call_of verb.V = do
 call_of verb.Yield = end call.Yield
 call_of _ = unknown
 
+-- a call as what happened
 abbrev pub some_call : Reads Call → Reads What
 some_call reads pieces = onward (reads pieces) (λ c rest. Ok (what.Call c, rest))
 
@@ -183,6 +188,7 @@ call_named word = do
   v ← taken (as_verb (Word word))
   some_call (call_of v)
 
+-- what happened, by its first word
 abbrev pub what_of : List ℕ → Reads What
 what_of word =
     if same_text word (codes "dispatch") then end what.Dispatch
@@ -195,15 +201,18 @@ stepped refusal = do
   step ← wanted (as_number_below 256)
   end (reply.No (refusal step))
 
+-- a refusal that names a right besides its step
 abbrev pub denied : Reads Reply
 denied = do
   step ← wanted (as_number_below 256)
   right ← wanted as_right
   end (reply.No (refused.Denied step right))
 
+-- all that there can be no room for
 abbrev pub all_full : List What8
 all_full = full.Words ∷ full.Entries ∷ full.Objects ∷ full.Slots ∷ full.Tokens ∷ []
 
+-- what was found, or UnknownWord
 abbrev pub full_found : Option What8 → Result What8 ParseCause
 full_found (Some kind) = Ok kind
 full_found None = Err UnknownWord
@@ -213,16 +222,19 @@ abbrev pub as_full : Piece → Result What8 ParseCause
 as_full (Word t) = full_found (find (λ w. same_text t (full_word w)) all_full)
 as_full _ = Err UnknownWord
 
+-- a refusal for want of room
 abbrev pub full_reply : Reads Reply
 full_reply = do
   kind ← wanted as_full
   end (reply.No (refused.Full kind))
 
+-- the reply of a word
 abbrev pub word_reply : Reads Reply
 word_reply = do
   n ← wanted as_word32
   end (reply.Word n)
 
+-- a refusal, by its first word
 abbrev pub refusal_of : List ℕ → Reads Reply
 refusal_of word =
     if same_text word (codes "range") then stepped (λ step. refused.Range step)
@@ -236,6 +248,7 @@ refusal_of word =
     else if same_text word (codes "deep") then end (reply.No refused.Deep)
     else unknown
 
+-- a reply, by its first word
 abbrev pub reply_of : List ℕ → Reads Reply
 reply_of word =
     if same_text word (codes "done") then end reply.Done
@@ -243,11 +256,13 @@ reply_of word =
     else if same_text word (codes "waits") then end reply.Waits
     else refusal_of word
 
+-- what stands behind the arrow
 abbrev pub reply_line : Reads Reply
 reply_line = do
   word ← wanted as_word
   reply_of word
 
+-- a line of these parts
 abbrev pub line_with : ℕ → ℕ → ℕ → What → Reply → Line
 line_with cpu proc inc event answer = record { cpu = record { 0 = cpu }; proc = record { 0 = proc }; inc = record { 0 = inc }; what = event; reply = answer }
 
@@ -263,6 +278,7 @@ event_line = do
 
 -- pieces whose numbers go on to 64 bits, as the number of an incarnation does
 
+-- a piece, or a number that is too large for one and has 64 bits
 abbrev pub widened : List ℕ → Result Piece TextCause → Result Piece TextCause
 widened t (Ok piece) = Ok piece
 widened t (Err NumberTooLarge) = if is_number t && nat_lt (value t) inc_bound then Ok (Number (value t)) else Err NumberTooLarge
@@ -270,36 +286,44 @@ widened t (Err NotAscii) = Err NotAscii
 widened t (Err LongLine) = Err LongLine
 widened t (Err BadToken) = Err BadToken
 
+-- the pieces of these texts, or the cause of the leftmost that is bad
 abbrev pub wide_pieces : List (List ℕ) → Result (List Piece) TextCause
 wide_pieces [] = Ok []
 wide_pieces (t ∷ ts) = piece_onto (widened t (piece_of t)) (wide_pieces ts)
 
 -- the texts before the arrow, and those behind it
 
+-- the texts before an arrow and behind it
 pub record Halves : Type 0 where
   pub event : List (List ℕ)
   pub reply : List (List ℕ)
 
+-- a text in front of those before the arrow
 abbrev pub before_halves : List ℕ → Halves → Halves
 before_halves t h = record { event = t ∷ h.event; reply = h.reply }
 
+-- the texts cut at the first arrow
 abbrev pub halves : List (List ℕ) → Halves
 halves [] = record { event = []; reply = [] }
 halves (t ∷ ts) = if same_text t arrow then record { event = []; reply = ts } else before_halves t (halves ts)
 
+-- what was read
 abbrev pub kept : {A : Type 0} → Found A → Option A
 kept (Ok x) = Some x.0
 kept (Err cause) = None
 
+-- what a reader makes of all these pieces
 abbrev pub read_by : {A : Type 0} → Reads A → Result (List Piece) TextCause → Option A
 read_by reads (Ok pieces) = kept (reads pieces)
 read_by reads (Err cause) = None
 
+-- the line of an event and a reply, if both were read
 abbrev pub applied : Option (Reply → Line) → Option Reply → Option Line
 applied (Some line) (Some answer) = Some (line answer)
 applied (Some line) None = None
 applied None answer = None
 
+-- the line of the two halves
 abbrev pub from_halves : Halves → Option Line
 from_halves h = applied (read_by event_line (wide_pieces h.event)) (read_by reply_line (wide_pieces h.reply))
 

@@ -41,20 +41,24 @@ abbrev pub ◌>>=◌ : {A B C : Type 0} → Result A C → (A → Result B C) �
 (Ok x) >>= f = f x
 (Err e) >>= f = Err e
 
+-- the same, where the first test gives nothing
 abbrev pub ◌>>◌ : {A B C : Type 0} → Result A C → Result B C → Result B C
 (Ok x) >> next = next
 (Err e) >> next = Err e
 
+-- nothing is refused where the test holds
 abbrev pub unless : Bool → LoadCause → Result (Unit {0}) LoadCause
 unless true cause = Ok tt
 unless false cause = Err cause
 
+-- what was found, or the cause
 abbrev pub found : {A : Type 0} → Option A → LoadCause → Result A LoadCause
 found (Some x) cause = Ok x
 found None cause = Err cause
 
 -- the names that the heads declare, wherever they stand
 
+-- what heads declare, wherever they stand
 pub record Names : Type 0 where
   -- of the objects by their numbers: the kernel types, and then those of the script
   pub objects : List (List ℕ)
@@ -63,6 +67,7 @@ pub record Names : Type 0 where
   -- of the codes by their numbers
   pub codes : List (List ℕ)
 
+-- the label of an object's head
 abbrev pub object_label : Head → Option (List ℕ)
 object_label (TypeIs name) = Some name
 object_label (ObjectIs name of) = Some name
@@ -78,6 +83,7 @@ is_type_head (SemaphoreIs name count) = Some false
 is_type_head (ProcedureIs name code) = Some false
 is_type_head _ = None
 
+-- the label of a code's head
 abbrev pub code_label : Head → Option (List ℕ)
 code_label (CodeIs name) = Some name
 code_label _ = None
@@ -86,6 +92,7 @@ code_label _ = None
 abbrev pub kernel_flags : List Bool
 kernel_flags = map (λ name. true) kernel_names
 
+-- the names that these heads declare
 abbrev pub names_of : List Head → Names
 names_of heads = record {
   objects = kernel_names ++ filter_map object_label heads;
@@ -97,6 +104,7 @@ names_of heads = record {
 abbrev pub place : List (List ℕ) → List ℕ → Option ℕ
 place names t = position (same_text t) names
 
+-- the name of this number
 abbrev pub name_numbered : ℕ → Name
 name_numbered n = record { 0 = n }
 
@@ -111,6 +119,7 @@ type_named names t = do
   unless (slice_index_or names.types n false) UnknownName
   Ok n
 
+-- the name that was found, as that of a type which is wanted
 abbrev pub some_name : Result ℕ LoadCause → Result (Option Name) LoadCause
 some_name named = do
   n ← named
@@ -120,23 +129,26 @@ some_name named = do
 abbrev pub kind_named : Names → List ℕ → Result (Option Name) LoadCause
 kind_named names t = if same_text t (codes "any") then Ok None else some_name (type_named names t)
 
+-- the number of a code
 abbrev pub code_named : Names → List ℕ → Result ℕ LoadCause
 code_named names t = found (place names.codes t) UnknownName
 
+-- a set of rights
 abbrev pub rights_named : List ℕ → Result ℕ LoadCause
 rights_named t = found (rights_of t) BadRights
 
 -- single lines: UnknownName and BadRights from the left
 
-abbrev pub held : ℕ → ℕ → Entry
-held n rights = Held (record { name = name_numbered n; rights = rights })
+-- a capability as an entry
+abbrev pub held_entry : ℕ → ℕ → Entry
+held_entry n rights = Held (record { name = name_numbered n; rights = rights })
 
 -- an entry line
 abbrev pub entry_of : Names → Body → Result Entry LoadCause
 entry_of names (CapEntry object rights) = do
   n ← object_named names object
   r ← rights_named rights
-  Ok (held n r)
+  Ok (held_entry n r)
 entry_of names (AmplifyEntry kind check give) = do
   of ← kind_named names kind
   c ← rights_named check
@@ -148,6 +160,7 @@ entry_of names (CreateEntry of give) = do
   Ok (Form (template.Create (name_numbered n) g))
 entry_of names _ = Ok Empty
 
+-- a parameter template
 abbrev pub parameter : Option Name → ℕ → ℕ → Param
 parameter of check give = record { of = of; check = check; give = give }
 
@@ -160,8 +173,8 @@ param_of names kind check give = do
   Ok (parameter of c g)
 
 -- the line, and then WrongPart where nothing of its kind may stand
-abbrev pub allowed : {A : Type 0} → Bool → Result A LoadCause → Result A LoadCause
-allowed may line = do
+abbrev pub permitted : {A : Type 0} → Bool → Result A LoadCause → Result A LoadCause
+permitted may line = do
   x ← line
   unless may WrongPart
   Ok x
@@ -187,15 +200,19 @@ pub record Contents : Type 0 where
   pub params : List Param
   pub entries : List Entry
 
+-- words, parameters and entries
 abbrev pub contents : List ℕ → List Param → List Entry → Contents
 contents words params entries = record { words = words; params = params; entries = entries }
 
+-- words in front
 abbrev pub more_words : List ℕ → Contents → Contents
 more_words words c = contents (words ++ c.words) c.params c.entries
 
+-- a parameter in front
 abbrev pub one_param : Param → Contents → Contents
 one_param param c = contents c.words (param ∷ c.params) c.entries
 
+-- an entry in front
 abbrev pub one_entry : Entry → Contents → Contents
 one_entry entry c = contents c.words c.params (entry ∷ c.entries)
 
@@ -205,6 +222,7 @@ pub record Used : Type 0 where
   pub params : ℕ
   pub entries : ℕ
 
+-- so many words, parameters and entries
 abbrev pub used : ℕ → ℕ → ℕ → Used
 used words params entries = record { words = words; params = params; entries = entries }
 
@@ -213,6 +231,7 @@ pub record Room : Type 0 where
   pub listed : Bool
   pub entries : ℕ
 
+-- room for so many entries, if any may stand
 abbrev pub room : Bool → ℕ → Room
 room listed entries = record { listed = listed; entries = entries }
 
@@ -223,8 +242,9 @@ content_onto names r u line (WordsAre words) rest =
 content_onto names r u line (ParamIs kind check give) rest =
     onto one_param line (limited (nat_lt u.params param_limit) (param_of names kind check give)) (rest (used u.words (u.params + 1) u.entries))
 content_onto names r u line body rest =
-    onto one_entry line (limited (nat_lt u.entries r.entries) (allowed r.listed (entry_of names body))) (rest (used u.words u.params (u.entries + 1)))
+    onto one_entry line (limited (nat_lt u.entries r.entries) (permitted r.listed (entry_of names body))) (rest (used u.words u.params (u.entries + 1)))
 
+-- what the lines give, behind lines that have given so many
 abbrev pub contents_of : Names → Room → Used → List Part → Result Contents Refused
 contents_of names r u [] = Ok (contents [] [] [])
 contents_of names r u (p ∷ ps) = content_onto names r u p.line p.body (λ next. contents_of names r next ps)
@@ -236,6 +256,7 @@ pub record Label : Type 0 where
   pub text : List ℕ
   pub place : ℕ
 
+-- a line before those behind it: a label stands at the number of the instruction that comes next
 abbrev pub label_onto : ℕ → Body → (ℕ → List Label) → List Label
 label_onto n (LabelIs label) rest = record { text = label; place = n } ∷ rest n
 label_onto n _ rest = rest (n + 1)
@@ -249,6 +270,7 @@ labels_from n (p ∷ ps) = label_onto n p.body (λ next. labels_from next ps)
 abbrev pub target : List Label → List ℕ → Result ℕ LoadCause
 target labels t = found (option_map (λ (l : Label). l.place) (find (λ (l : Label). same_text t l.text) labels)) UnknownName
 
+-- the kind of template that an instruction makes
 abbrev pub making_of : MakingText → Result Making LoadCause
 making_of (written_making.Amplify check give) = do
   c ← rights_named check
@@ -299,6 +321,7 @@ instr_of labels (written.IfDenied to) = do
   n ← target labels to
   Ok (instr.IfDenied n)
 
+-- an item in front of a list
 abbrev pub front : {A : Type 0} → A → List A → List A
 front x xs = x ∷ xs
 
@@ -320,9 +343,11 @@ pub record Counts : Type 0 where
   pub codes : ℕ
   pub tasks : ℕ
 
+-- so many objects, codes and processes
 abbrev pub counts : ℕ → ℕ → ℕ → Counts
 counts objects codes tasks = record { objects = objects; codes = codes; tasks = tasks }
 
+-- the item with this head counted too
 abbrev pub counted : Counts → Head → Counts
 counted n (LimitIs limit) = n
 counted n (CodeIs name) = counts n.objects (n.codes + 1) n.tasks
@@ -335,15 +360,19 @@ object_fits n = nat_lt (kernel_types + n.objects) object_limit
 
 -- what an item adds in front of a world
 
+-- a limit on events
 abbrev pub with_limit : ℕ → Setup → Setup
 with_limit n w = setup n w.objects w.codes w.tasks
 
+-- an object
 abbrev pub with_object : List ℕ → Kind → Setup → Setup
 with_object label kind w = setup w.limit (record { label = label; kind = kind } ∷ w.objects) w.codes w.tasks
 
+-- a code
 abbrev pub with_code : List ℕ → List Instr → Setup → Setup
 with_code label steps w = setup w.limit w.objects (record { label = label; steps = steps } ∷ w.codes) w.tasks
 
+-- a process
 abbrev pub with_task : List ℕ → ℕ → List Entry → Setup → Setup
 with_task label code slots w = setup w.limit w.objects w.codes (record { label = label; code = code; slots = slots } ∷ w.tasks)
 
@@ -385,6 +414,7 @@ loaded names n line parts (ProcessIs name code) = do
   c ← contents_of names (room true slot_limit) (used 0 0 0) parts
   Ok (with_task name k c.entries)
 
+-- what an item adds to a world
 abbrev pub item_of : Names → Counts → Item → Result (Setup → Setup) Refused
 item_of names n i = loaded names n i.line i.parts i.head
 

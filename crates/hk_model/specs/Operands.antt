@@ -14,6 +14,7 @@ use Rattle.hk_model.specs.RightsTexts.{rights_text}
 abbrev pub register_piece : ℕ → Piece
 register_piece reg = Word (register_text reg)
 
+-- the number of a slot
 abbrev pub slot_piece : Slot → Piece
 slot_piece slot = Number slot.0
 
@@ -26,6 +27,7 @@ optional_slot (Some slot) = slot_piece slot ∷ []
 abbrev pub argument_pieces : List ℕ → Slot → List Piece
 argument_pieces args into = map Number args ++ slot_piece into ∷ []
 
+-- a number or a register
 abbrev pub operand_piece : Operand → Piece
 operand_piece (operand.Number n) = Number n
 operand_piece (operand.Reg reg) = register_piece reg
@@ -37,6 +39,7 @@ steps_piece (Fixed n ∷ []) = Number n
 steps_piece (ByReg reg ∷ []) = register_piece reg
 steps_piece (x ∷ y ∷ more) = Path (x ∷ y ∷ more)
 
+-- a path of an instruction
 abbrev pub route_piece : Route → Piece
 route_piece route = steps_piece route.at
 

@@ -33,9 +33,11 @@ is_names begins (b ∷ bs) =
     if b == 43 then not begins && is_names true bs
     else (if begins then is_capital b else is_upper_byte b) && is_names false bs
 
+-- names in capital letters, joined by a plus
 abbrev pub is_upper : List ℕ → Bool
 is_upper t = is_names true t
 
+-- a dash alone
 abbrev pub is_dash : List ℕ → Bool
 is_dash t = first t == 45 && length t == 1
 
@@ -61,6 +63,7 @@ register_of (r ∷ d ∷ more) = d - 48
 abbrev pub is_index_text : List ℕ → Bool
 is_index_text t = is_number t || is_register t
 
+-- the index that a text spells
 abbrev pub index_of : List ℕ → Index
 index_of t = if is_register t then ByReg (register_of t) else Fixed (value t)
 
@@ -102,6 +105,7 @@ piece_of t = if list_any (λ b. b == 46) t then path_of (slice_split (λ b. b ==
 abbrev pub register_text : ℕ → List ℕ
 register_text reg = 114 ∷ (48 + reg) ∷ []
 
+-- the text of an index
 abbrev pub spell_index : Index → List ℕ
 spell_index (Fixed n) = decimal n
 spell_index (ByReg reg) = register_text reg
@@ -114,6 +118,7 @@ spell Dash = 45 ∷ []
 spell (Number n) = decimal n
 spell (Path steps) = join_with_byte 46 (map spell_index steps)
 
+-- an index that some text spells
 abbrev pub is_index : Index → Bool
 is_index (Fixed n) = nat_le n largest_number
 is_index (ByReg reg) = nat_lt reg 8

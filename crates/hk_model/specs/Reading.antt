@@ -22,6 +22,7 @@ infixl 10 ◌>>=◌
 abbrev pub ◌>>=◌ : {A B : Type 0} → Reads A → (A → Reads B) → Reads B
 ◌>>=◌ first next pieces = onward (first pieces) next
 
+-- a value that was read, or the cause, with the pieces behind it
 abbrev pub taken : {A : Type 0} → Result A ParseCause → List Piece → Found A
 taken (Ok x) rest = Ok (x, rest)
 taken (Err cause) rest = Err cause

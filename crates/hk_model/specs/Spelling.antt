@@ -81,6 +81,7 @@ has_parts (ProcedureIs name code) = true
 has_parts (CodeIs name) = true
 has_parts (ProcessIs name code) = true
 
+-- `end`
 abbrev pub end_line : List Piece
 end_line = verb_piece verb.End ∷ []
 
@@ -88,6 +89,7 @@ end_line = verb_piece verb.End ∷ []
 abbrev pub part_lines : Item → List (List Piece)
 part_lines item = if has_parts item.head then map (λ (p : Part). body_pieces p.body) item.parts ++ end_line ∷ [] else []
 
+-- all lines of an item
 abbrev pub item_lines : Item → List (List Piece)
 item_lines item = head_pieces item.head ∷ part_lines item
 

@@ -16,7 +16,7 @@ use Rattle.hk_model.specs.Limits.{event_limit, token_limit}
 use Rattle.hk_model.specs.Setup.{IsSlot, IsSlotOrNone, IsReg, IsOperand, IsRoute, IsArguments, IsWord32}
 use Rattle.hk_model.specs.Pieces.{is_upper}
 use Rattle.hk_model.specs.Spelling.{has_parts}
-use Rattle.hk_model.specs.Grammar.{Seen, is_new, noted, is_new_label, noted_label, item_at, part_at}
+use Rattle.hk_model.specs.Grammar.{Seen, nothing_seen, is_new, noted, is_new_label, noted_label, item_at, part_at}
 
 -- the text of a code or a label
 abbrev pub IsWordText : List ℕ → Type 0
@@ -34,6 +34,7 @@ IsTypeText t = IsTrue (is_word t || is_upper t)
 abbrev pub IsRightsText : List ℕ → Type 0
 IsRightsText t = IsTrue (same_text t (codes "-") || is_upper t)
 
+-- the texts of rights in the kind of a template
 abbrev pub IsMakingText : MakingText → Type 0
 IsMakingText (making.Amplify check give) = IsRightsText check × IsRightsText give
 IsMakingText (making.Create give) = IsRightsText give
@@ -115,12 +116,18 @@ abbrev pub AreItems : Seen → List Item → Type 0
 AreItems seen [] = Unit {0}
 AreItems seen (i ∷ is) = IsHead i.head × IsTrue (is_new seen i.head) × AreParts i.head [] i.parts × AreItems (noted seen i.head) is
 
+-- the items of some script, apart from the numbers of their lines
+abbrev pub IsSyntax : List Item → Type 0
+IsSyntax items = AreItems nothing_seen items
+
 -- the items with the numbers of the lines that they stand on in a script without empty lines, from line n on
 
+-- parts, from line n on
 abbrev pub placed_parts : ℕ → List Part → List Part
 placed_parts n [] = []
 placed_parts n (p ∷ ps) = part_at n p.body ∷ placed_parts (n + 1) ps
 
+-- an item whose head stands on line n
 abbrev pub placed_item : ℕ → Item → Item
 placed_item n i = item_at n i.head (if has_parts i.head then placed_parts (n + 1) i.parts else [])
 
@@ -128,6 +135,7 @@ placed_item n i = item_at n i.head (if has_parts i.head then placed_parts (n + 1
 abbrev pub lines_taken : Item → ℕ
 lines_taken i = if has_parts i.head then length i.parts + 2 else 1
 
+-- items, from line n on
 abbrev pub placed : ℕ → List Item → List Item
 placed n [] = []
 placed n (i ∷ is) = placed_item n i ∷ placed (n + lines_taken i) is

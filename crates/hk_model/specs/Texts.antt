@@ -6,6 +6,7 @@ use Rattle.hk_model.specs.declared.causes.TextCause.TheVariants.{NotAscii, LongL
 use Rattle.hk_model.specs.Limits.{line_bytes}
 use Rattle.hk_model.specs.Pieces.{Piece, piece_of, spell, is_piece}
 
+-- the list is empty
 abbrev pub is_none : {A : Type 0} → List A → Bool
 is_none [] = true
 is_none (x ∷ xs) = false
@@ -30,7 +31,7 @@ tokens line = filter (λ t. not (is_none t)) (slice_split is_blank (before_first
 
 -- above 126, or below 32 and neither a tab nor a carriage return
 abbrev pub is_no_text : ℕ → Bool
-is_no_text b = nat_lt 126 b || nat_lt b 32 && not (b == 9) && not (b == 13)
+is_no_text b = nat_lt 126 b || (nat_lt b 32 && not (b == 9) && not (b == 13))
 
 -- a piece before the pieces behind it, unless it is bad or one of these is: the cause is that of the leftmost
 abbrev pub piece_onto : Result Piece TextCause → Result (List Piece) TextCause → Result (List Piece) TextCause
@@ -38,6 +39,7 @@ piece_onto (Err cause) rest = Err cause
 piece_onto (Ok piece) (Err cause) = Err cause
 piece_onto (Ok piece) (Ok pieces) = Ok (piece ∷ pieces)
 
+-- the pieces of these texts, or the cause of the leftmost that is bad
 abbrev pub pieces_of : List (List ℕ) → Result (List Piece) TextCause
 pieces_of [] = Ok []
 pieces_of (t ∷ ts) = piece_onto (piece_of t) (pieces_of ts)

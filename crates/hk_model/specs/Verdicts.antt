@@ -37,6 +37,7 @@ pub record IsBadEnd (w : Setup) (lines : List Line) (end : End) (n : ℕ) : Type
   pub steps : AreStepsOf w lines
   pub differs : end_word (state_after w lines) ≡ Some end → ⊥
 
+-- the first bad line n with its first cause, or the bad end word behind all lines
 abbrev pub IsMisstep : Setup → List Line → End → ℕ → Misstep → Type 0
 IsMisstep w lines end n misstep.EndWord = IsBadEnd w lines end n
 IsMisstep w lines end n cause = IsBadLine w lines n cause

@@ -13,10 +13,12 @@ use Rattle.hk_model.specs.Forms.{as_verb, as_word, as_rights, as_slot, as_number
 
 -- of a list of one at least: all but its last, and the last
 
+-- all items but the last
 abbrev pub before_last : ℕ → List ℕ → List ℕ
 before_last x [] = []
 before_last x (y ∷ ys) = x ∷ before_last y ys
 
+-- the last item
 abbrev pub last_of : ℕ → List ℕ → ℕ
 last_of x [] = x
 last_of x (y ∷ ys) = last_of y ys
