@@ -5,3 +5,4 @@ pub mod Cutting
 pub mod PieceAgain
 pub mod TextAgain
 pub mod LineCount
+pub mod PiecesGood

@@ -1,13 +1,19 @@
 -- Pieces and lines of a source as the definitions have them. docs/FORMATS.md, "Text" and "Pieces".
-use Rattle.std.specs.Prelude.{ℕ, ◌==◌, ◌<◌, ◌≤◌, ◌&&◌, not, List, [], ◌∷◌, map, length, nat_le, if◌then◌else◌}
+use Rattle.std.specs.Prelude.{ℕ, ◌==◌, ◌<◌, ◌≤◌, ◌&&◌, not, List, [], ◌∷◌, Result, Ok, Err, map, length, nat_le, if◌then◌else◌}
 use Rattle.std.specs.List.{slice_range, slice_split, filter}
 use Rattle.hk_model.specs.Pieces as piece
-use Rattle.hk_model.specs.Pieces.{index_of}
+use Rattle.hk_model.specs.Pieces.{path_of}
 use Rattle.hk_model.specs.Texts.{is_none, is_blank}
+use Rattle.hk_model.specs.declared.causes.TextCause.{TextCause}
 use Rattle.hk_text.specs.declared.pieces.PieceKind.{PieceKind}
 use Rattle.hk_text.specs.declared.pieces.PieceKind.TheVariants as kind
 use Rattle.hk_text.specs.declared.pieces.Piece.{Piece}
 use Rattle.hk_text.specs.declared.text.TextLine.{TextLine}
+
+-- the path that was read, or one without indices, which no text spells
+abbrev pub path_read : Result piece.Piece TextCause → piece.Piece
+path_read (Ok path) = path
+path_read (Err cause) = piece.Path []
 
 -- a piece of this kind, with this text
 abbrev pub kind_piece : PieceKind → List ℕ → piece.Piece
@@ -15,7 +21,7 @@ kind_piece kind.Word t = piece.Word t
 kind_piece kind.Upper t = piece.Upper t
 kind_piece kind.Dash t = piece.Dash
 kind_piece (kind.Number n) t = piece.Number n
-kind_piece kind.Path t = piece.Path (map index_of (slice_split (λ b. b == 46) t))
+kind_piece kind.Path t = path_read (path_of (slice_split (λ b. b == 46) t))
 
 -- the text of a piece, or nothing where it is no part of the source
 abbrev pub text_of : List ℕ → Piece → List ℕ
