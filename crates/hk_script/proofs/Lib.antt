@@ -1,0 +1,6 @@
+pub mod NameLists
+pub mod TextBytes
+pub mod Routes
+pub mod Lists
+pub mod PiecesLeft
+pub mod FormsRead
