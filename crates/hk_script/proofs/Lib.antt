@@ -4,3 +4,4 @@ pub mod Routes
 pub mod Lists
 pub mod PiecesLeft
 pub mod FormsRead
+pub mod ReadingLemmas
