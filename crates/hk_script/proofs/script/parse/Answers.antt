@@ -1,0 +1,13 @@
+use Rattle.std.proofs.Common.{◌≡◌, true, map, ◌∷◌}
+use Rattle.hk_text.specs.Views.{line_seen}
+use Rattle.hk_script.proofs.ReadingLemmas.{first_good, begins}
+use Rattle.hk_script.proofs.script.parse.Goals as goal
+
+pub new-requires : goal.new-requires
+new-requires c = rw c.as_slice.ensures (first_good c.args.source.now c.args.lines.now c.in-Some.first.now c.in-Some.others.now c.in-Some.ensures.cases.0 c.requires).0
+
+pub loop-line-init : goal.loop-line-init
+loop-line-init c = record {
+  good = (first_good c.args.source.now c.args.lines.now c.in-Some.first.now c.in-Some.others.now c.in-Some.ensures.cases.0 c.requires).1;
+  read = begins c.args.source.now c.args.lines.now c.in-Some.first.now c.in-Some.others.now _ _ _ _ c.in-Some.ensures.cases.0 c.in_default-header.ensures c.new.ensures c.as_slice.ensures c.new-reading.ensures;
+}

@@ -1,0 +1,21 @@
+//! The grammar of a script: lines of pieces as items.
+//!
+//! `docs/FORMATS.md`, "Grammar", states the rules.
+#![tactic(auto)]
+
+mod errors;
+mod forms;
+mod heads;
+mod instructions;
+mod line;
+mod names;
+mod parts;
+mod reading;
+mod script;
+#[cfg(test)]
+mod tests;
+mod verbs;
+
+pub use crate::errors::ParseError;
+pub use crate::script::{Syntax, parse};
+pub use hk_model::{Body, Head, Item, MakingText, Part, Written};

@@ -1,0 +1,67 @@
+//! A whole script (`docs/FORMATS.md`, "Grammar").
+
+ghost use Rattle.std.specs.Prelude.{◌≡◌, ℕ, map, Ok, Err, IfOk};
+ghost use Rattle.hk_model.specs.declared.causes.ParseCause.{ParseCause};
+ghost use Rattle.hk_model.specs.Texts.{text};
+ghost use Rattle.hk_model.specs.Grammar.{script};
+ghost use Rattle.hk_text.specs.Views.{line_seen};
+ghost use Rattle.hk_script.specs.Outcomes.{IsRefused};
+
+use crate::errors::ParseError;
+use crate::line::Line;
+use crate::reading::Reading;
+use hk_model::{Item, Items, ParseCause};
+use hk_text::TextLine;
+use std::alloc::Global;
+use std::marker::Model;
+
+/// The items of a script, in the order of their heads. Contracts see the list.
+#[derive(Drop)]
+pub struct Syntax {
+    items: Items<Item>,
+}
+
+impl Model for Syntax {
+    ghost use Rattle.std.specs.Prelude.{List};
+    ghost use Rattle.hk_model.specs.declared.syntax.Item.{Item};
+
+    ghost Value = { List Item };
+
+    ghost view = { λ syntax. syntax.items };
+}
+
+impl Syntax {
+    /// The items, in the order of their heads.
+    pub fn items(&self) -> &[Item]
+        ensures { result.now ≡ self.now }
+    {
+        self.items.as_slice()
+    }
+}
+
+/// The items of a script whose lines these are. `Refused` tells the first line that does not
+/// follow the grammar, and the first of its causes (`docs/FORMATS.md`, "Grammar"). Want of memory is
+/// `NoMemory`.
+pub fn parse(alloc: Global, lines: &[TextLine], source: &[u8]) -> Result<Syntax, ParseError>
+    requires { text source.now ≡ Ok (map (line_seen source.now) lines.now) }
+    ensures ok { IfOk result (λ syntax. script (map (line_seen source.now) lines.now) ≡ Ok syntax) }
+    ensures refused { (line : ℕ) (cause : ParseCause) → IsRefused result line cause → script (map (line_seen source.now) lines.now) ≡ Err (line, cause) }
+{
+    let Some((first, others)) = lines.split_first() else {
+        return Err(ParseError::Refused {
+            line: 1,
+            cause: ParseCause::Missing,
+        });
+    };
+    if let Err(error) = Line::new(source, first.pieces.as_slice()).header() {
+        return Err(error.on_line(first.number));
+    }
+    let mut reading = Reading::new(alloc);
+    for line in others {
+        if let Err(error) = reading.line(alloc, source, line) {
+            return Err(error.on_line(line.number));
+        }
+    }
+    let items = reading.finish()?;
+    Ok(Syntax { items })
+}

@@ -1,0 +1,42 @@
+-- A text of digits, as `parse` reads it.
+use Rattle.std.proofs.Common.{◌≡◌, ℕ, ◌<◌, ◌^◌, Bool, true, false, ltb, List, [], ◌∷◌, length, refl, arith, Err, Option, Some, None, cond, not}
+use Rattle.std.specs.List.{list_all, position_or_len}
+use Rattle.std.specs.Prelude.{MatchOption}
+use Rattle.std.specs.Str.{IsUtf8}
+use Rattle.std.specs.Str.Parse.{ParsesUnsigned, without_leading_plus}
+use Rattle.std.proofs.lemmas.Str.Parse.{IsNumeralModel, numerals_by_value, without_leading_plus_none}
+use Rattle.std.proofs.lemmas.Fmt.{IsAscii-from_digits}
+use Rattle.std.proofs.lemmas.List.Sums.{prefix_len-le-length}
+use Rattle.std.proofs.lemmas.Str.{IsUtf8-from_ascii}
+use Rattle.std.proofs.lemmas.Bool.{and_parts, and_from, false≢true, lt-ltb, ltb-false}
+use Rattle.std.proofs.lemmas.Bool.Decides.{nat_tests}
+use Rattle.hk_model.specs.declared.causes.TextCause.TheVariants as causes
+use Rattle.hk_model.specs.Labels.{is_digit}
+use Rattle.hk_model.specs.Pieces.{is_number, number_of, value}
+
+own : IsNumeralModel (λ ds. list_all is_digit ds ≡ true) value
+own = numerals_by_value (λ ds. list_all is_digit ds ≡ true) (record {
+  empty = refl;
+  parts = λ c cs h. let k = and_parts (is_digit c) (list_all is_digit cs) h in (grind (arith, nat_tests), k.1);
+  more = λ c cs r h. and_from (is_digit c) (list_all is_digit cs) (grind (arith, nat_tests)) h;
+})
+
+pub number_utf8 : (t : List ℕ) → is_number t ≡ true → IsUtf8 t
+number_utf8 [] h = absurd (false≢true h)
+number_utf8 (d ∷ ds) h = IsUtf8-from_ascii (d ∷ ds) (IsAscii-from_digits (d ∷ ds) (own.to (d ∷ ds) (and_parts (is_digit d) (list_all is_digit (d ∷ ds)) h).1))
+
+pub too_large : {E : Type 0} (t : List ℕ) (e : E) → is_number t ≡ true → ParsesUnsigned {E = E} 32 10 t (Err e) → number_of t ≡ Err causes.NumberTooLarge
+too_large [] e h k = absurd (false≢true h)
+too_large (d ∷ ds) e h k =
+    let parts = and_parts (is_digit d) (list_all is_digit (d ∷ ds)) h in
+    let plus : without_leading_plus (d ∷ ds) ≡ d ∷ ds = without_leading_plus_none (d ∷ ds) (λ same. grind (arith, nat_tests)) in
+    let large : (value (d ∷ ds) < 2 ^ 32) → ⊥ = λ small. k (rw plus ((omega arith, own.to (d ∷ ds) parts.1), small)) in
+    let test : ltb 0xffffffff (value (d ∷ ds)) ≡ true = lt-ltb _ _ (omega arith) in
+    rw (parts.1, test)
+
+pub found_place : {X : Type 0} (p : X → Bool) (xs : List X) (r : Option ℕ) → r ≡ cond (ltb (position_or_len p xs) (length xs)) (Some (position_or_len p xs)) None → MatchOption r (length xs ≡ position_or_len p xs) (λ i. i ≡ position_or_len p xs)
+found_place p xs r e = go (ltb (position_or_len p xs) (length xs)) refl r e
+  where
+    go : (b : Bool) → ltb (position_or_len p xs) (length xs) ≡ b → (o : Option ℕ) → o ≡ cond b (Some (position_or_len p xs)) None → MatchOption o (length xs ≡ position_or_len p xs) (λ i. i ≡ position_or_len p xs)
+    go true k o f = rw f refl
+    go false k o f = rw f (let high = ltb-false _ _ k in let low = prefix_len-le-length (λ x. not (p x)) xs in omega arith)

@@ -1,0 +1,92 @@
+//! What bytes are, and where the first of a kind stands.
+
+ghost use Rattle.std.specs.Prelude.{◌≡◌, ◌≤◌, ◌==◌, length};
+ghost use Rattle.std.specs.List.{list_any, list_all, position_or_len};
+ghost use Rattle.hk_model.specs.Labels.{is_digit, is_lower, is_capital, is_word_byte};
+ghost use Rattle.hk_model.specs.Texts.{is_blank, is_no_text};
+
+/// Whether the byte is one of `0` to `9`.
+pub fn is_digit(byte: u8) -> bool
+    ensures { result ≡ is_digit byte }
+{
+    b'0' <= byte && byte <= b'9'
+}
+
+/// Whether the byte is one of `a` to `z`.
+pub fn is_lower(byte: u8) -> bool
+    ensures { result ≡ is_lower byte }
+{
+    b'a' <= byte && byte <= b'z'
+}
+
+/// Whether the byte is one of `A` to `Z`.
+pub fn is_capital(byte: u8) -> bool
+    ensures { result ≡ is_capital byte }
+{
+    b'A' <= byte && byte <= b'Z'
+}
+
+/// Whether all bytes are digits.
+pub fn are_digits(text: &[u8]) -> bool
+    ensures { result ≡ list_all is_digit text.now }
+{
+    text.iter().all(|byte| is_digit(*byte))
+}
+
+/// Whether all bytes may stand in a word.
+pub fn are_word_bytes(text: &[u8]) -> bool
+    ensures { result ≡ list_all is_word_byte text.now }
+{
+    text.iter()
+        .all(|byte| is_lower(*byte) || is_digit(*byte) || *byte == b'_')
+}
+
+/// Whether some byte may not stand in a script.
+pub fn has_no_text(line: &[u8]) -> bool
+    ensures { result ≡ list_any is_no_text line.now }
+{
+    line.iter().any(|byte| is_no_text(*byte))
+}
+
+/// Whether the byte may not stand in a script.
+fn is_no_text(byte: u8) -> bool
+    ensures { result ≡ is_no_text byte }
+{
+    byte > 126 || byte < 32 && byte != b'\t' && byte != b'\r'
+}
+
+/// Whether some byte is a point.
+pub fn has_point(text: &[u8]) -> bool
+    ensures { result ≡ list_any (λ b. b == 46) text.now }
+{
+    text.iter().any(|byte| *byte == b'.')
+}
+
+/// Whether the byte separates pieces.
+fn is_blank(byte: u8) -> bool
+    ensures { result ≡ is_blank byte }
+{
+    byte == b' ' || byte == b'\t' || byte == b'\r'
+}
+
+/// The place of the first blank, or the length.
+pub fn first_blank(text: &[u8]) -> usize
+    ensures place { result ≡ position_or_len is_blank text.now }
+    ensures within { result ≤ length text.now }
+{
+    match text.iter().position(|byte| is_blank(*byte)) {
+        Some(at) => at,
+        None => text.len(),
+    }
+}
+
+/// The place of the first such byte, or the length.
+pub fn first_of(text: &[u8], byte: u8) -> usize
+    ensures place { result ≡ position_or_len (λ b. b == byte) text.now }
+    ensures within { result ≤ length text.now }
+{
+    match text.iter().position(|b| *b == byte) {
+        Some(at) => at,
+        None => text.len(),
+    }
+}

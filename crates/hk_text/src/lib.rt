@@ -1,0 +1,15 @@
+//! The text of a script: bytes as lines of pieces.
+//!
+//! `docs/FORMATS.md`, "Text" and "Pieces", states the rules.
+#![tactic(auto)]
+
+mod bytes;
+mod errors;
+mod pieces;
+#[cfg(test)]
+mod tests;
+mod text;
+
+pub use crate::errors::TextError;
+pub use crate::pieces::{Piece, PieceKind};
+pub use crate::text::{TextLine, lines};

@@ -1,0 +1,178 @@
+//! The forms of a piece (`docs/FORMATS.md`, "Pieces").
+
+ghost use Rattle.std.specs.Prelude.{◌≡◌, ◌<◌, ◌==◌, length, IsTrue};
+ghost use Rattle.std.specs.List.{slice_split, list_all, list_any};
+ghost use Rattle.hk_model.specs.Labels.{is_register};
+ghost use Rattle.hk_model.specs.Pieces.{is_number, is_upper, is_index_text, is_too_large, number_of, plain_of, path_of, piece_of};
+ghost use Rattle.hk_text.specs.Views.{kind_piece};
+ghost use Rattle.hk_text.specs.Outcomes.{GivesOrCause};
+
+use crate::bytes::{are_digits, are_word_bytes, has_point, is_capital, is_digit, is_lower};
+use hk_model::TextCause;
+
+/// What a piece is.
+#[derive(Clone, Copy, PartialEq, Eq, Debug)]
+pub enum PieceKind {
+    /// A lower-case letter, and then at most 31 lower-case letters, digits or underscores.
+    Word,
+    /// Names that `+` joins, each a capital letter and then capital letters or digits.
+    Upper,
+    /// `-`
+    Dash,
+    /// Digits, and their value.
+    Number(u32),
+    /// Two to eight indices that points join, each a number or `r0` to `r7`.
+    Path,
+}
+
+/// A piece of a source: its bytes are those from `start` on and before `end`.
+#[derive(Clone, Copy, PartialEq, Eq, Debug)]
+pub struct Piece {
+    pub start: usize,
+    pub end: usize,
+    pub kind: PieceKind,
+}
+
+/// What the text is as a piece, or why it is none.
+#[tactic(auto, unfolding(hk_model::specs::Pieces::piece_of))]
+pub fn kind_of(text: &[u8]) -> Result<PieceKind, TextCause>
+    requires { 0 < length text.now }
+    ensures { GivesOrCause (λ kind. kind_piece kind text.now) result (piece_of text.now) }
+{
+    if has_point(text) {
+        path(text)
+    } else {
+        plain(text)
+    }
+}
+
+/// What a text without a point is.
+fn plain(text: &[u8]) -> Result<PieceKind, TextCause>
+    requires { 0 < length text.now }
+    ensures { GivesOrCause (λ kind. kind_piece kind text.now) result (plain_of text.now) }
+{
+    let first = text[0];
+    if is_digit(first) {
+        if !are_digits(text) {
+            return Err(TextCause::BadToken);
+        }
+        return number(text);
+    }
+    if is_lower(first) {
+        if are_word_bytes(text) && text.len() <= 32 {
+            return Ok(PieceKind::Word);
+        }
+        return Err(TextCause::BadToken);
+    }
+    if is_capital(first) {
+        if are_names(text) {
+            return Ok(PieceKind::Upper);
+        }
+        return Err(TextCause::BadToken);
+    }
+    if first == b'-' && text.len() == 1 {
+        return Ok(PieceKind::Dash);
+    }
+    Err(TextCause::BadToken)
+}
+
+/// The number that digits stand for.
+fn number(text: &[u8]) -> Result<PieceKind, TextCause>
+    requires { IsTrue (is_number text.now) }
+    ensures { GivesOrCause (λ kind. kind_piece kind text.now) result (number_of text.now) }
+{
+    match std::str::from_utf8(text) {
+        Ok(digits) => match digits.parse::<u32>() {
+            Ok(n) => Ok(PieceKind::Number(n)),
+            Err(_) => Err(TextCause::NumberTooLarge),
+        },
+        Err(_) => Err(TextCause::NumberTooLarge),
+    }
+}
+
+/// Whether the text is names that `+` joins.
+fn are_names(text: &[u8]) -> bool
+    ensures { result ≡ is_upper text.now }
+{
+    let mut begins = true;
+    for byte in text {
+        if *byte == b'+' {
+            if begins {
+                return false;
+            }
+            begins = true;
+        } else {
+            if begins && !is_capital(*byte) {
+                return false;
+            }
+            if !is_capital(*byte) && !is_digit(*byte) {
+                return false;
+            }
+            begins = false;
+        }
+    }
+    !begins
+}
+
+/// What a text with a point is.
+fn path(text: &[u8]) -> Result<PieceKind, TextCause>
+    ensures { GivesOrCause (λ kind. kind_piece kind text.now) result (path_of (slice_split (λ b. b == 46) text.now)) }
+{
+    let count = count_of_indices(text);
+    if count < 2 || count > 8 || !are_indices(text) {
+        return Err(TextCause::BadToken);
+    }
+    if has_large_index(text) {
+        return Err(TextCause::NumberTooLarge);
+    }
+    Ok(PieceKind::Path)
+}
+
+/// The number of parts that points join.
+fn count_of_indices(text: &[u8]) -> usize
+    ensures { result ≡ length (slice_split (λ b. b == 46) text.now) }
+{
+    text.split(|byte| *byte == b'.').count()
+}
+
+/// Whether each part is an index.
+fn are_indices(text: &[u8]) -> bool
+    ensures { result ≡ list_all is_index_text (slice_split (λ b. b == 46) text.now) }
+{
+    text.split(|byte| *byte == b'.').all(|part| is_index(part))
+}
+
+/// Whether some part is a number that no piece can be.
+fn has_large_index(text: &[u8]) -> bool
+    ensures { result ≡ list_any is_too_large (slice_split (λ b. b == 46) text.now) }
+{
+    text.split(|byte| *byte == b'.')
+        .any(|part| is_too_large(part))
+}
+
+/// Whether the text is a number or a register.
+fn is_index(text: &[u8]) -> bool
+    ensures { result ≡ is_index_text text.now }
+{
+    !text.is_empty() && is_digit(text[0]) && are_digits(text) || is_register(text)
+}
+
+/// Whether the text is `r0` to `r7`.
+fn is_register(text: &[u8]) -> bool
+    ensures { result ≡ is_register text.now }
+{
+    text.len() == 2 && text[0] == b'r' && b'0' <= text[1] && text[1] <= b'7'
+}
+
+/// Whether the text is a number that no piece can be.
+fn is_too_large(text: &[u8]) -> bool
+    ensures { result ≡ is_too_large text.now }
+{
+    if text.is_empty() || !is_digit(text[0]) || !are_digits(text) {
+        return false;
+    }
+    match number(text) {
+        Ok(_) => false,
+        Err(_) => true,
+    }
+}

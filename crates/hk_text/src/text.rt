@@ -1,0 +1,105 @@
+//! Bytes as lines, and lines as pieces (`docs/FORMATS.md`, "Text").
+
+ghost use Rattle.std.specs.Prelude.{◌≡◌, ℕ, ◌<◌, ◌≤◌, ◌^◌, ◌-◌, length, map, Ok, Err, IfOk};
+ghost use Rattle.std.specs.List.{slice_range, flat_map};
+ghost use Rattle.hk_model.specs.Texts.{lines_of, text, text_line, pieces_of};
+ghost use Rattle.hk_text.specs.Views.{seen, line_seen, line_pieces, texts_of, LieBetween};
+ghost use Rattle.hk_text.specs.Outcomes.{GivesLine, IsRefused};
+
+use crate::bytes::{first_blank, first_of, has_no_text};
+use crate::errors::{LineError, TextError};
+use crate::pieces::{Piece, kind_of};
+use hk_model::{Items, TextCause};
+use std::alloc::Global;
+
+/// The most bytes of a line, without its line feed.
+const LINE_BYTES: usize = 1000;
+
+/// A line that has pieces.
+#[derive(Drop)]
+pub struct TextLine {
+    /// The number of the line, from 1.
+    pub number: u32,
+    /// The pieces from left to right, one at least.
+    pub pieces: Items<Piece>,
+}
+
+/// The lines of a source that have pieces, in order. `Refused` tells the first line that is bad,
+/// and the first of its causes: NotAscii, LongLine, and then those of its pieces from the left
+/// (`docs/FORMATS.md`, "Text"). Want of memory is `NoMemory`.
+pub fn lines(alloc: Global, bytes: &[u8]) -> Result<Vec<TextLine>, TextError>
+    requires { length (lines_of bytes.now) < 2 ^ 32 - 1 }
+    ensures ok { IfOk result (λ v. text bytes.now ≡ Ok (map (line_seen bytes.now) v.items)) }
+    ensures spans { IfOk result (λ v. LieBetween 0 (length bytes.now) (flat_map line_pieces v.items)) }
+    ensures refused { (line : ℕ) (cause : TextCause) → IsRefused result line cause → text bytes.now ≡ Err (line, cause) }
+{
+    let mut lines = Items::new(alloc);
+    let mut number = 1;
+    let mut start = 0;
+    while start < bytes.len() {
+        let len = first_of(&bytes[start..], b'\n');
+        match pieces_of_line(alloc, bytes, start, start + len) {
+            Ok(pieces) => {
+                if !pieces.as_slice().is_empty() {
+                    lines.push(TextLine { number, pieces })?;
+                }
+            }
+            Err(error) => return Err(error.on_line(number)),
+        }
+        number += 1;
+        start += len + 1;
+    }
+    Ok(lines.into_vec())
+}
+
+/// The pieces of the line that begins and ends at these places.
+fn pieces_of_line(
+    alloc: Global,
+    source: &[u8],
+    start: usize,
+    end: usize,
+) -> Result<Items<Piece>, LineError>
+    requires order { start ≤ end }
+    requires inside { end ≤ length source.now }
+    ensures value { GivesLine (λ v. map (seen source.now) v) result (text_line (slice_range source.now start end)) }
+    ensures spans { IfOk result (λ v. LieBetween start end v) }
+{
+    let line = &source[start..end];
+    if has_no_text(line) {
+        return Err(LineError::Bad(TextCause::NotAscii));
+    }
+    if line.len() > LINE_BYTES {
+        return Err(LineError::Bad(TextCause::LongLine));
+    }
+    pieces_between(alloc, source, start, start + first_of(line, b'#'))
+}
+
+/// The pieces between these places.
+fn pieces_between(
+    alloc: Global,
+    source: &[u8],
+    start: usize,
+    end: usize,
+) -> Result<Items<Piece>, LineError>
+    requires order { start ≤ end }
+    requires inside { end ≤ length source.now }
+    ensures value { GivesLine (λ v. map (seen source.now) v) result (pieces_of (texts_of (slice_range source.now start end))) }
+    ensures spans { IfOk result (λ v. LieBetween start end v) }
+{
+    let mut pieces = Items::new(alloc);
+    let mut at = start;
+    while at < end {
+        let rest = &source[at..end];
+        let len = first_blank(rest);
+        if len > 0 {
+            let kind = kind_of(&rest[..len])?;
+            pieces.push(Piece {
+                start: at,
+                end: at + len,
+                kind,
+            })?;
+        }
+        at += len + 1;
+    }
+    Ok(pieces)
+}
