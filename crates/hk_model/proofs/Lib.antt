@@ -6,3 +6,10 @@ mod KernelRows
 mod LeastReaches
 mod LawRows
 pub mod ReachRules
+pub mod LineAgain
+pub mod ItemsAgain
+pub mod Cutting
+pub mod RightsAgain
+pub mod NamesAgain
+pub mod CodesAgain
+pub mod LoadAgain
