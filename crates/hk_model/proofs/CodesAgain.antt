@@ -1,9 +1,9 @@
 -- The instructions of a code are loaded again from the lines that they are written as.
-use Rattle.std.proofs.Common.{◌≡◌, ℕ, suc, zero, ◌+◌, ◌-◌, ◌<◌, ◌≤◌, ◌||◌, Bool, true, false, cond, eqb, List, [], ◌∷◌, ◌++◌, length, min, refl, sym, ap, ◌∙◌, arith, Ok, Err, Result, Option, Some, None, ⊎_elim}
+use Rattle.std.proofs.Common.{◌≡◌, ℕ, ◌+◌, ◌≤◌, ◌||◌, Bool, true, false, cond, List, [], ◌∷◌, ◌++◌, length, min, refl, sym, ap, arith, Ok, Some, ⊎_elim}
 use Rattle.std.specs.List.{list_any, find, AllByRecursion}
 use Rattle.std.specs.Fmt.{decimal}
 use Rattle.std.proofs.lemmas.Fmt.{decimal_injective}
-use Rattle.std.proofs.lemmas.Bool.{lt-ltb, eqb-true, eq-eqb, cases_eq}
+use Rattle.std.proofs.lemmas.Bool.{lt-ltb, eq-eqb, cases_eq}
 use Rattle.hk_model.specs.declared.entries.Making.{Making}
 use Rattle.hk_model.specs.declared.entries.Making.TheVariants as making
 use Rattle.hk_model.specs.declared.instructions.Instr.{Instr}
@@ -11,9 +11,9 @@ use Rattle.hk_model.specs.declared.instructions.Instr.TheVariants as instr
 use Rattle.hk_model.specs.declared.syntax.Body.TheVariants.{LabelIs, StepIs}
 use Rattle.hk_model.specs.Labels.{same_text}
 use Rattle.hk_model.specs.Setup.{IsInstr, IsMaking}
-use Rattle.hk_model.specs.Canonical.{part, label_text, making_text, written_of, jumps_to, label_parts, code_parts}
+use Rattle.hk_model.specs.Canonical.{part, label_text, making_text, written_of, jumps_to, code_parts}
 use Rattle.hk_model.specs.Syntax.{placed_parts}
-use Rattle.hk_model.specs.Loading.{Label, labels_from, target, making_of, instr_of, instrs_of, front, onto}
+use Rattle.hk_model.specs.Loading.{Label, labels_from, target, making_of, instr_of, instrs_of}
 use Rattle.hk_model.proofs.LineAgain.{same_is}
 use Rattle.hk_model.proofs.NamesAgain.{same_self, rights_found}
 
@@ -40,11 +40,13 @@ label_found all (i ∷ is) n line t low high few used = ⊎_elim equal (λ other
   where
     differs : (n ≡ t → ⊥) → n + 1 ≤ t
     differs other = grind arith
+
     equal : n ≡ t → find (λ (l : Label). same_text (label_text t) l.text) (labels_from n (placed_parts line (code_parts all n (i ∷ is)))) ≡ Some (label_at t)
     equal e =
         let here : list_any (jumps_to n) all ≡ true = rw e used in
         let first : same_text (label_text t) (label_text n) ≡ true = rw e (same_self (label_text t)) in
         rw (here, first) (ap (λ (x : ℕ). Some (label_at x)) e)
+
     later : (t ≡ n → ⊥) → (b : Bool) → ((l : ℕ) → find (λ (x : Label). same_text (label_text t) x.text) (labels_from (n + 1) (placed_parts l (code_parts all (n + 1) is))) ≡ Some (label_at t)) → find (λ (x : Label). same_text (label_text t) x.text) (labels_from n (placed_parts line (cond b (part (LabelIs (label_text n)) ∷ []) [] ++ part (StepIs (written_of i)) ∷ code_parts all (n + 1) is))) ≡ Some (label_at t)
     later other true rest = rw (label_other t n (omega arith) (omega arith) other) (rest (line + 1 + 1))
     later other false rest = rest (line + 1)
@@ -94,6 +96,7 @@ instrs_again all labels finds n line (i ∷ is) within h few = go (list_any (jum
   where
     here : instr_of labels (written_of i) ≡ Ok i
     here = instr_again all labels finds i h.0 (λ t k. within t (rw k refl))
+
     go : (b : Bool) → ((l : ℕ) → instrs_of labels (n + 1) (placed_parts l (code_parts all (n + 1) is)) ≡ Ok is) → instrs_of labels n (placed_parts line (cond b (part (LabelIs (label_text n)) ∷ []) [] ++ part (StepIs (written_of i)) ∷ code_parts all (n + 1) is)) ≡ Ok (i ∷ is)
     go true rest = rw (here, lt-ltb n 4096 (omega arith), rest (line + 1 + 1))
     go false rest = rw (here, lt-ltb n 4096 (omega arith), rest (line + 1))

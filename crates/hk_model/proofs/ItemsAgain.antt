@@ -1,22 +1,20 @@
 -- The lines of items are read as these items.
-use Rattle.std.proofs.Common.{◌≡◌, ℕ, suc, zero, ◌+◌, ◌-◌, ◌<◌, ◌≤◌, Bool, true, false, cond, List, [], ◌∷◌, ◌++◌, length, refl, sym, ap, ◌∙◌, arith, rules, ◌&&◌, ◌||◌, not, map, Ok, Err, Result, Option, Some, None}
+use Rattle.std.proofs.Common.{◌≡◌, ℕ, ◌+◌, Bool, true, false, cond, List, [], ◌∷◌, ◌++◌, length, ◌∙◌, arith, map, Ok}
 use Rattle.std.specs.List.{enumerate_from, flat_map}
-use Rattle.std.specs.Prelude.{codes, IsTrue}
 use mathlib.Core.List.{append_assoc, append-nil}
 use Rattle.hk_model.specs.declared.syntax.Head.{Head}
 use Rattle.hk_model.specs.declared.syntax.Verb.TheVariants as verb
 use Rattle.hk_model.specs.declared.syntax.Part.{Part}
 use Rattle.hk_model.specs.declared.syntax.Item.{Item}
-use Rattle.hk_model.specs.declared.causes.ParseCause.{ParseCause}
 use Rattle.hk_model.specs.Pieces.{Piece}
-use Rattle.hk_model.specs.Grammar.{Seen, nothing_seen, items_from, script, after_line, begun, joined, between_items, in_item, item_at, part_at, is_new, noted, is_new_label, noted_label, head_line, part_line, and_then, go_on}
-use Rattle.hk_model.specs.Spelling.{has_parts, body_pieces, head_pieces, end_line, header_line, item_lines, script_lines}
-use Rattle.hk_model.specs.Syntax.{AreParts, AreItems, placed_parts, placed_item, placed, lines_taken}
+use Rattle.hk_model.specs.Grammar.{Seen, nothing_seen, items_from, script, between_items, in_item, item_at, part_at, noted, noted_label}
+use Rattle.hk_model.specs.Spelling.{has_parts, body_pieces, end_line, item_lines, script_lines}
+use Rattle.hk_model.specs.Syntax.{AreParts, AreItems, placed_parts, placed}
 use Rattle.hk_model.proofs.LineAgain.{part_again, head_again, end_again, verb_again}
 
 parts_again : (items : List Item) (seen : Seen) (line : ℕ) (head : Head) (before : List Part) (labels : List (List ℕ)) (n : ℕ) (ps : List Part) (rest : List (List Piece)) → AreParts head labels ps → items_from (enumerate_from n (map (λ p. body_pieces p.body) ps ++ end_line ∷ rest)) (in_item items seen (item_at line head before) labels) ≡ items_from (enumerate_from (n + (length ps + 1)) rest) (between_items (items ++ item_at line head (before ++ placed_parts n ps) ∷ []) seen)
 parts_again items seen line head before labels n [] rest h = rw (end_again, append-nil)
-parts_again items seen line head before labels n (p ∷ ps) rest h = 
+parts_again items seen line head before labels n (p ∷ ps) rest h =
     let more = parts_again items seen line head (before ++ part_at n p.body ∷ []) (noted_label labels p.body) (n + 1) ps rest h.2 in
     let lines : n + 1 + (length ps + 1) ≡ n + (length (p ∷ ps) + 1) = omega arith in
     rw (part_again head p.body h.0, h.1) (more ∙ rw (lines, append_assoc))

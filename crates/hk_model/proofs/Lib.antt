@@ -13,3 +13,8 @@ pub mod RightsAgain
 pub mod NamesAgain
 pub mod CodesAgain
 pub mod LoadAgain
+pub mod ItemsGood
+pub mod LinesGood
+pub mod PieceAgain
+pub mod TextAgain
+pub mod WorldAgain

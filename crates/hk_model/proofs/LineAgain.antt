@@ -1,8 +1,8 @@
 -- Lines that items are spelled as are read as these items' heads and parts.
-use Rattle.std.proofs.Common.{◌≡◌, ℕ, suc, zero, ◌+◌, ◌-◌, ◌<◌, ◌≤◌, Bool, true, false, cond, eqb, leb, ltb, List, [], ◌∷◌, ◌++◌, length, refl, sym, ap, ◌∙◌, arith, rules, ◌&&◌, ◌||◌, not, map, Ok, Err, Result, Option, Some, None}
-use Rattle.std.specs.List.{list_all, list_any, find, AllByRecursion}
-use Rattle.std.specs.Prelude.{codes, IsTrue, ◌^◌}
-use Rattle.std.proofs.lemmas.Bool.{and_parts, and_from, false≢true, leb-true, lt-ltb, le-leb, eqb-true}
+use Rattle.std.proofs.Common.{◌≡◌, ℕ, suc, zero, ◌<◌, ◌≤◌, Bool, true, false, cond, eqb, List, [], ◌∷◌, ◌++◌, length, refl, sym, ap, arith, map, Ok, Some, None}
+use Rattle.std.specs.List.{list_all, AllByRecursion}
+use Rattle.std.specs.Prelude.{codes}
+use Rattle.std.proofs.lemmas.Bool.{and_parts, false≢true, lt-ltb, le-leb, eqb-true}
 use Rattle.std.proofs.lemmas.List.{map-append, length-append}
 use Rattle.std.proofs.lemmas.Bool.Decides.{nat_tests}
 use Rattle.hk_model.specs.declared.names.Slot.{Slot}
@@ -20,17 +20,17 @@ use Rattle.hk_model.specs.declared.syntax.Head.{Head}
 use Rattle.hk_model.specs.declared.syntax.Head.TheVariants.{LimitIs, TypeIs, ObjectIs, SemaphoreIs, ProcedureIs, CodeIs, ProcessIs}
 use Rattle.hk_model.specs.declared.syntax.Body.{Body}
 use Rattle.hk_model.specs.declared.syntax.Body.TheVariants.{WordsAre, EmptyEntry, CapEntry, AmplifyEntry, CreateEntry, ParamIs, LabelIs, StepIs}
-use Rattle.hk_model.specs.Labels.{is_word, is_name, is_register, same_text, between}
-use Rattle.hk_model.specs.Setup.{IsReg, IsOperand, IsSlot, IsIndex, IsRoute, BeginsAtSlot, IsArguments, IsWord32}
-use Rattle.hk_model.specs.Pieces.{Piece, Word, Upper, Dash, Number, Path, is_upper, register_of, register_text}
-use Rattle.hk_model.specs.Verbs.{verb_word, all_verbs, verb_piece}
+use Rattle.hk_model.specs.Labels.{is_word, is_register, same_text}
+use Rattle.hk_model.specs.Setup.{IsReg, IsOperand, IsSlot, IsIndex, IsRoute, BeginsAtSlot}
+use Rattle.hk_model.specs.Pieces.{Word, Upper, Dash, Number, register_of, register_text}
+use Rattle.hk_model.specs.Verbs.{all_verbs, verb_piece}
 use Rattle.hk_model.specs.Operands.{register_piece, slot_piece, operand_piece, steps_piece, route_piece, type_piece, rights_piece}
-use Rattle.hk_model.specs.Reading.{wanted, taken, onward, at_most, each, end}
-use Rattle.hk_model.specs.Forms.{as_verb, as_word, as_name, as_type, as_rights, as_number, as_number_in, as_number_below, as_slot, as_register, as_operand, as_route, is_route, is_index_below, route_of, slot_numbered}
+use Rattle.hk_model.specs.Reading.{at_most, each}
+use Rattle.hk_model.specs.Forms.{as_verb, as_name, as_type, as_rights, as_number, as_number_in, as_number_below, as_slot, as_register, as_operand, as_route, is_index_below, route_of}
 use Rattle.hk_model.specs.WrittenLines.{before_last, last_of}
 use Rattle.hk_model.specs.Grammar.{part_line, head_line}
 use Rattle.hk_model.specs.Spelling.{written_pieces, body_pieces, head_pieces, end_line}
-use Rattle.hk_model.specs.Syntax.{IsWritten, IsHead, IsName, IsRightsText, IsTypeText, Belongs}
+use Rattle.hk_model.specs.Syntax.{IsWritten, IsHead, IsName, Belongs}
 
 pub verb_again : (v : Verb) → as_verb (verb_piece v) ≡ Ok v
 unfolding all_verbs
@@ -106,7 +106,7 @@ call_again : (name : List ℕ) (proc : Route) (args : List ℕ) (into : Slot) �
 call_again name proc [] into h = rw (verb_again, route_again proc h.0, below_again 64 into.0 h.2)
 call_again name proc (x ∷ xs) into h =
     let rest : at_most 8 (as_number_below 64) (map Number (xs ++ into.0 ∷ [])) ≡ Ok (xs ++ into.0 ∷ [], []) =
-      args_again 8 (xs ++ into.0 ∷ []) (all_put xs into.0 h.1.1.1 h.2) (let few = h.1.0 in omega (arith, length-append xs (into.0 ∷ []))) in
+    args_again 8 (xs ++ into.0 ∷ []) (all_put xs into.0 h.1.1.1 h.2) (let few = h.1.0 in omega (arith, length-append xs (into.0 ∷ []))) in
     let pieces = map-append Number xs (into.0 ∷ []) in
     rw (verb_again, route_again proc h.0, below_again 64 x h.1.1.0, ← pieces, rest, before_put, last_put)
 

@@ -1,7 +1,6 @@
 -- The items that a world is written as are loaded as this world.
-use Rattle.std.proofs.Common.{◌≡◌, ℕ, suc, zero, ◌+◌, ◌-◌, ◌<◌, ◌≤◌, ◌⊎◌, inl, inr, Bool, true, false, cond, eqb, leb, ltb, List, [], ◌∷◌, ◌++◌, length, refl, sym, ap, ◌∙◌, arith, ◌&&◌, not, map, Ok, Err, Result, Option, Some, None}
+use Rattle.std.proofs.Common.{◌≡◌, ℕ, ◌+◌, ◌<◌, ◌≤◌, inl, inr, Bool, true, false, cond, eqb, leb, List, [], ◌∷◌, ◌++◌, length, refl, sym, ap, ◌∙◌, arith, not, map, Ok, Option, Some, None}
 use Rattle.std.specs.List.{filter_map, AllByRecursion, onto_first, concat}
-use Rattle.std.specs.Fmt.{decimal}
 use Rattle.std.proofs.lemmas.Bool.{lt-ltb, le-leb, eqb-true}
 use Rattle.std.proofs.lemmas.Bool.Decides.{nat_tests}
 use Rattle.std.proofs.lemmas.List.{map-append, length-append}
@@ -23,14 +22,12 @@ use Rattle.hk_model.specs.declared.world.Kind.TheVariants as kind
 use Rattle.hk_model.specs.declared.world.Born.{Born}
 use Rattle.hk_model.specs.declared.world.Code.{Code}
 use Rattle.hk_model.specs.declared.world.Task.{Task}
-use Rattle.hk_model.specs.Labels.{is_name}
-use Rattle.hk_model.specs.Targets.{DATA, is_general}
+use Rattle.hk_model.specs.Targets.{is_general}
 use Rattle.hk_model.specs.Setup.{Setup, setup, IsWorld, IsCode, IsEntry, IsKind, IsParam, IsPlainType, IsTask, IsType}
-use Rattle.hk_model.specs.RightsTexts.{rights_text}
-use Rattle.hk_model.specs.Canonical.{Spoken, spoken, kernel_names, object_text, code_text, kind_text, part, item, entry_body, entry_parts, param_body, param_parts, number_bytes, words_from, word_lines, word_parts, code_parts, object_item, kind_item, code_item, task_item, limit_items, syntax_of}
+use Rattle.hk_model.specs.Canonical.{Spoken, spoken, kernel_names, part, item, entry_parts, param_parts, number_bytes, words_from, word_lines, word_parts, code_parts, object_item, kind_item, code_item, task_item, syntax_of}
 use Rattle.hk_model.specs.Syntax.{placed_parts, placed_item, placed, lines_taken}
-use Rattle.hk_model.specs.Loading.{Names, Contents, contents, used, room, contents_of, Counts, counts, counted, with_object, with_code, plain_type, name_numbered, labels_from, instrs_of, names_of, kernel_flags, object_label, is_type_head, code_label, item_of, items_of, load}
-use Rattle.hk_model.proofs.NamesAgain.{Known, is_type_object, type_again, type_object, code_again, entry_again, param_again}
+use Rattle.hk_model.specs.Loading.{Names, Contents, contents, used, room, contents_of, Counts, counts, counted, with_object, labels_from, instrs_of, names_of, kernel_flags, object_label, is_type_head, code_label, item_of, items_of, load}
+use Rattle.hk_model.proofs.NamesAgain.{Known, is_type_object, type_again, code_again, entry_again, param_again}
 use Rattle.hk_model.proofs.CodesAgain.{Finds, finds_all, instrs_again, within_all}
 
 -- entries, parameters and words of an item
@@ -72,7 +69,7 @@ words_again names listed bound n line (ws ∷ more) rest c few after =
 
 -- items
 
-plain_general : (w : Setup) (of : Name) (entries : List Entry) → IsPlainType w of entries → (IsType w of) × (is_general of ≡ true)
+pub plain_general : (w : Setup) (of : Name) (entries : List Entry) → IsPlainType w of entries → (IsType w of) × (is_general of ≡ true)
 plain_general w of entries (inl plain) = (inl (let e = plain.0 in omega arith), rw plain.0)
 plain_general w of entries (inr (inl universal)) = (inl (omega arith), rw universal)
 plain_general w of entries (inr (inr declared)) = (inr declared, let above = declared.above in grind (arith, nat_tests))
@@ -96,7 +93,7 @@ kind_again k n few line label kind.TypeObject h = record { loaded = rw (lt-ltb (
 kind_again k n few line label (kind.Semaphore count) h = record { loaded = rw (lt-ltb (7 + n.objects) 65536 (omega arith)); counts = refl }
 kind_again {w} k n few line label (kind.Procedure code params entries) h = record {
   loaded = rw (code_again k code h.0, lt-ltb (7 + n.objects) 65536 (omega arith), params_again k 256 0 (line + 1) params (entry_parts (spoken w) entries) entries h.2 (let most = h.1 in omega arith) (λ m l. entries_again k 256 0 m 0 l entries h.4 (let most = h.3 in omega arith)));
-  counts = refl
+  counts = refl;
 }
 kind_again {w} k n few line label (kind.Plain of words entries) h =
     let type = plain_general w of entries h.0 in
@@ -165,15 +162,16 @@ known w h = record {
   objects = ap (λ (t : List (List ℕ)). kernel_names ++ t) (sections object_label w (λ n. refl) ∙ rw (labels_all object_label (object_item (spoken w)) (λ (o : Born). o.label) (λ o. (head_again (spoken w) o.label o.kind).named) w.objects, labels_none object_label code_item (λ c. refl) w.codes, labels_none object_label (task_item (spoken w)) (λ t. refl) w.tasks) (append-nil _));
   types = ap (λ (t : List Bool). kernel_flags ++ t) (sections is_type_head w (λ n. refl) ∙ rw (labels_all is_type_head (object_item (spoken w)) is_type_object (λ o. (head_again (spoken w) o.label o.kind).typed) w.objects, labels_none is_type_head code_item (λ c. refl) w.codes, labels_none is_type_head (task_item (spoken w)) (λ t. refl) w.tasks) (append-nil _));
   codes = sections code_label w (λ n. refl) ∙ rw (labels_none code_label (object_item (spoken w)) (λ o. (head_again (spoken w) o.label o.kind).coded) w.objects, labels_all code_label code_item (λ (c : Code). c.label) (λ c. refl) w.codes, labels_none code_label (task_item (spoken w)) (λ t. refl) w.tasks) (append-nil _);
-  world = h
+  world = h;
 }
 
 sections_again : (w : Setup) (names : Names) → Known w names → (line : ℕ) → items_of names (counts 0 0 0) (placed line (map (object_item (spoken w)) w.objects ++ (map code_item w.codes ++ map (task_item (spoken w)) w.tasks))) ≡ Ok (setup 10000 w.objects w.codes w.tasks)
 sections_again w names k line =
     let h = k.world in
+    let few_objects : 0 + length w.objects ≤ 65529 = (let few = h.few_objects in omega arith) in
     let tasks = λ (l : ℕ). tasks_again k (0 + length w.objects) (0 + length w.codes) 0 l w.tasks (let few = h.few_tasks in omega arith) h.tasks_are in
     let coded = λ (l : ℕ). codes_again names (0 + length w.objects) 0 l w.codes (map (task_item (spoken w)) w.tasks) (setup 10000 [] [] w.tasks) (let few = h.few_codes in omega arith) h.codes_are tasks ∙ rw append-nil in
-    objects_again k 0 line w.objects (map code_item w.codes ++ map (task_item (spoken w)) w.tasks) (setup 10000 [] w.codes w.tasks) (let few = h.few_objects in omega arith) h.kinds coded ∙ rw append-nil
+    objects_again k 0 line w.objects (map code_item w.codes ++ map (task_item (spoken w)) w.tasks) (setup 10000 [] w.codes w.tasks) few_objects h.kinds coded ∙ rw append-nil
 
 pub load_again : (w : Setup) → IsWorld w → load (placed 2 (syntax_of w)) ≡ Ok w
 unfolding heads_of

@@ -1,10 +1,10 @@
 -- Names and entries of a world are found again by the labels that they are written as.
-use Rattle.std.proofs.Common.{◌≡◌, ℕ, suc, zero, ◌+◌, ◌-◌, ◌<◌, ◌≤◌, ◌⊎◌, inl, inr, Bool, true, false, cond, eqb, List, [], ◌∷◌, ◌++◌, length, get_or, refl, sym, ap, ◌∙◌, arith, ◌&&◌, ◌||◌, not, map, min, Ok, Err, Result, Option, Some, None}
+use Rattle.std.proofs.Common.{◌≡◌, ℕ, suc, zero, ◌+◌, ◌-◌, ◌<◌, inl, inr, Bool, true, false, eqb, List, [], ◌∷◌, ◌++◌, length, get_or, refl, sym, ap, ◌∙◌, arith, ◌&&◌, ◌||◌, not, map, min, Ok, Option, Some, None}
 use Rattle.std.specs.List.{list_any, position_or_len, AllByRecursion}
 use Rattle.std.specs.Prelude.{codes, IsTrue, slice_get}
-use Rattle.std.proofs.lemmas.Bool.{and_parts, and_from, false≢true, lt-ltb, eq-eqb, not-true}
+use Rattle.std.proofs.lemmas.Bool.{and_parts, and_from, lt-ltb, eq-eqb, not-true}
 use Rattle.std.proofs.lemmas.Bool.Decides.{nat_tests}
-use Rattle.std.proofs.lemmas.List.{length-append, length-map, get_or-map, get_or-append_right, get_or_append_left}
+use Rattle.std.proofs.lemmas.List.{length-map, get_or-map, get_or-append_right}
 use Rattle.std.proofs.lemmas.List.Folds.{list_any-append}
 use Rattle.std.proofs.lemmas.Option.{slice_get_within, get_or_from_slice_get}
 use Rattle.hk_model.specs.declared.names.Name.{Name}
@@ -17,12 +17,12 @@ use Rattle.hk_model.specs.declared.world.Kind.TheVariants as kind
 use Rattle.hk_model.specs.declared.world.Born.{Born}
 use Rattle.hk_model.specs.declared.world.Code.{Code}
 use Rattle.hk_model.specs.declared.world.Task.{Task}
-use Rattle.hk_model.specs.Labels.{same_text, is_lower, is_name, is_word, is_register, is_word_byte, first, are_apart}
-use Rattle.hk_model.specs.Setup.{Setup, IsWorld, IsObject, IsType, IsTypeOrAny, IsDeclaredType, IsTypeKind, IsEntry, IsParam, labels}
+use Rattle.hk_model.specs.Labels.{same_text, is_lower, is_name, is_word, is_register, first, are_apart}
+use Rattle.hk_model.specs.Setup.{Setup, IsWorld, IsObject, IsType, IsTypeOrAny, IsTypeKind, IsEntry, IsParam}
 use Rattle.hk_model.specs.RightsTexts.{rights_text}
 use Rattle.hk_rights.specs.Rights.{IsRightsWord}
-use Rattle.hk_model.specs.Canonical.{Spoken, spoken, kernel_names, object_text, code_text, kind_text, entry_body}
-use Rattle.hk_model.specs.Loading.{Names, object_named, type_named, kind_named, code_named, rights_named, name_numbered, kernel_flags, entry_of, param_of, place}
+use Rattle.hk_model.specs.Canonical.{spoken, kernel_names, object_text, code_text, kind_text, entry_body}
+use Rattle.hk_model.specs.Loading.{Names, object_named, type_named, kind_named, code_named, rights_named, kernel_flags, entry_of, param_of, place}
 use Rattle.hk_model.proofs.RightsAgain.{rights_again}
 
 pub same_self : (xs : List ℕ) → same_text xs xs ≡ true
@@ -165,9 +165,11 @@ object_not_any w h n there = go (spoken w).objects n.0 (all_other w h) (let size
     go [] k all inside = absurd (omega arith)
     go (l ∷ ls) zero all inside = all.0
     go (l ∷ ls) (suc k) all inside = go ls k all.1 (omega arith)
+
     others : (ls : List (List ℕ)) → AllByRecursion (λ l. IsTrue (is_name l)) ls → AllByRecursion (λ l. same_text l (codes "any") ≡ false) ls
     others [] all = tt
     others (l ∷ ls) all = (not-true _ (and_parts (is_word l && not (is_register l)) (not (same_text l (codes "any"))) all.0).1, others ls all.1)
+
     all_other : (w : Setup) → IsWorld w → AllByRecursion (λ l. same_text l (codes "any") ≡ false) (spoken w).objects
     all_other w h = (refl, (refl, (refl, (refl, (refl, (refl, (refl, others (map (λ (b : Born). b.label) w.objects) (names_front (map (λ (b : Born). b.label) w.objects) (map (λ (c : Code). c.label) w.codes ++ map (λ (t : Task). t.label) w.tasks) h.names))))))))
 

@@ -1,5 +1,5 @@
 -- A set of rights is read again from its canonical spelling.
-use Rattle.std.proofs.Common.{◌≡◌, ℕ, ◌^◌, ◌==◌, ◌||◌, ◌&&◌, not, Bool, true, false, cond, List, [], ◌∷◌, map, refl, sym, ap, ◌∙◌, arith, Option, Some, None}
+use Rattle.std.proofs.Common.{◌≡◌, ℕ, ◌^◌, ◌==◌, ◌||◌, ◌&&◌, not, Bool, true, false, cond, List, [], ◌∷◌, map, refl, sym, ap, ◌∙◌, arith, Some, None}
 use Rattle.std.specs.Prelude.{codes, bit_or}
 use Rattle.std.specs.List.{AllByRecursion, list_any, list_all, filter, slice_split, join_with_byte}
 use Rattle.std.proofs.lemmas.Bool.{eqb-true, eqb-false, and_from}
@@ -9,12 +9,12 @@ use Rattle.hk_rights.proofs.Sets.{has-zero, has-pow, has-bit_or, same_rights}
 use Rattle.hk_rights.proofs.Words.{HasAll-all_rights}
 use Rattle.hk_rights.proofs.Table.{has-all_rights, right_numbers-is_right}
 use Rattle.hk_model.specs.Labels.{same_text}
-use Rattle.hk_model.specs.RightsTexts.{rights_text, rights_of, right_of, both, union_of}
+use Rattle.hk_model.specs.RightsTexts.{rights_text, rights_of, right_of, union_of}
 use Rattle.hk_model.proofs.Cutting.{split_joined}
 use Rattle.hk_model.proofs.LineAgain.{same_is}
 
 -- the set of these rights
-word_of : List ℕ → ℕ
+unfoldable pub word_of : List ℕ → ℕ
 word_of [] = 0
 word_of (n ∷ ns) = bit_or (2 ^ n) (word_of ns)
 
@@ -51,6 +51,7 @@ listed (n ∷ ns) w h e some = go (same_text (join_with_byte 43 (map name_of (n 
   where
     union : union_of (slice_split (λ b. b == 43) (join_with_byte 43 (map name_of (n ∷ ns)))) ≡ Some w
     union = ap union_of (split_joined (λ b. b == 43) 43 (name_of n) (map name_of ns) (names_free (n ∷ ns) h) refl) ∙ union_again (n ∷ ns) h ∙ ap Some e
+
     go : (a : Bool) → same_text (join_with_byte 43 (map name_of (n ∷ ns))) (codes "-") ≡ a → (b : Bool) → same_text (join_with_byte 43 (map name_of (n ∷ ns))) (codes "ALL") ≡ b → cond a (Some 0) (cond b (Some all_rights) (union_of (slice_split (λ c. c == 43) (join_with_byte 43 (map name_of (n ∷ ns)))))) ≡ Some w
     go true k b l = absurd (let same = same_is (join_with_byte 43 (map name_of (n ∷ ns))) (codes "-") k in let bad : union_of (slice_split (λ c. c == 43) (codes "-")) ≡ Some w = rw same at union in let none : None ≡ Some w = bad in cc)
     go false k true l = absurd (let same = same_is (join_with_byte 43 (map name_of (n ∷ ns))) (codes "ALL") l in let bad : union_of (slice_split (λ c. c == 43) (codes "ALL")) ≡ Some w = rw same at union in let none : None ≡ Some w = bad in cc)
@@ -72,16 +73,18 @@ kept_has w n (k ∷ ns) = go (has w k) refl (kept_has w n ns)
         and_none : (a : Bool) → (a && false) ≡ false
         and_none true = refl
         and_none false = refl
+
         same : (b : Bool) → (k == n) ≡ b → (list_any (λ j. j == n) ns && has w n) ≡ ((b || list_any (λ j. j == n) ns) && has w n)
         same true f = let eq = eqb-true k n f in let none : has w n ≡ false = rw (← eq) e in rw none (and_none (list_any (λ j. j == n) ns))
         same false f = refl
 
-word_again : (w : ℕ) → IsRightsWord w → word_of (filter (has w) right_numbers) ≡ w
+pub word_again : (w : ℕ) → IsRightsWord w → word_of (filter (has w) right_numbers) ≡ w
 word_again w word = same_rights (word_of (filter (has w) right_numbers)) w (λ n. kept_has w n right_numbers ∙ ap (λ b. b && has w n) (right_numbers-is_right n) ∙ only n (has w n) refl)
   where
     and_none : (a : Bool) → (a && false) ≡ false
     and_none true = refl
     and_none false = refl
+
     only : (n : ℕ) (b : Bool) → has w n ≡ b → (is_right n && b) ≡ b
     only n true e = rw (← has-all_rights n) (rw (HasAll-all_rights w word n e) refl)
     only n false e = and_none (is_right n)

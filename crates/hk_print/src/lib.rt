@@ -2,6 +2,7 @@
 //! (`docs/FORMATS.md`, "Canonical script").
 #![tactic(auto)]
 
+pub mod again;
 mod codes;
 mod entries;
 pub mod instructions;
@@ -14,6 +15,7 @@ pub mod script;
 mod shapes;
 mod words;
 
+pub use again::canonical_is_read_again;
 pub use instructions::instr_text;
 pub use operands::{operand_text, register_text, route_text};
 pub use rights::rights_text;
