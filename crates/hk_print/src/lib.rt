@@ -13,6 +13,8 @@ mod processes;
 pub mod rights;
 pub mod script;
 mod shapes;
+#[cfg(test)]
+mod tests;
 mod words;
 
 pub use again::canonical_is_read_again;
