@@ -28,3 +28,15 @@ pub mod NoEnv
 pub mod NextNames
 pub mod NamesGiven
 pub mod Histories
+pub mod LineAgain
+pub mod ItemsAgain
+pub mod Cutting
+pub mod RightsAgain
+pub mod NamesAgain
+pub mod CodesAgain
+pub mod LoadAgain
+pub mod ItemsGood
+pub mod LinesGood
+pub mod PieceAgain
+pub mod TextAgain
+pub mod WorldAgain

@@ -1,0 +1,11 @@
+mod Arguments
+mod FoundLabels
+mod ItemByItem
+mod Items
+mod Joined
+mod Names
+mod Pieces
+mod Places
+mod Registers
+mod StepByStep
+mod WordByWord

@@ -1,0 +1,3 @@
+pub mod ItemTexts
+pub mod Jumps
+pub mod WordLines

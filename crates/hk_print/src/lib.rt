@@ -1,0 +1,24 @@
+//! The canonical script of a world, and the spellings that audit lines share with it
+//! (`docs/FORMATS.md`, "Canonical script").
+#![tactic(auto)]
+
+pub mod again;
+mod codes;
+mod entries;
+pub mod instructions;
+mod labels;
+mod objects;
+pub mod operands;
+mod processes;
+pub mod rights;
+pub mod script;
+mod shapes;
+#[cfg(test)]
+mod tests;
+mod words;
+
+pub use again::canonical_is_read_again;
+pub use instructions::instr_text;
+pub use operands::{operand_text, register_text, route_text};
+pub use rights::rights_text;
+pub use script::script_text;

@@ -1,0 +1,45 @@
+//! The items of processes (`docs/FORMATS.md`, "Canonical script").
+
+ghost use Rattle.std.specs.Prelude.{◌≡◌, ◌++◌, OnOk, string_bytes};
+ghost use Rattle.std.specs.List.{flat_map};
+ghost use Rattle.hk_model.specs.declared.world.Task.{Task};
+ghost use Rattle.hk_model.specs.Setup.{IsTask};
+ghost use Rattle.hk_model.specs.Canonical.{spoken, task_item};
+ghost use Rattle.hk_print.specs.ItemTexts.{item_text};
+
+use crate::entries::write_entries;
+use crate::labels::code_label;
+use hk_model::{NoMemory, Task, World};
+use std::alloc::Global;
+
+/// Writes the items of all processes of a world.
+pub(crate) fn write_processes(
+    alloc: Global,
+    out: &mut String,
+    world: &World,
+) -> Result<(), NoMemory>
+    ensures { OnOk result (string_bytes out.new ≡ string_bytes out.old ++ flat_map (λ (t : Task). item_text (task_item (spoken world.now) t)) world.now.tasks) }
+{
+    for process in world.tasks() {
+        write_process(alloc, out, world, process)?;
+    }
+    Ok(())
+}
+
+/// Writes the item of a process.
+fn write_process(
+    alloc: Global,
+    out: &mut String,
+    world: &World,
+    process: &Task,
+) -> Result<(), NoMemory>
+    requires { IsTask world.now process.now }
+    ensures { OnOk result (string_bytes out.new ≡ string_bytes out.old ++ item_text (task_item (spoken world.now) process.now)) }
+{
+    let label = process.label.as_str();
+    let code = code_label(world, process.code);
+    write!(out, "process {label} {code}\n")?;
+    write_entries(alloc, out, world, process.slots.as_slice())?;
+    out.push_str("end\n")?;
+    Ok(())
+}

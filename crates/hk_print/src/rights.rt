@@ -1,0 +1,75 @@
+//! How a set of rights is spelled (`docs/FORMATS.md`, "Rights").
+
+ghost use Rattle.std.specs.Prelude.{◌≡◌, ◌++◌, IfOk, OnOk, string_bytes, Some, None, map, if◌then◌else◌};
+ghost use Rattle.std.specs.List.{filter, join_with_byte};
+ghost use Rattle.hk_rights.specs.Rights.{has, IsRightsWord, name_of, right_numbers};
+ghost use Rattle.hk_model.specs.RightsTexts.{rights_text};
+
+use hk_model::NoMemory;
+use hk_rights::{Right, Rights};
+use std::alloc::Global;
+
+/// The canonical spelling of a set: `-` for none, `ALL` for all 19, else each name once by rising
+/// number, joined by `+`.
+#[tactic(auto, unfolding(hk_model::specs::RightsTexts::rights_text))]
+pub fn rights_text(alloc: Global, rights: Rights) -> Result<String, NoMemory>
+    ensures { IfOk result (λ t. string_bytes t ≡ rights_text rights) }
+{
+    if rights.bits() == 0 {
+        return Ok(String::from_str(alloc, "-")?);
+    }
+    if rights == Rights::all() {
+        return Ok(String::from_str(alloc, "ALL")?);
+    }
+    rights_names(alloc, rights)
+}
+
+/// The names of the rights of a set, by rising number and joined by `+`.
+#[tactic(auto, unfolding(hk_rights::specs::Rights::right_numbers, hk_rights::specs::Rights::right_table))]
+fn rights_names(alloc: Global, rights: Rights) -> Result<String, NoMemory>
+    requires { IsRightsWord rights }
+    ensures { IfOk result (λ t. string_bytes t ≡ join_with_byte 43 (map name_of (filter (has rights) right_numbers))) }
+{
+    names_among(alloc, &NUMBERS, rights)
+}
+
+/// The numbers of the rights, rising.
+const NUMBERS: [u8; 19] = [
+    0, 1, 2, 3, 4, 5, 6, 7, 8, 9, 10, 16, 17, 18, 19, 20, 21, 22, 23,
+];
+
+/// The names of those of these rights that a set has, joined by `+`.
+fn names_among(alloc: Global, numbers: &[u8], rights: Rights) -> Result<String, NoMemory>
+    requires { IsRightsWord rights }
+    ensures { IfOk result (λ t. string_bytes t ≡ join_with_byte 43 (map name_of (filter (has rights) numbers.now))) }
+{
+    let mut out = String::new(alloc);
+    let mut separator = "";
+    for number in numbers {
+        if let Some(right) = right_in(rights, *number) {
+            push_name(&mut out, separator, right)?;
+            separator = "+";
+        }
+    }
+    Ok(out)
+}
+
+/// The right of this number, if a set has it.
+fn right_in(rights: Rights, number: u8) -> Option<Right>
+    requires { IsRightsWord rights }
+    ensures { result ≡ (if has rights number then Some number else None) }
+{
+    match Right::new(number) {
+        Some(right) => { if rights.has(right) { Some(right) } else { None } }
+        None => None,
+    }
+}
+
+/// Writes a separator and the name of a right.
+fn push_name(out: &mut String, separator: &str, right: Right) -> Result<(), NoMemory>
+    ensures { OnOk result (string_bytes out.new ≡ string_bytes out.old ++ (separator.now ++ name_of right)) }
+{
+    out.push_str(separator)?;
+    out.push_str(right.name())?;
+    Ok(())
+}

@@ -1,0 +1,39 @@
+//! The canonical script of a world (`docs/FORMATS.md`, "Canonical script").
+
+ghost use Rattle.std.specs.Prelude.{◌≡◌, ◌++◌, OnOk, IfOk, string_bytes};
+ghost use Rattle.std.specs.List.{flat_map};
+ghost use Rattle.hk_model.specs.Canonical.{canon, limit_items};
+ghost use Rattle.hk_print.specs.ItemTexts.{item_text};
+
+use crate::codes::write_codes;
+use crate::objects::write_objects;
+use crate::processes::write_processes;
+use hk_model::{NoMemory, Text, World};
+use std::alloc::Global;
+
+/// The limit of a script that names none.
+const USUAL_LIMIT: u32 = 10000;
+
+/// The canonical script of a world: the one script in the canonical form that declares this world.
+/// The only error is want of memory.
+#[tactic(auto, using(crate::proofs::ItemByItem::canon_is))]
+pub fn script_text(alloc: Global, world: &World) -> Result<Text, NoMemory>
+    ensures { IfOk result (λ text. text ≡ canon world.now) }
+{
+    let mut out = String::from_str(alloc, "hydra 1\n")?;
+    write_limit(&mut out, world.limit())?;
+    write_objects(alloc, &mut out, world)?;
+    write_codes(alloc, &mut out, world)?;
+    write_processes(alloc, &mut out, world)?;
+    Ok(Text::from_string(out))
+}
+
+/// Writes the limit, where it is not the usual one.
+fn write_limit(out: &mut String, limit: u32) -> Result<(), NoMemory>
+    ensures { OnOk result (string_bytes out.new ≡ string_bytes out.old ++ flat_map item_text (limit_items limit)) }
+{
+    if limit != USUAL_LIMIT {
+        write!(out, "limit {limit}\n")?;
+    }
+    Ok(())
+}

@@ -1,0 +1,90 @@
+// Each public call once, against texts that were written out by hand.
+
+ghost use Rattle.std.specs.Prelude.{◌≡◌, ◌<◌, ◌≤◌, []};
+ghost use Rattle.hk_model.specs.Limits.{event_limit};
+ghost use Rattle.hk_model.specs.Setup.{setup};
+
+use crate::{
+    canonical_is_read_again, instr_text, operand_text, register_text, rights_text, route_text,
+    script_text,
+};
+use hk_model::{Index, Instr, Items, NoMemory, Operand, Route, Slot, World};
+use hk_rights::Rights;
+use std::alloc::Global;
+use std::test::Fail;
+
+fn empty_world(alloc: Global, limit: u32) -> World
+    requires some { 0 < limit }
+    requires few { limit ≤ event_limit }
+    ensures { result ≡ setup limit [] [] [] }
+{
+    World::new(
+        limit,
+        Items::new(alloc),
+        Items::new(alloc),
+        Items::new(alloc),
+    )
+}
+
+#[test]
+fn limits_are_written_where_they_are_unusual(rt: HostRuntime) -> Result<(), Fail> {
+    let alloc = rt.alloc();
+    let usual = empty_world(alloc, 10000);
+    let text = script_text(alloc, &usual).map_err(|_error: NoMemory| "memory")?;
+    assert_eq!(rt; text.as_str(), "hydra 1\n");
+    let unusual = empty_world(alloc, 500);
+    let text = script_text(alloc, &unusual).map_err(|_error: NoMemory| "memory")?;
+    assert_eq!(rt; text.as_str(), "hydra 1\nlimit 500\n");
+    canonical_is_read_again(&unusual);
+    Ok(())
+}
+
+#[test]
+fn operands_are_spelled(rt: HostRuntime) -> Result<(), Fail> {
+    let alloc = rt.alloc();
+    let number = operand_text(alloc, Operand::Number(4294967295)).map_err(
+        |_error: NoMemory| "memory",
+    )?;
+    assert_eq!(rt; number.as_str(), "4294967295");
+    let register = operand_text(alloc, Operand::Reg(7)).map_err(|_error: NoMemory| "memory")?;
+    assert_eq!(rt; register.as_str(), "r7");
+    let register = register_text(alloc, 0).map_err(|_error: NoMemory| "memory")?;
+    assert_eq!(rt; register.as_str(), "r0");
+    Ok(())
+}
+
+#[test]
+fn rights_are_spelled_by_rising_number(rt: HostRuntime) -> Result<(), Fail> {
+    let alloc = rt.alloc();
+    let sets = [Rights::none(), Rights::all(), Rights::PUTDATA_MODIFY];
+    let texts = ["-", "ALL", "PUTDATA+MODIFY"];
+    for i in 0..3 {
+        let text = rights_text(alloc, sets[i]).map_err(|_error: NoMemory| "memory")?;
+        assert_eq!(rt; text.as_str(), texts[i]);
+    }
+    Ok(())
+}
+
+#[test]
+fn instructions_are_spelled(rt: HostRuntime) -> Result<(), Fail> {
+    let alloc = rt.alloc();
+    let at = Route {
+        at: Items::from_vec(vec![in alloc; Index::Fixed(3), Index::ByReg(1)]?),
+    };
+    let path = route_text(alloc, &at).map_err(|_error: NoMemory| "memory")?;
+    assert_eq!(rt; path.as_str(), "3.r1");
+    let load = Instr::Load {
+        from: at,
+        into: Slot(9),
+    };
+    let line = instr_text(alloc, &load, 1).map_err(|_error: NoMemory| "memory")?;
+    assert_eq!(rt; line.as_str(), "load 3.r1 9");
+    let jump = Instr::IfLess {
+        left: Operand::Reg(2),
+        right: Operand::Number(5),
+        to: 1,
+    };
+    let line = instr_text(alloc, &jump, 1).map_err(|_error: NoMemory| "memory")?;
+    assert_eq!(rt; line.as_str(), "iflt r2 5 l1");
+    Ok(())
+}

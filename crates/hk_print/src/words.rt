@@ -1,0 +1,49 @@
+//! The `words` lines of an object (`docs/FORMATS.md`, "Canonical script").
+
+ghost use Rattle.std.specs.Prelude.{◌≡◌, ◌++◌, ◌∷◌, ◌≤◌, ℕ, List, OnOk, IfOk, string_bytes};
+ghost use Rattle.hk_model.specs.Limits.{line_bytes};
+ghost use Rattle.hk_model.specs.Canonical.{word_parts, words_from};
+ghost use Rattle.hk_print.specs.ItemTexts.{parts_text};
+ghost use Rattle.hk_print.specs.WordLines.{begun_lines};
+
+use hk_model::NoMemory;
+use std::alloc::Global;
+
+/// The bytes that a line can have, without its line feed.
+const LINE_BYTES: usize = 1000;
+
+/// The bytes of `words`.
+const WORDS_BYTES: usize = 5;
+
+/// Writes the words, in as few lines as keep each within its length.
+pub(crate) fn write_words(alloc: Global, out: &mut String, words: &[u32]) -> Result<(), NoMemory>
+    ensures { OnOk result (string_bytes out.new ≡ string_bytes out.old ++ parts_text (word_parts words.now)) }
+{
+    if words.is_empty() {
+        return Ok(());
+    }
+    out.push_str("words")?;
+    let mut used = WORDS_BYTES;
+    for word in words {
+        used = write_word(alloc, out, used, *word)?;
+    }
+    out.push_str("\n")?;
+    Ok(())
+}
+
+/// Writes a word on a line that has so many bytes, where it fits, and else on the next. The bytes of
+/// the line that the word stands on, which goes on behind it.
+fn write_word(alloc: Global, out: &mut String, used: usize, word: u32) -> Result<usize, NoMemory>
+    requires { used ≤ line_bytes }
+    ensures few { IfOk result (λ end. end ≤ line_bytes) }
+    ensures text { IfOk result (λ end. (rest : List ℕ) → string_bytes out.new ++ begun_lines (words_from end rest) ≡ string_bytes out.old ++ begun_lines (words_from used (word ∷ rest))) }
+{
+    let number = format!(in alloc; " {word}")?;
+    if used + number.len() <= LINE_BYTES {
+        out.push_str(number.as_str())?;
+        return Ok(used + number.len());
+    }
+    out.push_str("\nwords")?;
+    out.push_str(number.as_str())?;
+    Ok(WORDS_BYTES + number.len())
+}
