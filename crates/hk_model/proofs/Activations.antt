@@ -25,7 +25,7 @@ use Rattle.hk_model.specs.Refusing.{unless}
 use Rattle.hk_model.specs.Targets.{SEMAPHORE, is_type, MODIFY+A0, target}
 use Rattle.hk_model.specs.Rule.{Outcome, outcome, counted, token_given, get_word, put_word, add_word, word_count, load_entry, store_entry, append_entry, erase_entry, drop_slot, restrict_slot, look, make_template, create_object, merge_cap, copy_object, take_token, give_token}
 use Rattle.hk_model.proofs.Standing.{on_cond}
-use Rattle.hk_model.proofs.Tests.{then_is, and_is}
+use Rattle.hk_model.proofs.TestLemmas.{then_is, and_is}
 
 -- an incarnation without its slots: its process and its caller
 pub record Activation : Type 0 where

@@ -22,7 +22,7 @@ use Rattle.hk_model.specs.Places.{Place, SlotOf, EntryOf, same_place, standing, 
 use Rattle.hk_model.specs.Lines.{makes_object, enters_call, changes_path}
 use Rattle.hk_model.specs.Ways.{Way, Walked, Stored, Lessened, Merged, Inherited, Copied, CopyOf, Created, Formed, Gone, written, call_way, returned_way, way, Wrote, IsModified, IsWritable, IsWrittenBy}
 use Rattle.hk_model.proofs.Standing.{name_same, inc_same, place_same}
-use Rattle.hk_model.proofs.Tests.{then_is, and_is, ok_each, ok_all, ok_both, ok_more}
+use Rattle.hk_model.proofs.TestLemmas.{then_is, and_is, ok_each, ok_all, ok_both, ok_more}
 use Rattle.hk_model.proofs.RightsWithin.{Within-part}
 use Rattle.hk_model.proofs.WalkLemmas.{target_is}
 use Rattle.hk_model.proofs.CallWays.{AreApart, outcome_wrote}

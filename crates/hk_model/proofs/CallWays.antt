@@ -37,7 +37,7 @@ use Rattle.hk_model.specs.Places.{Place, SlotOf, EntryOf, standing, form_of, end
 use Rattle.hk_model.specs.Ways.{Way, Walked, Stored, Lessened, Merged, Inherited, Copied, CopyOf, Created, Formed, Gone, written, call_way, returned_way, way, Within, Writes, Wrote}
 use Rattle.hk_model.specs.Descent.{Reduces}
 use Rattle.hk_model.proofs.Standing.{set_holds, item_holds, append_holds, put_slot_holds, put_object_holds, add_object_holds, enter_holds, name_same, inc_same, name_laws, inc_laws}
-use Rattle.hk_model.proofs.Tests.{then_is, and_is, if_ok, held_is, allowed_is, slot_is, not_empty_is, storable_is, storable_has, create_form_is, amplify_form_is}
+use Rattle.hk_model.proofs.TestLemmas.{then_is, and_is, if_ok, held_is, allowed_is, slot_is, not_empty_is, storable_is, storable_has, create_form_is, amplify_form_is}
 use Rattle.hk_model.proofs.WalkLemmas.{walk_reduces, target_is}
 
 -- the incarnations have different numbers

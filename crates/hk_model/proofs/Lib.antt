@@ -10,7 +10,7 @@ pub mod ReachRules
 pub mod Appending
 pub mod OneExplanation
 pub mod Standing
-pub mod Tests
+pub mod TestLemmas
 pub mod RightsWithin
 pub mod WalkLemmas
 pub mod MergeLemmas

@@ -26,7 +26,7 @@ use Rattle.hk_model.specs.Processors.{halted}
 use Rattle.hk_model.specs.Lines.{done_by, done_call, changes_path, changed}
 use Rattle.hk_model.specs.Ways.{Way, way, Wrote, IsModified, IsWritable, IsWrittenBy, IsWrittenByLine}
 use Rattle.hk_model.proofs.Standing.{inc_laws}
-use Rattle.hk_model.proofs.Tests.{ok_both}
+use Rattle.hk_model.proofs.TestLemmas.{ok_both}
 use Rattle.hk_model.proofs.CallWays.{AreApart}
 use Rattle.hk_model.proofs.CallPlaces.{GoesTo, way_goes, Modifies, outcome_modifies, outcome_written}
 use Rattle.hk_model.proofs.Steps.{EachStep, given_to}

@@ -8,7 +8,7 @@ use Rattle.hk_model.specs.Refusing.{◌>>◌, unless, allowed}
 use Rattle.hk_model.specs.Merging.{merged, merged_rights, matches}
 use Rattle.hk_model.specs.Descent.{Amplified, Others}
 use Rattle.hk_model.proofs.Standing.{name_same}
-use Rattle.hk_model.proofs.Tests.{and_is, if_ok, unless_is, allowed_is}
+use Rattle.hk_model.proofs.TestLemmas.{and_is, if_ok, unless_is, allowed_is}
 use Rattle.hk_rights.specs.Rights.{has, special_rights, all_rights}
 use Rattle.hk_model.proofs.RightsWithin.{Within-all, Within-has, merged_special, merged_others}
 use Rattle.hk_rights.proofs.Sets.{HasAll-bit_and_right, has-bit_and}

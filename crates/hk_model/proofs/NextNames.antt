@@ -23,7 +23,7 @@ use Rattle.hk_model.specs.Refusing.{unless}
 use Rattle.hk_model.specs.Targets.{SEMAPHORE, is_type, MODIFY+A0, target}
 use Rattle.hk_model.specs.Rule.{Outcome, outcome, settled, counted, answered, leave_to, token_given, get_word, put_word, add_word, word_count, load_entry, store_entry, append_entry, erase_entry, drop_slot, restrict_slot, look, make_template, create_object, merge_cap, copy_object, enter_procedure, leave, take_token, give_token}
 use Rattle.hk_model.specs.Lines.{done_by, done_call, makes_object}
-use Rattle.hk_model.proofs.Tests.{then_is, and_is}
+use Rattle.hk_model.proofs.TestLemmas.{then_is, and_is}
 use Rattle.hk_model.proofs.Steps.{EachStep}
 
 -- the next name after this call, or none

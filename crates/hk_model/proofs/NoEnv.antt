@@ -17,7 +17,7 @@ use Rattle.hk_model.specs.Rule.{copied}
 use Rattle.hk_model.specs.Places.{SlotOf, EntryOf, standing}
 use Rattle.hk_model.specs.Descent.{Reduces}
 use Rattle.hk_model.specs.Ways.{HasEnv}
-use Rattle.hk_model.proofs.Tests.{and_is, allowed_is}
+use Rattle.hk_model.proofs.TestLemmas.{and_is, allowed_is}
 use Rattle.hk_model.proofs.RightsWithin.{Within-has, reduced_lacks_env, lacks_env}
 use Rattle.hk_model.proofs.WalkLemmas.{walk_keeps}
 use Rattle.hk_model.proofs.MergeLemmas.{merged_has}

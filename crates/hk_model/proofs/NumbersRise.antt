@@ -30,7 +30,7 @@ use Rattle.hk_model.specs.Rule.{Outcome, outcome, enter, leave_to, token_given, 
 use Rattle.hk_model.specs.Setup.{Setup}
 use Rattle.hk_model.specs.Opening.{opening, bases}
 use Rattle.hk_model.proofs.Standing.{on_cond}
-use Rattle.hk_model.proofs.Tests.{then_is, and_is}
+use Rattle.hk_model.proofs.TestLemmas.{then_is, and_is}
 use Rattle.hk_model.proofs.CallWays.{AreApart}
 use Rattle.hk_model.proofs.Steps.{EachStep, settled_keeps}
 

@@ -30,7 +30,7 @@ use Rattle.hk_model.specs.Rule.{Outcome, outcome, rule, settled, answered, calle
 use Rattle.hk_model.specs.Processors.{runner, runner_from, is_on}
 use Rattle.hk_model.specs.Lines.{done_by, done_call, enters_call, leaves_call}
 use Rattle.hk_model.specs.Under.{is_live}
-use Rattle.hk_model.proofs.Tests.{then_is, and_is}
+use Rattle.hk_model.proofs.TestLemmas.{then_is, and_is}
 use Rattle.hk_model.proofs.WalkLemmas.{target_is}
 use Rattle.hk_model.proofs.Steps.{EachStep, proc_line}
 use Rattle.hk_model.proofs.NumbersRise.{NumbersRise}

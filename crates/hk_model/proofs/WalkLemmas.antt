@@ -17,7 +17,7 @@ use Rattle.hk_model.specs.Rule.{copied}
 use Rattle.hk_model.specs.Places.{Place, SlotOf, EntryOf, standing, named, end_from, end_of, named_by}
 use Rattle.hk_model.specs.Descent.{Reduces}
 use Rattle.hk_model.specs.Ways.{Within, LeadsTo}
-use Rattle.hk_model.proofs.Tests.{then_is, and_is, if_ok, ok_each, ok_both, held_is, unless_is, allowed_is, item_is}
+use Rattle.hk_model.proofs.TestLemmas.{then_is, and_is, if_ok, ok_each, ok_both, held_is, unless_is, allowed_is, item_is}
 use Rattle.hk_model.proofs.RightsWithin.{Within-self, Within-and, Within-reduced}
 use Rattle.hk_model.proofs.Standing.{on_cond}
 
