@@ -19,7 +19,7 @@ use hk_model::{Line, World};
 /// or in a list descends by the chain of its place. The chain goes back, line by line, to the opening
 /// or to the call that made the entry. Every capability in it names the same object, and has no right
 /// that its origin lacks, but those that a template for the object's type gives, which are never
-/// MODIFY, ENV or UNCONF. A template is its origin.
+/// MODIFY, ENV or UNCONF. A template stays as it was made.
 ///
 /// `lines` are steps of `world` from its opening on, in the order of the history.
 #[tactic(auto, using(crate::proofs::Chains::descent))]
