@@ -44,7 +44,10 @@ fn lists_are_written_and_copied(rt: HostRuntime) -> Result<(), Fail> {
     let mut items = Items::new(alloc);
     items.push(Slot(1))?;
     items.set(0, Slot(2));
-    assert_eq!(rt; items.copy(alloc)?.into_vec().as_slice(), [Slot(2)].as_slice());
+    assert_eq!(rt;
+        items.copy(alloc)?.into_vec().as_slice(),
+        [Slot(2)].as_slice()
+    );
     assert_eq!(rt; items.len(), 1);
     let label = text(alloc, "cell")?;
     assert_eq!(rt; label.copy(alloc)?.as_str(), "cell");
