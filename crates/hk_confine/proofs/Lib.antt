@@ -1,3 +1,4 @@
 pub mod Hands
 pub mod Doings
 pub mod Settling
+pub mod Kept
