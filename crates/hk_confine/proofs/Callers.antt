@@ -24,6 +24,7 @@ use Rattle.hk_model.proofs.Activations.{look_up, Activation, activation, activat
 use Rattle.hk_model.proofs.ActivationLists.{activation_live, activations_apart, left_found, halted_found}
 use Rattle.hk_model.proofs.Stacks.{remove_fewer, found_last}
 use Rattle.hk_model.proofs.Turns.{Turn, Still, Enter, Leave, Halt}
+use Rattle.hk_model.proofs.UnderLemmas.{some_is, is_some_of}
 use Rattle.hk_confine.proofs.Hands.{IsCalled, Calls}
 use Rattle.hk_confine.proofs.Doings.{IsEntered, HasDoneThat, call_way_calls, entered_called}
 use Rattle.hk_confine.proofs.Settling.{HasNumber}
@@ -40,22 +41,15 @@ lived_before s line t n (Enter e) i x h = by (found_last (activations_in s.incar
     by (inl a) = inl a
     by (inr b) = inr (e.is, b.0, ap (λ (z : Activation). z.caller) (sym b.1))
 
-pub found_some : (o : Option Activation) → IsTrue (is_some o) → (x : Activation) × (o ≡ Some x)
-found_some (Some x) h = (x, refl)
-found_some None h = absurd (cc)
-
-some_found : (o : Option Activation) (x : Activation) → o ≡ Some x → IsTrue (is_some o)
-some_found o x h = rw h refl
-
 -- the call lives
 abbrev pub Lives : Inc → State → Type 0
 Lives call s = IsTrue (is_some (look_up call (activations_in s.incarnations)))
 
 pub lives_before : (s : State) (line : Line) (t : State) → NumbersRise s → Turn s line t → (call : Inc) → HasNumber call s → Lives call t → Lives call s
-lives_before s line t n turn call numbered lives = let x = found_some (look_up call (activations_in t.incarnations)) lives in by x.0 (lived_before s line t n turn call x.0 x.1)
+lives_before s line t n turn call numbered lives = let x = some_is (look_up call (activations_in t.incarnations)) lives in by x.0 (lived_before s line t n turn call x.0 x.1)
   where
     by : (x : Activation) → (look_up call (activations_in s.incarnations) ≡ Some x) ⊎ ((enters_call (done_call line) ≡ true) × (call ≡ s.next_inc) × (x.caller ≡ Some line.inc)) → Lives call s
-    by x (inl a) = some_found (look_up call (activations_in s.incarnations)) x a
+    by x (inl a) = is_some_of (look_up call (activations_in s.incarnations)) x a
     by x (inr b) = let same = ap (λ (i : Inc). i.0) b.1 in absurd (omega (arith, numbered, same))
 
 -- who has a caller lives
@@ -93,7 +87,7 @@ module _ (under : Inc → Bool) (top : Inc) where
     where
       apart : line.inc ≡ top → ⊥
       apart e =
-          let x = found_some (look_up top (activations_in t.incarnations)) lives in
+          let x = some_is (look_up top (activations_in t.incarnations)) lives in
           let gone = left_done s line.inc (done_call line) t.incarnations done leaves in
           let other : same_inc line.inc top ≡ false = (left_found (activations_in s.incarnations) line.inc top x.0 (activations_apart s n) (subst (λ fs. look_up top fs ≡ Some x.0) gone x.1)).1 in
           true≢false (sym (inc_laws.refl top) ∙ subst (λ (j : Inc). same_inc j top ≡ false) e other)

@@ -12,13 +12,13 @@ use Rattle.hk_model.specs.declared.entries.Entry.TheVariants.{Held}
 use Rattle.hk_model.specs.declared.lines.Line.{Line}
 use Rattle.hk_rights.specs.Rights.{MODIFY, has}
 use Rattle.hk_model.specs.Setup.{Setup, IsWorld}
-use Rattle.hk_model.specs.State.{State, incarnation}
+use Rattle.hk_model.specs.State.{State, object, incarnation}
 use Rattle.hk_model.specs.Walking.{modify_right, unconf_right}
 use Rattle.hk_model.specs.Places.{Place, SlotOf, EntryOf, standing, cap_of}
 use Rattle.hk_model.specs.Lines.{done_call, makes_object, enters_call, changed}
 use Rattle.hk_model.specs.Running.{Machine, opened, moved, after_lines, machine_at, state_at, AreSteps, AreStepsOf}
 use Rattle.hk_model.specs.Under.{is_one_of, is_live, is_under, is_made_under, parameters}
-use Rattle.hk_model.specs.Reaches.{listed_cap, AreReaches}
+use Rattle.hk_model.specs.Reaches.{listed_cap, IsModifiable, IsUnconfined, AreReaches}
 use Rattle.hk_model.specs.Ways.{IsModified}
 use Rattle.hk_model.specs.Confinement.{IsConfinedCall, IsChange, ConfinementLaw, AreClosed, ClosedCallLaw}
 use Rattle.hk_model.proofs.RightsWithin.{Within-has}
@@ -112,7 +112,7 @@ module _ (w : Setup) (lines : List Line) (h : AreStepsOf w lines) (world : IsWor
   sound = sound_at w lines k h
 
   listed : (s : State) (x : Name) (index : ℕ) (cap : Cap) → standing s (EntryOf x index) ≡ Held cap → listed_cap s x index ≡ Some cap
-  listed s x index cap e = ap (option_and_then cap_of) (slot_get _ index cap e)
+  listed s x index cap e = ap (option_and_then cap_of) (slot_get (object s x).entries index cap e)
 
   closed_at : (n : ℕ) → k ≤ n → Closed made (M n) (U n) (state_at w lines n)
   closed_at n late = record {
@@ -207,7 +207,7 @@ module _ (w : Setup) (lines : List Line) (h : AreStepsOf w lines) (world : IsWor
 
 pub confinement : (w : Setup) (lines : List Line) → AreStepsOf w lines → IsWorld w → ConfinementLaw w lines
 confinement w lines h world k top c moment x g =
-    change_within w lines h world k top c _ _ (reaches_keep_the_rules (state_at w lines) (is_made_under w lines k top) (parameters w lines k top) k) moment x g
+    change_within w lines h world k top c (IsModifiable w lines k top) (IsUnconfined w lines k top) (reaches_keep_the_rules (state_at w lines) (is_made_under w lines k top) (parameters w lines k top) k) moment x g
 
 -- where no parameter has either right, the empty sets keep the rules
 closed_rules : (at : ℕ → State) (made : Name → Bool) (w : Setup) (lines : List Line) (k : ℕ) (top : Inc) → AreClosed (parameters w lines k top) → AreReaches at made (parameters w lines k top) k (λ n x. ⊥) (λ n x. ⊥)

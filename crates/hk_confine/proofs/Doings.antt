@@ -30,6 +30,7 @@ use Rattle.hk_model.specs.Ways.{Way, Merged, Inherited, LeadsTo, call_way, way}
 use Rattle.hk_model.proofs.Standing.{inc_laws, insert_holds}
 use Rattle.hk_model.proofs.Tests.{then_is, and_is, ok_each, ok_more}
 use Rattle.hk_model.proofs.WalkLemmas.{target_is, leads_named}
+use Rattle.hk_model.proofs.LineWays.{answered_done}
 use Rattle.hk_model.proofs.Activations.{activations_in}
 use Rattle.hk_model.proofs.Turns.{LeavesBy, leave_leaves}
 use Rattle.hk_model.proofs.Steps.{EachStep}
@@ -72,11 +73,6 @@ outcome_done s proc inc (call.Enter path args into) = enter_done s proc inc path
 outcome_done s proc inc (call.Leave give) =
     ok_more (λ f. LeavesBy s proc inc (incarnation s inc).caller f.1) (λ f. HasDone s inc (call.Leave give) f.1.incarnations) (leave s proc inc give) (λ f h. h.activations) (leave_leaves s proc inc give)
 outcome_done s proc inc c = ok_each (λ f. HasDone s inc c f.1.incarnations) (outcome s proc inc c) (λ f. tt)
-
-answered_done : (c : Call) (a : Answer) → done_by (what.Call c) (answered a) ≡ Some c
-answered_done c Done = refl
-answered_done c (Word n) = refl
-answered_done c Waits = refl
 
 settled_done : (s : State) (inc : Inc) (c : Call) (o : Outcome) → IfOk o (λ f. HasDone s inc c f.1.incarnations) → HasDoneThat s inc (done_by (what.Call c) (settled s o).0) (settled s o).1.incarnations
 settled_done s inc c (Ok f) h = subst (λ (d : Option Call). HasDoneThat s inc d f.1.incarnations) (sym (answered_done c f.0)) h

@@ -1,7 +1,7 @@
-pub mod Hands
-pub mod Doings
-pub mod Settling
-pub mod Kept
-pub mod Callers
-pub mod Begins
-pub mod Confined
+mod Hands
+mod Doings
+mod Settling
+mod Kept
+mod Callers
+mod Begins
+mod Confined
