@@ -1,11 +1,11 @@
 -- What is known when a confined call begins: it is alone under itself, nothing was made under it yet, and what it holds with
 -- MODIFY or UNCONF are its parameters.
-use Rattle.std.proofs.Common.{◌≡◌, ℕ, zero, suc, ◌+◌, ◌<◌, ◌≤◌, List, [], ◌∷◌, ◌++◌, length, Bool, true, false, cond, Option, Some, None, refl, sym, ◌∙◌, ap, subst, arith}
+use Rattle.std.proofs.Common.{◌≡◌, ℕ, zero, suc, ◌<◌, List, [], ◌∷◌, length, Bool, true, false, cond, Option, Some, None, refl, sym, ◌∙◌, ap, subst, arith}
 use Rattle.std.specs.Prelude.{IsTrue, is_some, not, slice_get, slice_index_or, take, drop, ◌||◌, ◌⊎◌}
 use mathlib.Core.Logic.{inl, inr}
 use Rattle.std.specs.Option.{unwrap_or, option_and_then}
 use Rattle.std.specs.Map.{lookup}
-use Rattle.std.proofs.lemmas.Bool.{true≢false, false≢true, false_from_ne_true}
+use Rattle.std.proofs.lemmas.Bool.{false≢true, false_from_ne_true}
 use Rattle.hk_model.specs.declared.names.Name.{Name}
 use Rattle.hk_model.specs.declared.names.Inc.{Inc}
 use Rattle.hk_model.specs.declared.names.Slot.{Slot}
@@ -23,21 +23,20 @@ use Rattle.hk_model.specs.State.{State, object, incarnation, same_inc, no_incarn
 use Rattle.hk_model.specs.Walking.{confined_rights, modify_right, unconf_right}
 use Rattle.hk_model.specs.Merging.{inherited}
 use Rattle.hk_model.specs.Places.{Place, SlotOf, EntryOf, standing, is_empty, rights_of, found, named_by, entry_given}
-use Rattle.hk_model.specs.Lines.{done_call, enters_call, param_count, line_before, told}
-use Rattle.hk_model.specs.Running.{Machine, opened, moved, machine_at, state_at, AreSteps, AreStepsOf}
+use Rattle.hk_model.specs.Lines.{done_call, enters_call, param_count, line_before}
+use Rattle.hk_model.specs.Running.{Machine, opened, machine_at, state_at, AreSteps, AreStepsOf}
 use Rattle.hk_model.specs.Under.{is_one_of, under_by, is_under, is_made_under, IsCall, parameters}
 use Rattle.hk_model.specs.Reaches.{AreReaches}
-use Rattle.hk_model.specs.Ways.{Way, Inherited, call_way, way, line_way, Writes, Wrote}
+use Rattle.hk_model.specs.Ways.{call_way, way, Writes, Wrote}
 use Rattle.hk_model.proofs.Standing.{inc_same, inc_laws}
 use Rattle.hk_model.proofs.Steps.{moved_holds, line_steps, later_steps, after_next}
-use Rattle.hk_model.proofs.Activations.{look_up, Activation, activation, activations_in}
+use Rattle.hk_model.proofs.Activations.{look_up, activation, activations_in}
 use Rattle.hk_model.proofs.ActivationLists.{activation_live}
 use Rattle.hk_model.proofs.Stacks.{found_last}
-use Rattle.hk_model.proofs.Turns.{Enters}
 use Rattle.hk_model.proofs.NamesGiven.{IsBelow, NamesGiven}
 use Rattle.hk_model.proofs.UnderLemmas.{UnderCall}
 use Rattle.hk_model.proofs.Histories.{Sound, LineKnown, enters_turn, sound_at, line_known, given_at, call_begins}
-use Rattle.hk_confine.proofs.Hands.{Holds, IsCalled, confined_lacks}
+use Rattle.hk_confine.proofs.Hands.{Holds, confined_lacks}
 use Rattle.hk_confine.proofs.Doings.{IsEntered, HasDoneThat, done_each}
 use Rattle.hk_confine.proofs.Settling.{HasNumber, HasName, settled, under_each, made_later}
 use Rattle.hk_confine.proofs.Kept.{Tame, Handed, Kept, clash, holds_all}

@@ -1,5 +1,5 @@
 -- An incarnation is under a call as its caller is, but for the call itself; what a line enters and returns to.
-use Rattle.std.proofs.Common.{◌≡◌, ℕ, ◌<◌, List, [], ◌∷◌, ◌++◌, Bool, true, false, cond, Option, Some, None, refl, sym, ◌∙◌, ap, subst, arith}
+use Rattle.std.proofs.Common.{◌≡◌, ℕ, List, Bool, true, false, cond, Option, Some, None, refl, sym, ◌∙◌, ap, subst, arith}
 use Rattle.std.specs.Prelude.{IsTrue, is_some, not, ◌⊎◌}
 use mathlib.Core.Logic.{inl, inr}
 use Rattle.std.specs.Option.{unwrap_or, option_and_then}
@@ -25,7 +25,7 @@ use Rattle.hk_model.proofs.ActivationLists.{activation_live, activations_apart, 
 use Rattle.hk_model.proofs.Stacks.{remove_fewer, found_last}
 use Rattle.hk_model.proofs.Turns.{Turn, Still, Enter, Leave, Halt}
 use Rattle.hk_model.proofs.UnderLemmas.{some_is, is_some_of}
-use Rattle.hk_confine.proofs.Hands.{IsCalled, Calls}
+use Rattle.hk_confine.proofs.Hands.{Calls}
 use Rattle.hk_confine.proofs.Doings.{IsEntered, HasDoneThat, call_way_calls, entered_called}
 use Rattle.hk_confine.proofs.Settling.{HasNumber}
 

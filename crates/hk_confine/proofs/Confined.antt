@@ -1,7 +1,7 @@
 -- The laws of confinement: what a line under a confined call changes was made under it, or is in any set that keeps the rules
 -- of the modifiable reach. The reach is such a set, and so is the empty set where the parameters have neither MODIFY nor UNCONF.
-use Rattle.std.proofs.Common.{◌≡◌, ℕ, zero, suc, ◌+◌, ◌-◌, ◌<◌, ◌≤◌, List, [], ◌∷◌, Bool, true, false, Option, Some, None, Ok, refl, sym, ◌∙◌, ap, subst, arith}
-use Rattle.std.specs.Prelude.{IsTrue, slice_get, take, drop, ◌⊎◌}
+use Rattle.std.proofs.Common.{◌≡◌, ℕ, zero, suc, ◌+◌, ◌-◌, ◌<◌, ◌≤◌, List, [], ◌∷◌, Bool, true, Some, refl, sym, ◌∙◌, ap, subst, arith}
+use Rattle.std.specs.Prelude.{slice_get, take, drop, ◌⊎◌}
 use mathlib.Core.Logic.{inl, inr}
 use Rattle.std.specs.Option.{option_and_then}
 use Rattle.std.proofs.lemmas.Bool.{true≢false, cases_lt}
@@ -10,28 +10,28 @@ use Rattle.hk_model.specs.declared.names.Inc.{Inc}
 use Rattle.hk_model.specs.declared.entries.Cap.{Cap}
 use Rattle.hk_model.specs.declared.entries.Entry.TheVariants.{Held}
 use Rattle.hk_model.specs.declared.lines.Line.{Line}
-use Rattle.hk_rights.specs.Rights.{MODIFY, has}
+use Rattle.hk_rights.specs.Rights.{MODIFY}
 use Rattle.hk_model.specs.Setup.{Setup, IsWorld}
 use Rattle.hk_model.specs.State.{State, object, incarnation}
-use Rattle.hk_model.specs.Walking.{modify_right, unconf_right}
-use Rattle.hk_model.specs.Places.{Place, SlotOf, EntryOf, standing, cap_of}
+use Rattle.hk_model.specs.Walking.{modify_right}
+use Rattle.hk_model.specs.Places.{EntryOf, standing, cap_of}
 use Rattle.hk_model.specs.Lines.{done_call, makes_object, enters_call, changed}
 use Rattle.hk_model.specs.Running.{Machine, opened, moved, after_lines, machine_at, state_at, AreSteps, AreStepsOf}
-use Rattle.hk_model.specs.Under.{is_one_of, is_live, is_under, is_made_under, parameters}
+use Rattle.hk_model.specs.Under.{is_one_of, is_under, is_made_under, parameters}
 use Rattle.hk_model.specs.Reaches.{listed_cap, IsModifiable, IsUnconfined, AreReaches}
 use Rattle.hk_model.specs.Ways.{IsModified}
 use Rattle.hk_model.specs.Confinement.{IsConfinedCall, IsChange, ConfinementLaw, AreClosed, ClosedCallLaw}
 use Rattle.hk_model.proofs.RightsWithin.{Within-has}
-use Rattle.hk_model.proofs.LineWays.{LineWrites, changed_modifies}
+use Rattle.hk_model.proofs.LineWays.{changed_modifies}
 use Rattle.hk_model.proofs.Steps.{each_more, moved_holds, state_kept, first_steps, line_steps, later_steps, after_next}
-use Rattle.hk_model.proofs.Activations.{look_up, activation, activations_in}
+use Rattle.hk_model.proofs.Activations.{activation}
 use Rattle.hk_model.proofs.ActivationLists.{activation_live}
 use Rattle.hk_model.proofs.Turns.{walks_live}
 use Rattle.hk_model.proofs.ReachRules.{reaches_keep_the_rules}
 use Rattle.hk_model.proofs.Histories.{Sound, LineKnown, known_each, sound_at, line_known}
-use Rattle.hk_confine.proofs.Hands.{Calls, walk_gets}
+use Rattle.hk_confine.proofs.Hands.{walk_gets}
 use Rattle.hk_confine.proofs.Doings.{HasDoneThat, done_each}
-use Rattle.hk_confine.proofs.Settling.{HasNumber, turn_up, sound_from, known_from, under_then, under_from, under_exact, child_same, maker_same}
+use Rattle.hk_confine.proofs.Settling.{turn_up, sound_from, known_from, under_then, under_from, under_exact, child_same, maker_same}
 use Rattle.hk_confine.proofs.Kept.{Closed, Tame, Kept, clash, tame_gets, line_kept}
 use Rattle.hk_confine.proofs.Callers.{Lives, lives_before, Family, family_line, returns_same, line_calls}
 use Rattle.hk_confine.proofs.Begins.{slot_get, steps_then, begins, earlier_out, first_family, first_kept}
@@ -79,8 +79,8 @@ numbers_later : (w : Setup) (lines : List Line) (n d : ℕ) → AreStepsOf w lin
 numbers_later w lines n d h =
     let low : ℕ = (state_at w lines n).next_inc.0 in
     let late : Late low (after_lines w (machine_at w lines n) (take d (drop n lines))).state =
-        state_kept (Late low) (each_more (λ s line t. Sound s → LineKnown s line t) (λ s line t. Late low s → Late low t) (late_line low) known_each)
-        w (machine_at w lines n) (take d (drop n lines)) (first_steps w (machine_at w lines n) (drop n lines) d (later_steps w (opened w) lines n h)) (sound_at w lines n h, omega arith) in
+    state_kept (Late low) (each_more (λ s line t. Sound s → LineKnown s line t) (λ s line t. Late low s → Late low t) (late_line low) known_each)
+    w (machine_at w lines n) (take d (drop n lines)) (first_steps w (machine_at w lines n) (drop n lines) d (later_steps w (opened w) lines n h)) (sound_at w lines n h, omega arith) in
     subst (λ (m : Machine). low ≤ m.state.next_inc.0) (part_after w (opened w) lines n d (n + d) refl) late.1
 
 -- ---- from the beginning of a confined call on
@@ -158,12 +158,12 @@ module _ (w : Setup) (lines : List Line) (h : AreStepsOf w lines) (world : IsWor
       let earlier : Lives top (then j) = lives_before (then j) first.0 (then (suc j)) rises known.turn top (u.fresh top u.itself) lives in
       let done = done_then j first.0 first.1 in
       line_kept under made (M (k + j)) (U (k + j)) (then j) (kept_then j first.0 first.1 earlier) (closed_then j) (M (k + suc j)) (U (k + suc j))
-        (λ x g. rules.later_modify (k + j) (k + suc j) x (omega arith) (omega arith) g)
-        (λ x g. rules.later_unconf (k + j) (k + suc j) x (omega arith) (omega arith) g)
-        first.0 (then (suc j)) (closed_then (suc j)) known.writes
-        (λ q v e. line_calls (then j) first.0 (then (suc j)).incarnations done q v e (known.writes.goes q v e))
-        (child j first.0 first.1) (maker j first.0 first.1)
-        (returns_same under top (then j) first.0 (then (suc j)) rises (family_then j first.0 first.1) done lives)
+      (λ x g. rules.later_modify (k + j) (k + suc j) x (omega arith) (omega arith) g)
+      (λ x g. rules.later_unconf (k + j) (k + suc j) x (omega arith) (omega arith) g)
+      first.0 (then (suc j)) (closed_then (suc j)) known.writes
+      (λ q v e. line_calls (then j) first.0 (then (suc j)).incarnations done q v e (known.writes.goes q v e))
+      (child j first.0 first.1) (maker j first.0 first.1)
+      (returns_same under top (then j) first.0 (then (suc j)) rises (family_then j first.0 first.1) done lives)
 
   -- what a line under the call changes, from the call's beginning on
   change_then : (j : ℕ) (line : Line) (x : Name) → slice_get rest j ≡ Some line → under line.inc ≡ true → changed (then j) line ≡ Some x → (made x ≡ true) ⊎ M (k + j) x
@@ -195,12 +195,12 @@ module _ (w : Setup) (lines : List Line) (h : AreStepsOf w lines) (world : IsWor
   change_within moment x g = elim (cases_lt moment k) [
     | inl early ↦ absurd (change_before moment g.line x early g.is g.under g.changes)
     | inr late ↦
-      let j : ℕ = moment - k in
-      let e : k + j ≡ moment = omega (arith, late) in
-      let is : slice_get rest j ≡ Some g.line = get_part lines k j moment (sym e) ∙ g.is in
-      let same : after_lines w m (take j rest) ≡ machine_at w lines moment = part_after w (opened w) lines k j moment (sym e) in
-      let change : changed (then j) g.line ≡ Some x = ap (λ (n : Machine). changed n.state g.line) same ∙ g.changes in
-      subst (λ n. (made x ≡ true) ⊎ M n x) e (change_then j g.line x is g.under change)
+        let j : ℕ = moment - k in
+        let e : k + j ≡ moment = omega (arith, late) in
+        let is : slice_get rest j ≡ Some g.line = get_part lines k j moment (sym e) ∙ g.is in
+        let same : after_lines w m (take j rest) ≡ machine_at w lines moment = part_after w (opened w) lines k j moment (sym e) in
+        let change : changed (then j) g.line ≡ Some x = ap (λ (n : Machine). changed n.state g.line) same ∙ g.changes in
+        subst (λ n. (made x ≡ true) ⊎ M n x) e (change_then j g.line x is g.under change)
   ]
 
 -- ---- the laws

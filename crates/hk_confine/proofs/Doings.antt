@@ -1,6 +1,6 @@
 -- What an Enter and a Leave that are done have done: the capability that an Enter calls tells whether its incarnation is
 -- confined, and a Leave takes its own incarnation away.
-use Rattle.std.proofs.Common.{◌≡◌, ℕ, zero, suc, List, [], ◌∷◌, Bool, true, false, Option, Some, None, Ok, Err, refl, sym, ◌∙◌, ap, cond, subst}
+use Rattle.std.proofs.Common.{◌≡◌, ℕ, zero, suc, List, [], ◌∷◌, Bool, true, Option, Some, None, Ok, Err, refl, sym, ap, subst}
 use Rattle.std.specs.Prelude.{IfOk, not}
 use Rattle.std.specs.Option.{unwrap_or}
 use Rattle.std.specs.Map.{lookup, remove_entry}
@@ -12,21 +12,18 @@ use Rattle.hk_model.specs.declared.names.Slot.{Slot}
 use Rattle.hk_model.specs.declared.entries.Cap.{Cap}
 use Rattle.hk_model.specs.declared.entries.Param.{Param}
 use Rattle.hk_model.specs.declared.entries.Entry.{Entry}
-use Rattle.hk_model.specs.declared.entries.Entry.TheVariants.{Held}
 use Rattle.hk_model.specs.declared.calls.Call.{Call}
 use Rattle.hk_model.specs.declared.calls.Call.TheVariants as call
-use Rattle.hk_model.specs.declared.calls.Answer.{Answer}
-use Rattle.hk_model.specs.declared.calls.Answer.TheVariants.{Done, Word, Waits}
 use Rattle.hk_model.specs.declared.lines.What.TheVariants as what
 use Rattle.hk_model.specs.declared.objects.Incarnation.{Incarnation}
 use Rattle.hk_rights.specs.Rights.{A0, has}
 use Rattle.hk_model.specs.State.{State, incarnation, process, same_inc, inc_cmp, no_incarnation}
-use Rattle.hk_model.specs.Walking.{walk, unconf_right}
+use Rattle.hk_model.specs.Walking.{unconf_right}
 use Rattle.hk_model.specs.Targets.{PROCEDURE, is_type, target}
-use Rattle.hk_model.specs.Rule.{Outcome, outcome, settled, answered, called_incarnation, enter_procedure, leave}
-use Rattle.hk_model.specs.Places.{Place, SlotOf, EntryOf, rights_of, found, entry_given, named_by}
+use Rattle.hk_model.specs.Rule.{Outcome, outcome, settled, called_incarnation, enter_procedure, leave}
+use Rattle.hk_model.specs.Places.{rights_of, found, entry_given, named_by}
 use Rattle.hk_model.specs.Lines.{done_by, done_call}
-use Rattle.hk_model.specs.Ways.{Way, Merged, Inherited, LeadsTo, call_way, way}
+use Rattle.hk_model.specs.Ways.{LeadsTo, call_way}
 use Rattle.hk_model.proofs.Standing.{inc_laws, insert_holds}
 use Rattle.hk_model.proofs.Tests.{then_is, and_is, ok_each, ok_more}
 use Rattle.hk_model.proofs.WalkLemmas.{target_is, leads_named}

@@ -1,5 +1,5 @@
 -- What an incarnation can get: what its slots hold, what is walked to from there, and what has no special right more.
-use Rattle.std.proofs.Common.{◌≡◌, ℕ, List, [], ◌∷◌, Bool, true, false, Option, Some, None, Ok, refl, sym, ◌∙◌, ap, cond, bit_and, subst}
+use Rattle.std.proofs.Common.{◌≡◌, ℕ, List, [], ◌∷◌, Bool, true, false, Option, Ok, refl, sym, ◌∙◌, cond, bit_and, subst}
 use Rattle.std.specs.Prelude.{IfOk, not}
 use Rattle.std.proofs.lemmas.Bool.{true≢false, not-false}
 use Rattle.hk_model.specs.declared.names.Name.{Name}
@@ -13,7 +13,7 @@ use Rattle.hk_rights.specs.Rights.{ENV, has}
 use Rattle.hk_model.specs.State.{State, object}
 use Rattle.hk_model.specs.Refusing.{allowed}
 use Rattle.hk_model.specs.Walking.{walk, obtained, reduced_rights, confined_rights, modify_right, env_right, unconf_right}
-use Rattle.hk_model.specs.Merging.{merged, inherited}
+use Rattle.hk_model.specs.Merging.{inherited}
 use Rattle.hk_model.specs.Rule.{copied}
 use Rattle.hk_model.specs.Places.{Place, SlotOf, EntryOf, standing}
 use Rattle.hk_model.specs.Lines.{makes_object}

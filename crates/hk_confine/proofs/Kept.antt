@@ -1,6 +1,6 @@
 -- What every line keeps while a call lives: with MODIFY or UNCONF its hands hold only what was made under it or is reached,
 -- and what was made under it and is in other hands is reached.
-use Rattle.std.proofs.Common.{◌≡◌, ℕ, List, Bool, true, false, Option, Some, None, refl, sym, ◌∙◌, ap, subst}
+use Rattle.std.proofs.Common.{◌≡◌, ℕ, Bool, true, false, Option, Some, None, refl, sym, ◌∙◌, ap, subst}
 use Rattle.std.specs.Prelude.{is_some, ◌⊎◌}
 use mathlib.Core.Logic.{inl, inr}
 use Rattle.std.proofs.lemmas.Bool.{true≢false, cases_Bool}
@@ -18,7 +18,7 @@ use Rattle.hk_model.specs.Lines.{done_call, makes_object, enters_call, leaves_ca
 use Rattle.hk_model.specs.Ways.{Way, line_way, Wrote, IsWritable}
 use Rattle.hk_model.proofs.RightsWithin.{Within-has}
 use Rattle.hk_model.proofs.LineWays.{LineWrites}
-use Rattle.hk_confine.proofs.Hands.{Through, Holds, Gets, Calls, walk_gets, writes_gets}
+use Rattle.hk_confine.proofs.Hands.{Holds, Gets, Calls, walk_gets, writes_gets}
 
 -- what the reaches of a moment keep in the lists of that moment
 pub record Closed (made : Name → Bool) (M U : Name → Type 0) (s : State) : Type 0 where

@@ -1,10 +1,10 @@
 -- Who is under a call and what was made under it, over a whole history: later lines change nothing of who has a number
 -- already; whom a line enters is under the call as the line's incarnation is, and so what a line makes was made under it.
-use Rattle.std.proofs.Common.{◌≡◌, ℕ, zero, suc, ◌+◌, ◌<◌, ◌≤◌, List, [], ◌∷◌, ◌++◌, Bool, true, false, Option, Some, None, refl, sym, ◌∙◌, ap, arith, cond, subst}
+use Rattle.std.proofs.Common.{◌≡◌, ℕ, zero, suc, ◌<◌, ◌≤◌, List, [], ◌∷◌, ◌++◌, Bool, true, false, Some, refl, sym, ◌∙◌, ap, arith, subst}
 use Rattle.std.specs.Prelude.{slice_get, take, ◌||◌, ◌⊎◌}
 use mathlib.Core.Logic.{inl, inr}
 use Rattle.std.specs.List.{list_any}
-use Rattle.std.proofs.lemmas.Bool.{true≢false, false≢true, false_from_ne_true}
+use Rattle.std.proofs.lemmas.Bool.{false≢true, false_from_ne_true}
 use Rattle.std.proofs.lemmas.Bool.Decides.{nat_tests}
 use Rattle.hk_model.specs.declared.names.Name.{Name}
 use Rattle.hk_model.specs.declared.names.Inc.{Inc}
@@ -14,7 +14,7 @@ use Rattle.hk_model.specs.State.{State, incarnation, same_name, same_inc}
 use Rattle.hk_model.specs.Lines.{done_call, makes_object, enters_call, told}
 use Rattle.hk_model.specs.Running.{Machine, moved, after_lines, AreSteps}
 use Rattle.hk_model.specs.Under.{is_one_of, under_by, made_by}
-use Rattle.hk_model.proofs.Standing.{name_same, inc_laws, name_laws}
+use Rattle.hk_model.proofs.Standing.{name_same, name_laws}
 use Rattle.hk_model.proofs.Steps.{EachStep, each_more, moved_holds, told_keeps, state_kept, first_steps, line_steps, after_next, told_last}
 use Rattle.hk_model.proofs.Activations.{activation, activations_in}
 use Rattle.hk_model.proofs.ActivationLists.{activation_live}
