@@ -15,8 +15,9 @@ use hk_model::{Line, World};
 
 /// The confinement law (`docs/RULES.md`, "Reaches"): each object that a line by an incarnation under
 /// a confined call changes was made under that call, or is in the call's modifiable reach at the
-/// moment before the line. The reach begins with the parameters that have MODIFY, and grows only by
-/// the entries of what is in the unconfined reach and by what was made under the call and handed over.
+/// moment before the line. That reach begins with the parameters that have MODIFY. It grows by the
+/// entries with MODIFY in the lists of what is in the unconfined reach, and by what was made under the
+/// call and stands in the list of what is in the modifiable reach.
 ///
 /// Nothing is said of information that flows by words, by time or by refusals, nor of what others do
 /// with what the call has returned.
