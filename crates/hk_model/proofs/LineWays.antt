@@ -65,7 +65,7 @@ call_done s u inc c t os is w m = record {
   modifies = m;
 }
 
-answered_done : (c : Call) (a : Answer) → done_by (what.Call c) (answered a) ≡ Some c
+pub answered_done : (c : Call) (a : Answer) → done_by (what.Call c) (answered a) ≡ Some c
 answered_done c Done = refl
 answered_done c (Word n) = refl
 answered_done c Waits = refl

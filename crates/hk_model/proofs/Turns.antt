@@ -152,7 +152,7 @@ leaves_by s proc inc (Some k) slot c =
       next = q.next;
     }
 
-leave_leaves : (s : State) (proc : Proc) (inc : Inc) (give : Option Slot) → IfOk (leave s proc inc give) (λ f. LeavesBy s proc inc (incarnation s inc).caller f.1)
+pub leave_leaves : (s : State) (proc : Proc) (inc : Inc) (give : Option Slot) → IfOk (leave s proc inc give) (λ f. LeavesBy s proc inc (incarnation s inc).caller f.1)
 unfolding leave
 leave_leaves s proc inc give = search (then_is, leaves_by)
 

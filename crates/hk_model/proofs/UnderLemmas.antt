@@ -77,11 +77,11 @@ pub record UnderCall (c : Inc) (p : ℕ) (us : List Inc) (fs : List (Inc × Acti
   pub kin : (i : Inc) (x : Activation) → is_one_of i us ≡ true → look_up i fs ≡ Some x → x.proc.0 ≡ p
   pub alive : (i : Inc) (x : Activation) → is_one_of i us ≡ true → look_up i fs ≡ Some x → IsTrue (is_some (look_up c fs))
 
-some_is : (o : Option Activation) → IsTrue (is_some o) → (x : Activation) × (o ≡ Some x)
+pub some_is : (o : Option Activation) → IsTrue (is_some o) → (x : Activation) × (o ≡ Some x)
 some_is (Some x) h = (x, refl)
 some_is None h = absurd (cc)
 
-is_some_of : (o : Option Activation) (x : Activation) → o ≡ Some x → IsTrue (is_some o)
+pub is_some_of : (o : Option Activation) (x : Activation) → o ≡ Some x → IsTrue (is_some o)
 is_some_of o x h = rw h refl
 
 -- where some go, but the call only with all under it

@@ -1,0 +1,7 @@
+mod Hands
+mod Doings
+mod Settling
+mod Kept
+mod Callers
+mod Begins
+mod Confined

@@ -1,0 +1,44 @@
+//! The laws of confinement: what a confined call, and all that is called under it, can change. They
+//! hold of every history, whichever processors made its lines (`docs/RULES.md`, "Reaches").
+//!
+//! A law is a function without a body of its own: calling it costs nothing, and gives its caller the
+//! law of the lines that it has. The definitions are those of `hk_model`, and no law looks at a kernel.
+#![tactic(auto)]
+
+#[cfg(test)]
+mod tests;
+
+ghost use Rattle.hk_model.specs.Running.{AreStepsOf};
+ghost use Rattle.hk_model.specs.Confinement.{ConfinementLaw, ClosedCallLaw};
+
+use hk_model::{Line, World};
+
+/// The confinement law (`docs/RULES.md`, "Reaches"): each object that a line by an incarnation under
+/// a confined call changes was made under that call, or is in the call's modifiable reach at the
+/// moment before the line. That reach begins with the parameters that have MODIFY. It grows by the
+/// entries with MODIFY in the lists of what is in the unconfined reach, and by what was made under the
+/// call and stands in the list of what is in the modifiable reach.
+///
+/// Nothing is said of information that flows by words, by time or by refusals, nor of what others do
+/// with what the call has returned.
+///
+/// `lines` are steps of `world` from its opening on, in the order of the history.
+#[tactic(auto, using(crate::proofs::Confined::confinement))]
+pub fn confinement_law(world: &World, lines: &[Line])
+    requires { AreStepsOf world.now lines.now }
+    ensures { ConfinementLaw world.now lines.now }
+{
+    let _ = world.limit();
+}
+
+/// The closed-call law (`docs/RULES.md`, "Reaches"): where no merged parameter of a confined call has
+/// MODIFY or UNCONF, each object that a line by an incarnation under the call changes was made under
+/// that call.
+///
+/// `lines` are steps of `world` from its opening on, in the order of the history.
+pub fn closed_call_law(world: &World, lines: &[Line])
+    requires { AreStepsOf world.now lines.now }
+    ensures { ClosedCallLaw world.now lines.now }
+{
+    let _ = world.limit();
+}
