@@ -1,5 +1,5 @@
 -- Enter is what it is by the lists that the call names.
-use Rattle.std.proofs.Common.{◌≡◌, ℕ, ◌+◌, ◌==◌, Bool, true, false, not, List, [], ◌∷◌, length, map, Result, Ok, Err, refl, ap, sym, ◌∙◌, if◌then◌else◌, nat_lt, nat_le, slice_index_or}
+use Rattle.std.proofs.Common.{◌≡◌, ℕ, ◌+◌, ◌==◌, Bool, true, false, not, List, [], ◌∷◌, length, map, Result, Ok, Err, refl, ap, sym, ◌∙◌, nat_lt, nat_le, slice_index_or}
 use Rattle.std.proofs.lemmas.List.{length-map}
 use Rattle.hk_model.specs.declared.names.Inc.{Inc}
 use Rattle.hk_model.specs.declared.names.Proc.{Proc}
@@ -20,7 +20,6 @@ use Rattle.hk_model.specs.Walking.{held, unconf_right}
 use Rattle.hk_model.specs.Merging.{merged, call_slots}
 use Rattle.hk_model.specs.Targets.{PROCEDURE, is_type, slot_at, target}
 use Rattle.hk_model.specs.Rule.{Outcome, slots_at, merged_args, depth, called_incarnation, enter, enter_procedure}
-use Rattle.hk_merge.specs.declared.name_space.Arg.{Arg}
 use Rattle.hk_merge.specs.NameSpaces.{merged_arg, merged_all, name_space}
 use Rattle.hk_plain.specs.Entering.{in_range, type_held, arg_of, entered}
 

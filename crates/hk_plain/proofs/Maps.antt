@@ -1,5 +1,5 @@
 -- Writes into a map that change nothing.
-use Rattle.std.proofs.Common.{◌≡◌, List, [], ◌∷◌, Bool, true, false, cond, Option, Some, None, refl, ap, ◌∙◌, sym}
+use Rattle.std.proofs.Common.{◌≡◌, List, [], ◌∷◌, Bool, true, false, cond, Some, None, refl, ap}
 use Rattle.std.specs.Map.{lookup, set_value}
 
 -- a value for a key that is not there changes nothing

@@ -1,5 +1,5 @@
 -- A call of a procedure, by the lists that it names. docs/RULES.md, "Calls of procedures".
-use Rattle.std.specs.Prelude.{ℕ, ◌+◌, Bool, not, List, [], ◌∷◌, length, Result, Ok, nat_lt, slice_index_or, map}
+use Rattle.std.specs.Prelude.{ℕ, ◌+◌, not, List, [], ◌∷◌, length, Result, Ok, nat_lt, slice_index_or, map}
 use Rattle.hk_model.specs.declared.names.Name.{Name}
 use Rattle.hk_model.specs.declared.names.Inc.{Inc}
 use Rattle.hk_model.specs.declared.names.Proc.{Proc}
