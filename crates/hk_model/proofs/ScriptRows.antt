@@ -24,8 +24,11 @@ use Rattle.hk_model.specs.Generated.{generate}
 abbrev pub counting : Setup
 counting = setup 10000
     (record { label = codes "d"; kind = kind.Plain (record { 0 = 1 }) (1 ∷ 2 ∷ 3 ∷ []) [] } ∷ [])
-    (record { label = codes "main"; steps =
-        instr.Get (record { at = Fixed 0 ∷ [] }) (operand.Reg 1) 2 ∷ instr.IfDenied 4 ∷ instr.AddReg 1 (operand.Number 1) ∷ instr.Goto 0 ∷ [] } ∷ [])
+    (record {
+      label = codes "main";
+      steps =
+          instr.Get (record { at = Fixed 0 ∷ [] }) (operand.Reg 1) 2 ∷ instr.IfDenied 4 ∷ instr.AddReg 1 (operand.Number 1) ∷ instr.Goto 0 ∷ [];
+    } ∷ [])
     (record { label = codes "a"; code = 0; slots = Held (record { name = record { 0 = 7 }; rights = 0x101 }) ∷ [] } ∷ [])
 
 -- its canonical script has a label for each place that a jump goes to, and rights in rising order

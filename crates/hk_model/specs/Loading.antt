@@ -1,5 +1,5 @@
 -- The items of a script as a world, or the first line that is refused and its first cause. docs/FORMATS.md, "Loading".
-use Rattle.std.specs.Prelude.{ℕ, ◌+◌, ◌==◌, Bool, true, false, not, List, [], ◌∷◌, ◌++◌, length, Option, Some, None, Result, Ok, Err, if◌then◌else◌, nat_lt, nat_le, map, codes, slice_index_or, option_map}
+use Rattle.std.specs.Prelude.{ℕ, ◌+◌, ◌==◌, Bool, true, false, not, List, [], ◌∷◌, ◌++◌, length, Option, Some, None, Result, Ok, Err, if◌then◌else◌, nat_lt, nat_le, map, codes, slice_index_or, option_map, min}
 use Rattle.std.specs.List.{find, filter_map, position}
 use Rattle.hk_model.specs.declared.names.Name.{Name}
 use Rattle.hk_model.specs.declared.entries.Entry.{Entry}
@@ -129,9 +129,13 @@ some_name named = do
 abbrev pub kind_named : Names → List ℕ → Result (Option Name) LoadCause
 kind_named names t = if same_text t (codes "any") then Ok None else some_name (type_named names t)
 
+-- a number of a code or an instruction, or the limit: where some number passes it, a line of the script is refused
+abbrev pub to_limit : ℕ → ℕ
+to_limit n = min n code_limit
+
 -- the number of a code
 abbrev pub code_named : Names → List ℕ → Result ℕ LoadCause
-code_named names t = found (place names.codes t) UnknownName
+code_named names t = found (option_map to_limit (place names.codes t)) UnknownName
 
 -- a set of rights
 abbrev pub rights_named : List ℕ → Result ℕ LoadCause
@@ -268,7 +272,7 @@ labels_from n (p ∷ ps) = label_onto n p.body (λ next. labels_from next ps)
 
 -- where a jump to this label goes
 abbrev pub target : List Label → List ℕ → Result ℕ LoadCause
-target labels t = found (option_map (λ (l : Label). l.place) (find (λ (l : Label). same_text t l.text) labels)) UnknownName
+target labels t = found (option_map (λ (l : Label). to_limit l.place) (find (λ (l : Label). same_text t l.text) labels)) UnknownName
 
 -- the kind of template that an instruction makes
 abbrev pub making_of : MakingText → Result Making LoadCause
