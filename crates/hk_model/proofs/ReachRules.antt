@@ -61,11 +61,11 @@ module _ (at : ℕ → State) (made : Name → Bool) where
       is = record {
         there = next;
         leads =
-          reach-append r.param r.hops hop
-          ∙ ap (option_and_then (hop_to at made hop)) r.is.leads
-          ∙ ap (λ (b : Bool). if b then option_and_then (onward made hop r.is.there) (listed_cap (at moment) r.is.there.name index) else None) (le-leb r.is.there.moment moment r.is.by_then)
-          ∙ ap (option_and_then (onward made hop r.is.there)) (ap (λ (y : Name). listed_cap (at moment) y index) r.is.same ∙ l)
-          ∙ step;
+            reach-append r.param r.hops hop
+            ∙ ap (option_and_then (hop_to at made hop)) r.is.leads
+            ∙ ap (λ (b : Bool). if b then option_and_then (onward made hop r.is.there) (listed_cap (at moment) r.is.there.name index) else None) (le-leb r.is.there.moment moment r.is.by_then)
+            ∙ ap (option_and_then (onward made hop r.is.there)) (ap (λ (y : Name). listed_cap (at moment) y index) r.is.same ∙ l)
+            ∙ step;
         same = refl;
         good = next_is;
         by_then = omega (arith, ends);
@@ -105,7 +105,7 @@ module _ (at : ℕ → State) (made : Name → Bool) where
       hop_is_in hop from next f h = by_moment (nat_le from.moment hop.moment) refl (listed_cap (at hop.moment) from.name hop.index) refl h
         where
           by_hop : (cap : Cap) → listed_cap (at hop.moment) from.name hop.index ≡ Some cap → from.moment ≤ hop.moment → (handed m made_there u : Bool) → from.modify ≡ m → made cap.name ≡ made_there → from.unconf ≡ u
-            → ◌≡◌ {A = Option Reached} (if handed then (if m && made_there then Some (handed_over hop.moment cap) else None) else (if u then Some (reached_by hop.moment cap) else None)) (Some next) → IsIn next
+              → ◌≡◌ {A = Option Reached} (if handed then (if m && made_there then Some (handed_over hop.moment cap) else None) else (if u then Some (reached_by hop.moment cap) else None)) (Some next) → IsIn next
           by_hop cap l e true true true u p q o h =
               let same : handed_over hop.moment cap ≡ next = cc in
               let b = f.begun in
@@ -123,6 +123,7 @@ module _ (at : ℕ → State) (made : Name → Bool) where
                 unconf = λ g. rules.entry_unconf hop.moment hop.index from.name cap (omega (arith, b, e)) there l g;
                 begun = omega (arith, b, e);
               })
+
           by_moment : (b : Bool) → nat_le from.moment hop.moment ≡ b → (found : Option Cap) → listed_cap (at hop.moment) from.name hop.index ≡ found → (if b then option_and_then (onward made hop from) found else None) ≡ Some next → IsIn next
           by_moment false e found l h = absurd (cc)
           by_moment true e None l h = absurd (cc)
