@@ -1,8 +1,8 @@
 -- A piece of a line, as a form reads it.
-use Rattle.std.proofs.Common.{◌≡◌, ℕ, Bool, true, false, cond, ltb, List, [], ◌∷◌, length, refl, sym, subst, ◌&&◌, not, map, Ok, Err, Result, Option, Some, None}
+use Rattle.std.proofs.Common.{◌≡◌, ℕ, Bool, true, false, cond, List, ◌∷◌, refl, subst, not, map, Ok, Err, Result, Option}
 use Rattle.std.specs.Prelude.{IsTrue}
 use Rattle.std.proofs.lemmas.Bool.{false≢true}
-use Rattle.std.specs.List.{find, list_all, list_any}
+use Rattle.std.specs.List.{find, list_any}
 use Rattle.hk_model.specs.declared.causes.ParseCause.{ParseCause}
 use Rattle.hk_model.specs.declared.causes.TextCause.TheVariants.{BadToken, NumberTooLarge}
 use Rattle.hk_model.specs.declared.instructions.Route.{Route}

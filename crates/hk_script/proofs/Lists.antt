@@ -1,5 +1,5 @@
 -- Lists of numbers, read one after another.
-use Rattle.std.proofs.Common.{◌≡◌, ℕ, zero, suc, ◌+◌, ◌<◌, arith, Bool, true, false, cond, ltb, List, [], ◌∷◌, ◌++◌, length, map, ◌-◌, refl, sym, ap, ◌∙◌, Ok, Err, Result}
+use Rattle.std.proofs.Common.{◌≡◌, ℕ, zero, suc, ◌<◌, arith, Bool, true, false, cond, ltb, List, [], ◌∷◌, ◌++◌, length, map, ◌-◌, refl, sym, ap, ◌∙◌, Ok, Err, Result}
 use Rattle.std.proofs.lemmas.List.{map-append, length-append}
 use mathlib.Core.List.{append_assoc, append-nil}
 use Rattle.hk_model.specs.declared.causes.ParseCause.{ParseCause}

@@ -1,10 +1,9 @@
 -- The pieces that are left of a line.
-use Rattle.std.proofs.Common.{◌≡◌, ℕ, zero, suc, ◌<◌, Bool, true, false, leb, List, [], ◌∷◌, length, map, drop, refl, arith, ◌&&◌, ◌∙◌}
-use Rattle.std.specs.Prelude.{IsTrue, slice_index_or}
+use Rattle.std.proofs.Common.{◌≡◌, ℕ, zero, suc, ◌<◌, Bool, true, leb, List, [], ◌∷◌, length, map, drop, refl, arith, ◌∙◌}
+use Rattle.std.specs.Prelude.{slice_index_or}
 use Rattle.std.specs.List.{list_all}
 use Rattle.std.proofs.lemmas.Bool.{and_parts, le-leb}
 use Rattle.std.proofs.lemmas.Bool.Decides.{nat_tests}
-use Rattle.std.proofs.lemmas.List.{drop_all}
 use Rattle.hk_model.specs.Texts.{is_none}
 
 -- none is left where all were read

@@ -1,6 +1,5 @@
 -- What was read of a script, line by line.
-use Rattle.std.proofs.Common.{◌≡◌, ℕ, Bool, true, false, cond, List, [], ◌∷◌, map, not, Ok, Err, Result}
-use Rattle.hk_model.specs.declared.causes.ParseCause.{ParseCause}
+use Rattle.std.proofs.Common.{◌≡◌, ℕ, true, cond, List, [], ◌∷◌, map, not, Ok, Err}
 use Rattle.hk_model.specs.declared.causes.ParseCause.TheVariants.{Repeated}
 use Rattle.hk_model.specs.declared.syntax.Body.{Body}
 use Rattle.std.specs.List.{list_all}

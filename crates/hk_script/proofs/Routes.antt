@@ -1,11 +1,11 @@
 -- The indices of a path, read one after another.
-use Rattle.std.proofs.Common.{◌≡◌, ℕ, ◌+◌, ◌-◌, ◌<◌, Bool, true, false, cond, eqb, ltb, take, drop, arith, not, List, [], ◌∷◌, ◌++◌, ◌&&◌, length, refl, sym, ap, ◌∙◌, map, Ok, Err, Result}
-use Rattle.std.specs.List.{list_all, list_any, slice_split, position_or_len}
+use Rattle.std.proofs.Common.{◌≡◌, ℕ, ◌+◌, ◌-◌, ◌<◌, Bool, true, false, cond, eqb, ltb, take, drop, arith, not, List, [], ◌∷◌, ◌++◌, ◌&&◌, length, refl, ◌∙◌, map, Ok, Err, Result}
+use Rattle.std.specs.List.{list_all, list_any, position_or_len}
 use Rattle.std.proofs.lemmas.Bool.{and_parts, lt-ltb}
 use Rattle.std.proofs.lemmas.Bool.Decides.{nat_tests}
 use Rattle.std.specs.Str.Parse.{ParsesUnsigned}
 use Rattle.hk_text.proofs.Turns.{cut_turn}
-use Rattle.std.proofs.lemmas.List.{drop_all, take_all, drop-drop, length-drop}
+use Rattle.std.proofs.lemmas.List.{take_all, drop-drop, length-drop}
 use Rattle.hk_text.proofs.Numbers.{too_large}
 use Rattle.hk_model.specs.declared.causes.TextCause.TheVariants.{BadToken, NumberTooLarge}
 use Rattle.hk_model.specs.Labels.{between, is_digit}
@@ -21,7 +21,7 @@ use Rattle.hk_model.specs.declared.instructions.Index.{Index}
 use Rattle.hk_model.specs.declared.instructions.Route.{Route}
 use Rattle.hk_model.specs.Limits.{slot_limit, index_bound}
 use Rattle.hk_model.specs.Pieces.{Piece, Path, index_of, path_of, is_path, is_index_text, is_too_large, is_number, value, Number}
-use Rattle.hk_model.specs.Forms.{as_route, is_route, is_index_below, route_of}
+use Rattle.hk_model.specs.Forms.{as_route, is_index_below, route_of}
 
 route_rest : (done is : List Index) → route_on done index_bound is ≡ cond (list_all (is_index_below index_bound) is) (Ok (route_of (done ++ is))) (Err OutOfRange)
 route_rest done [] = rw append-nil

@@ -1,5 +1,5 @@
 -- The indices of a path, read one after another. docs/FORMATS.md, "Pieces" and "Grammar".
-use Rattle.std.specs.Prelude.{◌≡◌, ℕ, ◌==◌, Bool, true, false, List, [], ◌∷◌, ◌++◌, Result, Ok, Err, if◌then◌else◌}
+use Rattle.std.specs.Prelude.{◌≡◌, ℕ, ◌==◌, true, false, List, [], ◌∷◌, ◌++◌, Result, Ok, Err, if◌then◌else◌}
 use Rattle.std.specs.List.{list_all, list_any, slice_split}
 use Rattle.hk_model.specs.declared.causes.ParseCause.{ParseCause}
 use Rattle.hk_model.specs.declared.causes.ParseCause.TheVariants.{OutOfRange}
@@ -22,4 +22,3 @@ pub record AreIndices (ts : List (List ℕ)) : Type 0 where
 abbrev pub route_on : List Index → ℕ → List Index → Result Route ParseCause
 route_on done bound [] = Ok (route_of done)
 route_on done bound (i ∷ is) = if is_index_below bound i then route_on (done ++ i ∷ []) index_bound is else Err OutOfRange
-

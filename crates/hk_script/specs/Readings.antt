@@ -1,5 +1,5 @@
 -- What was read of a script, as the grammar has it. docs/FORMATS.md, "Grammar".
-use Rattle.std.specs.Prelude.{◌≡◌, ℕ, List, Option, Some, None, Result, Ok, Err, not, if◌then◌else◌, IsTrue, false, true}
+use Rattle.std.specs.Prelude.{◌≡◌, ℕ, List, Option, Some, None, Result, Ok, Err, false, true}
 use Rattle.hk_model.specs.declared.causes.ParseCause.{ParseCause}
 use Rattle.hk_model.specs.declared.causes.ParseCause.TheVariants.{Repeated}
 use Rattle.hk_model.specs.declared.syntax.Head.{Head}

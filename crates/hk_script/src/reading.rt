@@ -99,7 +99,13 @@ impl Reading {
     }
 
     /// Puts a line of the open item in its place, or ends the item.
-    fn join(&mut self, alloc: Global, line: u32, opened: Opened, part: Option<Body>) -> Result<(), LineError>
+    fn join(
+        &mut self,
+        alloc: Global,
+        line: u32,
+        opened: Opened,
+        part: Option<Body>,
+    ) -> Result<(), LineError>
         requires { IsNone self.old.unclosed }
         ensures { Becomes result (read_of self.new) (joined (read_of self.old) (open_of opened) line part) }
     {
@@ -120,7 +126,13 @@ impl Reading {
     }
 
     /// Puts a line of the open item in its place, or Repeated.
-    fn extend(&mut self, alloc: Global, line: u32, opened: Opened, body: Body) -> Result<(), LineError>
+    fn extend(
+        &mut self,
+        alloc: Global,
+        line: u32,
+        opened: Opened,
+        body: Body,
+    ) -> Result<(), LineError>
         ensures { Becomes result (read_of self.new) (joined (read_of self.old) (open_of opened) line (Some body)) }
     {
         let Opened { item, mut labels } = opened;

@@ -12,7 +12,9 @@ fn count(alloc: Global, source: &[u8]) -> Option<Result<usize, ParseError>>
     requires { length source.now < 2 ^ 31 }
 {
     match lines(alloc, source) {
-        Ok(lines) => Some(parse(alloc, lines.as_slice(), source).map(|syntax| syntax.items().len())),
+        Ok(lines) => Some(parse(alloc, lines.as_slice(), source).map(|syntax| syntax
+            .items()
+            .len())),
         Err(_) => None,
     }
 }
@@ -34,13 +36,33 @@ fn refuses_the_first_cause(rt: HostRuntime) -> Result<(), Fail> {
         (b"hydra 1\nsemaphore s 65536\n", 2, ParseCause::OutOfRange),
         (b"hydra 1\ntype any\n", 2, ParseCause::UnknownWord),
         (b"hydra 1\ncode c\n", 2, ParseCause::Unclosed),
-        (b"hydra 1\ncode c\nlabel l\nlabel l\nend\n", 4, ParseCause::Repeated),
+        (
+            b"hydra 1\ncode c\nlabel l\nlabel l\nend\n",
+            4,
+            ParseCause::Repeated,
+        ),
         (b"hyd", 1, ParseCause::UnknownWord),
         (b"hydra", 1, ParseCause::Missing),
-        (b"hydra 1\ncode c\ngetdata 64 0 r0\nend\n", 3, ParseCause::OutOfRange),
-        (b"hydra 1\ncode c\ngetdata r8 0 r0\nend\n", 3, ParseCause::UnknownWord),
-        (b"hydra 1\ncode c\ncall 0 1 1 1 1 1 1 1 1 1 2\nend\n", 3, ParseCause::OutOfRange),
-        (b"hydra 1\ncode c\ncall 0 1 1 1 1 1 1 1 1 x\nend\n", 3, ParseCause::UnknownWord),
+        (
+            b"hydra 1\ncode c\ngetdata 64 0 r0\nend\n",
+            3,
+            ParseCause::OutOfRange,
+        ),
+        (
+            b"hydra 1\ncode c\ngetdata r8 0 r0\nend\n",
+            3,
+            ParseCause::UnknownWord,
+        ),
+        (
+            b"hydra 1\ncode c\ncall 0 1 1 1 1 1 1 1 1 1 2\nend\n",
+            3,
+            ParseCause::OutOfRange,
+        ),
+        (
+            b"hydra 1\ncode c\ncall 0 1 1 1 1 1 1 1 1 x\nend\n",
+            3,
+            ParseCause::UnknownWord,
+        ),
         (b"hydra 1\nend\n", 2, ParseCause::UnknownWord),
     ];
     for (source, line, cause) in rows {
@@ -54,7 +76,10 @@ fn refuses_the_first_cause(rt: HostRuntime) -> Result<(), Fail> {
 fn reads_the_items(rt: HostRuntime) -> Result<(), Fail> {
     let alloc = rt.alloc();
     assert_eq!(rt; count(alloc, b"hydra 1"), Some(Ok(0)));
-    assert_eq!(rt; count(alloc, b"hydra 1\nobject d DATA\nwords 7\nend"), Some(Ok(1)));
+    assert_eq!(rt;
+        count(alloc, b"hydra 1\nobject d DATA\nwords 7\nend"),
+        Some(Ok(1))
+    );
     let code = b"hydra 1\ncode c\nlabel l\nset r3 9\ncall 0.r1.65535 1 2 3\ngoto l\nend\n";
     assert_eq!(rt; count(alloc, code), Some(Ok(1)));
     let forward = b"hydra 1\nprocess p c\ncap d GETDATA+PUTDATA\nempty\nend\ntype t\nlimit 9\n";

@@ -1,8 +1,6 @@
-use Rattle.std.proofs.Common.{◌≡◌, ◌+◌, ◌≤◌, ◌<◌, ◌++◌, ◌∷◌, [], arith, sym, ap, ◌∙◌, map, take, drop, length, eqb, Ok, Err, refl}
+use Rattle.std.proofs.Common.{◌+◌, ◌<◌, arith, ap, length}
 use Rattle.std.proofs.lemmas.List.{length-drop}
 use Rattle.std.proofs.lemmas.Result.{err_from_is_err_and}
-use Rattle.hk_model.specs.Pieces.{index_of}
-use Rattle.hk_script.specs.Paths.{AreIndices, cut_points, route_on}
 use Rattle.hk_script.proofs.Routes.{first_cut, others_cut, others_after, route_last, route_later, route_bad}
 use Rattle.hk_script.proofs.forms.+path_on.Goals as goal
 

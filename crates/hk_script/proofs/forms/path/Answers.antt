@@ -1,4 +1,3 @@
-use Rattle.std.proofs.Common.{subst, sym}
 use Rattle.hk_script.proofs.Routes.{path_given}
 use Rattle.hk_script.proofs.forms.path.Goals as goal
 

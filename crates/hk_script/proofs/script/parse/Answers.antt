@@ -1,5 +1,3 @@
-use Rattle.std.proofs.Common.{◌≡◌, true, map, ◌∷◌}
-use Rattle.hk_text.specs.Views.{line_seen}
 use Rattle.hk_script.proofs.ReadingLemmas.{first_good, begins}
 use Rattle.hk_script.proofs.script.parse.Goals as goal
 

@@ -1,4 +1,4 @@
-use Rattle.std.proofs.Common.{arith, rules, ◌-◌, ◌<◌, ◌≤◌, length, map, sym, ◌∷◌, []}
+use Rattle.std.proofs.Common.{arith, ◌-◌, length, map, ◌∷◌, []}
 use Rattle.std.proofs.lemmas.List.{length-append}
 use Rattle.std.proofs.lemmas.Result.{err_from_is_err_and}
 use Rattle.hk_script.specs.Lines.{rest}

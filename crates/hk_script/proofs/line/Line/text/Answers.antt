@@ -1,5 +1,3 @@
-use Rattle.std.proofs.Common.{sym, ap, subst}
-use Rattle.hk_script.specs.Lines.{HasText}
 use Rattle.hk_script.proofs.TextBytes.{text_utf8}
 use Rattle.hk_script.proofs.line.Line.text.Goals as goal
 

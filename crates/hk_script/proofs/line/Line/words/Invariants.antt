@@ -1,4 +1,4 @@
-use Rattle.std.proofs.Common.{◌≡◌, length, map, drop}
+use Rattle.std.proofs.Common.{◌≡◌, length}
 use Rattle.hk_model.specs.declared.syntax.Verb.TheVariants as verb
 use Rattle.hk_model.specs.Grammar.{object_part}
 use Rattle.hk_script.specs.Lines.{rest}
