@@ -18,3 +18,6 @@ pub mod LinesGood
 pub mod PieceAgain
 pub mod TextAgain
 pub mod WorldAgain
+pub mod LoadGood
+pub mod ItemsLoaded
+pub mod WorldLoaded
