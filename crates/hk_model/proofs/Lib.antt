@@ -21,3 +21,4 @@ pub mod WorldAgain
 pub mod LoadGood
 pub mod ItemsLoaded
 pub mod WorldLoaded
+pub mod WorldValid

@@ -37,25 +37,25 @@ all_both P [] ys h k = k
 all_both P (x ∷ xs) ys h k = (h.0, all_both P xs ys h.1 k)
 
 -- the words of a line, if it is one of words, have 32 bits
-WordsIn : Body → Type 0
+pub WordsIn : Body → Type 0
 WordsIn (WordsAre words) = AllByRecursion IsWord32 words
 WordsIn _ = Unit {0}
 
 -- what lines give within this room, behind lines that have given so many
-record ContentsLoaded (w : Setup) (r : Room) (u : Used) (c : Contents) : Type 0 where
-  few_words : u.words + length c.words ≤ 4096
-  words : AllByRecursion IsWord32 c.words
-  few_params : u.params + length c.params ≤ 8
-  params : AllByRecursion (IsParam w) c.params
-  few_entries : u.entries + length c.entries ≤ r.entries
-  entries : AllByRecursion (IsEntry w) c.entries
-  none : r.listed ≡ false → c.entries ≡ []
+pub record ContentsLoaded (w : Setup) (r : Room) (u : Used) (c : Contents) : Type 0 where
+  pub few_words : u.words + length c.words ≤ 4096
+  pub words : AllByRecursion IsWord32 c.words
+  pub few_params : u.params + length c.params ≤ 8
+  pub params : AllByRecursion (IsParam w) c.params
+  pub few_entries : u.entries + length c.entries ≤ r.entries
+  pub entries : AllByRecursion (IsEntry w) c.entries
+  pub none : r.listed ≡ false → c.entries ≡ []
 
 -- no more than the limits yet
-record WithinLimits (r : Room) (u : Used) : Type 0 where
-  words : u.words ≤ 4096
-  params : u.params ≤ 8
-  entries : u.entries ≤ r.entries
+pub record WithinLimits (r : Room) (u : Used) : Type 0 where
+  pub words : u.words ≤ 4096
+  pub params : u.params ≤ 8
+  pub entries : u.entries ≤ r.entries
 
 entry_more : {w : Setup} {names : Names} → NamesFit w names → (r : Room) (u : Used) (line : ℕ) (b : Body) (rest : Result Contents Refused) (c : Contents) → onto one_entry line (limited (ltb u.entries r.entries) (permitted r.listed (entry_of names b))) rest ≡ Ok c → ((d : Contents) → u.entries < r.entries → rest ≡ Ok d → ContentsLoaded w r (used u.words u.params (u.entries + 1)) d) → ContentsLoaded w r u c
 entry_more {w} {names} fit r u line b rest c e more =
@@ -67,7 +67,7 @@ entry_more {w} {names} fit r u line b rest c e more =
     let few = d.few_entries in
     subst (ContentsLoaded w r u) a.4 (record { few_words = d.few_words; words = d.words; few_params = d.few_params; params = d.params; few_entries = omega arith; entries = (entry_loaded fit b a.0 p.0, d.entries); none = λ off. absurd (false≢true (sym off ∙ p.1)) })
 
-contents_loaded : {w : Setup} {names : Names} → NamesFit w names → (r : Room) (u : Used) (ps : List Part) (c : Contents) → WithinLimits r u → AllByRecursion (λ (p : Part). WordsIn p.body) ps → contents_of names r u ps ≡ Ok c → ContentsLoaded w r u c
+pub contents_loaded : {w : Setup} {names : Names} → NamesFit w names → (r : Room) (u : Used) (ps : List Part) (c : Contents) → WithinLimits r u → AllByRecursion (λ (p : Part). WordsIn p.body) ps → contents_of names r u ps ≡ Ok c → ContentsLoaded w r u c
 unfolding WordsIn
 contents_loaded {w} fit r u [] c within h e = moved (ContentsLoaded w r u) (contents [] [] []) c e (let a = within.words in let b = within.params in let d = within.entries in record { few_words = omega arith; words = tt; few_params = omega arith; params = tt; few_entries = omega arith; entries = tt; none = λ off. refl })
 contents_loaded {w} {names} fit r u (p ∷ ps) c within h e = go p.body h.0 e (λ v d l f. contents_loaded fit r v ps d l h.1 f)
@@ -99,7 +99,7 @@ contents_loaded {w} {names} fit r u (p ∷ ps) c within h e = go p.body h.0 e (�
     go (LabelIs label) k f rest = entry_more fit r u p.line (LabelIs label) (contents_of names r (used u.words u.params (u.entries + 1)) ps) c f (λ d below g. counted_on d below rest g)
     go (StepIs step) k f rest = entry_more fit r u p.line (StepIs step) (contents_of names r (used u.words u.params (u.entries + 1)) ps) c f (λ d below g. counted_on d below rest g)
 
-words_in : (head : Head) (seen : List (List ℕ)) (ps : List Part) → AreParts head seen ps → AllByRecursion (λ (p : Part). WordsIn p.body) ps
+pub words_in : (head : Head) (seen : List (List ℕ)) (ps : List Part) → AreParts head seen ps → AllByRecursion (λ (p : Part). WordsIn p.body) ps
 unfolding WordsIn
 words_in head seen [] h = tt
 words_in head seen (p ∷ ps) h = (one head p.body h.0, words_in head (noted_label seen p.body) ps h.2)
@@ -123,9 +123,9 @@ words_in head seen (p ∷ ps) h = (one head p.body h.0, words_in head (noted_lab
     one head (LabelIs label) k = tt
     one head (StepIs step) k = tt
 
-within_none : (r : Room) → WithinLimits r (used 0 0 0)
+pub within_none : (r : Room) → WithinLimits r (used 0 0 0)
 within_none r = record { words = omega arith; params = omega arith; entries = omega arith }
 
-at_line_ok : {A : Type 0} (line : ℕ) (r : Result A LoadCause) (x : A) → at_line line r ≡ Ok x → r ≡ Ok x
+pub at_line_ok : {A : Type 0} (line : ℕ) (r : Result A LoadCause) (x : A) → at_line line r ≡ Ok x → r ≡ Ok x
 at_line_ok line (Ok y) x h = let same : y ≡ x = cc in ap Ok same
 at_line_ok line (Err c) x h = absurd (let k : Err (line, c) ≡ Ok x = h in cc)
