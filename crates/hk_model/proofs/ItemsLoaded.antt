@@ -1,14 +1,8 @@
 -- The items that are loaded from a script are those of a world.
-use Rattle.std.proofs.Common.{◌≡◌, ℕ, suc, zero, ◌+◌, ◌-◌, ◌<◌, ◌≤◌, ◌⊎◌, inl, inr, ◌==◌, ◌&&◌, ◌||◌, not, Bool, true, false, cond, leb, ltb, eqb, List, [], ◌∷◌, ◌++◌, length, map, min, refl, sym, ap, ◌∙◌, subst, arith, Ok, Err, Result, Option, Some, None}
-use Rattle.std.specs.Prelude.{IsTrue, option_map}
-use Rattle.std.specs.List.{list_any, AllByRecursion, filter_map, find}
-use Rattle.std.proofs.lemmas.Bool.{and_parts, and_from, ltb-true, leb-true, false≢true, not-true, eqb-true}
-use Rattle.std.proofs.lemmas.Bool.Decides.{nat_tests}
-use Rattle.std.proofs.lemmas.List.{length-append, length-map}
-use mathlib.Core.List.{append_assoc, append-nil}
-use Rattle.hk_model.specs.declared.names.Name.{Name}
-use Rattle.hk_model.specs.declared.entries.Entry.{Entry}
-use Rattle.hk_model.specs.declared.entries.Param.{Param}
+use Rattle.std.proofs.Common.{◌≡◌, ℕ, ◌+◌, ◌≤◌, Bool, true, false, cond, ltb, List, [], ◌∷◌, length, min, subst, arith, Ok, Option, Some, None}
+use Rattle.std.specs.Prelude.{option_map}
+use Rattle.std.specs.List.{AllByRecursion, find}
+use Rattle.std.proofs.lemmas.Bool.{ltb-true}
 use Rattle.hk_model.specs.declared.entries.Making.{Making}
 use Rattle.hk_model.specs.declared.entries.Making.TheVariants as making
 use Rattle.hk_model.specs.declared.instructions.Instr.{Instr}
@@ -17,25 +11,17 @@ use Rattle.hk_model.specs.declared.syntax.MakingText.{MakingText}
 use Rattle.hk_model.specs.declared.syntax.MakingText.TheVariants as written_making
 use Rattle.hk_model.specs.declared.syntax.Written.{Written}
 use Rattle.hk_model.specs.declared.syntax.Written.TheVariants as written
-use Rattle.hk_model.specs.declared.syntax.Head.{Head}
-use Rattle.hk_model.specs.declared.syntax.Head.TheVariants.{LimitIs, TypeIs, ObjectIs, SemaphoreIs, ProcedureIs, CodeIs, ProcessIs}
+use Rattle.hk_model.specs.declared.syntax.Head.TheVariants.{CodeIs}
 use Rattle.hk_model.specs.declared.syntax.Body.{Body}
 use Rattle.hk_model.specs.declared.syntax.Body.TheVariants.{WordsAre, EmptyEntry, CapEntry, AmplifyEntry, CreateEntry, ParamIs, LabelIs, StepIs}
 use Rattle.hk_model.specs.declared.syntax.Part.{Part}
-use Rattle.hk_model.specs.declared.syntax.Item.{Item}
-use Rattle.hk_model.specs.declared.world.Kind.{Kind}
-use Rattle.hk_model.specs.declared.world.Kind.TheVariants as kind
-use Rattle.hk_model.specs.declared.world.Born.{Born}
-use Rattle.hk_model.specs.declared.world.Code.{Code}
-use Rattle.hk_model.specs.declared.world.Task.{Task}
-use Rattle.hk_model.specs.declared.causes.LoadCause.{LoadCause}
-use Rattle.hk_model.specs.declared.causes.LoadCause.TheVariants.{UnknownName, WrongPart, TooMany}
+use Rattle.hk_model.specs.declared.causes.LoadCause.TheVariants.{UnknownName}
 use Rattle.hk_model.specs.Labels.{same_text}
-use Rattle.hk_model.specs.Setup.{Setup, IsEntry, IsParam, IsMaking, IsInstr, IsWord32}
-use Rattle.hk_model.specs.Syntax.{IsWritten, Belongs, AreParts, IsWordsLine}
+use Rattle.hk_model.specs.Setup.{IsMaking, IsInstr}
+use Rattle.hk_model.specs.Syntax.{IsWritten, Belongs, AreParts}
 use Rattle.hk_model.specs.Grammar.{noted_label}
-use Rattle.hk_model.specs.Loading.{Refused, Names, ◌>>=◌, ◌>>◌, limited, permitted, front, onto, rights_named, entry_of, param_of, making_of, to_limit, found, target, Label, labels_from, label_onto, instr_of, instr_onto, instrs_of, Contents, contents, more_words, one_param, one_entry, Used, used, Room, contents_of, content_onto}
-use Rattle.hk_model.proofs.LoadGood.{bind_ok, then_ok, onto_ok, found_ok, limited_ok, permitted_ok, moved, rights_word, NamesFit, entry_loaded, param_loaded}
+use Rattle.hk_model.specs.Loading.{◌>>=◌, limited, front, rights_named, making_of, to_limit, target, Label, labels_from, label_onto, instr_of, instr_onto, instrs_of}
+use Rattle.hk_model.proofs.LoadGood.{bind_ok, onto_ok, found_ok, limited_ok, moved, rights_word}
 
 -- the lines of a code
 
@@ -59,6 +45,7 @@ target_within len labels t n within h = go (find (λ (l : Label). same_text t l.
     IsWithin : Option Label → Type 0
     IsWithin None = Unit {0}
     IsWithin (Some l) = l.place ≤ len
+
     among : (ls : List Label) → AllByRecursion (λ (l : Label). l.place ≤ len) ls → IsWithin (find (λ (l : Label). same_text t l.text) ls)
     among [] k = tt
     among (l ∷ ls) k = pick (same_text t l.text) (among ls k.1)
@@ -66,6 +53,7 @@ target_within len labels t n within h = go (find (λ (l : Label). same_text t l.
         pick : (b : Bool) → IsWithin (find (λ (x : Label). same_text t x.text) ls) → IsWithin (cond b (Some l) (find (λ (x : Label). same_text t x.text) ls))
         pick true rest = k.0
         pick false rest = rest
+
     go : (o : Option Label) → IsWithin o → option_map (λ (l : Label). to_limit l.place) o ≡ Some n → n ≤ len
     go (Some l) k e = let same : min l.place 4096 ≡ n = cc in omega arith
     go None k e = absurd (let none : None ≡ Some n = e in cc)

@@ -1,12 +1,11 @@
 -- What is loaded from the items of a script is a world.
-use Rattle.std.proofs.Common.{◌≡◌, ℕ, suc, zero, ◌+◌, ◌-◌, ◌<◌, ◌≤◌, ◌⊎◌, inl, inr, ◌==◌, ◌&&◌, ◌||◌, not, Bool, true, false, cond, leb, ltb, List, [], ◌∷◌, ◌++◌, length, get_or, map, min, refl, sym, ap, ◌∙◌, subst, arith, Ok, Err, Result, Option, Some, None}
-use Rattle.std.specs.Prelude.{codes, IsTrue, slice_get, slice_index_or}
-use Rattle.std.specs.List.{list_any, AllByRecursion, filter_map, position_or_len, find, slice_split}
-use Rattle.std.proofs.lemmas.Bool.{and_parts, and_from, ltb-true, leb-true, false≢true, not-true, eqb-true}
+use Rattle.std.proofs.Common.{◌≡◌, ℕ, ◌+◌, ◌-◌, ◌<◌, ◌≤◌, ◌⊎◌, inl, inr, ◌==◌, Bool, true, false, cond, ltb, List, [], ◌∷◌, ◌++◌, length, get_or, map, min, refl, sym, ap, ◌∙◌, subst, arith, Ok, Err, Result, Option, Some, None}
+use Rattle.std.specs.Prelude.{codes, slice_get, slice_index_or}
+use Rattle.std.specs.List.{position_or_len, slice_split}
+use Rattle.std.proofs.lemmas.Bool.{ltb-true, false≢true, eqb-true}
 use Rattle.std.proofs.lemmas.Bool.Decides.{nat_tests}
-use Rattle.std.proofs.lemmas.List.{length-append, length-map, get_or-append_right, get_or-map}
+use Rattle.std.proofs.lemmas.List.{get_or-append_right, get_or-map}
 use Rattle.std.proofs.lemmas.Option.{slice_get_cases}
-use mathlib.Core.List.{append_assoc, append-nil}
 use Rattle.hk_rights.specs.Rights.{IsRightsWord, number_named, all_rights}
 use Rattle.hk_rights.proofs.Words.{IsRightsWord-from_HasAll, IsRightsWord-bit_or}
 use Rattle.hk_rights.proofs.Sets.{has-pow}
@@ -15,13 +14,11 @@ use Rattle.hk_rights.specs.Rights.{is_right}
 use Rattle.std.specs.Prelude.{◌^◌, bit_or, option_map}
 use Rattle.hk_model.specs.declared.names.Name.{Name}
 use Rattle.hk_model.specs.declared.entries.Entry.{Entry}
-use Rattle.hk_model.specs.declared.entries.Entry.TheVariants.{Empty, Held, Form}
-use Rattle.hk_model.specs.declared.entries.Making.{Making}
-use Rattle.hk_model.specs.declared.entries.Making.TheVariants as making
+use Rattle.hk_model.specs.declared.entries.Entry.TheVariants.{Empty, Form}
 use Rattle.hk_model.specs.declared.entries.Param.{Param}
 use Rattle.hk_model.specs.declared.entries.Template.TheVariants as template
 use Rattle.hk_model.specs.declared.syntax.Body.{Body}
-use Rattle.hk_model.specs.declared.syntax.Body.TheVariants.{WordsAre, EmptyEntry, CapEntry, AmplifyEntry, CreateEntry, ParamIs, LabelIs, StepIs}
+use Rattle.hk_model.specs.declared.syntax.Body.TheVariants.{EmptyEntry, CapEntry, AmplifyEntry, CreateEntry}
 use Rattle.hk_model.specs.declared.world.Born.{Born}
 use Rattle.hk_model.specs.declared.world.Kind.{Kind}
 use Rattle.hk_model.specs.declared.world.Kind.TheVariants as kind
@@ -29,8 +26,8 @@ use Rattle.hk_model.specs.declared.causes.LoadCause.{LoadCause}
 use Rattle.hk_model.specs.declared.causes.LoadCause.TheVariants.{UnknownName, WrongPart, TooMany, BadRights}
 use Rattle.hk_model.specs.Labels.{same_text}
 use Rattle.hk_model.specs.RightsTexts.{rights_of, right_of, both, union_of}
-use Rattle.hk_model.specs.Setup.{Setup, IsEntry, IsParam, IsMaking, IsObject, IsType, IsTypeOrAny, IsTypeKind}
-use Rattle.hk_model.specs.Loading.{Refused, Names, ◌>>=◌, ◌>>◌, found, unless, limited, permitted, front, onto, object_named, type_named, kind_named, some_name, code_named, rights_named, name_numbered, kernel_flags, entry_of, param_of, parameter, held_entry, making_of, place, to_limit}
+use Rattle.hk_model.specs.Setup.{Setup, IsEntry, IsParam, IsObject, IsType, IsTypeOrAny, IsTypeKind}
+use Rattle.hk_model.specs.Loading.{Refused, Names, ◌>>=◌, ◌>>◌, found, unless, limited, permitted, onto, object_named, type_named, kind_named, some_name, code_named, rights_named, name_numbered, kernel_flags, entry_of, param_of, parameter, held_entry, place, to_limit}
 use Rattle.hk_model.proofs.NamesAgain.{is_type_object}
 
 -- a test that passed, and what came before it
@@ -81,8 +78,8 @@ place_below names t n h = go (ltb (position_or_len (same_text t) names) (length 
 pow_right : (name : List ℕ) (n : ℕ) → number_named name ≡ Some n → IsRightsWord (2 ^ n)
 pow_right name n e =
     IsRightsWord-from_HasAll (2 ^ n) (λ k there.
-        let same : k ≡ n = eqb-true k n (sym (has-pow n k) ∙ there) in
-        has-all_rights k ∙ (ap (λ (j : ℕ). is_right j) same ∙ named-is_right name n e))
+    let same : k ≡ n = eqb-true k n (sym (has-pow n k) ∙ there) in
+    has-all_rights k ∙ (ap (λ (j : ℕ). is_right j) same ∙ named-is_right name n e))
 
 right_word : (t : List ℕ) (r : ℕ) → right_of t ≡ Some r → IsRightsWord r
 right_word t r h = go (number_named t) refl h
@@ -139,9 +136,11 @@ type_flagged w n there flag = go (ltb n 7) refl
     declared above at =
         let flagged : is_type_object at.0 ≡ true = ap is_type_object (sym at.3) ∙ sym (get_or-map is_type_object w.objects (n - 7) at.0 false at.1) ∙ sym (get_or-append_right kernel_flags (map is_type_object w.objects) 7 n false refl above) ∙ flag in
         inr (record { born = at.0; above = above; there = at.2; is_type = type_kind at.0 flagged })
+
     either : 7 ≤ n → (((born : Born) × (n - 7 < length w.objects) × (slice_get w.objects (n - 7) ≡ Some born) × (get_or w.objects (n - 7) born ≡ born)) ⊎ ((length w.objects ≤ n - 7) × (slice_get w.objects (n - 7) ≡ None))) → IsType w (name_numbered n)
     either above (inl at) = declared above at
     either above (inr past) = absurd (let end = past.0 in omega arith)
+
     go : (b : Bool) → ltb n 7 ≡ b → IsType w (name_numbered n)
     go true e = inl (ltb-true n 7 e)
     go false e = let above : 7 ≤ n = grind (arith, nat_tests) in either above (slice_get_cases w.objects (n - 7)).1

@@ -1,34 +1,19 @@
 -- What is loaded from the items of a script is a world that can be run.
-use Rattle.std.proofs.Common.{◌≡◌, ℕ, suc, zero, ◌+◌, ◌-◌, ◌<◌, ◌≤◌, ◌⊎◌, inl, inr, ◌==◌, ◌&&◌, ◌||◌, not, Bool, true, false, cond, leb, ltb, eqb, List, [], ◌∷◌, ◌++◌, length, map, refl, sym, ap, ◌∙◌, subst, arith, Ok, Err, Result, Option, Some, None}
-use Rattle.std.specs.Prelude.{IsTrue}
-use Rattle.std.specs.List.{list_any, AllByRecursion, filter_map}
-use Rattle.std.proofs.lemmas.Bool.{and_parts, and_from, ltb-true, leb-true, false≢true, not-true, eqb-true}
-use Rattle.std.proofs.lemmas.Bool.Decides.{nat_tests}
-use Rattle.std.proofs.lemmas.List.{length-append, length-map}
-use mathlib.Core.List.{append_assoc, append-nil}
-use Rattle.hk_model.specs.declared.names.Name.{Name}
-use Rattle.hk_model.specs.declared.entries.Entry.{Entry}
-use Rattle.hk_model.specs.declared.entries.Param.{Param}
+use Rattle.std.proofs.Common.{◌≡◌, ℕ, ◌+◌, ◌<◌, ◌≤◌, false, leb, ltb, List, [], ◌∷◌, ◌++◌, length, refl, sym, ap, ◌∙◌, subst, arith, Ok, Err, Result}
+use Rattle.std.specs.List.{AllByRecursion}
+use Rattle.std.proofs.lemmas.Bool.{ltb-true, leb-true, false≢true}
+use Rattle.std.proofs.lemmas.List.{length-append}
 use Rattle.hk_model.specs.declared.syntax.Head.{Head}
 use Rattle.hk_model.specs.declared.syntax.Head.TheVariants.{LimitIs, TypeIs, ObjectIs, SemaphoreIs, ProcedureIs, CodeIs, ProcessIs}
 use Rattle.hk_model.specs.declared.syntax.Body.{Body}
 use Rattle.hk_model.specs.declared.syntax.Body.TheVariants.{WordsAre, EmptyEntry, CapEntry, AmplifyEntry, CreateEntry, ParamIs, LabelIs, StepIs}
 use Rattle.hk_model.specs.declared.syntax.Part.{Part}
-use Rattle.hk_model.specs.declared.syntax.Item.{Item}
-use Rattle.hk_model.specs.declared.world.Kind.{Kind}
-use Rattle.hk_model.specs.declared.world.Kind.TheVariants as kind
-use Rattle.hk_model.specs.declared.world.Born.{Born}
-use Rattle.hk_model.specs.declared.world.Code.{Code}
-use Rattle.hk_model.specs.declared.world.Task.{Task}
 use Rattle.hk_model.specs.declared.causes.LoadCause.{LoadCause}
-use Rattle.hk_model.specs.declared.causes.LoadCause.TheVariants.{UnknownName, WrongPart, TooMany}
-use Rattle.hk_model.specs.Targets.{DATA, is_general}
-use Rattle.hk_model.specs.Setup.{Setup, setup, IsEntry, IsParam, IsKind, IsCode, IsTask, IsType, IsPlainType, IsInstr, IsWord32}
-use Rattle.hk_model.specs.Syntax.{Belongs, AreParts, AreItems, IsHead, IsEntryBody, IsWordsLine}
-use Rattle.hk_model.specs.Grammar.{Seen, noted, noted_label}
-use Rattle.hk_model.specs.Loading.{Refused, Names, ◌>>=◌, ◌>>◌, unless, limited, permitted, onto, type_named, code_named, name_numbered, entry_of, param_of, Contents, contents, more_words, one_param, one_entry, Used, used, Room, room, contents_of, content_onto, labels_from, instrs_of, Counts, counts, counted, object_fits, with_limit, with_object, with_code, with_task, at_line, plain_type, loaded, item_of, put_item, items_of}
-use Rattle.hk_model.proofs.LoadGood.{bind_ok, then_ok, onto_ok, limited_ok, permitted_ok, unless_ok, moved, NamesFit, type_loaded, code_loaded, entry_loaded, param_loaded}
-use Rattle.hk_model.proofs.ItemsLoaded.{code_loaded_whole}
+use Rattle.hk_model.specs.Setup.{Setup, IsEntry, IsParam, IsWord32}
+use Rattle.hk_model.specs.Syntax.{Belongs, AreParts, IsWordsLine}
+use Rattle.hk_model.specs.Grammar.{noted_label}
+use Rattle.hk_model.specs.Loading.{Refused, Names, limited, permitted, onto, entry_of, param_of, Contents, contents, more_words, one_param, one_entry, Used, used, Room, contents_of, content_onto, at_line}
+use Rattle.hk_model.proofs.LoadGood.{onto_ok, limited_ok, permitted_ok, moved, NamesFit, entry_loaded, param_loaded}
 
 -- the lines of an object, a procedure or a process
 
@@ -74,6 +59,7 @@ contents_loaded {w} {names} fit r u (p ∷ ps) c within h e = go p.body h.0 e (�
   where
     counted_on : (d : Contents) → u.entries < r.entries → ((v : Used) (x : Contents) → WithinLimits r v → contents_of names r v ps ≡ Ok x → ContentsLoaded w r v x) → contents_of names r (used u.words u.params (u.entries + 1)) ps ≡ Ok d → ContentsLoaded w r (used u.words u.params (u.entries + 1)) d
     counted_on d below rest f = rest (used u.words u.params (u.entries + 1)) d (record { words = within.words; params = within.params; entries = omega arith }) f
+
     go : (b : Body) → WordsIn b → content_onto names r u p.line b (λ next. contents_of names r next ps) ≡ Ok c → ((v : Used) (d : Contents) → WithinLimits r v → contents_of names r v ps ≡ Ok d → ContentsLoaded w r v d) → ContentsLoaded w r u c
     go (WordsAre words) k f rest =
         let a = onto_ok more_words p.line (limited (leb (u.words + length words) 4096) (Ok words)) (contents_of names r (used (u.words + length words) u.params u.entries) ps) c f in
@@ -107,6 +93,7 @@ words_in head seen (p ∷ ps) h = (one head p.body h.0, words_in head (noted_lab
     line : (ws : List ℕ) → IsWordsLine ws → AllByRecursion IsWord32 ws
     line [] k = absurd k
     line (x ∷ xs) k = k
+
     one : (head : Head) (b : Body) → Belongs head b → WordsIn b
     one (ObjectIs name of) (WordsAre words) k = line words k
     one (ProcedureIs name code) (WordsAre words) k = absurd k

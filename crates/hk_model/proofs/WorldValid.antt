@@ -1,20 +1,18 @@
 -- A script that is loaded gives a world that can be run.
-use Rattle.std.proofs.Common.{◌≡◌, ℕ, suc, zero, ◌+◌, ◌-◌, ◌<◌, ◌≤◌, ◌⊎◌, inl, inr, ◌==◌, ◌&&◌, ◌||◌, not, Bool, true, false, cond, leb, ltb, eqb, List, [], ◌∷◌, ◌++◌, length, map, refl, sym, ap, ◌∙◌, subst, arith, Ok, Err, Result, Option, Some, None}
+use Rattle.std.proofs.Common.{◌≡◌, ℕ, ◌+◌, ◌<◌, ◌≤◌, inl, inr, ◌==◌, ◌&&◌, ◌||◌, not, Bool, true, false, ltb, eqb, List, [], ◌∷◌, ◌++◌, length, map, refl, sym, ap, ◌∙◌, subst, arith, Ok, Err, Result}
 use Rattle.std.specs.Prelude.{IsTrue}
 use Rattle.std.specs.List.{list_any, AllByRecursion, filter_map}
 use Rattle.std.proofs.lemmas.Bool.{and_parts, and_from, ltb-true, false≢true, not-true, eqb-true}
 use Rattle.std.proofs.lemmas.Bool.Decides.{nat_tests}
-use Rattle.std.proofs.lemmas.List.{length-append, length-map}
+use Rattle.std.proofs.lemmas.List.{length-map}
 use Rattle.std.proofs.lemmas.List.Folds.{list_any-append}
 use mathlib.Core.List.{append_assoc}
-use Rattle.hk_model.specs.declared.names.Name.{Name}
 use Rattle.hk_model.specs.declared.entries.Entry.{Entry}
 use Rattle.hk_model.specs.declared.syntax.Head.{Head}
 use Rattle.hk_model.specs.declared.syntax.Head.TheVariants.{LimitIs, TypeIs, ObjectIs, SemaphoreIs, ProcedureIs, CodeIs, ProcessIs}
 use Rattle.hk_model.specs.declared.syntax.Part.{Part}
 use Rattle.hk_model.specs.declared.syntax.Item.{Item}
 use Rattle.hk_model.specs.declared.instructions.Instr.{Instr}
-use Rattle.hk_model.specs.declared.world.Kind.{Kind}
 use Rattle.hk_model.specs.declared.world.Kind.TheVariants as kind
 use Rattle.hk_model.specs.declared.world.Born.{Born}
 use Rattle.hk_model.specs.declared.world.Code.{Code}
@@ -24,12 +22,12 @@ use Rattle.hk_model.specs.Labels.{same_text, is_name, are_apart}
 use Rattle.hk_model.specs.Targets.{DATA, is_general}
 use Rattle.hk_model.specs.Setup.{Setup, setup, IsWorld, IsKind, IsCode, IsTask, IsType, IsPlainType, labels}
 use Rattle.hk_model.specs.Syntax.{AreItems, AreParts, IsHead, IsSyntax}
-use Rattle.hk_model.specs.Grammar.{Seen, nothing_seen, is_among, noted}
+use Rattle.hk_model.specs.Grammar.{Seen, nothing_seen, is_among, is_new, noted}
 use Rattle.hk_model.specs.Loading.{Refused, Names, unless, limited, type_named, code_named, name_numbered, names_of, object_label, is_type_head, code_label, Contents, used, room, contents_of, labels_from, instrs_of, Counts, counts, counted, object_fits, with_limit, with_object, with_code, with_task, at_line, plain_type, loaded, item_of, put_item, items_of, load, ◌>>=◌, ◌>>◌}
 use Rattle.hk_model.proofs.NamesAgain.{is_type_object}
 use Rattle.hk_model.proofs.LoadGood.{bind_ok, then_ok, limited_ok, unless_ok, moved, NamesFit, type_loaded, code_loaded}
 use Rattle.hk_model.proofs.ItemsLoaded.{code_loaded_whole}
-use Rattle.hk_model.proofs.WorldLoaded.{ContentsLoaded, contents_loaded, words_in, within_none, at_line_ok}
+use Rattle.hk_model.proofs.WorldLoaded.{contents_loaded, words_in, within_none, at_line_ok}
 
 -- what an item puts in front of a world, by its head
 Puts : Names → Counts → List Part → Head → (Setup → Setup) → Type 0
@@ -97,6 +95,7 @@ shape names n (i ∷ is) v h =
   where
     heads : List Head
     heads = map (λ (i : Item). i.head) is
+
     go : (head : Head) (put : Setup → Setup) (u : Setup) → Puts names n i.parts head put → put u ≡ v → Shape (map (λ (i : Item). i.head) is) u → Shape (head ∷ map (λ (i : Item). i.head) is) v
     go (LimitIs limit) put u p e s = subst (Shape (LimitIs limit ∷ map (λ (i : Item). i.head) is)) (put_same put (with_limit limit) u v p e) (record { objects = s.objects; types = s.types; codes = s.codes })
     go (TypeIs name) put u p e s = subst (Shape (TypeIs name ∷ map (λ (i : Item). i.head) is)) (put_same put (with_object name kind.TypeObject) u v p.1 e) (record { objects = ap (λ (t : List (List ℕ)). name ∷ t) s.objects; types = ap (λ (t : List Bool). true ∷ t) s.types; codes = s.codes })
@@ -211,3 +210,133 @@ valid {w} {names} fit n seen (i ∷ is) v r h e =
     let a = put_ok (item_of names n i) (items_of names (counted n i.head) is) v e in
     let f = front fit n i.parts i.head a.0 r h.0 h.2 (puts names n i.line i.parts i.head a.0 a.2) in
     subst (Valid w n) a.4 (f.valid a.1 (valid fit (counted n i.head) (noted seen i.head) is a.1 f.room h.3 a.3))
+
+-- labels are names, and stand apart
+
+same_sym : (a b : List ℕ) → same_text a b ≡ false → same_text b a ≡ false
+same_sym [] [] h = h
+same_sym [] (y ∷ ys) h = refl
+same_sym (x ∷ xs) [] h = refl
+same_sym (x ∷ xs) (y ∷ ys) h = go (eqb x y) refl h (same_sym xs ys)
+  where
+    go : (b : Bool) → eqb x y ≡ b → (b && same_text xs ys) ≡ false → (same_text xs ys ≡ false → same_text ys xs ≡ false) → (eqb y x && same_text ys xs) ≡ false
+    go true e k rest = and_false (eqb y x) (same_text ys xs) (rest k)
+      where
+        and_false : (a b : Bool) → b ≡ false → (a && b) ≡ false
+        and_false true b h = h
+        and_false false b h = refl
+    go false e k rest = let other : eqb y x ≡ false = grind (arith, nat_tests) in rw other refl
+
+-- a text that is none of these, put among them
+apart_put : (xs ys : List (List ℕ)) (t : List ℕ) → are_apart (xs ++ ys) ≡ true → AllByRecursion (λ l. same_text l t ≡ false) (xs ++ ys) → are_apart (xs ++ t ∷ ys) ≡ true
+apart_put [] ys t apart other = and_from _ _ (rw (none ys other) refl) apart
+  where
+    none : (ls : List (List ℕ)) → AllByRecursion (λ l. same_text l t ≡ false) ls → list_any (λ u. same_text u t) ls ≡ false
+    none [] h = refl
+    none (l ∷ ls) h = rw h.0 (none ls h.1)
+apart_put (x ∷ xs) ys t apart other =
+    let both = and_parts (not (list_any (λ u. same_text u x) (xs ++ ys))) (are_apart (xs ++ ys)) apart in
+    and_from _ _ (rw (still xs (not-true _ both.0)) refl) (apart_put xs ys t both.1 other.1)
+  where
+    still : (ls : List (List ℕ)) → list_any (λ u. same_text u x) (ls ++ ys) ≡ false → list_any (λ u. same_text u x) (ls ++ t ∷ ys) ≡ false
+    still [] h = rw (same_sym x t other.0) h
+    still (l ∷ ls) h = go (same_text l x) h (still ls)
+      where
+        go : (b : Bool) → (b || list_any (λ u. same_text u x) (ls ++ ys)) ≡ false → (list_any (λ u. same_text u x) (ls ++ ys) ≡ false → list_any (λ u. same_text u x) (ls ++ t ∷ ys) ≡ false) → (b || list_any (λ u. same_text u x) (ls ++ t ∷ ys)) ≡ false
+        go true k rest = absurd (false≢true (sym k))
+        go false k rest = rest k
+
+all_put : (P : List ℕ → Type 0) (xs ys : List (List ℕ)) (t : List ℕ) → AllByRecursion P (xs ++ ys) → P t → AllByRecursion P (xs ++ t ∷ ys)
+all_put P [] ys t h k = (k, h)
+all_put P (x ∷ xs) ys t h k = (h.0, all_put P xs ys t h.1 k)
+
+-- these labels are names that stand apart from each other and from those that were seen
+record Labelled (seen : List (List ℕ)) (ls : List (List ℕ)) : Type 0 where
+  named : AllByRecursion (λ l. IsTrue (is_name l)) ls
+  apart : are_apart ls ≡ true
+  fresh : AllByRecursion (λ l. is_among seen l ≡ false) ls
+
+fresh_parts : (seen : List (List ℕ)) (t : List ℕ) (ls : List (List ℕ)) → AllByRecursion (λ l. is_among (seen ++ t ∷ []) l ≡ false) ls → AllByRecursion (λ l. is_among seen l ≡ false) ls × AllByRecursion (λ l. same_text l t ≡ false) ls
+fresh_parts seen t [] h = (tt, tt)
+fresh_parts seen t (l ∷ ls) h =
+    let rest = fresh_parts seen t ls h.1 in
+    let here = split (is_among seen l) (same_text l t) (sym (list_any-append (same_text l) seen (t ∷ [])) ∙ h.0) in
+    ((here.0, rest.0), (here.1, rest.1))
+  where
+    split : (a b : Bool) → (a || (b || false)) ≡ false → (a ≡ false) × (b ≡ false)
+    split true b k = absurd (false≢true (sym k))
+    split false true k = absurd (false≢true (sym k))
+    split false false k = (refl, refl)
+
+labelled_put : (seen : List (List ℕ)) (xs ys : List (List ℕ)) (t : List ℕ) → IsTrue (is_name t) → not (is_among seen t) ≡ true → Labelled (seen ++ t ∷ []) (xs ++ ys) → Labelled seen (xs ++ t ∷ ys)
+labelled_put seen xs ys t name new l =
+    let parts = fresh_parts seen t (xs ++ ys) l.fresh in
+    record {
+      named = all_put (λ u. IsTrue (is_name u)) xs ys t l.named name;
+      apart = apart_put xs ys t l.apart parts.1;
+      fresh = all_put (λ u. is_among seen u ≡ false) xs ys t parts.0 (not-true _ new);
+    }
+
+own_labels : Setup → List (List ℕ)
+own_labels w = map (λ (b : Born). b.label) w.objects
+
+code_labels : Setup → List (List ℕ)
+code_labels w = map (λ (c : Code). c.label) w.codes
+
+task_labels : Setup → List (List ℕ)
+task_labels w = map (λ (t : Task). t.label) w.tasks
+
+-- the label that an item puts in front of those of its kind
+labelled_front : (names : Names) (n : Counts) (parts : List Part) (head : Head) (put : Setup → Setup) (seen : Seen) (u : Setup) → IsHead head → IsTrue (is_new seen head) → Puts names n parts head put → Labelled (noted seen head).names (labels u) → Labelled seen.names (labels (put u))
+unfolding Puts own_labels code_labels task_labels
+labelled_front names n parts (LimitIs limit) put seen u h new p l = subst (λ (f : Setup → Setup). Labelled seen.names (labels (f u))) (sym p) l
+labelled_front names n parts (TypeIs name) put seen u h new p l = subst (λ (f : Setup → Setup). Labelled seen.names (labels (f u))) (sym p.1) (labelled_put seen.names [] (labels u) name h new l)
+labelled_front names n parts (ObjectIs name of) put seen u h new p l = subst (λ (f : Setup → Setup). Labelled seen.names (labels (f u))) (sym p.4) (labelled_put seen.names [] (labels u) name h.0 new l)
+labelled_front names n parts (SemaphoreIs name count) put seen u h new p l = subst (λ (f : Setup → Setup). Labelled seen.names (labels (f u))) (sym p.1) (labelled_put seen.names [] (labels u) name h.0 new l)
+labelled_front names n parts (ProcedureIs name code) put seen u h new p l = subst (λ (f : Setup → Setup). Labelled seen.names (labels (f u))) (sym p.4) (labelled_put seen.names [] (labels u) name h.0 new l)
+labelled_front names n parts (CodeIs name) put seen u h new p l = subst (λ (f : Setup → Setup). Labelled seen.names (labels (f u))) (sym p.3) (labelled_put seen.names (own_labels u) (code_labels u ++ task_labels u) name h new l)
+labelled_front names n parts (ProcessIs name code) put seen u h new p l =
+    let own = own_labels u in
+    let coded = code_labels u in
+    let tasked = task_labels u in
+    let before : labels u ≡ (own ++ coded) ++ tasked = sym (append_assoc own coded tasked) in
+    let put_in = labelled_put seen.names (own ++ coded) tasked name h.0 new (subst (Labelled (seen.names ++ name ∷ [])) before l) in
+    let after : (own ++ coded) ++ name ∷ tasked ≡ own ++ (coded ++ name ∷ tasked) = append_assoc own coded (name ∷ tasked) in
+    subst (λ (f : Setup → Setup). Labelled seen.names (labels (f u))) (sym p.4) (subst (Labelled seen.names) after put_in)
+
+labelled : (names : Names) (n : Counts) (seen : Seen) (is : List Item) (v : Setup) → AreItems seen is → items_of names n is ≡ Ok v → Labelled seen.names (labels v)
+labelled names n seen [] v h e = moved (λ (w : Setup). Labelled seen.names (labels w)) (setup 10000 [] [] []) v e (record { named = tt; apart = refl; fresh = tt })
+labelled names n seen (i ∷ is) v h e =
+    let a = put_ok (item_of names n i) (items_of names (counted n i.head) is) v e in
+    subst (λ (w : Setup). Labelled seen.names (labels w)) a.4 (labelled_front names n i.parts i.head a.0 seen a.1 h.0 h.1 (puts names n i.line i.parts i.head a.0 a.2) (labelled names (counted n i.head) (noted seen i.head) is a.1 h.3 a.3))
+
+-- the names that the heads declare are those of the world that is loaded
+names_fit : (is : List Item) (w : Setup) → Shape (map (λ (i : Item). i.head) is) w → NamesFit w (names_of (map (λ (i : Item). i.head) is))
+names_fit is w s = record {
+  objects = (let size : length w.objects ≡ length (filter_map object_label (map (λ (i : Item). i.head) is)) = rw length-map at (ap length s.objects) in omega arith);
+  types = rw s.types refl;
+  codes = (let size : length w.codes ≡ length (filter_map code_label (map (λ (i : Item). i.head) is)) = rw length-map at (ap length s.codes) in omega arith);
+}
+
+-- what is loaded from the items of a script is a world that can be run
+pub loaded_world : (is : List Item) (w : Setup) → IsSyntax is → load is ≡ Ok w → IsWorld w
+loaded_world is w h e =
+    let names = names_of (map (λ (i : Item). i.head) is) in
+    let fit = names_fit is w (shape names (counts 0 0 0) is w e) in
+    let v = valid fit (counts 0 0 0) nothing_seen is w (record { objects = omega arith; codes = omega arith; tasks = omega arith }) h e in
+    let l = labelled names (counts 0 0 0) nothing_seen is w h e in
+    let few_objects = v.few_objects in
+    let few_codes = v.few_codes in
+    let few_tasks = v.few_tasks in
+    record {
+      some_events = v.some_events;
+      few_events = v.few_events;
+      few_objects = omega arith;
+      few_codes = omega arith;
+      few_tasks = omega arith;
+      names = l.named;
+      apart = l.apart;
+      kinds = v.kinds;
+      codes_are = v.codes_are;
+      tasks_are = v.tasks_are;
+    }
