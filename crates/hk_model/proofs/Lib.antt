@@ -22,3 +22,4 @@ pub mod LoadGood
 pub mod ItemsLoaded
 pub mod WorldLoaded
 pub mod WorldValid
+pub mod HeadsApart

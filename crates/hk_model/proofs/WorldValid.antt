@@ -251,12 +251,12 @@ all_put P [] ys t h k = (k, h)
 all_put P (x ∷ xs) ys t h k = (h.0, all_put P xs ys t h.1 k)
 
 -- these labels are names that stand apart from each other and from those that were seen
-record Labelled (seen : List (List ℕ)) (ls : List (List ℕ)) : Type 0 where
-  named : AllByRecursion (λ l. IsTrue (is_name l)) ls
-  apart : are_apart ls ≡ true
-  fresh : AllByRecursion (λ l. is_among seen l ≡ false) ls
+pub record Labelled (seen : List (List ℕ)) (ls : List (List ℕ)) : Type 0 where
+  pub named : AllByRecursion (λ l. IsTrue (is_name l)) ls
+  pub apart : are_apart ls ≡ true
+  pub fresh : AllByRecursion (λ l. is_among seen l ≡ false) ls
 
-fresh_parts : (seen : List (List ℕ)) (t : List ℕ) (ls : List (List ℕ)) → AllByRecursion (λ l. is_among (seen ++ t ∷ []) l ≡ false) ls → AllByRecursion (λ l. is_among seen l ≡ false) ls × AllByRecursion (λ l. same_text l t ≡ false) ls
+pub fresh_parts : (seen : List (List ℕ)) (t : List ℕ) (ls : List (List ℕ)) → AllByRecursion (λ l. is_among (seen ++ t ∷ []) l ≡ false) ls → AllByRecursion (λ l. is_among seen l ≡ false) ls × AllByRecursion (λ l. same_text l t ≡ false) ls
 fresh_parts seen t [] h = (tt, tt)
 fresh_parts seen t (l ∷ ls) h =
     let rest = fresh_parts seen t ls h.1 in
@@ -268,7 +268,7 @@ fresh_parts seen t (l ∷ ls) h =
     split false true k = absurd (false≢true (sym k))
     split false false k = (refl, refl)
 
-labelled_put : (seen : List (List ℕ)) (xs ys : List (List ℕ)) (t : List ℕ) → IsTrue (is_name t) → not (is_among seen t) ≡ true → Labelled (seen ++ t ∷ []) (xs ++ ys) → Labelled seen (xs ++ t ∷ ys)
+pub labelled_put : (seen : List (List ℕ)) (xs ys : List (List ℕ)) (t : List ℕ) → IsTrue (is_name t) → not (is_among seen t) ≡ true → Labelled (seen ++ t ∷ []) (xs ++ ys) → Labelled seen (xs ++ t ∷ ys)
 labelled_put seen xs ys t name new l =
     let parts = fresh_parts seen t (xs ++ ys) l.fresh in
     record {
