@@ -40,3 +40,8 @@ pub mod LinesGood
 pub mod PieceAgain
 pub mod TextAgain
 pub mod WorldAgain
+pub mod LoadGood
+pub mod ItemsLoaded
+pub mod WorldLoaded
+pub mod WorldValid
+pub mod HeadsApart

@@ -79,7 +79,7 @@ no_kernel k ks (l ∷ ls) big h = rw (differs l (name_first l h.0)) (no_kernel k
         go true e = absurd (grind (arith, nat_tests))
         go false e = refl
 
-kernel_apart : (ls : List (List ℕ)) → AllByRecursion (λ l. IsTrue (is_name l)) ls → are_apart ls ≡ true → are_apart (kernel_names ++ ls) ≡ true
+pub kernel_apart : (ls : List (List ℕ)) → AllByRecursion (λ l. IsTrue (is_name l)) ls → are_apart ls ≡ true → are_apart (kernel_names ++ ls) ≡ true
 kernel_apart ls h apart = rw (no_kernel 84 (codes "YPE") ls refl h, no_kernel 68 (codes "ATA") ls refl h, no_kernel 85 (codes "NIVERSAL") ls refl h, no_kernel 83 (codes "EMAPHORE") ls refl h, no_kernel 80 (codes "ROCEDURE") ls refl h, no_kernel 80 (codes "ROCESS") ls refl h, no_kernel 76 (codes "NS") ls refl h) apart
 
 names_front : (xs ys : List (List ℕ)) → AllByRecursion (λ l. IsTrue (is_name l)) (xs ++ ys) → AllByRecursion (λ l. IsTrue (is_name l)) xs
