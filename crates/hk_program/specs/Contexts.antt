@@ -13,9 +13,13 @@ use Rattle.hk_model.specs.Setup.{Setup}
 abbrev pub IsFrame : Setup → Frame → Type 0
 IsFrame w f = (f.code < length w.codes) × (f.at ≤ length (steps_of w f.code))
 
+-- frames of the world
+abbrev pub AreFrames : Setup → List Frame → Type 0
+AreFrames w frames = AllByRecursion (IsFrame w) frames
+
 -- a process can go on by these frames: there is one, and all are of the world
 abbrev pub Fits : Setup → List Frame → Type 0
-Fits w frames = (0 < length frames) × AllByRecursion (IsFrame w) frames
+Fits w frames = (0 < length frames) × AreFrames w frames
 
 -- a return that was done
 abbrev pub is_return : Call → Reply → Bool

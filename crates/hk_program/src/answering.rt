@@ -1,11 +1,10 @@
 //! How a reply changes the frames of a process.
 
-ghost use Rattle.std.specs.Prelude.{◌≡◌, ◌<◌, ◌⊎◌, [], IfSome, length, Some, IsTrue};
-ghost use Rattle.std.specs.Option.{ForSome};
+ghost use Rattle.std.specs.Prelude.{◌≡◌, ◌<◌, IfSome, length, Some};
 ghost use Rattle.hk_model.specs.Limits.{code_limit};
 ghost use Rattle.hk_model.specs.Setup.{IsInstr, IsReg};
 ghost use Rattle.hk_model.specs.Control as control;
-ghost use Rattle.hk_program.specs.Contexts.{Fits, IsFrame, is_return};
+ghost use Rattle.hk_program.specs.Contexts.{AreFrames, Fits, IsFrame, is_return};
 
 use crate::codes::code_of;
 use crate::context::{Context, opened};
@@ -14,14 +13,15 @@ use hk_model::{Acted, Call, Frame, Instr, Reply, World};
 /// Takes the answer to a call into the context: the current frame goes on behind its instruction,
 /// keeps whether the call was refused, and takes a word into the register that the instruction
 /// names; an entered procedure's code gets a new frame, and a return takes the current frame away
-/// (`docs/RULES.md`, "Control of a process"). It takes no memory.
+/// (`docs/RULES.md`, "Control of a process"). Afterwards the context fits the world, or has no frame. It
+/// takes no memory.
 #[tactic(auto, unfolding(hk_model::specs::Control::after))]
 pub fn after(context: &mut Context, world: &World, call: &Call, acted: &Acted)
     requires fits { Fits world.now context.old }
     requires code { IfSome acted.now.code (λ code. code < length world.now.codes) }
     requires room { IfSome acted.now.code (λ _. length context.old < 64) }
     ensures value { context.new ≡ control.after world.now context.old call.now acted.now.reply acted.now.code }
-    ensures fits { (context.new ≡ []) ⊎ Fits world.now context.new }
+    ensures fits { AreFrames world.now context.new }
 {
     let Some(frame) = context.top() else {
         unreachable!()

@@ -10,6 +10,8 @@ mod context;
 mod operands;
 mod running;
 mod stepping;
+#[cfg(test)]
+mod tests;
 
 pub use answering::after;
 pub use context::Context;

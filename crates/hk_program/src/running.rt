@@ -26,6 +26,7 @@ pub fn next(context: &mut Context, world: &World) -> Todo
     requires { Fits world.now context.old }
     ensures value { (result, context.new) ≡ control.next world.now context.old }
     ensures fits { Fits world.now context.new }
+    ensures depth { length context.new ≡ length context.old }
 {
     let Some(mut frame) = context.top() else {
         unreachable!()
