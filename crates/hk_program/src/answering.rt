@@ -13,8 +13,10 @@ use hk_model::{Acted, Call, Frame, Instr, Reply, World};
 /// Takes the answer to a call into the context: the current frame goes on behind its instruction,
 /// keeps whether the call was refused, and takes a word into the register that the instruction
 /// names; an entered procedure's code gets a new frame, and a return takes the current frame away
-/// (`docs/RULES.md`, "Control of a process"). Afterwards the context fits the world, or has no frame. It
-/// takes no memory.
+/// (`docs/RULES.md`, "Control of a process").
+///
+/// The context must fit the world; an entered code must be one of the world, and there must be room
+/// for its frame. Afterwards the context fits the world, or has no frame. It takes no memory.
 #[tactic(auto, unfolding(hk_model::specs::Control::after))]
 pub fn after(context: &mut Context, world: &World, call: &Call, acted: &Acted)
     requires fits { Fits world.now context.old }

@@ -10,7 +10,7 @@ use crate::operands::{path, worth};
 use hk_model::{Call, Frame, Instr};
 
 /// The call that an instruction makes in a frame, None exactly where the instruction is local.
-pub fn call_of(frame: &Frame, instr: &Instr) -> Option<Call>
+pub(crate) fn call_of(frame: &Frame, instr: &Instr) -> Option<Call>
     requires { IsInstr code_limit instr.now }
     ensures { result ≡ call_in (meaning frame.now instr.now) }
 {

@@ -8,7 +8,7 @@ ghost use Rattle.hk_program.specs.Contexts.{IsFrame};
 use hk_model::{Code, Frame, World};
 
 /// The code of a frame of the world.
-pub fn code_of<'a>(world: &'a World, frame: &Frame) -> &'a Code
+pub(crate) fn code_of<'a>(world: &'a World, frame: &Frame) -> &'a Code
     requires { IsFrame world.now frame.now }
     ensures steps { result.now.steps ≡ steps_of world.now frame.now.code }
     ensures valid { IsCode result.now }

@@ -75,7 +75,7 @@ impl Context {
 }
 
 /// A frame at the beginning of a code.
-pub fn opened(code: u16) -> Frame
+pub(crate) fn opened(code: u16) -> Frame
     ensures { result ≡ new_frame code }
 {
     Frame {

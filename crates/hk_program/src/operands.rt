@@ -10,7 +10,7 @@ use hk_model::{Frame, Index, Operand, Path, Route};
 const LARGEST_INDEX: u32 = 65535;
 
 /// A number, or what a register holds.
-pub fn worth(frame: &Frame, of: &Operand) -> u32
+pub(crate) fn worth(frame: &Frame, of: &Operand) -> u32
     requires { IsOperand of.now }
     ensures { result ≡ operand frame.now of.now }
 {
@@ -21,7 +21,7 @@ pub fn worth(frame: &Frame, of: &Operand) -> u32
 }
 
 /// A number, or what a register holds, at most 65,535.
-pub fn index(frame: &Frame, of: &Index) -> u16
+pub(crate) fn index(frame: &Frame, of: &Index) -> u16
     requires { IsIndex of.now }
     ensures { result ≡ index_of frame.now of.now }
 {
@@ -32,7 +32,7 @@ pub fn index(frame: &Frame, of: &Index) -> u16
 }
 
 /// The path of a route's indices.
-pub fn path(frame: &Frame, route: &Route) -> Path
+pub(crate) fn path(frame: &Frame, route: &Route) -> Path
     requires { IsRoute route.now }
     ensures { result ≡ path_of frame.now route.now }
 {

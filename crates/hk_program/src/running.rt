@@ -19,7 +19,10 @@ const LOCAL_LIMIT: u32 = 10000;
 
 /// What a process does next: the kernel call that stands next behind its local instructions, at the
 /// code's end a return without a slot, or a halt where a local instruction still stands next behind
-/// 10,000 of them (`docs/RULES.md`, "Control of a process"). The context keeps what the local
+/// 10,000 of them (`docs/RULES.md`, "Control of a process").
+///
+/// The context must fit the world: it has a frame, and each of its frames is at an instruction of a
+/// code of the world or at that code's end. It still fits afterwards, and keeps what the local
 /// instructions changed. It takes no memory.
 #[tactic(auto, unfolding(hk_model::specs::Control::next))]
 pub fn next(context: &mut Context, world: &World) -> Todo
@@ -40,7 +43,8 @@ pub fn next(context: &mut Context, world: &World) -> Todo
 #[tactic(auto, using(crate::proofs::Locals::no_more_turns))]
 fn run(world: &World, frame: &mut Frame) -> Todo
     requires { IsFrame world.now frame.old }
-    ensures value { let steps = steps_of world.now frame.old.code in (result, frame.new) ≡ next_from local_limit steps frame.old (here steps frame.old) }
+    ensures value { let steps = steps_of world.now frame.old.code in
+        (result, frame.new) ≡ next_from local_limit steps frame.old (here steps frame.old) }
     ensures fits { IsFrame world.now frame.new }
 {
     let code = code_of(world, frame);
@@ -53,7 +57,9 @@ fn run(world: &World, frame: &mut Frame) -> Todo
 fn run_locals(code: &Code, frame: &mut Frame)
     requires valid { IsCode code.now }
     requires inside { frame.old.at ≤ length code.now.steps }
-    ensures rest { let steps = code.now.steps in next_from 0 steps frame.new (here steps frame.new) ≡ next_from local_limit steps frame.old (here steps frame.old) }
+    ensures rest { let steps = code.now.steps in
+        next_from 0 steps frame.new (here steps frame.new)
+        ≡ next_from local_limit steps frame.old (here steps frame.old) }
     ensures inside { frame.new.at ≤ length code.now.steps }
     ensures code { frame.new.code ≡ frame.old.code }
 {

@@ -2,7 +2,7 @@
 
 ghost use Rattle.std.specs.Prelude.{◌≡◌, ◌<◌, slice_set, if◌then◌else◌};
 ghost use Rattle.hk_model.specs.Limits.{code_limit};
-ghost use Rattle.hk_model.specs.Setup.{IsInstr, IsReg, IsOperand};
+ghost use Rattle.hk_model.specs.Setup.{IsInstr, IsReg};
 ghost use Rattle.hk_model.specs.Control.{meaning, step_over, go_to};
 ghost use Rattle.hk_program.specs.Meanings.{frame_in};
 
@@ -10,7 +10,7 @@ use crate::operands::worth;
 use hk_model::{Frame, Instr};
 
 /// The frame behind a local instruction, None exactly where the instruction is a kernel call's.
-pub fn stepped(frame: &Frame, instr: &Instr) -> Option<Frame>
+pub(crate) fn stepped(frame: &Frame, instr: &Instr) -> Option<Frame>
     requires valid { IsInstr code_limit instr.now }
     requires inside { frame.now.at < code_limit }
     ensures { result ≡ frame_in (meaning frame.now instr.now) }
@@ -38,7 +38,7 @@ pub fn stepped(frame: &Frame, instr: &Instr) -> Option<Frame>
     }
 }
 
-/// The frame at the next instruction, with a word in a register.
+// The frame at the next instruction, with a word in a register.
 fn with_register(frame: &Frame, reg: u8, word: u32) -> Frame
     requires inside { frame.now.at < code_limit }
     requires reg { IsReg reg }
@@ -50,7 +50,7 @@ fn with_register(frame: &Frame, reg: u8, word: u32) -> Frame
     next
 }
 
-/// The frame at the target of a jump where a test holds, and else at the next instruction.
+// The frame at the target of a jump where a test holds, and else at the next instruction.
 fn at_jump(frame: &Frame, to: u16, holds: bool) -> Frame
     requires inside { frame.now.at < code_limit }
     ensures { result ≡ (if holds then go_to frame.now to else step_over frame.now) }

@@ -97,14 +97,27 @@ fn counts_to_three(alloc: Global) -> Result<World, Fail>
     ensures { IfOk result (λ world. length world.codes ≡ 2) }
 {
     let route = slot_0(alloc)?;
-    let (r0, one, three, nine) = (Operand::Reg(0), Operand::Number(1), Operand::Number(3), Operand::Number(9));
+    let (r0, one, three, nine) = (
+        Operand::Reg(0),
+        Operand::Number(1),
+        Operand::Number(3),
+        Operand::Number(9),
+    );
     let steps = vec![in alloc;
         Instr::AddReg { reg: 0, by: one },
-        Instr::IfLess { left: r0, right: three, to: 0 },
-        Instr::Put { of: route, at: nine, word: r0 },
+        Instr::IfLess {
+            left: r0,
+            right: three,
+            to: 0
+        },
+        Instr::Put {
+            of: route,
+            at: nine,
+            word: r0
+        },
         Instr::IfDenied { to: 5 },
         Instr::Yield,
-        Instr::Drop { slot: Slot(1) }
+        Instr::Drop { slot: Slot(1) },
     ]?;
     world(alloc, steps, Vec::new(alloc))
 }
@@ -137,14 +150,22 @@ fn counts_to_the_limit(alloc: Global) -> Result<World, Fail>
     let (r0, one, half) = (Operand::Reg(0), Operand::Number(1), Operand::Number(5_000));
     let exact = vec![in alloc;
         Instr::AddReg { reg: 0, by: one },
-        Instr::IfLess { left: r0, right: half, to: 0 },
-        Instr::Yield
+        Instr::IfLess {
+            left: r0,
+            right: half,
+            to: 0
+        },
+        Instr::Yield,
     ]?;
     let over = vec![in alloc;
         Instr::AddReg { reg: 0, by: one },
-        Instr::IfLess { left: r0, right: half, to: 0 },
+        Instr::IfLess {
+            left: r0,
+            right: half,
+            to: 0
+        },
         Instr::Goto { to: 3 },
-        Instr::Yield
+        Instr::Yield,
     ]?;
     world(alloc, exact, over)
 }

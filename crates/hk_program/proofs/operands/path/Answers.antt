@@ -13,5 +13,5 @@ loop-step-preserved c =
     record {
       room = search rules;
       worth = take_set_more (index_of c.args.frame.now) c.loop-step.indices c.as_slice-route.result.now c.loop-step.step c.index.result _
-        within (slice_get-get_or _ _ _ c.loop-step-test.true) c.index.ensures c.loop-step.invariant.worth;
+          within (slice_get-get_or _ _ _ c.loop-step-test.true) c.index.ensures c.loop-step.invariant.worth;
     }
