@@ -1,0 +1,4 @@
+pub mod Locals
+pub mod Paths
+pub mod Todos
+pub mod TestWorlds

@@ -1,0 +1,27 @@
+-- Contexts of a world. docs/RULES.md, "Control of a process".
+use Rattle.std.specs.Prelude.{Bool, true, false, ◌<◌, ◌≤◌, List, length}
+use Rattle.std.specs.List.{AllByRecursion}
+use Rattle.hk_model.specs.declared.calls.Call.{Call}
+use Rattle.hk_model.specs.declared.calls.Call.TheVariants as call
+use Rattle.hk_model.specs.declared.calls.Reply.{Reply}
+use Rattle.hk_model.specs.declared.calls.Reply.TheVariants.{Done}
+use Rattle.hk_model.specs.declared.frames.Frame.{Frame}
+use Rattle.hk_model.specs.Control.{steps_of}
+use Rattle.hk_model.specs.Setup.{Setup}
+
+-- a frame of a code of the world, at one of its instructions or at its end
+abbrev pub IsFrame : Setup → Frame → Type 0
+IsFrame w f = (f.code < length w.codes) × (f.at ≤ length (steps_of w f.code))
+
+-- frames of the world
+abbrev pub AreFrames : Setup → List Frame → Type 0
+AreFrames w frames = AllByRecursion (IsFrame w) frames
+
+-- a process can go on by these frames: there is one, and all are of the world
+abbrev pub Fits : Setup → List Frame → Type 0
+Fits w frames = (0 < length frames) × AreFrames w frames
+
+-- a return that was done
+abbrev pub is_return : Call → Reply → Bool
+is_return (call.Leave give) Done = true
+is_return _ _ = false

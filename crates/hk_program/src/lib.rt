@@ -1,0 +1,19 @@
+//! The control of a process: which kernel call it makes next, and how a reply changes its frames.
+//!
+//! `docs/RULES.md`, "Control of a process", states the rules that the contracts name.
+#![tactic(auto)]
+
+mod answering;
+mod calling;
+mod codes;
+mod context;
+mod operands;
+mod running;
+mod stepping;
+#[cfg(test)]
+mod tests;
+
+pub use answering::after;
+pub use context::Context;
+pub use hk_model::{Frame, Todo};
+pub use running::next;

@@ -1,0 +1,109 @@
+//! What a process does next.
+
+ghost use Rattle.std.specs.Prelude.{◌≡◌, ◌≤◌, IfSome, length};
+ghost use Rattle.hk_model.specs.Limits.{local_limit};
+ghost use Rattle.hk_model.specs.Setup.{IsCode};
+ghost use Rattle.hk_model.specs.Control as control;
+ghost use Rattle.hk_model.specs.Control.{here, next_from, steps_of};
+ghost use Rattle.hk_program.specs.Contexts.{Fits, IsFrame};
+ghost use Rattle.hk_program.specs.Meanings.{call_in, frame_in, todo_in};
+
+use crate::calling::call_of;
+use crate::codes::code_of;
+use crate::context::Context;
+use crate::stepping::stepped;
+use hk_model::{Call, Code, Frame, Todo, World};
+
+// How many local instructions may be run between two kernel calls.
+const LOCAL_LIMIT: u32 = 10000;
+
+/// What a process does next: the kernel call that stands next behind its local instructions, at the
+/// code's end a return without a slot, or a halt where a local instruction still stands next behind
+/// 10,000 of them (`docs/RULES.md`, "Control of a process").
+///
+/// The context must fit the world: it has a frame, and each of its frames is at an instruction of a
+/// code of the world or at that code's end. It still fits afterwards, and keeps what the local
+/// instructions changed. It takes no memory.
+#[tactic(auto, unfolding(hk_model::specs::Control::next))]
+pub fn next(context: &mut Context, world: &World) -> Todo
+    requires { Fits world.now context.old }
+    ensures value { (result, context.new) ≡ control.next world.now context.old }
+    ensures fits { Fits world.now context.new }
+    ensures depth { length context.new ≡ length context.old }
+{
+    let Some(mut frame) = context.top() else {
+        unreachable!()
+    };
+    let todo = run(world, &mut frame);
+    context.put_top(frame);
+    todo
+}
+
+// What is next in a frame of the world, which keeps what its local instructions changed.
+#[tactic(auto, using(crate::proofs::Locals::no_more_turns))]
+fn run(world: &World, frame: &mut Frame) -> Todo
+    requires { IsFrame world.now frame.old }
+    ensures value { let steps = steps_of world.now frame.old.code in
+        (result, frame.new) ≡ next_from local_limit steps frame.old (here steps frame.old) }
+    ensures fits { IsFrame world.now frame.new }
+{
+    let code = code_of(world, frame);
+    run_locals(code, frame);
+    todo_here(code, frame)
+}
+
+// Runs local instructions until none stands next, at most 10,000.
+#[tactic(auto, using(crate::proofs::Locals::next_is_local, crate::proofs::Locals::next_is_call))]
+fn run_locals(code: &Code, frame: &mut Frame)
+    requires valid { IsCode code.now }
+    requires inside { frame.old.at ≤ length code.now.steps }
+    ensures rest { let steps = code.now.steps in
+        next_from 0 steps frame.new (here steps frame.new)
+        ≡ next_from local_limit steps frame.old (here steps frame.old) }
+    ensures inside { frame.new.at ≤ length code.now.steps }
+    ensures code { frame.new.code ≡ frame.old.code }
+{
+    for _turn in 0..LOCAL_LIMIT {
+        match step_here(code, frame) {
+            Some(next) => *frame = next,
+            None => return,
+        }
+    }
+}
+
+// The frame behind the local instruction that stands next, None exactly where none does.
+fn step_here(code: &Code, frame: &Frame) -> Option<Frame>
+    requires valid { IsCode code.now }
+    ensures value { result ≡ frame_in (here code.now.steps frame.now) }
+    ensures inside { IfSome result (λ next. next.at ≤ length code.now.steps) }
+    ensures code { IfSome result (λ next. next.code ≡ frame.now.code) }
+{
+    match code.steps.as_slice().get(frame.at as usize) {
+        Some(instr) => stepped(frame, instr),
+        None => None,
+    }
+}
+
+// What is next where no more local instructions may be run: the call that stands next, or a halt.
+#[tactic(auto, using(crate::proofs::Todos::call_is_next, crate::proofs::Todos::halt_is_next))]
+fn todo_here(code: &Code, frame: &Frame) -> Todo
+    requires { IsCode code.now }
+    ensures { result ≡ todo_in (here code.now.steps frame.now) }
+{
+    match call_here(code, frame) {
+        Some(call) => Todo::Do(call),
+        None => Todo::Halt,
+    }
+}
+
+// The call that stands next, at the code's end a return. None exactly where a local instruction
+// stands next.
+fn call_here(code: &Code, frame: &Frame) -> Option<Call>
+    requires { IsCode code.now }
+    ensures { result ≡ call_in (here code.now.steps frame.now) }
+{
+    match code.steps.as_slice().get(frame.at as usize) {
+        Some(instr) => call_of(frame, instr),
+        None => Some(Call::Leave { give: None }),
+    }
+}
