@@ -25,7 +25,7 @@ use Rattle.hk_model.specs.Places.{rights_of, found, entry_given, named_by}
 use Rattle.hk_model.specs.Lines.{done_by, done_call}
 use Rattle.hk_model.specs.Ways.{LeadsTo, call_way}
 use Rattle.hk_model.proofs.Standing.{inc_laws, insert_holds}
-use Rattle.hk_model.proofs.Tests.{then_is, and_is, ok_each, ok_more}
+use Rattle.hk_model.proofs.TestLemmas.{then_is, and_is, ok_each, ok_more}
 use Rattle.hk_model.proofs.WalkLemmas.{target_is, leads_named}
 use Rattle.hk_model.proofs.LineWays.{answered_done}
 use Rattle.hk_model.proofs.Activations.{activations_in}

@@ -18,7 +18,7 @@ use Rattle.hk_model.specs.Rule.{copied}
 use Rattle.hk_model.specs.Places.{Place, SlotOf, EntryOf, standing}
 use Rattle.hk_model.specs.Lines.{makes_object}
 use Rattle.hk_model.specs.Ways.{Way, Walked, Stored, Lessened, Merged, Inherited, Copied, CopyOf, Created, Formed, Gone, LeadsTo, IsMerged, Writes}
-use Rattle.hk_model.proofs.Tests.{and_is}
+use Rattle.hk_model.proofs.TestLemmas.{and_is}
 use Rattle.hk_model.proofs.RightsWithin.{HasAll-reduced, masked_off, reduced_needs_unconf}
 use Rattle.hk_model.proofs.WalkLemmas.{walk_keeps}
 use Rattle.hk_model.proofs.MergeLemmas.{merged_is, merged_has}
