@@ -1,0 +1,6 @@
+pub mod Outcomes
+pub mod Texts
+pub mod Naming
+pub mod Filling
+pub mod Jumping
+pub mod Building

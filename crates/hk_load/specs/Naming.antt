@@ -1,0 +1,49 @@
+-- The names that heads declare, one head after another. docs/FORMATS.md, "Loading".
+use Rattle.std.specs.Prelude.{◌≡◌, ℕ, Bool, true, false, List, [], ◌∷◌, ◌++◌, map, string_bytes, String}
+use Rattle.std.specs.Global.{Global}
+use Rattle.std.specs.List.{list_any}
+use Rattle.hk_model.specs.declared.syntax.Head.{Head}
+use Rattle.hk_model.specs.declared.syntax.Head.TheVariants.{LimitIs, TypeIs, ObjectIs, SemaphoreIs, ProcedureIs, CodeIs, ProcessIs}
+use Rattle.hk_model.specs.Grammar.{is_among}
+use Rattle.hk_model.specs.Loading.{Names, kernel_flags}
+use Rattle.hk_model.specs.Canonical.{kernel_names}
+
+-- so many names
+abbrev pub names : List (List ℕ) → List Bool → List (List ℕ) → Names
+names objects types codes = record { objects = objects; types = types; codes = codes }
+
+-- names by what is kept of them
+abbrev pub names_seen : List (String Global × Bool) → List (String Global) → Names
+names_seen objects codes = names (map (λ e. string_bytes e.0) objects) (map (λ e. e.1) objects) (map string_bytes codes)
+
+-- the kernel types alone
+abbrev pub kernel_declared : Names
+kernel_declared = names kernel_names kernel_flags []
+
+-- an object more
+abbrev pub with_object : Names → List ℕ → Bool → Names
+with_object n name is_type = names (n.objects ++ name ∷ []) (n.types ++ is_type ∷ []) n.codes
+
+-- a code more
+abbrev pub with_code : Names → List ℕ → Names
+with_code n name = names n.objects n.types (n.codes ++ name ∷ [])
+
+-- what a head declares more
+abbrev pub with_head : Names → Head → Names
+with_head n (LimitIs limit) = n
+with_head n (TypeIs name) = with_object n name true
+with_head n (ObjectIs name of) = with_object n name false
+with_head n (SemaphoreIs name count) = with_object n name false
+with_head n (ProcedureIs name code) = with_object n name false
+with_head n (CodeIs name) = with_code n name
+with_head n (ProcessIs name code) = n
+
+-- the head's name is that of no object, or of no code, before
+abbrev pub IsNewHead : Names → Head → Type 0
+IsNewHead n (LimitIs limit) = Unit {0}
+IsNewHead n (TypeIs name) = is_among n.objects name ≡ false
+IsNewHead n (ObjectIs name of) = is_among n.objects name ≡ false
+IsNewHead n (SemaphoreIs name count) = is_among n.objects name ≡ false
+IsNewHead n (ProcedureIs name code) = is_among n.objects name ≡ false
+IsNewHead n (CodeIs name) = is_among n.codes name ≡ false
+IsNewHead n (ProcessIs name code) = Unit {0}

@@ -1,0 +1,71 @@
+//! The labels of a code (`docs/FORMATS.md`, "Loading").
+
+ghost use Rattle.std.specs.Prelude.{◌≡◌, ◌++◌, ◌∷◌, [], false, length, map, IfOk, OnOk};
+ghost use Rattle.hk_model.specs.Grammar.{is_among};
+ghost use Rattle.hk_model.specs.Loading.{labels_from, target};
+ghost use Rattle.hk_load.specs.Outcomes.{Gives};
+ghost use Rattle.hk_load.specs.Jumping.{label_at, label_texts, HasNewLabels};
+
+use crate::errors::LineError;
+use hk_model::{Body, LoadCause, Part, Text};
+use indexmap::IndexMap;
+use std::alloc::{AllocError, Global};
+use std::marker::Model;
+
+/// The labels of a code, each with the number of the instruction behind it. Contracts see the list.
+#[derive(Drop)]
+pub struct Labels {
+    places: IndexMap<String, usize>,
+}
+
+impl Model for Labels {
+    ghost use Rattle.std.specs.Prelude.{List};
+    ghost use Rattle.hk_model.specs.Loading.{Label};
+    ghost use Rattle.hk_load.specs.Jumping.{labels_seen};
+
+    ghost Value = { List Label };
+
+    ghost view = { λ labels. labels_seen labels.places.entries };
+}
+
+impl Labels {
+    /// The labels of a code's lines.
+    pub fn of(alloc: Global, parts: &[Part]) -> Result<Labels, AllocError>
+        requires { HasNewLabels [] parts.now }
+        ensures { IfOk result (λ labels. labels ≡ labels_from 0 parts.now) }
+    {
+        let mut labels = Labels {
+            places: IndexMap::new(alloc),
+        };
+        let mut place = 0;
+        for part in parts {
+            match &part.body {
+                Body::LabelIs(label) => labels.add(alloc, label, place)?,
+                _ => place += 1,
+            }
+        }
+        Ok(labels)
+    }
+
+    /// Puts a new label at the end.
+    fn add(&mut self, alloc: Global, label: &Text, place: usize) -> Result<(), AllocError>
+        requires { is_among (label_texts self.old) label.now ≡ false }
+        ensures { OnOk result (self.new ≡ self.old ++ label_at label.now place ∷ []) }
+    {
+        let label = String::from_str(alloc, label.as_str())?;
+        self.places.insert(label, place)?;
+        Ok(())
+    }
+
+    /// Where a jump to this label goes. UnknownName where the code has no such label. A place above
+    /// 4,096 is given as 4,096: a code with so many instructions is refused at the line of one of
+    /// them.
+    pub fn target(&self, label: &Text) -> Result<u16, LineError>
+        ensures { Gives (λ x. x) result (target self.now label.now) }
+    {
+        match self.places.get(label.as_str()) {
+            Some(place) => Ok((*place).min(4096) as u16),
+            None => Err(LineError::Bad(LoadCause::UnknownName)),
+        }
+    }
+}

@@ -1,0 +1,17 @@
+//! The items of a script as a world: names become numbers, and limits are kept.
+//!
+//! `docs/FORMATS.md`, "Loading", states the rules.
+#![tactic(auto)]
+
+mod contents;
+mod entries;
+mod errors;
+mod instructions;
+mod items;
+mod labels;
+mod names;
+mod rights;
+mod steps;
+
+pub use crate::errors::LoadError;
+pub use hk_model::World;

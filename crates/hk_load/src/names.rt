@@ -1,0 +1,156 @@
+//! The names that the heads of a script declare (`docs/FORMATS.md`, "Loading").
+
+ghost use Rattle.std.specs.Prelude.{◌≡◌, IfOk, OnOk, false, map};
+ghost use Rattle.hk_model.specs.declared.syntax.Item.{Item};
+ghost use Rattle.hk_model.specs.Syntax.{IsSyntax};
+ghost use Rattle.hk_model.specs.Loading.{names_of, object_named, type_named, kind_named, code_named};
+ghost use Rattle.hk_model.specs.Grammar.{is_among};
+ghost use Rattle.hk_load.specs.Outcomes.{Gives};
+ghost use Rattle.hk_load.specs.Naming.{IsNewHead, with_head, with_object, with_code, kernel_declared};
+
+use crate::errors::LineError;
+use hk_model::{Head, Item, LoadCause, Name, Text};
+use indexmap::{IndexMap, IndexSet};
+use std::alloc::{AllocError, Global};
+use std::marker::Model;
+
+const KERNEL_TYPES: [&str; 7] = [
+    "TYPE",
+    "DATA",
+    "UNIVERSAL",
+    "SEMAPHORE",
+    "PROCEDURE",
+    "PROCESS",
+    "LNS",
+];
+
+/// What the heads of a script declare, wherever they stand. A name's number is its place. Contracts
+/// see the lists of the names.
+#[derive(Drop)]
+pub struct Declared {
+    /// The kernel types, and then the objects of the script; with each, whether it is a type.
+    objects: IndexMap<String, bool>,
+    codes: IndexSet<String>,
+}
+
+impl Model for Declared {
+    ghost use Rattle.hk_model.specs.Loading.{Names};
+    ghost use Rattle.hk_load.specs.Naming.{names_seen};
+
+    ghost Value = { Names };
+
+    ghost view = { λ d. names_seen d.objects.entries d.codes.keys };
+}
+
+impl Declared {
+    /// What the heads of these items declare.
+    pub fn of(alloc: Global, items: &[Item]) -> Result<Declared, AllocError>
+        requires { IsSyntax items.now }
+        ensures { IfOk result (λ d. d ≡ names_of (map (λ (i : Item). i.head) items.now)) }
+    {
+        let mut declared = Declared::kernel(alloc, items.len())?;
+        for item in items {
+            declared.add(alloc, &item.head)?;
+        }
+        Ok(declared)
+    }
+
+    /// The kernel types alone, with room for so many names more.
+    fn kernel(alloc: Global, more: usize) -> Result<Declared, AllocError>
+        ensures { IfOk result (λ d. d ≡ kernel_declared) }
+    {
+        let mut declared = Declared {
+            objects: IndexMap::new(alloc),
+            codes: IndexSet::new(alloc),
+        };
+        declared.objects.reserve(more)?;
+        for name in KERNEL_TYPES {
+            declared.objects.insert(String::from_str(alloc, name)?, true)?;
+        }
+        Ok(declared)
+    }
+
+    /// The same with what one head more declares.
+    fn add(&mut self, alloc: Global, head: &Head) -> Result<(), AllocError>
+        requires { IsNewHead self.old head.now }
+        ensures { OnOk result (self.new ≡ with_head self.old head.now) }
+    {
+        match head {
+            Head::TypeIs { name } => self.add_object(alloc, name, true),
+            Head::ObjectIs { name, .. } => self.add_object(alloc, name, false),
+            Head::SemaphoreIs { name, .. } => self.add_object(alloc, name, false),
+            Head::ProcedureIs { name, .. } => self.add_object(alloc, name, false),
+            Head::CodeIs { name } => self.add_code(alloc, name),
+            Head::LimitIs(_) => Ok(()),
+            Head::ProcessIs { .. } => Ok(()),
+        }
+    }
+
+    /// Puts a new object at the end.
+    fn add_object(&mut self, alloc: Global, name: &Text, is_type: bool) -> Result<(), AllocError>
+        requires { is_among self.old.objects name.now ≡ false }
+        ensures { OnOk result (self.new ≡ with_object self.old name.now is_type) }
+    {
+        let name = String::from_str(alloc, name.as_str())?;
+        self.objects.insert(name, is_type)?;
+        Ok(())
+    }
+
+    /// Puts a new code at the end.
+    fn add_code(&mut self, alloc: Global, name: &Text) -> Result<(), AllocError>
+        requires { is_among self.old.codes name.now ≡ false }
+        ensures { OnOk result (self.new ≡ with_code self.old name.now) }
+    {
+        let name = String::from_str(alloc, name.as_str())?;
+        self.codes.insert(name)?;
+        Ok(())
+    }
+
+    /// The object of this name, of any kind. UnknownName where none is declared.
+    pub fn object(&self, name: &Text) -> Result<Name, LineError>
+        ensures { Gives (λ n. n.0) result (object_named self.now name.now) }
+    {
+        match self.objects.get_index_of(name.as_str()) {
+            Some(number) => Ok(Name(number as u64)),
+            None => Err(LineError::Bad(LoadCause::UnknownName)),
+        }
+    }
+
+    /// The type of this name. UnknownName where none is declared, or what is declared is no type.
+    pub fn type_named(&self, name: &Text) -> Result<Name, LineError>
+        ensures { Gives (λ n. n.0) result (type_named self.now name.now) }
+    {
+        match self.objects.get_full(name.as_str()) {
+            Some((number, _, is_type)) => {
+                if *is_type {
+                    Ok(Name(number as u64))
+                } else {
+                    Err(LineError::Bad(LoadCause::UnknownName))
+                }
+            }
+            None => Err(LineError::Bad(LoadCause::UnknownName)),
+        }
+    }
+
+    /// The type of this name, or None for `any`.
+    pub fn kind(&self, name: &Text) -> Result<Option<Name>, LineError>
+        ensures { Gives (λ x. x) result (kind_named self.now name.now) }
+    {
+        if name.as_bytes() == b"any".as_slice() {
+            return Ok(None);
+        }
+        let of = self.type_named(name)?;
+        Ok(Some(of))
+    }
+
+    /// The number of the code of this name. UnknownName where none is declared. A number above 4,096
+    /// is given as 4,096: a script with so many codes is refused at the line of one of them.
+    pub fn code(&self, name: &Text) -> Result<u16, LineError>
+        ensures { Gives (λ x. x) result (code_named self.now name.now) }
+    {
+        match self.codes.get_index_of(name.as_str()) {
+            Some(number) => Ok(number.min(4096) as u16),
+            None => Err(LineError::Bad(LoadCause::UnknownName)),
+        }
+    }
+}

@@ -1,0 +1,38 @@
+//! Texts of rights (`docs/FORMATS.md`, "Rights").
+
+ghost use Rattle.std.specs.Prelude.{◌≡◌};
+ghost use Rattle.hk_model.specs.RightsTexts.{union_of};
+ghost use Rattle.hk_model.specs.Loading.{rights_named};
+ghost use Rattle.hk_load.specs.Outcomes.{Gives};
+ghost use Rattle.hk_load.specs.Texts.{names_in};
+
+use crate::errors::LineError;
+use hk_model::{LoadCause, Text};
+use hk_rights::{Right, Rights};
+
+/// The set of rights that the text means: none for a dash, all for `ALL`, and else those of the names
+/// that `+` joins. BadRights where a name is no right's.
+#[tactic(auto, unfolding(hk_model::specs::RightsTexts::rights_of))]
+pub fn rights(text: &Text) -> Result<Rights, LineError>
+    ensures { Gives (λ x. x) result (rights_named text.now) }
+{
+    let bytes = text.as_bytes();
+    if bytes == b"-".as_slice() {
+        Ok(Rights::none())
+    } else if bytes == b"ALL".as_slice() {
+        Ok(Rights::all())
+    } else {
+        union_of(text.as_str()).ok_or(LineError::Bad(LoadCause::BadRights))
+    }
+}
+
+/// The rights of the names that `+` joins. None where a name is no right's.
+fn union_of(names: &str) -> Option<Rights>
+    ensures { result ≡ union_of (names_in names.now) }
+{
+    let mut rights = Rights::none();
+    for name in names.split('+') {
+        rights = rights.union(Rights::one(Right::by_name(name)?));
+    }
+    Some(rights)
+}

@@ -1,0 +1,46 @@
+//! The lines of a code (`docs/FORMATS.md`, "Loading").
+
+ghost use Rattle.std.specs.Prelude.{◌≡◌, []};
+ghost use Rattle.hk_model.specs.Loading.{labels_from, instrs_of};
+ghost use Rattle.hk_load.specs.Outcomes.{Becomes, Loads};
+ghost use Rattle.hk_load.specs.Jumping.{HasNewLabels, step_added};
+
+use crate::errors::{LineError, LoadError};
+use crate::labels::Labels;
+use hk_model::{Body, Instr, Items, LoadCause, Part};
+use std::alloc::Global;
+
+/// The instructions of a code with these lines. A line's UnknownName and BadRights come from the left,
+/// then TooMany.
+pub fn steps(alloc: Global, parts: &[Part]) -> Result<Items<Instr>, LoadError>
+    requires { HasNewLabels [] parts.now }
+    ensures { Loads (λ x. x) result (instrs_of (labels_from 0 parts.now) 0 parts.now) }
+{
+    let labels = Labels::of(alloc, parts)?;
+    let mut steps = Items::new(alloc);
+    for part in parts {
+        if let Err(error) = add_step(alloc, &labels, &mut steps, &part.body) {
+            return Err(error.on_line(part.line));
+        }
+    }
+    Ok(steps)
+}
+
+/// Adds the instruction of a line. A label is none.
+fn add_step(
+    alloc: Global,
+    labels: &Labels,
+    steps: &mut Items<Instr>,
+    body: &Body,
+) -> Result<(), LineError>
+    ensures { Becomes result steps.new (step_added labels.now steps.old body.now) }
+{
+    if let Body::StepIs(written) = body {
+        let step = labels.instruction(alloc, written)?;
+        if steps.len() >= 4096 {
+            return Err(LineError::Bad(LoadCause::TooMany));
+        }
+        steps.push(step)?;
+    }
+    Ok(())
+}
