@@ -1,11 +1,11 @@
 -- The names that heads declare, one head after another. docs/FORMATS.md, "Loading".
 use Rattle.std.specs.Prelude.{◌≡◌, ℕ, Bool, true, false, List, [], ◌∷◌, ◌++◌, map, string_bytes, String}
 use Rattle.std.specs.Global.{Global}
-use Rattle.std.specs.List.{list_any}
+use Rattle.std.specs.List.{filter_map}
 use Rattle.hk_model.specs.declared.syntax.Head.{Head}
 use Rattle.hk_model.specs.declared.syntax.Head.TheVariants.{LimitIs, TypeIs, ObjectIs, SemaphoreIs, ProcedureIs, CodeIs, ProcessIs}
 use Rattle.hk_model.specs.Grammar.{is_among}
-use Rattle.hk_model.specs.Loading.{Names, kernel_flags}
+use Rattle.hk_model.specs.Loading.{Names, kernel_flags, object_label, is_type_head, code_label}
 use Rattle.hk_model.specs.Canonical.{kernel_names}
 
 -- so many names
@@ -47,3 +47,7 @@ IsNewHead n (SemaphoreIs name count) = is_among n.objects name ≡ false
 IsNewHead n (ProcedureIs name code) = is_among n.objects name ≡ false
 IsNewHead n (CodeIs name) = is_among n.codes name ≡ false
 IsNewHead n (ProcessIs name code) = Unit {0}
+
+-- these names, and those that more heads declare
+abbrev pub names_from : Names → List Head → Names
+names_from n heads = names (n.objects ++ filter_map object_label heads) (n.types ++ filter_map is_type_head heads) (n.codes ++ filter_map code_label heads)

@@ -40,7 +40,7 @@ impl Labels {
         let mut place = 0;
         for part in parts {
             match &part.body {
-                Body::LabelIs(label) => labels.add(alloc, label, place)?,
+                Body::LabelIs(label) => labels.add(alloc, label.as_str(), place)?,
                 _ => place += 1,
             }
         }
@@ -48,11 +48,11 @@ impl Labels {
     }
 
     /// Puts a new label at the end.
-    fn add(&mut self, alloc: Global, label: &Text, place: usize) -> Result<(), AllocError>
+    fn add(&mut self, alloc: Global, label: &str, place: usize) -> Result<(), AllocError>
         requires { is_among (label_texts self.old) label.now ≡ false }
         ensures { OnOk result (self.new ≡ self.old ++ label_at label.now place ∷ []) }
     {
-        let label = String::from_str(alloc, label.as_str())?;
+        let label = String::from_str(alloc, label)?;
         self.places.insert(label, place)?;
         Ok(())
     }
@@ -63,8 +63,8 @@ impl Labels {
     pub fn target(&self, label: &Text) -> Result<u16, LineError>
         ensures { Gives (λ x. x) result (target self.now label.now) }
     {
-        match self.places.get(label.as_str()) {
-            Some(place) => Ok((*place).min(4096) as u16),
+        match self.places.get_full(label.as_str()) {
+            Some((_, _, place)) => Ok((*place).min(4096) as u16),
             None => Err(LineError::Bad(LoadCause::UnknownName)),
         }
     }

@@ -14,16 +14,6 @@ use indexmap::{IndexMap, IndexSet};
 use std::alloc::{AllocError, Global};
 use std::marker::Model;
 
-const KERNEL_TYPES: [&str; 7] = [
-    "TYPE",
-    "DATA",
-    "UNIVERSAL",
-    "SEMAPHORE",
-    "PROCEDURE",
-    "PROCESS",
-    "LNS",
-];
-
 /// What the heads of a script declare, wherever they stand. A name's number is its place. Contracts
 /// see the lists of the names.
 #[derive(Drop)]
@@ -60,13 +50,16 @@ impl Declared {
         ensures { IfOk result (λ d. d ≡ kernel_declared) }
     {
         let mut declared = Declared {
-            objects: IndexMap::new(alloc),
+            objects: IndexMap::with_capacity(alloc, more)?,
             codes: IndexSet::new(alloc),
         };
-        declared.objects.reserve(more)?;
-        for name in KERNEL_TYPES {
-            declared.objects.insert(String::from_str(alloc, name)?, true)?;
-        }
+        declared.add_object(alloc, "TYPE", true)?;
+        declared.add_object(alloc, "DATA", true)?;
+        declared.add_object(alloc, "UNIVERSAL", true)?;
+        declared.add_object(alloc, "SEMAPHORE", true)?;
+        declared.add_object(alloc, "PROCEDURE", true)?;
+        declared.add_object(alloc, "PROCESS", true)?;
+        declared.add_object(alloc, "LNS", true)?;
         Ok(declared)
     }
 
@@ -76,32 +69,32 @@ impl Declared {
         ensures { OnOk result (self.new ≡ with_head self.old head.now) }
     {
         match head {
-            Head::TypeIs { name } => self.add_object(alloc, name, true),
-            Head::ObjectIs { name, .. } => self.add_object(alloc, name, false),
-            Head::SemaphoreIs { name, .. } => self.add_object(alloc, name, false),
-            Head::ProcedureIs { name, .. } => self.add_object(alloc, name, false),
-            Head::CodeIs { name } => self.add_code(alloc, name),
+            Head::TypeIs { name } => self.add_object(alloc, name.as_str(), true),
+            Head::ObjectIs { name, .. } => self.add_object(alloc, name.as_str(), false),
+            Head::SemaphoreIs { name, .. } => self.add_object(alloc, name.as_str(), false),
+            Head::ProcedureIs { name, .. } => self.add_object(alloc, name.as_str(), false),
+            Head::CodeIs { name } => self.add_code(alloc, name.as_str()),
             Head::LimitIs(_) => Ok(()),
             Head::ProcessIs { .. } => Ok(()),
         }
     }
 
     /// Puts a new object at the end.
-    fn add_object(&mut self, alloc: Global, name: &Text, is_type: bool) -> Result<(), AllocError>
+    fn add_object(&mut self, alloc: Global, name: &str, is_type: bool) -> Result<(), AllocError>
         requires { is_among self.old.objects name.now ≡ false }
         ensures { OnOk result (self.new ≡ with_object self.old name.now is_type) }
     {
-        let name = String::from_str(alloc, name.as_str())?;
+        let name = String::from_str(alloc, name)?;
         self.objects.insert(name, is_type)?;
         Ok(())
     }
 
     /// Puts a new code at the end.
-    fn add_code(&mut self, alloc: Global, name: &Text) -> Result<(), AllocError>
+    fn add_code(&mut self, alloc: Global, name: &str) -> Result<(), AllocError>
         requires { is_among self.old.codes name.now ≡ false }
         ensures { OnOk result (self.new ≡ with_code self.old name.now) }
     {
-        let name = String::from_str(alloc, name.as_str())?;
+        let name = String::from_str(alloc, name)?;
         self.codes.insert(name)?;
         Ok(())
     }

@@ -17,9 +17,16 @@ pub fn steps(alloc: Global, parts: &[Part]) -> Result<Items<Instr>, LoadError>
     ensures { Loads (λ x. x) result (instrs_of (labels_from 0 parts.now) 0 parts.now) }
 {
     let labels = Labels::of(alloc, parts)?;
+    steps_with(alloc, &labels, parts)
+}
+
+/// The instructions of these lines, whose jumps go to these labels.
+fn steps_with(alloc: Global, labels: &Labels, parts: &[Part]) -> Result<Items<Instr>, LoadError>
+    ensures { Loads (λ x. x) result (instrs_of labels.now 0 parts.now) }
+{
     let mut steps = Items::new(alloc);
     for part in parts {
-        if let Err(error) = add_step(alloc, &labels, &mut steps, &part.body) {
+        if let Err(error) = add_step(alloc, labels, &mut steps, &part.body) {
             return Err(error.on_line(part.line));
         }
     }
