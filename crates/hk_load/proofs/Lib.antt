@@ -4,3 +4,5 @@ pub mod NamesApart
 pub mod Fillings
 pub mod Outcomes
 pub mod Jumps
+pub mod Buildings
+pub mod Parts

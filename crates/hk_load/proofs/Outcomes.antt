@@ -4,7 +4,9 @@ use Rattle.hk_model.specs.declared.causes.LoadCause.{LoadCause}
 use Rattle.hk_model.specs.Loading.{Refused, at_line, ◌>>=◌}
 use Rattle.hk_load.specs.declared.errors.LineError.{LineError}
 use Rattle.hk_load.specs.declared.errors.LineError.TheVariants as line_error
-use Rattle.hk_load.specs.Outcomes.{Fails, Stops, error_on}
+use Rattle.hk_load.specs.declared.errors.LoadError.{LoadError}
+use Rattle.hk_load.specs.declared.errors.LoadError.TheVariants as load_error
+use Rattle.hk_load.specs.Outcomes.{Fails, Stops, IsRefused, error_on}
 
 -- the line is refused, and so all lines are
 pub line_stops : {A B : Type 0} (e : LineError) (line : ℕ) (r : Result A LoadCause) (f : A → Result B Refused) (whole : Result B Refused) → Fails e r → whole ≡ (at_line line r >>= f) → Stops (error_on line e) whole
@@ -14,3 +16,21 @@ line_stops line_error.NoMemory line r f whole h e = tt
 -- the line gives this, and the others follow
 pub line_goes : {A B : Type 0} (line : ℕ) (r : Result A LoadCause) (x : A) (f : A → Result B Refused) (whole : Result B Refused) → r ≡ Ok x → whole ≡ (at_line line r >>= f) → f x ≡ whole
 line_goes line r x f whole h e = sym (e ∙ ap (λ r. at_line line r >>= f) h)
+
+-- an item is refused, and so all items are
+pub item_stops : {A B : Type 0} (e : LoadError) (r : Result A Refused) (f : A → Result B Refused) (whole : Result B Refused) → Stops e r → whole ≡ (r >>= f) → Stops e whole
+item_stops (load_error.Refused line cause) r f whole h e = e ∙ ap (λ x. x >>= f) h
+item_stops load_error.NoMemory r f whole h e = tt
+
+-- the item gives this, and the others follow
+pub item_goes : {A B : Type 0} (r : Result A Refused) (x : A) (f : A → Result B Refused) (whole : Result B Refused) → r ≡ Ok x → whole ≡ (r >>= f) → f x ≡ whole
+item_goes r x f whole h e = sym (e ∙ ap (λ y. y >>= f) h)
+
+-- the first line and its cause, where items are refused
+pub refused_at : {X B : Type 0} (result : Result X LoadError) (e : LoadError) (whole : Result B Refused) (line : ℕ) (cause : LoadCause) → result ≡ Err e → Stops e whole → IsRefused result line cause → whole ≡ Err (line, cause)
+refused_at result (load_error.Refused l c) whole line cause h k r =
+    let same : Err (load_error.Refused l c) ≡ Err (load_error.Refused line cause) = sym h ∙ r in
+    let lines : l ≡ line = cc in
+    let causes : c ≡ cause = cc in
+    k ∙ ap (λ x. Err (x, c)) lines ∙ ap (λ x. Err (line, x)) causes
+refused_at result load_error.NoMemory whole line cause h k r = absurd (let same : Err load_error.NoMemory ≡ Err (load_error.Refused line cause) = sym h ∙ r in cc)

@@ -9,6 +9,7 @@ mod errors;
 mod instructions;
 mod items;
 mod labels;
+mod loading;
 mod names;
 mod rights;
 mod steps;
