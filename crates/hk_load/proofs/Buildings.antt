@@ -1,6 +1,6 @@
 -- What the items of a script give, one after another.
-use Rattle.std.proofs.Common.{◌≡◌, ℕ, ◌+◌, ◌<◌, ◌==◌, not, Bool, true, false, ltb, List, [], ◌∷◌, ◌++◌, length, drop, get_or, refl, sym, ap, ◌∙◌, Ok, Err, Result, Some, None}
-use Rattle.std.proofs.lemmas.List.{at_drop_more, length-append}
+use Rattle.std.proofs.Common.{◌≡◌, ℕ, ◌+◌, ◌<◌, ◌≤◌, ◌==◌, not, map, Bool, true, false, ltb, List, [], ◌∷◌, ◌++◌, length, drop, get_or, refl, sym, ap, ◌∙◌, Ok, Err, Result, Some, None}
+use Rattle.std.proofs.lemmas.List.{at_drop_more, at_drop_all, length-append}
 use mathlib.Core.List.{append_assoc, append-nil}
 use Rattle.hk_model.specs.declared.causes.LoadCause.TheVariants.{TooMany}
 use Rattle.hk_model.specs.declared.entries.Entry.{Entry}
@@ -14,7 +14,7 @@ use Rattle.hk_model.specs.declared.world.Kind.TheVariants as kind
 use Rattle.hk_model.specs.Setup.{Setup, setup}
 use Rattle.hk_model.specs.Targets.{DATA}
 use Rattle.hk_model.specs.Loading as loading
-use Rattle.hk_model.specs.Loading.{Refused, Names, Contents, Counts, counts, counted, object_fits, at_line, unless, limited, plain_type, code_named, name_numbered, room, used, contents_of, labels_from, instrs_of, with_object, loaded, item_of, put_item, items_of, ◌>>=◌, ◌>>◌}
+use Rattle.hk_model.specs.Loading.{Refused, Names, Contents, Counts, counts, counted, object_fits, at_line, unless, limited, plain_type, code_named, name_numbered, room, used, contents_of, labels_from, instrs_of, with_object, loaded, item_of, put_item, items_of, names_of, load, ◌>>=◌, ◌>>◌}
 use Rattle.hk_load.specs.Building.{Built, built, counts_of, with_limit, with_born, with_code, with_task, limit_or, finished, added, after}
 
 after_born : (b : Built) (name : List ℕ) (k : Kind) (rest : Result Setup Refused) → after b (put_item (Ok (with_object name k)) rest) ≡ after (with_born b name k) rest
@@ -93,3 +93,18 @@ item_turn names b items at i more e =
 -- no item is left
 pub no_item : (b : Built) → after b (Ok (setup 10000 [] [] [])) ≡ Ok (finished b)
 no_item b = ap (λ o. Ok (setup (limit_or b.limit 10000) o (b.codes ++ []) (b.tasks ++ []))) (append-nil b.objects) ∙ ap (λ c. Ok (setup (limit_or b.limit 10000) b.objects c (b.tasks ++ []))) (append-nil b.codes) ∙ ap (λ t. Ok (setup (limit_or b.limit 10000) b.objects b.codes t)) (append-nil b.tasks)
+
+after_nothing : (r : Result Setup Refused) → after (built None [] [] []) r ≡ r
+after_nothing (Ok w) = refl
+after_nothing (Err e) = refl
+
+-- all items
+pub first_items : (names : Names) (b : Built) (items : List Item) → b ≡ built None [] [] [] → names ≡ names_of (map (λ (i : Item). i.head) items) → after b (items_of names (counts_of b) items) ≡ load items
+first_items names b items e f =
+    ap (λ (x : Built). after x (items_of names (counts_of x) items)) e
+    ∙ ap (λ (n : Names). after (built None [] [] []) (items_of n (counts 0 0 0) items)) f
+    ∙ after_nothing (load items)
+
+-- behind all items
+pub last_items : (names : Names) (b : Built) (items : List Item) (at : ℕ) → length items ≤ at → after b (items_of names (counts_of b) (drop at items)) ≡ load items → load items ≡ Ok (finished b)
+last_items names b items at low h = sym h ∙ at_drop_all (λ is. after b (items_of names (counts_of b) is)) items at low ∙ no_item b

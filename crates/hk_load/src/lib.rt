@@ -15,4 +15,5 @@ mod rights;
 mod steps;
 
 pub use crate::errors::LoadError;
+pub use crate::loading::load;
 pub use hk_model::World;

@@ -1,24 +1,47 @@
 //! The world of a script (`docs/FORMATS.md`, "Loading").
 
+ghost use Rattle.std.specs.Prelude.{◌≡◌, ℕ, Ok, Err, IfOk, map};
+ghost use Rattle.hk_model.specs.declared.causes.LoadCause.{LoadCause};
+ghost use Rattle.hk_model.specs.declared.syntax.Item.{Item};
 ghost use Rattle.hk_model.specs.Syntax.{IsSyntax};
-ghost use Rattle.hk_model.specs.Loading.{load};
-ghost use Rattle.hk_load.specs.Outcomes.{Loads};
+ghost use Rattle.hk_model.specs.Loading.{load, names_of};
+ghost use Rattle.hk_load.specs.Outcomes.{IsRefused, Loads};
 
 use crate::errors::LoadError;
 use crate::items::Loaded;
 use crate::names::Declared;
 use hk_model::{Item, World};
+use hk_script::Syntax;
 use std::alloc::Global;
 
+/// The world that a script declares. `Refused` tells the first line that can not be loaded, and the
+/// first of its causes (`docs/FORMATS.md`, "Loading"). Want of memory is `NoMemory`.
+pub fn load(alloc: Global, syntax: &Syntax) -> Result<World, LoadError>
+    requires { IsSyntax syntax.now }
+    ensures ok { IfOk result (λ w. load syntax.now ≡ Ok w) }
+    ensures refused { (line : ℕ) (cause : LoadCause) → IsRefused result line cause → load syntax.now ≡ Err (line, cause) }
+{
+    load_items(alloc, syntax.items())
+}
+
 /// The world of these items.
-pub fn load_items(alloc: Global, items: &[Item]) -> Result<World, LoadError>
+fn load_items(alloc: Global, items: &[Item]) -> Result<World, LoadError>
     requires { IsSyntax items.now }
     ensures { Loads (λ x. x) result (load items.now) }
 {
     let declared = Declared::of(alloc, items)?;
+    load_with(alloc, &declared, items)
+}
+
+/// The world of these items, whose heads declare these names.
+fn load_with(alloc: Global, declared: &Declared, items: &[Item]) -> Result<World, LoadError>
+    requires syntax { IsSyntax items.now }
+    requires names { declared.now ≡ names_of (map (λ (i : Item). i.head) items.now) }
+    ensures { Loads (λ x. x) result (load items.now) }
+{
     let mut loaded = Loaded::new(alloc);
     for item in items {
-        loaded.add(alloc, &declared, item)?;
+        loaded.add(alloc, declared, item)?;
     }
     Ok(loaded.finish())
 }
