@@ -43,7 +43,7 @@ fn reads_lines_and_spans(rt: HostRuntime) -> Result<(), Fail> {
 
 #[test]
 fn refuses_the_first_bad_line(rt: HostRuntime) -> Result<(), Fail> {
-    let rows: [(&[u8], u32, TextCause); 12] = [
+    let rows: [(&[u8], u32, TextCause); 14] = [
         (b"\x80", 1, TextCause::NotAscii),
         (b"a\n# \x7f\nB!", 2, TextCause::NotAscii),
         (b"a\x0bb", 1, TextCause::NotAscii),
@@ -53,6 +53,16 @@ fn refuses_the_first_bad_line(rt: HostRuntime) -> Result<(), Fail> {
         (b"0.0.0.0.0.0.0.0.0", 1, TextCause::BadToken),
         (b"0.r8", 1, TextCause::BadToken),
         (b"r0.4294967296", 1, TextCause::NumberTooLarge),
+        (
+            b"hydra 1\ncode c\nlook 0.0.0.0.0.0.0.0.0 r0\nend\n",
+            3,
+            TextCause::BadToken,
+        ),
+        (
+            b"hydra 1\nobject d DATA\nwords 4294967296\nend\n",
+            3,
+            TextCause::NumberTooLarge,
+        ),
         (b"A+", 1, TextCause::BadToken),
         (b"a23456789012345678901234567890123", 1, TextCause::BadToken),
         (b"--", 1, TextCause::BadToken),
