@@ -1,0 +1,3 @@
+mod CallTexts
+mod Joined
+mod LineTexts

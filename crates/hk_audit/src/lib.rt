@@ -1,0 +1,10 @@
+//! Audit lines and records as text (`docs/FORMATS.md`, "Audit lines and records").
+#![tactic(auto)]
+
+mod calls;
+mod lines;
+mod records;
+mod replies;
+
+pub use lines::line_text;
+pub use records::record_text;
