@@ -3,8 +3,10 @@
 
 mod calls;
 mod lines;
+mod ranges;
 mod records;
 mod replies;
 
 pub use lines::line_text;
+pub use ranges::steps_have_texts;
 pub use records::record_text;

@@ -1,4 +1,4 @@
-use Rattle.std.proofs.Common.{◌≡◌, ◌++◌, ◌∷◌, string_bytes, rules, arith, length, take, drop, ◌-◌, ap}
+use Rattle.std.proofs.Common.{string_bytes, rules, arith, length, ap}
 use Rattle.hk_audit.proofs.Joined.{path_whole}
 use Rattle.hk_audit.proofs.calls.write_path.Goals as goal
 
