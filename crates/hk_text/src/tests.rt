@@ -1,6 +1,6 @@
 ghost use Rattle.std.specs.Prelude.{◌<◌, ◌^◌, ◌-◌, length};
 
-use crate::{Piece, PieceKind, TextError, TextLine, lines};
+use crate::{Piece, PieceKind, TextError, TextLine, first_of, is_register, lines, value};
 use hk_model::TextCause;
 use std::alloc::Global;
 use std::test::Fail;
@@ -86,5 +86,18 @@ fn takes_a_line_of_a_thousand_bytes(rt: HostRuntime) -> Result<(), Fail> {
     let long = read(rt.alloc(), source.as_slice()).map(|lines| lines.len());
     let cause = TextCause::LongLine;
     assert_eq!(rt; long, Err(TextError::Refused { line: 2, cause }));
+    Ok(())
+}
+
+#[test]
+fn reads_parts_of_a_path(rt: HostRuntime) -> Result<(), Fail> {
+    assert_eq!(rt; first_of(b"r7.012", b'.'), 2);
+    assert_eq!(rt; first_of(b"r7", b'.'), 2);
+    assert_eq!(rt; is_register(b"r7"), true);
+    assert_eq!(rt; is_register(b"r8"), false);
+    assert_eq!(rt; is_register(b"r70"), false);
+    assert_eq!(rt; value(b"012"), Some(12));
+    assert_eq!(rt; value(b"4294967295"), Some(4_294_967_295));
+    assert_eq!(rt; value(b"4294967296"), None);
     Ok(())
 }
