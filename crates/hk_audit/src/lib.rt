@@ -6,6 +6,8 @@ mod lines;
 mod ranges;
 mod records;
 mod replies;
+#[cfg(test)]
+mod tests;
 
 pub use lines::line_text;
 pub use ranges::steps_have_texts;
