@@ -1,4 +1,8 @@
+pub mod Calm
+pub mod Depths
+pub mod Frames
 pub mod Locals
 pub mod Paths
+pub mod Queues
 pub mod Todos
 pub mod TestWorlds
