@@ -4,5 +4,6 @@ pub mod Frames
 pub mod Locals
 pub mod Paths
 pub mod Queues
+pub mod Regular
 pub mod Todos
 pub mod TestWorlds
