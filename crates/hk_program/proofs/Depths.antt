@@ -19,11 +19,11 @@ use Rattle.hk_model.proofs.Standing.{on_cond}
 use Rattle.hk_model.proofs.Histories.{Sound}
 
 -- how many of these are of process p
-abbrev amount : ℕ → List (Inc × Activation) → ℕ
+abbrev pub amount : ℕ → List (Inc × Activation) → ℕ
 amount p [] = 0
 amount p (e ∷ es) = cond (e.1.proc.0 == p) (1 + amount p es) (amount p es)
 
-depth_is : (s : State) (p : ℕ) → amount p (activations_in s.incarnations) ≡ depth s (record { 0 = p })
+pub depth_is : (s : State) (p : ℕ) → amount p (activations_in s.incarnations) ≡ depth s (record { 0 = p })
 depth_is s p = is_count_by (λ (es : List (Inc × Incarnation)). amount p (activations_in es)) (λ e. e.1.proc.0 == p) refl (λ x xs. refl) s.incarnations
 
 -- one more
