@@ -1,5 +1,5 @@
 -- Laws of the machines of a world, for those who make its steps.
-use Rattle.std.specs.Prelude.{◌≡◌, ℕ, zero, suc, ◌+◌, ◌<◌, List, [], ◌∷◌, ◌++◌, length, true, Option, Some, None, IfSome, Ok, Err, slice_get, slice_set, option_map, refl}
+use Rattle.std.specs.Prelude.{◌≡◌, ℕ, zero, suc, ◌+◌, ◌<◌, ◌≤◌, List, [], ◌∷◌, ◌++◌, length, true, Option, Some, None, IfSome, Ok, Err, slice_get, slice_set, option_map, refl}
 use Rattle.std.specs.Option.{unwrap_or}
 use Rattle.std.proofs.Common.{arith, ap, sym, ◌∙◌, subst}
 use Rattle.std.proofs.lemmas.Bool.{true≢false}
@@ -13,11 +13,11 @@ use Rattle.hk_model.specs.Limits.{depth_limit}
 use Rattle.hk_model.specs.Setup.{Setup, IsWorld}
 use Rattle.hk_model.specs.State.{State, process}
 use Rattle.hk_model.specs.Rule.{Outcome, outcome, rule, settled, depth}
-use Rattle.hk_model.specs.Processors.{is_on, runner, may_step, entered}
+use Rattle.hk_model.specs.Processors.{is_on, runner, may_step, halted, entered}
 use Rattle.hk_model.specs.Control.{Context}
 use Rattle.hk_model.specs.Opening.{opening}
 use Rattle.hk_model.specs.Running.{Machine, context_of, step, line_of, moved, after_lines, opened, AreSteps, AreStepsOf, state_after}
-use Rattle.hk_model.proofs.Steps.{EachStep, moved_holds}
+use Rattle.hk_model.proofs.Steps.{EachStep, moved_holds, given_to}
 use Rattle.hk_program.specs.Contexts.{AreFrames}
 use Rattle.hk_program.specs.Machines.{IsSound}
 use Rattle.hk_program.proofs.Queues.{run_at, runs_on, on_one}
@@ -145,6 +145,30 @@ lines_few w lines world h may =
     let limit = kept.regular.limit in
     let events = events_are w lines h in
     grind (arith, nat_tests, may, limit, events)
+
+-- the events never pass the limit
+events_kept : (w : Setup) (m : Machine) (cpu : Cpu) → Kept w m → m.state.events ≤ w.limit → (moved w m cpu).state.events ≤ w.limit
+events_kept w m cpu h few = moved_by w m cpu (λ k. k.state.events ≤ w.limit) few (record {
+  none = tt;
+  calls = λ proc c frames may r e. more (rule m.state proc c).1 may (counted_each.calls m.state cpu proc c r);
+  halts = λ proc frames may r e. more (halted m.state proc) may (counted_each.halts m.state cpu proc r);
+  dispatches = λ first rest may e. more (given_to m.state cpu first rest) may (counted_each.dispatches m.state cpu first rest e);
+})
+  where
+    more : (t : State) → may_step m.state ≡ true → t.events ≡ m.state.events + 1 → t.events ≤ w.limit
+    more t may e = let limit = h.regular.limit in grind (arith, nat_tests, may, e, limit)
+
+events_within : (w : Setup) (m : Machine) (lines : List Line) → IsWorld w → Kept w m → m.state.events ≤ w.limit → (after_lines w m lines).state.events ≤ w.limit
+events_within w m [] world h few = few
+events_within w m (line ∷ lines) world h few = events_within w (moved w m line.cpu) lines world (moved_kept w m line.cpu world h) (events_kept w m line.cpu h few)
+
+-- a history has no more lines than the world has events
+pub lines_within : (w : Setup) (lines : List Line) → IsWorld w → AreStepsOf w lines → length lines ≤ w.limit
+lines_within w lines world h =
+    let zero = opened_events w in
+    let a = events_within w (opened w) lines world (opened_kept w world) (omega (arith, zero)) in
+    let b = events_are w lines h in
+    omega (arith, a, b)
 
 -- ---- other processors
 
