@@ -1,8 +1,10 @@
 //! The laws of confinement: what a confined call, and all that is called under it, can change. They
 //! hold of every history, whichever processors made its lines (`docs/RULES.md`, "Reaches").
 //!
-//! A law is a function without a body of its own: calling it costs nothing, and gives its caller the
-//! law of the lines that it has. The definitions are those of `hk_model`, and no law looks at a kernel.
+//! A law is a function that does nothing: calling it costs nothing, and gives its caller the law of
+//! the lines that it has. Its body only asks the world for its limit, since that call's clause tells
+//! that the world is one that can be run. The definitions are those of `hk_model`, and no law looks
+//! at a kernel.
 #![tactic(auto)]
 
 #[cfg(test)]

@@ -1,3 +1,5 @@
 pub mod Maps
 pub mod Entering
 pub mod Numbered
+pub mod StackLemmas
+pub mod RunnerLemmas

@@ -1,5 +1,6 @@
 -- One more at the end of a numbered list.
-use Rattle.std.proofs.Common.{◌≡◌, ℕ, ◌+◌, ◌<◌, List, [], ◌∷◌, ◌++◌, length, refl, ap, sym, ◌∙◌, arith, get_or, take, map, replicate, suc, append_assoc}
+use Rattle.std.proofs.Common.{◌≡◌, ℕ, ◌+◌, ◌<◌, List, [], ◌∷◌, ◌++◌, length, refl, ap, sym, ◌∙◌, arith, get_or, take, map, replicate, suc, append_assoc, false}
+use Rattle.std.specs.List.{list_any}
 use Rattle.std.proofs.lemmas.List.{take_more, length-take-le, length-append, length-map, length-replicate, replicate-append-replicate, map-append}
 use Rattle.std.specs.Ordering.{nat_cmp}
 use Rattle.std.specs.declared.cmp.Ordering.TheVariants.{Greater}
@@ -15,7 +16,9 @@ use Rattle.hk_model.specs.declared.objects.ProcessState.TheVariants.{Ready}
 use Rattle.hk_model.specs.declared.world.Task.{Task}
 use Rattle.hk_model.specs.declared.world.Born.{Born}
 use Rattle.hk_model.specs.State.{name_cmp, inc_cmp, no_object}
+use Rattle.hk_model.specs.Processors.{is_running}
 use Rattle.hk_plain.specs.Opening.{named}
+use Rattle.hk_plain.specs.Stacks.{LiveOnes, added}
 use Rattle.hk_model.specs.Opening.{numbered, object_of, bases, base_of, all_ready, proc_numbers}
 
 -- a larger number comes after
@@ -113,9 +116,20 @@ born_step born i b so_far now o there read before is inserted =
     ∙ ap (λ (p : Object). insert_entry name_cmp (named (replicate 7 no_object ++ opened (take i born))) (name (7 + i)) p) (is ∙ ap (λ (x : Born). object_of x.kind) read)
     ∙ next_born born i b there
 
-pub task_step : (tasks : List Task) (i : ℕ) (t : Task) (so_far now : List (Inc × Incarnation)) (base : Incarnation) → i < length tasks → t ≡ get_or tasks i t → so_far ≡ bases 0 (take i tasks) → base ≡ base_of (record { 0 = i }) t.slots → now ≡ insert_entry inc_cmp so_far (record { 0 = i }) base → now ≡ bases 0 (take (i + 1) tasks)
+task_step : (tasks : List Task) (i : ℕ) (t : Task) (so_far now : List (Inc × Incarnation)) (base : Incarnation) → i < length tasks → t ≡ get_or tasks i t → so_far ≡ bases 0 (take i tasks) → base ≡ base_of (record { 0 = i }) t.slots → now ≡ insert_entry inc_cmp so_far (record { 0 = i }) base → now ≡ bases 0 (take (i + 1) tasks)
 task_step tasks i t so_far now base there read before is inserted =
     inserted
     ∙ ap (λ (es : List (Inc × Incarnation)). insert_entry inc_cmp es (record { 0 = i }) base) before
     ∙ ap (λ (p : Incarnation). insert_entry inc_cmp (bases 0 (take i tasks)) (record { 0 = i }) p) (is ∙ ap (λ (x : Task). base_of (record { 0 = i }) x.slots) read)
     ∙ next_task tasks i t there
+
+pub base_step : (tasks : List Task) (i : ℕ) (t : Task) (so_far now : LiveOnes) (base : Incarnation) → i < length tasks → t ≡ get_or tasks i t → so_far.live ≡ bases 0 (take i tasks) → so_far.next.0 ≡ i → base ≡ base_of (record { 0 = i }) t.slots → now ≡ added so_far base → (now.live ≡ bases 0 (take (i + 1) tasks)) × (now.next.0 ≡ i + 1)
+base_step tasks i t so_far now base there read before number is grown =
+    let next : so_far.next ≡ record { 0 = i } = ap (λ (n : ℕ). let inc : Inc = record { 0 = n } in inc) number in
+    let placed : now.live ≡ insert_entry inc_cmp so_far.live (record { 0 = i }) base = ap (λ (ones : LiveOnes). ones.live) grown ∙ ap (λ (inc : Inc). insert_entry inc_cmp so_far.live inc base) next in
+    (task_step tasks i t so_far.live now.live base there read before is placed, ap (λ (ones : LiveOnes). ones.next.0) grown ∙ ap (λ (n : ℕ). n + 1) number)
+
+-- no process runs where all are ready
+pub none_running : (n : ℕ) (tasks : List Task) → list_any (λ (p : Process). is_running p.run) (all_ready n tasks) ≡ false
+none_running n [] = refl
+none_running n (t ∷ rest) = none_running (n + 1) rest

@@ -4,3 +4,5 @@ pub mod Kinds
 pub mod Additions
 pub mod Entering
 pub mod Opening
+pub mod Runners
+pub mod Stacks

@@ -1,61 +1,146 @@
-//! The live incarnations of processes.
+//! The live incarnations.
+//!
+//! Beside them stands the stack of each process, which has the numbers of its incarnations. So one
+//! more incarnation, its leaving, and the depth of a process cost the logarithm of the number of
+//! incarnations, and the end of a process costs that for each incarnation that goes.
 
-ghost use Rattle.std.specs.Prelude.{◌≡◌, ◌==◌, OnOk, OnErr, count_by};
-ghost use Rattle.std.specs.Map.{remove_entry};
-ghost use Rattle.hk_model.specs.State.{incarnation, same_inc};
-ghost use Rattle.hk_model.specs.Rule.{depth, enter};
-ghost use Rattle.hk_plain.specs.Numbers.{HasNumbers};
+ghost use Rattle.std.specs.Prelude.{◌≡◌, ◌==◌, ◌<◌, ◌^◌, not, filter, OnOk, OnErr, count_by, [], option_copied};
+ghost use Rattle.std.specs.Map.{lookup, set_value, remove_entry};
+ghost use Rattle.hk_model.specs.State.{same_inc};
+ghost use Rattle.hk_plain.specs.Stacks.{added, with_slot, remove_all};
 
-use crate::tables::Tables;
-use hk_model::{Inc, Incarnation, NoMemory, Proc, Slot};
+use crate::stacks::Stacks;
+use hk_model::{Entry, Inc, Incarnation, NoMemory, Proc};
+use std::alloc::Global;
 use std::collections::BTreeMap;
+use std::marker::Model;
 
-// How many incarnations a process has.
-fn depth_of(incarnations: &BTreeMap<Inc, Incarnation>, proc: Proc) -> usize
-    ensures { result ≡ count_by (λ e. e.1.proc.0 == proc.0) incarnations.now.entries }
-{
-    incarnations
-        .iter()
-        .filter(|(_inc, incarnation)| incarnation.proc.0 == proc.0)
-        .count()
+/// The live incarnations by number, and the number that the next one takes.
+#[derive(Drop)]
+pub struct Incarnations {
+    live: BTreeMap<Inc, Incarnation>,
+    stacks: Stacks,
+    next: Inc,
 }
 
-impl Tables {
-    // How many incarnations a process has.
-    pub(crate) fn depth(&self, proc: Proc) -> usize
-        ensures { result ≡ depth self.now proc }
+impl Model for Incarnations {
+    ghost use Rattle.hk_plain.specs.Stacks.{LiveOnes, IsStacked};
+
+    ghost Value = { LiveOnes };
+
+    ghost view = { λ i. record { live = i.live.entries; next = i.next } };
+
+    ghost invariant = { λ i. IsStacked i.live.entries i.stacks i.next };
+}
+
+// The incarnation of a number goes.
+fn remove_one(live: &mut BTreeMap<Inc, Incarnation>, inc: Inc)
+    ensures { live.new.entries ≡ remove_entry (same_inc inc) live.old.entries }
+{
+    let _gone = live.remove(&inc);
+}
+
+// The incarnations of these numbers go.
+#[tactic(auto, using(crate::proofs::StackLemmas::next_removed))]
+fn remove_all(live: &mut BTreeMap<Inc, Incarnation>, numbers: &[Inc])
+    ensures { live.new.entries ≡ remove_all numbers.now live.old.entries }
+{
+    for number in numbers {
+        remove_one(live, *number);
+    }
+}
+
+// Writes an entry into a slot of an incarnation.
+#[tactic(auto, using(crate::proofs::Maps::set_value_absent))]
+fn write(live: &mut BTreeMap<Inc, Incarnation>, inc: Inc, slot: usize, entry: Entry)
+    ensures { live.new.entries ≡ set_value (same_inc inc) live.old.entries (with_slot live.old.entries inc slot entry) }
+{
+    if let Some(incarnation) = live.get_mut(&inc) {
+        incarnation.slots.set(slot, entry);
+    }
+}
+
+impl Incarnations {
+    // There are none.
+    pub(crate) fn new(alloc: Global) -> Incarnations
+        ensures { result ≡ record { live = []; next = record { 0 = 0 } } }
     {
-        depth_of(&self.incarnations, proc)
+        Incarnations {
+            live: BTreeMap::new(alloc),
+            stacks: Stacks::new(alloc),
+            next: Inc(0),
+        }
     }
 
-    // One more incarnation, which is the current one of its process.
-    pub(crate) fn add_incarnation(&mut self, new: Incarnation) -> Result<(), NoMemory>
-        requires { HasNumbers self.old }
-        ensures ok { OnOk result (self.new ≡ enter self.old new) }
+    // The incarnations, by number.
+    pub(crate) fn all(&self) -> &BTreeMap<Inc, Incarnation>
+        ensures { result.now.entries ≡ self.now.live }
+    {
+        &self.live
+    }
+
+    // The number that the next incarnation takes.
+    pub(crate) fn next(&self) -> Inc
+        ensures { result ≡ self.now.next }
+    {
+        self.next
+    }
+
+    // The incarnation of a number.
+    pub(crate) fn get(&self, inc: Inc) -> Option<&Incarnation>
+        ensures { option_copied result ≡ lookup (same_inc inc) self.now.live }
+    {
+        self.live.get(&inc)
+    }
+
+    // How many incarnations a process has.
+    pub(crate) fn depth(&self, proc: Proc) -> usize
+        ensures { result ≡ count_by (λ e. e.1.proc.0 == proc.0) self.now.live }
+    {
+        self.stacks.depth(proc)
+    }
+
+    // Writes an entry into a slot of an incarnation.
+    pub(crate) fn set_slot(&mut self, inc: Inc, slot: usize, entry: Entry)
+        ensures { self.new ≡ record self.old { live = set_value (same_inc inc) self.old.live (with_slot self.old.live inc slot entry) } }
+    {
+        write(&mut self.live, inc, slot, entry);
+    }
+
+    // One more incarnation, which takes the next number.
+    pub(crate) fn add(&mut self, alloc: Global, new: Incarnation) -> Result<(), NoMemory>
+        requires { self.old.next.0 < 2 ^ 63 }
+        ensures ok { OnOk result (self.new ≡ added self.old new) }
         ensures err { OnErr result (self.new ≡ self.old) }
     {
         let proc = new.proc;
-        let inc = self.next_inc;
-        self.incarnations.insert(inc, new)?;
-        self.next_inc = Inc(inc.0 + 1);
-        self.set_current(proc, inc);
+        let inc = self.next;
+        self.stacks.push(alloc, proc, inc)?;
+        if self.live.insert(inc, new).is_err() {
+            self.stacks.pop(proc);
+            return Err(NoMemory);
+        }
+        self.next = Inc(inc.0 + 1);
         Ok(())
     }
 
     // The incarnation goes.
-    pub(crate) fn remove_incarnation(&mut self, inc: Inc)
-        ensures { self.new ≡ record self.old { incarnations = remove_entry (same_inc inc) self.old.incarnations } }
+    pub(crate) fn remove(&mut self, inc: Inc)
+        ensures { self.new ≡ record self.old { live = remove_entry (same_inc inc) self.old.live } }
     {
-        let _gone = self.incarnations.remove(&inc);
+        let Some(gone) = self.live.remove(&inc) else {
+            return;
+        };
+        self.stacks.forget(gone.proc, inc);
     }
 
-    // Who called the incarnation, and the slot there that takes what it returns.
-    pub(crate) fn return_place(&self, inc: Inc) -> (Option<Inc>, Slot)
-        ensures { result ≡ ((incarnation self.now inc).caller, (incarnation self.now inc).into) }
+    // All incarnations of a process go.
+    pub(crate) fn remove_process(&mut self, proc: Proc)
+        ensures { self.new ≡ record self.old { live = filter (λ e. not (e.1.proc.0 == proc.0)) self.old.live } }
     {
-        match self.incarnations.get(&inc) {
-            Some(incarnation) => (incarnation.caller, incarnation.into),
-            None => (None, Slot(0)),
-        }
+        let Some(stack) = self.stacks.take(proc) else {
+            return;
+        };
+        remove_all(&mut self.live, stack.as_slice());
     }
 }

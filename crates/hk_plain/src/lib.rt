@@ -5,6 +5,7 @@
 //! the kernel over them.
 #![tactic(auto)]
 
+mod activations;
 mod calls;
 mod incarnations;
 mod lists;
@@ -12,10 +13,12 @@ mod objects;
 mod opening;
 mod plain;
 mod procedures;
+mod processes;
 mod processors;
 mod semaphores;
 mod shows;
 mod slots;
+mod stacks;
 mod stop;
 mod tables;
 mod targets;

@@ -1,14 +1,19 @@
 //! The state in which a world opens.
 
-ghost use Rattle.std.specs.Prelude.{◌≡◌, ◌≤◌, ◌+◌, ◌-◌, ◌++◌, IfOk, length, map, replicate};
+ghost use Rattle.std.specs.Prelude.{◌≡◌, ◌≤◌, ◌+◌, ◌-◌, ◌++◌, false, IfOk, length, map, replicate};
+ghost use Rattle.std.specs.List.{list_any};
 ghost use Rattle.hk_model.specs.declared.entries.Entry.TheVariants.{Empty};
+ghost use Rattle.hk_model.specs.declared.objects.Process.{Process};
 ghost use Rattle.hk_model.specs.declared.world.Born.{Born};
 ghost use Rattle.hk_model.specs.State.{no_object};
+ghost use Rattle.hk_model.specs.Processors.{is_running};
 ghost use Rattle.hk_model.specs.Opening.{object_of, base_of, bases, all_ready, proc_numbers, opening};
 ghost use Rattle.hk_plain.specs.Opening.{named};
 ghost use Rattle.hk_plain.specs.Numbers.{FewNumbers};
 
+use crate::incarnations::Incarnations;
 use crate::objects::plain_object;
+use crate::processes::Processes;
 use crate::tables::Tables;
 use hk_model::{
     Born, Entries, Entry, Inc, Incarnation, Kind, Name, NoMemory, Object, Proc, Process,
@@ -104,16 +109,16 @@ fn base_of(alloc: Global, proc: Proc, task: &Task) -> Result<Incarnation, AllocE
 }
 
 // The base incarnations of all processes.
-fn bases(alloc: Global, tasks: &[Task]) -> Result<BTreeMap<Inc, Incarnation>, NoMemory>
+fn bases(alloc: Global, tasks: &[Task]) -> Result<Incarnations, NoMemory>
     requires { length tasks.now ≤ 256 }
-    ensures { IfOk result (λ incarnations. incarnations.entries ≡ bases 0 tasks.now) }
+    ensures { IfOk result (λ all. all ≡ record { live = bases 0 tasks.now; next = record { 0 = length tasks.now } }) }
 {
-    let mut incarnations = BTreeMap::new(alloc);
+    let mut all = Incarnations::new(alloc);
     for (n, task) in tasks.iter().enumerate() {
         let base = base_of(alloc, Proc(n as u16), task)?;
-        incarnations.insert(Inc(n as u64), base)?;
+        all.add(alloc, base)?;
     }
-    Ok(incarnations)
+    Ok(all)
 }
 
 // So many processes, all ready.
@@ -121,6 +126,7 @@ fn bases(alloc: Global, tasks: &[Task]) -> Result<BTreeMap<Inc, Incarnation>, No
 fn all_ready(alloc: Global, tasks: &[Task]) -> Result<Vec<Process>, NoMemory>
     ensures state { IfOk result (λ processes. processes.items ≡ all_ready 0 tasks.now) }
     ensures many { IfOk result (λ processes. length processes.items ≡ length tasks.now) }
+    ensures rest { IfOk result (λ processes. list_any (λ (p : Process). is_running p.run) processes.items ≡ false) }
 {
     let mut processes = Vec::new(alloc);
     for (n, _task) in tasks.iter().enumerate() {
@@ -177,10 +183,9 @@ impl Tables {
         Ok(Tables {
             objects,
             incarnations,
-            processes,
+            processes: Processes::new(processes),
             ready,
             next_name: Name(7 + born.len() as u64),
-            next_inc: Inc(tasks.len() as u64),
             events: 0,
             limit: world.limit(),
         })

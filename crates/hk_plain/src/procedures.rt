@@ -127,14 +127,17 @@ impl Tables {
         if self.depth(proc) >= 64 {
             return Err(Stop::Refused(Refusal::Deep));
         }
-        self.add_incarnation(Incarnation {
-            proc,
-            procedure: Some(cap.name),
-            caller: Some(inc),
-            into,
-            confined,
-            slots: slots_of(alloc, &space)?,
-        })?;
+        self.add_incarnation(
+            alloc,
+            Incarnation {
+                proc,
+                procedure: Some(cap.name),
+                caller: Some(inc),
+                into,
+                confined,
+                slots: slots_of(alloc, &space)?,
+            },
+        )?;
         Ok(Answer::Done)
     }
 

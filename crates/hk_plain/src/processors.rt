@@ -8,62 +8,14 @@ ghost use Rattle.hk_model.specs.Rule.{counted};
 ghost use Rattle.hk_model.specs.Processors.{runner, runner_from, is_on, is_ready, is_running, may_step, dispatched, halted, is_over};
 
 use crate::tables::Tables;
-use hk_model::{Cpu, Inc, Incarnation, Proc, Process, ProcessState};
-use std::collections::BTreeMap;
-
-// The number of the process that runs on a processor.
-fn runner_among(processes: &[Process], cpu: Cpu) -> Option<Proc>
-    requires { length processes.now ≤ 256 }
-    ensures { result ≡ runner_from processes.now cpu 0 }
-{
-    for (n, process) in processes.iter().enumerate() {
-        if is_on(process.run, cpu) {
-            return Some(Proc(n as u16));
-        }
-    }
-    None
-}
-
-// Whether a process runs on this processor.
-fn is_on(run: ProcessState, cpu: Cpu) -> bool
-    ensures { result ≡ is_on cpu run }
-{
-    match run {
-        ProcessState::Running(other) => other.0 == cpu.0,
-        _ => false,
-    }
-}
-
-// Whether a process is ready or runs.
-fn is_live(run: ProcessState) -> bool
-    ensures { result ≡ (is_ready run || is_running run) }
-{
-    match run {
-        ProcessState::Ready | ProcessState::Running(_) => true,
-        ProcessState::Waiting(_) | ProcessState::Ended => false,
-    }
-}
-
-// Whether some process is ready or runs.
-fn some_live(processes: &[Process]) -> bool
-    ensures { result ≡ list_any (λ (p : Process). is_ready p.run || is_running p.run) processes.now }
-{
-    processes.iter().any(|process| is_live(process.run))
-}
-
-// The incarnations but those of a process.
-fn forget_process(incarnations: &mut BTreeMap<Inc, Incarnation>, proc: Proc)
-    ensures { incarnations.new.entries ≡ filter (λ e. not (e.1.proc.0 == proc.0)) incarnations.old.entries }
-{
-    incarnations.retain(|_inc, incarnation| incarnation.proc.0 != proc.0);
-}
+use hk_model::{Cpu, Inc, Proc, ProcessState};
 
 impl Tables {
     // The process that a processor runs.
     pub(crate) fn runner(&self, cpu: Cpu) -> Option<Proc>
         ensures { result ≡ runner self.now cpu }
     {
-        runner_among(self.processes.as_slice(), cpu)
+        self.processes.runner(cpu)
     }
 
     // The current incarnation of a process.
@@ -123,13 +75,15 @@ impl Tables {
 
     /// Gives the processor the first ready process.
     pub(crate) fn dispatch(&mut self, cpu: Cpu) -> Option<Proc>
-        requires { IsTrue (may_step self.old) }
+        requires cpu { cpu.0 < 16 }
+        requires idle { runner self.old cpu ≡ None }
+        requires below { IsTrue (may_step self.old) }
         ensures given { IfSome result (λ proc. dispatched self.old cpu ≡ Some (proc, self.new)) }
         ensures none { IfNone result ((dispatched self.old cpu ≡ None) × (self.new ≡ self.old)) }
     {
         let events = self.next_event();
         let first = self.take_ready()?;
-        self.set_run(first, ProcessState::Running(cpu));
+        self.start(first, cpu);
         self.set_events(events);
         Some(first)
     }
@@ -138,7 +92,7 @@ impl Tables {
     fn remove_incarnations(&mut self, proc: Proc)
         ensures { self.new ≡ record self.old { incarnations = filter (λ e. not (e.1.proc.0 == proc.0)) self.old.incarnations } }
     {
-        forget_process(&mut self.incarnations, proc);
+        self.incarnations.remove_process(proc);
     }
 
     /// Ends a process, with all its incarnations.
@@ -156,6 +110,6 @@ impl Tables {
     pub(crate) fn over(&self) -> bool
         ensures { result ≡ is_over self.now }
     {
-        !some_live(self.processes.as_slice())
+        !self.processes.some_live()
     }
 }

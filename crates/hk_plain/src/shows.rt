@@ -100,7 +100,7 @@ impl Tables {
         ensures { IfOk result (λ s. s ≡ shown self.now) }
     {
         let objects = all_seen(alloc, &self.objects)?;
-        let incarnations = all_live(alloc, &self.incarnations)?;
+        let incarnations = all_live(alloc, self.incarnations.all())?;
         let processes = all_runs(alloc, self.processes.as_slice())?;
         let ready = all_queued(alloc, &self.ready)?;
         Ok(Snapshot {
@@ -109,7 +109,7 @@ impl Tables {
             processes,
             ready,
             next_name: self.next_name,
-            next_inc: self.next_inc,
+            next_inc: self.incarnations.next(),
             events: self.events,
             limit: self.limit,
         })

@@ -1,11 +1,15 @@
 //! The state of the kernel in ordered maps, and the writes that the calls share.
 
-ghost use Rattle.std.specs.Prelude.{◌≡◌, OnOk, OnErr, option_copied, ◌++◌, ◌∷◌, []};
+ghost use Rattle.std.specs.Prelude.{◌≡◌, ◌<◌, false, None, OnOk, OnErr, option_copied, ◌++◌, ◌∷◌, []};
 ghost use Rattle.std.specs.Map.{lookup};
 ghost use Rattle.hk_model.specs.State.{object, process, same_name, put_slot, put_process, add_object};
+ghost use Rattle.hk_model.specs.declared.objects.ProcessState.TheVariants.{Running};
+ghost use Rattle.hk_model.specs.Processors.{is_running, runner};
 ghost use Rattle.hk_plain.specs.Numbers.{HasNumbers};
 
-use hk_model::{Entry, Inc, Incarnation, Name, NoMemory, Object, Proc, Process, ProcessState};
+use crate::incarnations::Incarnations;
+use crate::processes::Processes;
+use hk_model::{Cpu, Entry, Inc, Name, NoMemory, Object, Proc, ProcessState};
 use std::collections::{BTreeMap, VecDeque};
 use std::marker::Model;
 
@@ -13,33 +17,29 @@ use std::marker::Model;
 #[derive(Drop)]
 pub struct Tables {
     pub(crate) objects: BTreeMap<Name, Object>,
-    pub(crate) incarnations: BTreeMap<Inc, Incarnation>,
-    pub(crate) processes: Vec<Process>,
+    pub(crate) incarnations: Incarnations,
+    pub(crate) processes: Processes,
     pub(crate) ready: VecDeque<Proc>,
     pub(crate) next_name: Name,
-    pub(crate) next_inc: Inc,
     pub(crate) events: u32,
     pub(crate) limit: u32,
 }
 
 impl Model for Tables {
-    ghost use Rattle.std.specs.Prelude.{length, ◌≤◌};
     ghost use Rattle.hk_model.specs.State.{State};
 
     ghost Value = { State };
 
     ghost view = { λ t. record {
       objects = t.objects.entries;
-      incarnations = t.incarnations.entries;
-      processes = t.processes.items;
+      incarnations = t.incarnations.live;
+      processes = t.processes;
       ready = t.ready.items;
       next_name = t.next_name;
-      next_inc = t.next_inc;
+      next_inc = t.incarnations.next;
       events = t.events;
       limit = t.limit;
     } };
-
-    ghost invariant = { λ t. length t.processes.items ≤ 256 };
 }
 
 impl Tables {
@@ -51,33 +51,34 @@ impl Tables {
     }
 
     // Writes an entry into a slot of an incarnation.
-    #[tactic(auto, using(crate::proofs::Maps::set_value_absent))]
     pub(crate) fn set_slot(&mut self, inc: Inc, slot: usize, entry: Entry)
         ensures { self.new ≡ put_slot self.old inc slot entry }
     {
-        if let Some(incarnation) = self.incarnations.get_mut(&inc) {
-            incarnation.slots.set(slot, entry);
-        }
+        self.incarnations.set_slot(inc, slot, entry);
     }
 
-    // Changes what a process does.
+    // Changes what a process does: it does not run then.
     pub(crate) fn set_run(&mut self, proc: Proc, run: ProcessState)
+        requires { is_running run ≡ false }
         ensures { self.new ≡ put_process self.old proc (record (process self.old proc) { run = run }) }
     {
-        let at = proc.0 as usize;
-        if at < self.processes.len() {
-            self.processes[at].run = run;
-        }
+        self.processes.set_run(proc, run);
+    }
+
+    // The process runs on a processor that runs nothing.
+    pub(crate) fn start(&mut self, proc: Proc, cpu: Cpu)
+        requires cpu { cpu.0 < 16 }
+        requires idle { runner self.old cpu ≡ None }
+        ensures { self.new ≡ put_process self.old proc (record (process self.old proc) { run = Running cpu }) }
+    {
+        self.processes.start(proc, cpu);
     }
 
     // Changes the current incarnation of a process.
     pub(crate) fn set_current(&mut self, proc: Proc, inc: Inc)
         ensures { self.new ≡ put_process self.old proc (record (process self.old proc) { current = inc }) }
     {
-        let at = proc.0 as usize;
-        if at < self.processes.len() {
-            self.processes[at].current = inc;
-        }
+        self.processes.set_current(proc, inc);
     }
 
     // One more object, which takes the next name.

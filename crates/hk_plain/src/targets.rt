@@ -89,7 +89,7 @@ impl Tables {
     pub(crate) fn slot(&self, inc: Inc, at: usize) -> Entry
         ensures { result ≡ slice_index_or (incarnation self.now inc).slots at Empty }
     {
-        match self.incarnations.get(&inc) {
+        match self.incarnations.get(inc) {
             Some(incarnation) => match incarnation.slots.as_slice().get(at) {
                 Some(entry) => *entry,
                 None => Entry::Empty,

@@ -55,7 +55,7 @@ impl Tables {
     fn first_entry(&self, inc: Inc, at: u16) -> Result<Entry, Refusal>
         ensures { result ≡ item_at (incarnation self.now inc).slots at 0 }
     {
-        match self.incarnations.get(&inc) {
+        match self.incarnations.get(inc) {
             Some(incarnation) => match incarnation.slots.as_slice().get(at as usize) {
                 Some(entry) => Ok(*entry),
                 None => Err(Refusal::Range { step: 0 }),

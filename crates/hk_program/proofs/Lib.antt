@@ -1,4 +1,15 @@
+pub mod Calm
+pub mod Depths
+pub mod Endings
+pub mod Events
+pub mod Frames
+pub mod Kept
 pub mod Locals
+pub mod Machines
+pub mod Opened
 pub mod Paths
+pub mod Queues
+pub mod Regular
+pub mod StepCases
 pub mod Todos
 pub mod TestWorlds

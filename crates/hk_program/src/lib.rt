@@ -7,6 +7,8 @@ mod answering;
 mod calling;
 mod codes;
 mod context;
+mod ending;
+mod machine;
 mod operands;
 mod running;
 mod stepping;
@@ -15,5 +17,7 @@ mod tests;
 
 pub use answering::after;
 pub use context::Context;
+pub use ending::end_word;
 pub use hk_model::{Frame, Todo};
+pub use machine::Machine;
 pub use running::next;

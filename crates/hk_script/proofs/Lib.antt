@@ -5,3 +5,7 @@ pub mod Lists
 pub mod PiecesLeft
 pub mod FormsRead
 pub mod ReadingLemmas
+pub mod ReadersGood
+pub mod InstructionsGood
+pub mod PartsGood
+pub mod SyntaxGood

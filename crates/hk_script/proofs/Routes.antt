@@ -3,12 +3,10 @@ use Rattle.std.proofs.Common.{◌≡◌, ℕ, ◌+◌, ◌-◌, ◌<◌, Bool, t
 use Rattle.std.specs.List.{list_all, list_any, position_or_len}
 use Rattle.std.proofs.lemmas.Bool.{and_parts, lt-ltb}
 use Rattle.std.proofs.lemmas.Bool.Decides.{nat_tests}
-use Rattle.std.specs.Str.Parse.{ParsesUnsigned}
 use Rattle.hk_text.proofs.Turns.{cut_turn}
 use Rattle.std.proofs.lemmas.List.{take_all, drop-drop, length-drop}
-use Rattle.hk_text.proofs.Numbers.{too_large}
 use Rattle.hk_model.specs.declared.causes.TextCause.TheVariants.{BadToken, NumberTooLarge}
-use Rattle.hk_model.specs.Labels.{between, is_digit}
+use Rattle.hk_model.specs.Labels.{between}
 use Rattle.hk_script.specs.Lines.{index_in}
 use Rattle.hk_script.specs.Paths.{AreIndices, cut_points, route_on}
 use Rattle.hk_script.specs.Outcomes.{Fails, Gives}
@@ -20,7 +18,7 @@ use Rattle.hk_model.specs.declared.causes.ParseCause.TheVariants.{OutOfRange}
 use Rattle.hk_model.specs.declared.instructions.Index.{Index}
 use Rattle.hk_model.specs.declared.instructions.Route.{Route}
 use Rattle.hk_model.specs.Limits.{slot_limit, index_bound}
-use Rattle.hk_model.specs.Pieces.{Piece, Path, index_of, path_of, is_path, is_index_text, is_too_large, is_number, value, Number}
+use Rattle.hk_model.specs.Pieces.{Piece, Path, index_of, path_of, is_path, is_index_text, is_too_large}
 use Rattle.hk_model.specs.Forms.{as_route, is_index_below, route_of}
 
 route_rest : (done is : List Index) → route_on done index_bound is ≡ cond (list_all (is_index_below index_bound) is) (Ok (route_of (done ++ is))) (Err OutOfRange)
@@ -100,16 +98,6 @@ route_fails done bound i is line_error.NoMemory h = tt
 -- the first text of a path
 pub first_cut : (text : List ℕ) (len : ℕ) → len ≡ position_or_len (λ b. eqb b 46) text → AreIndices (cut_points text) → (is_index_text (take len text) ≡ true) × (is_too_large (take len text) ≡ false)
 first_cut text len place h = first_index (take len text) (cond (ltb len (length text)) (cut_points (drop (len + 1) text)) []) (rw (cut_turn (λ b. eqb b 46) text, ← place) at h)
-
--- digits that are not too large are parsed
-pub never_large : {E : Type 0} (t : List ℕ) (e : E) → is_number t ≡ true → is_too_large t ≡ false → ParsesUnsigned {E = E} 32 10 t (Err e) → ⊥
-never_large t e h small k = go (is_number t) (list_all is_digit t) (ltb 0xffffffff (value t)) refl h small (too_large t e h k)
-  where
-    go : (number digits large : Bool) → is_number t ≡ number → number ≡ true → (number && large) ≡ false → cond (not digits) (Err BadToken) (cond large (Err NumberTooLarge) (Ok (Number (value t)))) ≡ Err NumberTooLarge → ⊥
-    go true true true f h small k = cc
-    go true true false f h small k = cc
-    go true false large f h small k = cc
-    go false digits large f h small k = cc
 
 -- what stands behind the first point
 pub others_after : (text : List ℕ) (len : ℕ) → len < length text → take (length (take (length text - len) (drop len text)) - 1) (drop 1 (take (length text - len) (drop len text))) ≡ drop (len + 1) text

@@ -3,9 +3,8 @@
 ghost use Rattle.std.specs.Prelude.{◌≡◌, ◌<◌, ◌≤◌, ◌==◌, ◌∷◌, [], length, Ok, IsTrue, IfOk, IfErr, Some, codes, false, map};
 ghost use Rattle.std.specs.List.{slice_split, position_or_len};
 ghost use Rattle.hk_model.specs.declared.instructions.Route.{Route};
-ghost use Rattle.hk_model.specs.Labels.{is_register, is_name};
 ghost use Rattle.hk_model.specs.Limits.{slot_limit};
-ghost use Rattle.hk_model.specs.Pieces.{Path, is_number, is_index_text, is_too_large, path_of, index_of, value};
+ghost use Rattle.hk_model.specs.Pieces.{Path, is_index_text, is_too_large, index_of};
 ghost use Rattle.hk_model.specs.Reading.{wanted};
 ghost use Rattle.hk_model.specs.Forms.{as_verb, as_word, as_name, as_type, as_rights, as_number, as_number_in, as_slot, as_register, as_operand, as_route, route_of};
 ghost use Rattle.hk_script.specs.declared.errors.LineError.TheVariants as line_error;
@@ -17,7 +16,7 @@ use crate::errors::LineError;
 use crate::line::Line;
 use crate::verbs::verb_of;
 use hk_model::{Index, Items, Operand, ParseCause, Route, Slot, Text, Verb};
-use hk_text::PieceKind;
+use hk_text::{PieceKind, first_of, is_register, value};
 use std::alloc::Global;
 
 impl<'a> Line<'a> {
@@ -175,18 +174,11 @@ impl<'a> Line<'a> {
     }
 }
 
-/// Whether the text is `r0` to `r7`.
-fn is_register(text: &[u8]) -> bool
-    ensures { result ≡ is_register text.now }
-{
-    text.len() == 2 && text[0] == b'r' && b'0' <= text[1] && text[1] <= b'7'
-}
-
 /// The number of the register that the text names.
 fn register(text: &[u8]) -> Result<u8, LineError>
     ensures { GivesRegister result text.now }
 {
-    if text.len() == 2 && text[0] == b'r' && b'0' <= text[1] && text[1] <= b'7' {
+    if is_register(text) {
         Ok(text[1] - b'0')
     } else {
         Err(LineError::Bad(ParseCause::UnknownWord))
@@ -217,23 +209,12 @@ fn path_on(mut at: Items<Index>, text: &[u8], bound: u32) -> Result<Route, LineE
     requires bound { bound ≤ 65536 }
     ensures { Gives (λ x. x) result (route_on at bound (map index_of (cut_points text.now))) }
 {
-    let len = first_point(text);
+    let len = first_of(text, b'.');
     at.push(index(&text[..len], bound)?)?;
     if len == text.len() {
         return Ok(Route { at });
     }
     path_on(at, &text[len..][1..], 65536)
-}
-
-/// The place of the first point, or the length.
-fn first_point(text: &[u8]) -> usize
-    ensures place { result ≡ position_or_len (λ b. b == 46) text.now }
-    ensures within { result ≤ length text.now }
-{
-    match text.iter().position(|byte| *byte == b'.') {
-        Some(at) => at,
-        None => text.len(),
-    }
 }
 
 /// An index that is a register, or a number below the bound.
@@ -246,25 +227,8 @@ fn index(text: &[u8], bound: u32) -> Result<Index, LineError>
     if is_register(text) {
         return Ok(Index::ByReg(text[1] - b'0'));
     }
-    let n = number(text);
-    if n < bound {
-        Ok(Index::Fixed(n as u16))
-    } else {
-        Err(LineError::Bad(ParseCause::OutOfRange))
-    }
-}
-
-/// The number that digits stand for.
-fn number(text: &[u8]) -> u32
-    requires number { IsTrue (is_number text.now) }
-    requires small { is_too_large text.now ≡ false }
-    ensures { result ≡ value text.now }
-{
-    match std::str::from_utf8(text) {
-        Ok(digits) => match digits.parse::<u32>() {
-            Ok(n) => n,
-            Err(_) => unreachable!(),
-        },
-        Err(_) => unreachable!(),
+    match value(text) {
+        Some(n) if n < bound => Ok(Index::Fixed(n as u16)),
+        _ => Err(LineError::Bad(ParseCause::OutOfRange)),
     }
 }

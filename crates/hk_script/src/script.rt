@@ -15,7 +15,9 @@ use hk_text::TextLine;
 use std::alloc::Global;
 use std::marker::Model;
 
-/// The items of a script, in the order of their heads. Contracts see the list.
+/// The items of a script, in the order of their heads: what they say is in form and in range, and
+/// no name and no label of a code is given twice (`docs/FORMATS.md`, "Grammar"). Contracts see the
+/// list.
 #[derive(Drop)]
 pub struct Syntax {
     items: Items<Item>,
@@ -24,24 +26,30 @@ pub struct Syntax {
 impl Model for Syntax {
     ghost use Rattle.std.specs.Prelude.{List};
     ghost use Rattle.hk_model.specs.declared.syntax.Item.{Item};
+    ghost use Rattle.hk_model.specs.Syntax.{IsSyntax};
 
     ghost Value = { List Item };
 
     ghost view = { λ syntax. syntax.items };
+
+    ghost invariant = { λ syntax. IsSyntax syntax.items };
 }
 
 impl Syntax {
+    ghost use Rattle.hk_model.specs.Syntax.{IsSyntax};
+
     /// The items, in the order of their heads.
     pub fn items(&self) -> &[Item]
-        ensures { result.now ≡ self.now }
+        ensures items { result.now ≡ self.now }
+        ensures valid { IsSyntax self.now }
     {
         self.items.as_slice()
     }
 }
 
-/// The items of a script whose lines these are. `Refused` tells the first line that does not
-/// follow the grammar, and the first of its causes (`docs/FORMATS.md`, "Grammar"). Want of memory is
-/// `NoMemory`.
+/// The items of a script: `lines` are those that `hk_text::lines` gave of `source`. `Refused` tells
+/// the first line that does not follow the grammar, and the first of its causes
+/// (`docs/FORMATS.md`, "Grammar"). Want of memory is `NoMemory`.
 pub fn parse(alloc: Global, lines: &[TextLine], source: &[u8]) -> Result<Syntax, ParseError>
     requires { text source.now ≡ Ok (map (line_seen source.now) lines.now) }
     ensures ok { IfOk result (λ syntax. script (map (line_seen source.now) lines.now) ≡ Ok syntax) }

@@ -1,16 +1,15 @@
-ghost use Rattle.std.specs.Prelude.{◌<◌, ◌^◌, length};
-
 use crate::{ParseError, parse};
 use hk_model::ParseCause;
 use hk_text::lines;
 use std::alloc::Global;
 use std::test::Fail;
 
-// What reading a source of fewer than 2^31 bytes answers: the number of items.
+// What reading a source of at most a million bytes answers: the number of items.
 #[tactic(auto, using(hk_text::proofs::LineCount::lines_few))]
-fn count(alloc: Global, source: &[u8]) -> Option<Result<usize, ParseError>>
-    requires { length source.now < 2 ^ 31 }
-{
+fn count(alloc: Global, source: &[u8]) -> Option<Result<usize, ParseError>> {
+    if source.len() > 1_000_000 {
+        return None;
+    }
     match lines(alloc, source) {
         Ok(lines) => Some(parse(alloc, lines.as_slice(), source).map(|syntax| syntax
             .items()
@@ -68,6 +67,41 @@ fn refuses_the_first_cause(rt: HostRuntime) -> Result<(), Fail> {
     for (source, line, cause) in rows {
         let refused = Some(Err(ParseError::Refused { line, cause }));
         assert_eq!(rt; count(rt.alloc(), source), refused, "at {line}");
+    }
+    Ok(())
+}
+
+// A script of an object, a code and a process.
+const SMALLEST: &[u8] =
+    b"hydra 1\nobject d DATA\nwords 7\nend\ncode main\ngetdata 0 0 r0\nend\nprocess a main\ncap d GETDATA\nend\n";
+
+// What reading so many bytes of it answers.
+fn count_of_cut(alloc: Global, len: usize) -> Option<Result<usize, ParseError>> {
+    match SMALLEST.get(..len) {
+        Some(cut) => count(alloc, cut),
+        None => None,
+    }
+}
+
+#[test]
+fn reads_a_script_that_is_cut(rt: HostRuntime) -> Result<(), Fail> {
+    let unclosed = |line| Err(ParseError::Refused {
+        line,
+        cause: ParseCause::Unclosed,
+    });
+    let rows: [(usize, Result<usize, ParseError>); 8] = [
+        (7, Ok(0)),
+        (22, unclosed(2)),
+        (34, Ok(1)),
+        (44, unclosed(5)),
+        (90, unclosed(8)),
+        (92, unclosed(8)),
+        (95, Ok(3)),
+        (96, Ok(3)),
+    ];
+    assert_eq!(rt; SMALLEST.len(), 96);
+    for (len, answer) in rows {
+        assert_eq!(rt; count_of_cut(rt.alloc(), len), Some(answer), "at {len}");
     }
     Ok(())
 }

@@ -2,7 +2,7 @@
 
 ghost use Rattle.std.specs.Prelude.{◌≡◌, ◌≤◌, ◌==◌, length};
 ghost use Rattle.std.specs.List.{list_any, list_all, position_or_len};
-ghost use Rattle.hk_model.specs.Labels.{is_digit, is_lower, is_capital, is_word_byte};
+ghost use Rattle.hk_model.specs.Labels.{is_digit, is_lower, is_capital, is_word_byte, is_register};
 ghost use Rattle.hk_model.specs.Texts.{is_blank, is_no_text};
 
 /// Whether the byte is one of `0` to `9`.
@@ -39,6 +39,13 @@ pub fn are_word_bytes(text: &[u8]) -> bool
 {
     text.iter()
         .all(|byte| is_lower(*byte) || is_digit(*byte) || *byte == b'_')
+}
+
+/// Whether the text is `r0` to `r7`, the name of a register (`docs/FORMATS.md`, "Names").
+pub fn is_register(text: &[u8]) -> bool
+    ensures { result ≡ is_register text.now }
+{
+    text.len() == 2 && text[0] == b'r' && b'0' <= text[1] && text[1] <= b'7'
 }
 
 /// Whether some byte may not stand in a script.

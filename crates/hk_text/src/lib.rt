@@ -10,6 +10,7 @@ mod pieces;
 mod tests;
 mod text;
 
+pub use crate::bytes::{first_of, is_register};
 pub use crate::errors::TextError;
-pub use crate::pieces::{Piece, PieceKind};
+pub use crate::pieces::{Piece, PieceKind, value};
 pub use crate::text::{TextLine, lines};

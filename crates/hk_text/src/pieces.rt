@@ -1,13 +1,14 @@
 //! The forms of a piece (`docs/FORMATS.md`, "Pieces").
 
-ghost use Rattle.std.specs.Prelude.{◌≡◌, ◌<◌, ◌==◌, length, IsTrue};
+ghost use Rattle.std.specs.Prelude.{◌≡◌, ◌<◌, ◌==◌, length, IsTrue, Some, None, if◌then◌else◌};
 ghost use Rattle.std.specs.List.{slice_split, list_all, list_any};
-ghost use Rattle.hk_model.specs.Labels.{is_register};
-ghost use Rattle.hk_model.specs.Pieces.{is_number, is_upper, is_index_text, is_too_large, number_of, plain_of, path_of, piece_of};
+ghost use Rattle.hk_model.specs.Pieces.{is_number, is_upper, is_index_text, is_too_large, value, number_of, plain_of, path_of, piece_of};
 ghost use Rattle.hk_text.specs.Views.{kind_piece};
 ghost use Rattle.hk_text.specs.Outcomes.{GivesOrCause};
 
-use crate::bytes::{are_digits, are_word_bytes, has_point, is_capital, is_digit, is_lower};
+use crate::bytes::{
+    are_digits, are_word_bytes, has_point, is_capital, is_digit, is_lower, is_register,
+};
 use hk_model::TextCause;
 
 /// What a piece is.
@@ -76,17 +77,28 @@ fn plain(text: &[u8]) -> Result<PieceKind, TextCause>
     Err(TextCause::BadToken)
 }
 
-/// The number that digits stand for.
+/// The number that digits stand for, as a piece.
 fn number(text: &[u8]) -> Result<PieceKind, TextCause>
     requires { IsTrue (is_number text.now) }
     ensures { GivesOrCause (λ kind. kind_piece kind text.now) result (number_of text.now) }
 {
+    match value(text) {
+        Some(n) => Ok(PieceKind::Number(n)),
+        None => Err(TextCause::NumberTooLarge),
+    }
+}
+
+/// The value of digits (`docs/FORMATS.md`, "Pieces"): None where no piece can be so large.
+pub fn value(text: &[u8]) -> Option<u32>
+    requires { IsTrue (is_number text.now) }
+    ensures { result ≡ (if is_too_large text.now then None else Some (value text.now)) }
+{
     match std::str::from_utf8(text) {
         Ok(digits) => match digits.parse::<u32>() {
-            Ok(n) => Ok(PieceKind::Number(n)),
-            Err(_) => Err(TextCause::NumberTooLarge),
+            Ok(n) => Some(n),
+            Err(_) => None,
         },
-        Err(_) => Err(TextCause::NumberTooLarge),
+        Err(_) => None,
     }
 }
 
@@ -157,13 +169,6 @@ fn is_index(text: &[u8]) -> bool
     !text.is_empty() && is_digit(text[0]) && are_digits(text) || is_register(text)
 }
 
-/// Whether the text is `r0` to `r7`.
-fn is_register(text: &[u8]) -> bool
-    ensures { result ≡ is_register text.now }
-{
-    text.len() == 2 && text[0] == b'r' && b'0' <= text[1] && text[1] <= b'7'
-}
-
 /// Whether the text is a number that no piece can be.
 fn is_too_large(text: &[u8]) -> bool
     ensures { result ≡ is_too_large text.now }
@@ -171,8 +176,8 @@ fn is_too_large(text: &[u8]) -> bool
     if text.is_empty() || !is_digit(text[0]) || !are_digits(text) {
         return false;
     }
-    match number(text) {
-        Ok(_) => false,
-        Err(_) => true,
+    match value(text) {
+        Some(_) => false,
+        None => true,
     }
 }

@@ -1,6 +1,6 @@
 ghost use Rattle.std.specs.Prelude.{◌<◌, ◌^◌, ◌-◌, length};
 
-use crate::{Piece, PieceKind, TextError, TextLine, lines};
+use crate::{Piece, PieceKind, TextError, TextLine, first_of, is_register, lines, value};
 use hk_model::TextCause;
 use std::alloc::Global;
 use std::test::Fail;
@@ -43,7 +43,7 @@ fn reads_lines_and_spans(rt: HostRuntime) -> Result<(), Fail> {
 
 #[test]
 fn refuses_the_first_bad_line(rt: HostRuntime) -> Result<(), Fail> {
-    let rows: [(&[u8], u32, TextCause); 12] = [
+    let rows: [(&[u8], u32, TextCause); 14] = [
         (b"\x80", 1, TextCause::NotAscii),
         (b"a\n# \x7f\nB!", 2, TextCause::NotAscii),
         (b"a\x0bb", 1, TextCause::NotAscii),
@@ -53,6 +53,16 @@ fn refuses_the_first_bad_line(rt: HostRuntime) -> Result<(), Fail> {
         (b"0.0.0.0.0.0.0.0.0", 1, TextCause::BadToken),
         (b"0.r8", 1, TextCause::BadToken),
         (b"r0.4294967296", 1, TextCause::NumberTooLarge),
+        (
+            b"hydra 1\ncode c\nlook 0.0.0.0.0.0.0.0.0 r0\nend\n",
+            3,
+            TextCause::BadToken,
+        ),
+        (
+            b"hydra 1\nobject d DATA\nwords 4294967296\nend\n",
+            3,
+            TextCause::NumberTooLarge,
+        ),
         (b"A+", 1, TextCause::BadToken),
         (b"a23456789012345678901234567890123", 1, TextCause::BadToken),
         (b"--", 1, TextCause::BadToken),
@@ -76,5 +86,18 @@ fn takes_a_line_of_a_thousand_bytes(rt: HostRuntime) -> Result<(), Fail> {
     let long = read(rt.alloc(), source.as_slice()).map(|lines| lines.len());
     let cause = TextCause::LongLine;
     assert_eq!(rt; long, Err(TextError::Refused { line: 2, cause }));
+    Ok(())
+}
+
+#[test]
+fn reads_parts_of_a_path(rt: HostRuntime) -> Result<(), Fail> {
+    assert_eq!(rt; first_of(b"r7.012", b'.'), 2);
+    assert_eq!(rt; first_of(b"r7", b'.'), 2);
+    assert_eq!(rt; is_register(b"r7"), true);
+    assert_eq!(rt; is_register(b"r8"), false);
+    assert_eq!(rt; is_register(b"r70"), false);
+    assert_eq!(rt; value(b"012"), Some(12));
+    assert_eq!(rt; value(b"4294967295"), Some(4_294_967_295));
+    assert_eq!(rt; value(b"4294967296"), None);
     Ok(())
 }

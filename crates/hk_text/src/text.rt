@@ -26,7 +26,8 @@ pub struct TextLine {
 
 /// The lines of a source that have pieces, in order. `Refused` tells the first line that is bad,
 /// and the first of its causes: NotAscii, LongLine, and then those of its pieces from the left
-/// (`docs/FORMATS.md`, "Text"). Want of memory is `NoMemory`.
+/// (`docs/FORMATS.md`, "Text"). Want of memory is `NoMemory`. The source is to have fewer than
+/// 2^32 - 1 lines, so that each has a number.
 pub fn lines(alloc: Global, bytes: &[u8]) -> Result<Vec<TextLine>, TextError>
     requires { length (lines_of bytes.now) < 2 ^ 32 - 1 }
     ensures ok { IfOk result (λ v. text bytes.now ≡ Ok (map (line_seen bytes.now) v.items)) }

@@ -3,4 +3,7 @@ use Rattle.hk_model.specs.Opening.{bases}
 use Rattle.hk_plain.proofs.opening.bases.Given as goal
 
 abbrev pub invariant-loop-n : goal.invariant-loop-n
-invariant-loop-n l = l.incarnations.entries ≡ bases 0 (take l.n l.tasks)
+invariant-loop-n l = record {
+  live : l.all.live ≡ bases 0 (take l.n l.tasks);
+  next : l.all.next.0 ≡ l.n;
+}

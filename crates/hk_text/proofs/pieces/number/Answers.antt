@@ -1,9 +1,8 @@
-use Rattle.std.proofs.Common.{rules}
-use Rattle.hk_text.proofs.Numbers.{too_large, number_utf8}
+use Rattle.hk_text.proofs.Numbers.{number_by_value}
 use Rattle.hk_text.proofs.pieces.number.Goals as goal
 
-pub returns-in-Err-parse : goal.returns-in-Err-parse
-returns-in-Err-parse c = too_large c.args.text.now c.in-Err-parse.field-0 c.requires (search (rules, c.in-Err-parse.ensures))
+pub returns-in-Some : goal.returns-in-Some
+returns-in-Some c = rw c.in-Some.is at (number_by_value c.args.text.now c.value.result c.requires c.value.ensures)
 
-pub returns-in-Err : goal.returns-in-Err
-returns-in-Err c = absurd (c.in-Err.ensures.cases.0 (number_utf8 c.args.text.now c.requires))
+pub returns-in-None : goal.returns-in-None
+returns-in-None c = rw c.in-None.is at (number_by_value c.args.text.now c.value.result c.requires c.value.ensures)

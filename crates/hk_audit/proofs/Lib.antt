@@ -1,0 +1,9 @@
+mod CallTexts
+mod CallsInRange
+mod ControlInRange
+mod Every
+mod Joined
+mod LineTexts
+mod StatesInRange
+mod StepsInRange
+mod TestsInRange

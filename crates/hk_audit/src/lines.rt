@@ -1,0 +1,62 @@
+//! The text of an audit line (`docs/FORMATS.md`, "Audit lines and records").
+
+ghost use Rattle.std.specs.Prelude.{◌≡◌, ◌++◌, All, IfOk, OnOk, string_bytes};
+ghost use Rattle.hk_model.specs.LineRanges.{IsLine, IsWhat};
+ghost use Rattle.hk_model.specs.AuditLines.{line_text, what_pieces};
+ghost use Rattle.hk_model.specs.Records.{lines_text};
+ghost use Rattle.hk_model.specs.Texts.{spell_line};
+
+use crate::calls::write_call;
+use crate::replies::write_reply;
+use hk_model::{Line, NoMemory, Text, What};
+use std::alloc::Global;
+
+/// The text of a line, with its line feed. The only error is want of memory.
+pub fn line_text(alloc: Global, line: &Line) -> Result<Text, NoMemory>
+    requires { IsLine line.now }
+    ensures { IfOk result (λ text. text ≡ line_text line.now) }
+{
+    let mut out = String::new(alloc);
+    write_line(alloc, &mut out, line)?;
+    Ok(Text::from_string(out))
+}
+
+/// Writes the text of each line.
+pub(crate) fn write_lines(alloc: Global, out: &mut String, lines: &[Line]) -> Result<(), NoMemory>
+    requires { All IsLine lines.now }
+    ensures { OnOk result (string_bytes out.new ≡ string_bytes out.old ++ lines_text lines.now) }
+{
+    for line in lines {
+        write_line(alloc, out, line)?;
+    }
+    Ok(())
+}
+
+// Writes the text of a line.
+fn write_line(alloc: Global, out: &mut String, line: &Line) -> Result<(), NoMemory>
+    requires { IsLine line.now }
+    ensures { OnOk result (string_bytes out.new ≡ string_bytes out.old ++ line_text line.now) }
+{
+    let cpu = line.cpu.0;
+    let proc = line.proc.0;
+    let inc = line.inc.0;
+    write!(out, "{cpu} {proc} {inc} ")?;
+    write_what(alloc, out, &line.what)?;
+    out.push_str(" -> ")?;
+    write_reply(out, &line.reply)?;
+    out.push_str("\n")?;
+    Ok(())
+}
+
+// Writes what happened.
+fn write_what(alloc: Global, out: &mut String, what: &What) -> Result<(), NoMemory>
+    requires { IsWhat what.now }
+    ensures { OnOk result (string_bytes out.new ≡ string_bytes out.old ++ spell_line (what_pieces what.now)) }
+{
+    match what {
+        What::Dispatch => out.push_str("dispatch")?,
+        What::Call(call) => write_call(alloc, out, call)?,
+        What::Halt => out.push_str("halt")?,
+    }
+    Ok(())
+}
