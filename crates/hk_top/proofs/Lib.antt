@@ -1,17 +1,5 @@
-mod AnswerLemmas
-mod CanonicalScripts
-mod EachItem
-mod HeadPieces
-mod LineTexts
-mod ListPieces
-mod NamePieces
-mod NamesWritten
-mod NumberPieces
-mod PieceCuts
-mod RightsPieces
-mod SmallReads
-mod SmallRuns
-mod SmallSteps
-mod StillToRead
-mod WholeScripts
-mod WordLemmas
+pub mod AnswerLemmas
+pub mod Histories
+pub mod Passes
+pub mod Scheduled
+pub mod Ends

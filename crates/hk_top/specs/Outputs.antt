@@ -1,46 +1,89 @@
 -- What the program writes, and its status. docs/FORMATS.md, "Statuses and outputs".
-use Rattle.std.specs.Prelude.{◌≡◌, ℕ, ◌<◌, ◌⊎◌, List, [], ◌∷◌, ◌++◌, length, take, Option, codes}
+use Rattle.std.specs.Prelude.{◌≡◌, ℕ, ◌<◌, ◌≤◌, ◌⊎◌, List, [], ◌∷◌, ◌++◌, length, take, Bool, Option, Some, None, Ok, Err, All, codes, if◌then◌else◌}
 use Rattle.std.specs.Io.KnownBytes.{Consumes, Appends, IsAtEnd}
 use Rattle.hk_io.specs.Causes.{Rose}
 use Rattle.hk_io.specs.Streams.{Took}
+use Rattle.hk_model.specs.declared.names.Cpu.{Cpu}
+use Rattle.hk_model.specs.declared.causes.Cause.{Cause}
 use Rattle.hk_model.specs.declared.lines.Line.{Line}
+use Rattle.hk_model.specs.declared.lines.End.{End}
 use Rattle.hk_model.specs.declared.lines.End.TheVariants as end
-use Rattle.hk_model.specs.CauseTexts.{refusal_text, too_long_text}
+use Rattle.hk_model.specs.CauseTexts.{cause_name, refusal_text, too_long_text}
 use Rattle.hk_model.specs.Limits.{script_bytes}
 use Rattle.hk_model.specs.Setup.{Setup}
+use Rattle.hk_model.specs.Running.{opened, step, after_lines}
 use Rattle.hk_model.specs.Legal.{IsLegal}
-use Rattle.hk_model.specs.Texts.{ended_line}
-use Rattle.hk_model.specs.Records.{record_text, record_word, lines_text, end_text}
-use Rattle.hk_top.specs.SmallScripts.{Spells}
-
--- the words `run`
-abbrev pub IsRun : List (List ℕ) → Type 0
-IsRun words = words ≡ codes "run" ∷ []
+use Rattle.hk_model.specs.Descent.{DescentLaw}
+use Rattle.hk_model.specs.Marks.{EnvironmentLaw}
+use Rattle.hk_model.specs.Confinement.{ConfinementLaw, ClosedCallLaw}
+use Rattle.hk_model.specs.Worlds.{world}
+use Rattle.hk_model.specs.Canonical.{canon}
+use Rattle.hk_model.specs.Records.{record_text}
+use Rattle.hk_top.specs.Words.{IsRun, IsShow, IsCommand}
 
 -- what is written of words that are no command
 abbrev pub usage_text : List ℕ
 usage_text = codes "usage: hydra COMMAND [NUMBER]" ++ 10 ∷ []
 
--- what is written of bytes that are the script of no world
-abbrev pub form_text : List ℕ
-form_text = refusal_text 0 (codes "Form")
+-- the processor that runs a script alone
+abbrev pub first_processor : Cpu
+first_processor = record { 0 = 0 }
 
--- these bytes were read: they are all that the source had, up to its end
-abbrev pub WasRead : Option (List ℕ) → Option (List ℕ) → List ℕ → Type 0
-WasRead before after bytes = Consumes before after bytes × IsAtEnd after
+-- a whole run of a world on processor 0: its steps from the opening on, until it has none
+pub record IsWholeRun (w : Setup) (lines : List Line) (end : End) : Type 0 where
+  pub legal : IsLegal w lines end
+  pub alone : All (λ (line : Line). line.cpu ≡ first_processor) lines
+  pub last : step w (after_lines w (opened w) lines) first_processor ≡ None
+
+-- the first end word whose test passes
+abbrev pub first_word : Bool → Bool → Bool → Option End
+first_word done stuck at_limit = if done then Some end.Done else if stuck then Some end.Stuck else if at_limit then Some end.Limit else None
+
+-- the laws of protection over these lines
+pub record IsLawful (w : Setup) (lines : List Line) : Type 0 where
+  pub descent : DescentLaw w lines
+  pub environment : EnvironmentLaw w lines
+  pub confinement : ConfinementLaw w lines
+  pub closed_call : ClosedCallLaw w lines
+
+-- the status of a run that ended so
+abbrev pub status_of : End → ℕ
+status_of end.Done = 0
+status_of end.Stuck = 1
+status_of end.Limit = 7
+
+-- the record of a whole run, of which the laws hold, and its status
+pub record IsRecord (w : Setup) (status : ℕ) (text : List ℕ) : Type 0 where
+  pub lines : List Line
+  pub end : End
+  pub run : IsWholeRun w lines end
+  pub laws : IsLawful w lines
+  pub status_is : status ≡ status_of end
+  pub text_is : text ≡ record_text w lines end
+
+-- the status and the text that are due to these words and to the bytes of a script
+pub data DueTo (words : List (List ℕ)) (bytes : List ℕ) : ℕ → List ℕ → Type 0 where
+  -- 0, 1, 7: the bytes are the script of a world, and the text is the record of its run
+  record_of : (w : Setup) (status : ℕ) (text : List ℕ) → IsRun words → world bytes ≡ Ok w → IsRecord w status text → DueTo words bytes status text
+  -- 0: the bytes are the script of a world, and the text is its canonical script
+  script_of : (w : Setup) → IsShow words → world bytes ≡ Ok w → DueTo words bytes 0 (canon w)
+  -- 3: the bytes are the script of no world, and the text is the first line that is refused, with its first cause
+  refused : (line : ℕ) (cause : Cause) → IsCommand words → world bytes ≡ Err (line, cause) → DueTo words bytes 3 (refusal_text line (cause_name cause))
+
+-- these bytes were read: they are all that the source had, up to its end, and no more than a script may have
+pub record WasRead (before after : Option (List ℕ)) (bytes : List ℕ) : Type 0 where
+  pub taken : Consumes before after bytes
+  pub end : IsAtEnd after
+  pub few : length bytes ≤ script_bytes
 
 -- the status and the text that are due to these words, by what a source had before and after
 pub data Due (words : List (List ℕ)) (before after : Option (List ℕ)) : ℕ → List ℕ → Type 0 where
-  -- 0: the bytes read are the script of a world, and the text is the record of a legal history of it in which every process ends
-  record_of :
-      (bytes : List ℕ) (w : Setup) (lines : List Line) → IsRun words → WasRead before after bytes → Spells bytes w → IsLegal w lines end.Done
-      → Due words before after 0 (record_text w lines end.Done)
+  -- 0, 1, 3, 7: the source was read
+  read : (bytes : List ℕ) (status : ℕ) (text : List ℕ) → WasRead before after bytes → DueTo words bytes status text → Due words before after status text
   -- 2: the words are no command; the source is untouched
-  usage : (IsRun words → ⊥) → after ≡ before → Due words before after 2 usage_text
+  usage : (IsCommand words → ⊥) → after ≡ before → Due words before after 2 usage_text
   -- 3: more bytes were taken than a script may have
-  too_long : IsRun words → Took before after (λ bytes. script_bytes < length bytes) → Due words before after 3 too_long_text
-  -- 3: the bytes read are the script of no world
-  form : (bytes : List ℕ) → IsRun words → WasRead before after bytes → ((w : Setup) → Spells bytes w → ⊥) → Due words before after 3 form_text
+  too_long : IsCommand words → Took before after (λ bytes. script_bytes < length bytes) → Due words before after 3 too_long_text
 
 -- a stream before and after a call: the bytes that a source has left or that a sink has taken, where told, and its faults
 pub record Stream : Type 0 where
@@ -58,12 +101,12 @@ HadFault s = Rose s.faults_before s.faults_after
 
 -- the status of a call, and why it comes
 pub data Answer (words : List (List ℕ)) (input output : Stream) : ℕ → Type 0 where
-  -- 0, 2, 3: the sink took the whole text that is due
+  -- 0, 1, 2, 3, 7: the sink took the whole text that is due
   written : (status : ℕ) (text : List ℕ) → Due words input.before input.after status text → Appends output.before output.after text → Answer words input output status
   -- 4: a read failed
-  read_fault : IsRun words → HadFault input → Answer words input output 4
+  read_fault : IsCommand words → HadFault input → Answer words input output 4
   -- 5: want of memory
-  no_memory : IsRun words → Answer words input output 5
+  no_memory : IsCommand words → Answer words input output 5
   -- 6: a write failed, and the sink took a part of the text that is due, from its front
   write_fault :
       (status : ℕ) (text : List ℕ) (sent : ℕ) → Due words input.before input.after status text → HadFault output
@@ -74,7 +117,3 @@ abbrev pub IsSaid : ℕ → List ℕ → Stream → ℕ → Type 0
 IsSaid status text output result =
     ((result ≡ status) × Appends output.before output.after text)
     ⊎ ((result ≡ 6) × HadFault output × ((sent : ℕ) × (sent < length text) × Appends output.before output.after (take sent text)))
-
--- what stands behind the script in the record of a run in which every process ends
-abbrev pub behind_script : List Line → List ℕ
-behind_script lines = ended_line record_word ++ (lines_text lines ++ ended_line (end_text end.Done))

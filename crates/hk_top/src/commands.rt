@@ -1,15 +1,22 @@
 //! The commands, from words and bytes to bytes and a status.
 
-ghost use Rattle.std.specs.Prelude.{◌≡◌, ◌≢◌, ◌⊎◌, ◌∷◌, [], IfOk, IsErrOf, MatchResult, codes, map, string_bytes};
+ghost use Rattle.std.specs.Prelude.{◌≡◌, ◌≢◌, ◌≤◌, ◌⊎◌, IfOk, IsErrOf, length, map, string_bytes};
 ghost use Rattle.hk_io.specs.Causes.{Rose};
-ghost use Rattle.hk_top.specs.Outputs.{Answer, Due, IsRun, IsSaid, stream};
+ghost use Rattle.hk_model.specs.CauseTexts.{too_long_text};
+ghost use Rattle.hk_model.specs.Limits.{script_bytes};
+ghost use Rattle.hk_model.specs.Canonical.{canon};
+ghost use Rattle.hk_top.specs.Words.{IsCommand, words_of};
+ghost use Rattle.hk_top.specs.Outputs.{Answer, Due, DueTo, IsRecord, IsSaid, stream};
 
-use crate::parse::{ScriptError, small_script};
-use crate::record::record_bytes;
-use crate::run::run;
+use crate::causes::refusal_text;
+use crate::reading::{ScriptError, read_world};
+use crate::running::{laws, run_world};
 use crate::status;
-use crate::words::is_run;
+use crate::words::{Command, read_command};
+use hk_audit::{record_text, steps_have_texts};
 use hk_io::{ReadError, Sink, Source, read_all, write_all};
+use hk_model::{NoMemory, Text, World};
+use hk_print::script_text;
 use std::alloc::Global;
 
 /// The largest script, in bytes.
@@ -28,30 +35,17 @@ pub fn answer<S: Source, W: Sink>(
         (stream (W.taken output.old) (W.taken output.new) (W.faults output.old) (W.faults output.new)) result }
 
     // Words that are no command leave the source as it was, and what fails before the first write leaves the sink so.
-    ensures untouched { (IsRun (map string_bytes words.now) → ⊥) → input.new ≡ input.old }
+    ensures untouched { (IsCommand (map string_bytes words.now) → ⊥) → input.new ≡ input.old }
     ensures silent { (result ≡ 4) ⊎ (result ≡ 5) → output.new ≡ output.old }
 {
-    if !is_run(words) {
+    let Some(command) = read_command(words) else {
         return say(output, status::USAGE, b"usage: hydra COMMAND [NUMBER]\n");
-    }
-    match due_to_run(alloc, input) {
-        Ok(due) => say(output, due.status, &due.text),
+    };
+    match due(alloc, command, input) {
+        Ok(due) => say(output, due.status, due.text.as_bytes()),
         Err(Silence::ReadFault) => status::READ_FAULT,
         Err(Silence::NoMemory) => status::NO_MEMORY,
     }
-}
-
-// A status, and the text that goes with it.
-#[derive(Drop)]
-struct DueText {
-    status: u8,
-    text: Vec<u8>,
-}
-
-// Why nothing is written.
-enum Silence {
-    ReadFault,
-    NoMemory,
 }
 
 /// The top call: what `answer` does for all words that need no threads.
@@ -64,52 +58,103 @@ pub fn hydra<S: Source, W: Sink>(
     ensures answer { Answer (map string_bytes words.now)
         (stream (S.left input.old) (S.left input.new) (S.faults input.old) (S.faults input.new))
         (stream (W.taken output.old) (W.taken output.new) (W.faults output.old) (W.faults output.new)) result }
-    ensures untouched { (IsRun (map string_bytes words.now) → ⊥) → input.new ≡ input.old }
+    ensures untouched { (IsCommand (map string_bytes words.now) → ⊥) → input.new ≡ input.old }
     ensures silent { (result ≡ 4) ⊎ (result ≡ 5) → output.new ≡ output.old }
 {
     answer(alloc, words, input, output)
 }
 
-// What is due to the words `run`.
-fn due_to_run<S: Source>(alloc: Global, input: &mut S) -> Result<DueText, Silence>
-    ensures due { IfOk result (λ due. Due (codes "run" ∷ []) (S.left input.old) (S.left input.new) due.status due.text.items) }
-    ensures status { IfOk result (λ due. due.status ≢ 4 × due.status ≢ 5) }
-    ensures fault { IsErrOf result Silence.ReadFault → Rose (S.faults input.old) (S.faults input.new) }
-{
-    let bytes = match read_all(alloc, input, SCRIPT_BYTES) {
-        Ok(bytes) => bytes,
-        Err(ReadError::ReadFault) => return Err(Silence::ReadFault),
-        Err(ReadError::TooLong) => return refused(alloc, b"line 0: TooLong\n"),
-        Err(ReadError::NoMemory) => return Err(Silence::NoMemory),
-    };
-    let script = match small_script(alloc, &bytes) {
-        Ok(script) => script,
-        Err(ScriptError::Form) => return refused(alloc, b"line 0: Form\n"),
-        Err(ScriptError::NoMemory) => return Err(Silence::NoMemory),
-    };
-    let Ok(lines) = run(alloc, &script) else {
-        return Err(Silence::NoMemory);
-    };
-    match record_bytes(alloc, bytes, &lines) {
-        Ok(text) => Ok(DueText {
-            status: status::DONE,
-            text,
-        }),
-        Err(_) => Err(Silence::NoMemory),
+// A status, and the text that goes with it.
+#[derive(Drop)]
+struct DueText {
+    status: u8,
+    text: Text,
+}
+
+// Why nothing is written.
+#[derive(Clone, Copy)]
+enum Silence {
+    ReadFault,
+    NoMemory,
+}
+
+impl From<NoMemory> for Silence {
+    ghost use Rattle.std.specs.Prelude.{◌≡◌};
+    ghost use Rattle.hk_top.specs.declared.commands.Silence.{Silence};
+
+    ghost from_gives = { λ _ error. error ≡ Silence.NoMemory };
+
+    fn from(_error: NoMemory) -> Silence {
+        Silence::NoMemory
     }
 }
 
-// The text of an input that is refused.
-fn refused(alloc: Global, text: &[u8]) -> Result<DueText, Silence>
-    ensures { MatchResult result (λ due. (due.status ≡ 3) × (due.text.items ≡ text.now)) (λ error. error ≡ Silence.NoMemory) }
+// What is due to a command, which reads a script.
+fn due<S: Source>(alloc: Global, command: Command, input: &mut S) -> Result<DueText, Silence>
+    ensures due { IfOk result (λ due. Due (words_of command) (S.left input.old) (S.left input.new) due.status due.text) }
+    ensures status { IfOk result (λ due. due.status ≢ 4 × due.status ≢ 5) }
+    ensures fault { IsErrOf result Silence.ReadFault → Rose (S.faults input.old) (S.faults input.new) }
 {
-    match Vec::from_slice(alloc, text) {
-        Ok(text) => Ok(DueText {
-            status: status::REFUSED,
-            text,
-        }),
-        Err(_) => Err(Silence::NoMemory),
+    match read_all(alloc, input, SCRIPT_BYTES) {
+        Ok(bytes) => Ok(due_to_bytes(alloc, command, &bytes)?),
+        Err(ReadError::TooLong) => Ok(too_long(alloc)?),
+        Err(ReadError::ReadFault) => Err(Silence::ReadFault),
+        Err(ReadError::NoMemory) => Err(Silence::NoMemory),
     }
+}
+
+// What is due to more bytes than a script may have.
+fn too_long(alloc: Global) -> Result<DueText, NoMemory>
+    ensures { IfOk result (λ due. (due.status ≡ 3) × (due.text ≡ too_long_text)) }
+{
+    let text = String::from_str(alloc, "line 0: TooLong\n")?;
+    Ok(DueText {
+        status: status::REFUSED,
+        text: Text::from_string(text),
+    })
+}
+
+// What is due to a command and the bytes of a script.
+fn due_to_bytes(alloc: Global, command: Command, bytes: &[u8]) -> Result<DueText, NoMemory>
+    requires few { length bytes.now ≤ script_bytes }
+    ensures due { IfOk result (λ due. DueTo (words_of command) bytes.now due.status due.text) }
+    ensures status { IfOk result (λ due. due.status ≢ 4 × due.status ≢ 5) }
+{
+    match read_world(alloc, bytes) {
+        Ok(world) => match command {
+            Command::Run => record(alloc, &world),
+            Command::Show => script(alloc, &world),
+        },
+        Err(ScriptError::Refused { line, cause }) => Ok(DueText {
+            status: status::REFUSED,
+            text: refusal_text(alloc, line, cause)?,
+        }),
+        Err(ScriptError::NoMemory) => Err(NoMemory),
+    }
+}
+
+// What is due to `run` and a world: the record of its run.
+fn record(alloc: Global, world: &World) -> Result<DueText, NoMemory>
+    ensures { IfOk result (λ due. IsRecord world.now due.status due.text) }
+{
+    let run = run_world(alloc, world)?;
+    let lines = run.lines.as_slice();
+    laws(world, lines);
+    steps_have_texts(world, lines);
+    Ok(DueText {
+        status: status::of_run(run.end),
+        text: record_text(alloc, world, lines, run.end)?,
+    })
+}
+
+// What is due to `show` and a world: its canonical script.
+fn script(alloc: Global, world: &World) -> Result<DueText, NoMemory>
+    ensures { IfOk result (λ due. (due.status ≡ 0) × (due.text ≡ canon world.now)) }
+{
+    Ok(DueText {
+        status: status::DONE,
+        text: script_text(alloc, world)?,
+    })
 }
 
 // Writes a text. Where a write fails, its status stands in place of the one that the text had.

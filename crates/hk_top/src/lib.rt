@@ -1,16 +1,12 @@
 //! The commands of `hydra`, from words and bytes to bytes and a status.
 #![tactic(auto)]
 
+mod causes;
 mod commands;
 #[cfg(test)]
 mod commands_tests;
-mod parse;
 mod reading;
-mod record;
-mod run;
-#[cfg(test)]
-mod run_tests;
-mod small;
+mod running;
 pub mod status;
 mod words;
 

@@ -1,75 +1,85 @@
-//! The kernel of a small script: what its process holds, and the calls that it makes
-//! (`docs/RULES.md`, "The table of the calls").
+//! Bytes as a world, by the three passes (`docs/FORMATS.md`, its first paragraph).
 
-ghost use Rattle.std.specs.Prelude.{◌≡◌, ℕ, ◌<◌, ◌≤◌, ◌∷◌, [], length, slice_get};
-ghost use Rattle.hk_model.specs.declared.calls.Call.TheVariants as call;
-ghost use Rattle.hk_model.specs.Limits.{slot_limit};
-ghost use Rattle.hk_model.specs.Refusing.{allowed, item_at};
-ghost use Rattle.hk_model.specs.Walking.{held};
-ghost use Rattle.hk_model.specs.Rule.{rule};
-ghost use Rattle.hk_top.specs.SmallLines.{IsReadReply};
-ghost use Rattle.hk_top.specs.SmallRuns.{slot_entry, replied, running_state, the_process};
+ghost use Rattle.std.specs.Prelude.{◌≡◌, ◌≤◌, ℕ, Ok, Err, IfOk, length};
+ghost use Rattle.hk_model.specs.declared.causes.Cause.{Cause};
+ghost use Rattle.hk_model.specs.Limits.{script_bytes};
+ghost use Rattle.hk_model.specs.Worlds.{world};
+ghost use Rattle.hk_top.specs.Refusals.{IsRefused};
 
-use crate::small::SmallScript;
-use hk_model::{Cap, Entry, Name, Refusal, Slot};
-use hk_rights::Rights;
+use hk_load::{LoadError, load};
+use hk_model::{Cause, World};
+use hk_script::{ParseError, parse};
+use hk_text::{TextError, lines};
+use std::alloc::Global;
 
-/// The name of the one object, the first behind the kernel types.
-const THE_OBJECT: Name = Name(7);
+/// Why bytes are the script of no world.
+#[derive(Clone, Copy, PartialEq, Eq, Debug)]
+pub enum ScriptError {
+    /// The first line that is refused, numbered from 1, and its first cause.
+    Refused { line: u32, cause: Cause },
+    /// Want of memory.
+    NoMemory,
+}
 
-/// What a slot of the process holds.
-fn entry_at(script: &SmallScript, slot: Slot) -> Entry
-    ensures { result ≡ slot_entry (slice_get script.now.rights slot.0) }
-{
-    match script.rights.as_slice().get(usize::from(slot.0)) {
-        Some(rights) => Entry::Held(Cap {
-            name: THE_OBJECT,
-            rights: *rights,
-        }),
-        None => Entry::Empty,
+impl From<TextError> for ScriptError {
+    ghost use Rattle.std.specs.Prelude.{◌≡◌};
+    ghost use Rattle.hk_top.specs.Refusals.{of_text};
+
+    ghost from_gives = { λ error gives. gives ≡ of_text error };
+
+    fn from(error: TextError) -> ScriptError {
+        match error {
+            TextError::Refused { line, cause } => ScriptError::Refused {
+                line,
+                cause: Cause::OfText(cause),
+            },
+            TextError::NoMemory => ScriptError::NoMemory,
+        }
     }
 }
 
-/// The capability that stands there: one is needed.
-fn held(entry: Entry, step: u8) -> Result<Cap, Refusal>
-    ensures { result ≡ held entry step }
-{
-    match entry {
-        Entry::Empty => Err(Refusal::Empty { step }),
-        Entry::Form(_form) => Err(Refusal::NotCap { step }),
-        Entry::Held(cap) => Ok(cap),
+impl From<ParseError> for ScriptError {
+    ghost use Rattle.std.specs.Prelude.{◌≡◌};
+    ghost use Rattle.hk_top.specs.Refusals.{of_parse};
+
+    ghost from_gives = { λ error gives. gives ≡ of_parse error };
+
+    fn from(error: ParseError) -> ScriptError {
+        match error {
+            ParseError::Refused { line, cause } => ScriptError::Refused {
+                line,
+                cause: Cause::OfParse(cause),
+            },
+            ParseError::NoMemory => ScriptError::NoMemory,
+        }
     }
 }
 
-/// Refuses for the lowest right that is needed and missing, if any is.
-fn allowed(rights: Rights, need: Rights, step: u8) -> Result<(), Refusal>
-    ensures { result ≡ allowed rights need step }
-{
-    match rights.first_missing(need) {
-        None => Ok(()),
-        Some(right) => Err(Refusal::Denied { step, right }),
+impl From<LoadError> for ScriptError {
+    ghost use Rattle.std.specs.Prelude.{◌≡◌};
+    ghost use Rattle.hk_top.specs.Refusals.{of_load};
+
+    ghost from_gives = { λ error gives. gives ≡ of_load error };
+
+    fn from(error: LoadError) -> ScriptError {
+        match error {
+            LoadError::Refused { line, cause } => ScriptError::Refused {
+                line,
+                cause: Cause::OfLoad(cause),
+            },
+            LoadError::NoMemory => ScriptError::NoMemory,
+        }
     }
 }
 
-/// The word at an index, which is below the number of words.
-fn word_at(words: &[u32], at: u32, step: u8) -> Result<u32, Refusal>
-    ensures { result ≡ item_at words.now at step }
+/// The world that the bytes of a script declare. `Refused` tells the first line that is refused, and
+/// its first cause. Want of memory is `NoMemory`.
+pub(crate) fn read_world(alloc: Global, bytes: &[u8]) -> Result<World, ScriptError>
+    requires few { length bytes.now ≤ script_bytes }
+    ensures ok { IfOk result (λ w. world bytes.now ≡ Ok w) }
+    ensures refused { (line : ℕ) (cause : Cause) → IsRefused result line cause → world bytes.now ≡ Err (line, cause) }
 {
-    match words.get(at as usize) {
-        Some(word) => Ok(*word),
-        None => Err(Refusal::Range { step }),
-    }
-}
-
-/// The word that a read replies, or why it is refused: at each number of events this is the rule of
-/// the call. The type of the object needs no test, since DATA is general.
-pub(crate) fn get(script: &SmallScript, slot: Slot, at: u32) -> Result<u32, Refusal>
-    requires rights { length script.now.rights ≤ slot_limit }
-    requires slot { slot.0 < slot_limit }
-    ensures rule { (events : ℕ) → (rule (running_state script.now events) the_process (call.Get (slot.0 ∷ []) at)).0 ≡ replied result }
-    ensures small { IsReadReply (replied result) }
-{
-    let cap = held(entry_at(script, slot), 0)?;
-    allowed(cap.rights, Rights::GETDATA, 0)?;
-    word_at(script.words.as_slice(), at, 1)
+    let lines = lines(alloc, bytes)?;
+    let syntax = parse(alloc, &lines, bytes)?;
+    Ok(load(alloc, &syntax)?)
 }

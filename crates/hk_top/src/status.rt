@@ -1,7 +1,15 @@
 //! The statuses that the program ends with (`docs/FORMATS.md`, "Statuses and outputs").
 
-/// The text was written, and every process had ended.
+ghost use Rattle.std.specs.Prelude.{◌≡◌};
+ghost use Rattle.hk_top.specs.Outputs.{status_of};
+
+use hk_model::End;
+
+/// The text was written; of a run, every process had ended.
 pub const DONE: u8 = 0;
+
+/// The record was written, of a run in which no process was ready or ran at the end, and some waited.
+pub const STUCK: u8 = 1;
 
 /// The words are no command.
 pub const USAGE: u8 = 2;
@@ -17,3 +25,17 @@ pub const NO_MEMORY: u8 = 5;
 
 /// A write failed.
 pub const WRITE_FAULT: u8 = 6;
+
+/// The record was written, of a run whose events came to the limit before it was done or stuck.
+pub const LIMIT: u8 = 7;
+
+/// The status of a run that ended so.
+pub(crate) fn of_run(end: End) -> u8
+    ensures { result ≡ status_of end }
+{
+    match end {
+        End::Done => DONE,
+        End::Stuck => STUCK,
+        End::Limit => LIMIT,
+    }
+}

@@ -1,14 +1,36 @@
-//! The words that the program is called with.
+//! The words that the program is called with (`docs/FORMATS.md`, "Statuses and outputs").
 
-ghost use Rattle.std.specs.Prelude.{◌≡◌, ◌↔◌, IsTrue, map, string_bytes};
-ghost use Rattle.hk_top.specs.Outputs.{IsRun};
+ghost use Rattle.std.specs.Prelude.{[], ◌∷◌, map, string_bytes};
+ghost use Rattle.hk_top.specs.Words.{Calls};
 
-/// Whether the words are `run`.
-pub(crate) fn is_run(words: &[String]) -> bool
-    ensures { IsTrue result ↔ IsRun (map string_bytes words.now) }
+/// What the program can do.
+#[derive(Clone, Copy, PartialEq, Eq, Debug)]
+pub enum Command {
+    /// Runs a script on processor 0, and writes its record.
+    Run,
+    /// Writes the canonical script of the world that a script declares.
+    Show,
+}
+
+/// The command of these words. None exactly where they are no command.
+pub(crate) fn read_command(words: &[String]) -> Option<Command>
+    ensures { Calls result (map string_bytes words.now) }
 {
     match words {
-        [word] => word.as_str() == "run",
-        _ => false,
+        [word] => command_of_word(word.as_str()),
+        _ => None,
     }
+}
+
+// The command of this one word.
+fn command_of_word(word: &str) -> Option<Command>
+    ensures { Calls result (word.now ∷ []) }
+{
+    if word == "run" {
+        return Some(Command::Run);
+    }
+    if word == "show" {
+        return Some(Command::Show);
+    }
+    None
 }

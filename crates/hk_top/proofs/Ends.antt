@@ -1,0 +1,99 @@
+-- Where processor 0 has no step, the state has an end word.
+use Rattle.std.proofs.Common.{◌≡◌, ◌≢◌, ℕ, ◌+◌, List, [], ◌∷◌, Bool, true, false, Option, Some, None, refl, subst, cond, ap, ◌∙◌, inl, inr}
+use Rattle.std.specs.Prelude.{◌⊎◌, ◌||◌, ◌&&◌, not, map}
+use Rattle.std.specs.List.{list_all, list_any}
+use Rattle.std.proofs.lemmas.List.Folds.{list_all-map}
+use Rattle.hk_model.specs.declared.names.Inc.{Inc}
+use Rattle.hk_model.specs.declared.names.Proc.{Proc}
+use Rattle.hk_model.specs.declared.lines.End.{End}
+use Rattle.hk_model.specs.declared.lines.End.TheVariants as end
+use Rattle.hk_model.specs.declared.snapshot.Snapshot.{Snapshot}
+use Rattle.hk_model.specs.declared.objects.Process.{Process}
+use Rattle.hk_model.specs.declared.objects.ProcessState.{ProcessState}
+use Rattle.hk_model.specs.declared.objects.ProcessState.TheVariants.{Ready, Running, Waiting, Ended}
+use Rattle.hk_model.specs.Setup.{Setup}
+use Rattle.hk_model.specs.State.{State}
+use Rattle.hk_model.specs.Processors.{runner, runner_from, is_ready, is_running, is_waiting, has_ended, is_over, may_step, dispatched_from}
+use Rattle.hk_model.specs.Running.{Machine, event_of, dispatch_event, step}
+use Rattle.hk_model.specs.Snapshots.{shown}
+use Rattle.hk_model.specs.Legal.{end_word}
+use Rattle.hk_top.specs.Outputs.{first_processor, first_word}
+use Rattle.hk_top.proofs.Scheduled.{Placed, ArePlaced, IsPlaced}
+
+-- processes of which none is ready or runs
+record AreStill (ps : List Process) : Type 0 where
+  over : list_any (λ (p : Process). is_ready p.run || is_running p.run) ps ≡ false
+  settled : (list_all (λ (p : Process). has_ended p.run) ps ≡ true) ⊎ (list_any (λ (p : Process). is_waiting p.run) ps ≡ true)
+
+-- a process before processes that are still
+still_before : (n : ℕ) (run : ProcessState) (current : Inc) (ps : List Process) → IsPlaced [] n run → runner_from (record { run = run; current = current } ∷ ps) first_processor n ≡ None
+    → (runner_from ps first_processor (n + 1) ≡ None → AreStill ps) → AreStill (record { run = run; current = current } ∷ ps)
+still_before n Ready current ps h r rest = absurd h
+still_before n (Running cpu) current ps h r rest = let g = rw h at r in absurd (cc)
+still_before n (Waiting at) current ps h r rest = record { over = (rest r).over; settled = inr refl }
+still_before n Ended current ps h r rest = record { over = (rest r).over; settled = (rest r).settled }
+
+-- processes in their places are still where none is ready and processor 0 runs none
+still : (n : ℕ) (ps : List Process) → ArePlaced [] n ps → runner_from ps first_processor n ≡ None → AreStill ps
+still n [] h r = record { over = refl; settled = inl refl }
+still n (p ∷ ps) h r = still_before n p.run p.current ps h.0 r (still (n + 1) ps h.1)
+
+-- where processor 0 has no step
+data HasNone (s : State) : Type 0 where
+  at_limit : may_step s ≡ false → HasNone s
+  idle : runner s first_processor ≡ None → s.ready ≡ [] → HasNone s
+
+none_of : (w : Setup) (m : Machine) → step w m first_processor ≡ None → HasNone m.state
+unfolding step
+none_of w m h = by (may_step m.state) refl h
+  where
+    waits : (ready : List Proc) → m.state.ready ≡ ready → runner m.state first_processor ≡ None → dispatch_event m first_processor (dispatched_from m.state first_processor ready) ≡ None → HasNone m.state
+    waits [] e r g = idle r e
+    waits (first ∷ rest) e r g = absurd (cc)
+
+    runs : (found : Option Proc) → runner m.state first_processor ≡ found → event_of w m first_processor found ≡ None → HasNone m.state
+    runs (Some proc) e g = absurd (cc)
+    runs None e g = waits m.state.ready refl e g
+
+    by : (b : Bool) → may_step m.state ≡ b → cond b (event_of w m first_processor (runner m.state first_processor)) None ≡ None → HasNone m.state
+    by true e g = runs (runner m.state first_processor) refl g
+    by false e g = at_limit e
+
+-- the choice of the end word, by its tests
+word_by : (ended busy waits may : Bool) → ((busy ≡ false) × ((ended ≡ true) ⊎ (waits ≡ true))) ⊎ (may ≡ false) → cond ended (Some end.Done) (cond (not busy && waits) (Some end.Stuck) (cond (not may) (Some end.Limit) None)) ≢ None
+word_by true busy waits may h e = absurd (cc)
+word_by false busy waits false h e = by busy waits e
+  where
+    by : (busy waits : Bool) → cond (not busy && waits) (Some end.Stuck) (Some end.Limit) ≢ None
+    by true waits e = absurd (cc)
+    by false true e = absurd (cc)
+    by false false e = absurd (cc)
+word_by false true waits true (inl h) e = absurd (cc)
+word_by false true waits true (inr h) e = absurd (cc)
+word_by false false true true h e = absurd (cc)
+word_by false false false true (inl (h, inl g)) e = absurd (cc)
+word_by false false false true (inl (h, inr g)) e = absurd (cc)
+word_by false false false true (inr h) e = absurd (cc)
+
+-- the end word of a state in whose places processor 0 has no step
+pub ends : (w : Setup) (m : Machine) → Placed m.state → step w m first_processor ≡ None → end_word m.state ≢ None
+ends w m p h = by (none_of w m h)
+  where
+    by : HasNone m.state → end_word m.state ≢ None
+    by (at_limit e) = word_by (list_all (λ (p : Process). has_ended p.run) m.state.processes) (list_any (λ (p : Process). is_ready p.run || is_running p.run) m.state.processes) (list_any (λ (p : Process). is_waiting p.run) m.state.processes) (may_step m.state) (inr e)
+    by (idle r e) =
+        let s = still 0 m.state.processes (subst (λ ready. ArePlaced ready 0 m.state.processes) e p) r in
+        word_by (list_all (λ (p : Process). has_ended p.run) m.state.processes) (list_any (λ (p : Process). is_ready p.run || is_running p.run) m.state.processes) (list_any (λ (p : Process). is_waiting p.run) m.state.processes) (may_step m.state) (inl (s.over, s.settled))
+
+-- the end word by the tests of a snapshot
+any_map : (f : ProcessState → Bool) (ps : List Process) → list_any f (map (λ (p : Process). p.run) ps) ≡ list_any (λ (p : Process). f p.run) ps
+any_map f [] = refl
+any_map f (p ∷ ps) = ap (λ b. f p.run || b) (any_map f ps)
+
+pub word_is : (s : State) (snapshot : Snapshot) (processes : List ProcessState) (done over waits full : Bool) (word : Option End) → snapshot ≡ shown s → processes ≡ snapshot.processes
+    → done ≡ list_all has_ended processes → over ≡ is_over s → waits ≡ list_any is_waiting processes → full ≡ not (may_step s) → word ≡ first_word done (over && waits) full → word ≡ end_word s
+word_is s snapshot processes done over waits full word h p d o w l e =
+    let same : processes ≡ map (λ (p : Process). p.run) s.processes = p ∙ ap (λ (t : Snapshot). t.processes) h in
+    let ended : done ≡ list_all (λ (p : Process). has_ended p.run) s.processes = d ∙ ap (list_all has_ended) same ∙ list_all-map has_ended (λ (p : Process). p.run) s.processes in
+    let wait : waits ≡ list_any (λ (p : Process). is_waiting p.run) s.processes = w ∙ ap (list_any is_waiting) same ∙ any_map is_waiting s.processes in
+    e ∙ (rw (ended, o, wait, l) refl)

@@ -1,6 +1,0 @@
-use Rattle.std.proofs.Common.{◌≡◌, ◌++◌, string_bytes, take}
-use Rattle.hk_model.specs.Records.{lines_text}
-use Rattle.hk_top.proofs.record.write_lines.Given as goal
-
-abbrev pub invariant-loop-line : goal.invariant-loop-line
-invariant-loop-line l = string_bytes l.out ≡ string_bytes l.initial.out ++ lines_text (take l.line-index l.lines)

@@ -1,0 +1,30 @@
+-- Refusals of the passes as refusals of a script. docs/FORMATS.md, "Text", "Grammar" and "Loading".
+use Rattle.std.specs.Prelude.{◌≡◌, ℕ, Result, Err}
+use Rattle.hk_model.specs.declared.causes.Cause.{Cause}
+use Rattle.hk_model.specs.declared.causes.Cause.TheVariants.{OfText, OfParse, OfLoad}
+use Rattle.hk_text.specs.declared.errors.TextError.{TextError}
+use Rattle.hk_text.specs.declared.errors.TextError.TheVariants as text_error
+use Rattle.hk_script.specs.declared.errors.ParseError.{ParseError}
+use Rattle.hk_script.specs.declared.errors.ParseError.TheVariants as parse_error
+use Rattle.hk_load.specs.declared.LoadError.{LoadError}
+use Rattle.hk_load.specs.declared.LoadError.TheVariants as load_error
+use Rattle.hk_top.specs.declared.reading.ScriptError.{ScriptError}
+use Rattle.hk_top.specs.declared.reading.ScriptError.TheVariants as script_error
+
+-- the answer is that this line is refused for this cause
+abbrev pub IsRefused : {X : Type 0} → Result X ScriptError → ℕ → Cause → Type 0
+IsRefused result line cause = result ≡ Err (script_error.Refused line cause)
+
+-- the error of a pass, as an error of the whole
+
+abbrev pub of_text : TextError → ScriptError
+of_text (text_error.Refused line cause) = script_error.Refused line (OfText cause)
+of_text text_error.NoMemory = script_error.NoMemory
+
+abbrev pub of_parse : ParseError → ScriptError
+of_parse (parse_error.Refused line cause) = script_error.Refused line (OfParse cause)
+of_parse parse_error.NoMemory = script_error.NoMemory
+
+abbrev pub of_load : LoadError → ScriptError
+of_load (load_error.Refused line cause) = script_error.Refused line (OfLoad cause)
+of_load load_error.NoMemory = script_error.NoMemory
