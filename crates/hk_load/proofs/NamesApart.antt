@@ -75,5 +75,5 @@ pub head_new : (n : Names) (items : List Item) (at : ℕ) (item : Item) → at <
 head_new n items at item more e whole h =
     let same = sym (at_item n items at item more e) ∙ whole in
     new_head n item.head (map (λ (i : Item). i.head) (drop (at + 1) items))
-        (ap (λ (m : Names). are_apart m.objects) same ∙ objects_apart items h)
-        (ap (λ (m : Names). are_apart m.codes) same ∙ codes_apart items h)
+    (ap (λ (m : Names). are_apart m.objects) same ∙ objects_apart items h)
+    (ap (λ (m : Names). are_apart m.codes) same ∙ codes_apart items h)

@@ -210,12 +210,7 @@ fn restrict(slot: Slot, keep: &Text) -> Result<Instr, LineError>
 }
 
 /// `template PATH amplify CHECK GIVE INTO`, or `template PATH create GIVE INTO`
-fn template(
-    alloc: Global,
-    of: &Route,
-    making: &MakingText,
-    into: Slot,
-) -> Result<Instr, LineError>
+fn template(alloc: Global, of: &Route, making: &MakingText, into: Slot) -> Result<Instr, LineError>
     ensures { (labels : List Label) → Gives (λ x. x) result (instr_of labels (written.MakeTemplate of.now making.now into)) }
 {
     let making = making_of(making)?;

@@ -21,7 +21,9 @@ use std::alloc::Global;
 use std::marker::PhantomData;
 
 const DATA: Name = Name(1);
+
 const UNIVERSAL: Name = Name(2);
+
 const LAST_KERNEL_TYPE: Name = Name(6);
 
 /// What the items before have given.
@@ -62,7 +64,9 @@ impl Loaded {
             Head::SemaphoreIs { name, count } => {
                 self.add_single(alloc, item.line, name, Kind::Semaphore { count: *count })
             }
-            Head::ProcedureIs { name, code } => self.add_procedure(alloc, declared, item, name, code),
+            Head::ProcedureIs { name, code } => self.add_procedure(
+                alloc, declared, item, name, code,
+            ),
             Head::CodeIs { name } => self.add_code(alloc, item, name),
             Head::ProcessIs { name, code } => self.add_task(alloc, declared, item, name, code),
         }

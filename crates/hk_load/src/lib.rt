@@ -13,6 +13,8 @@ mod loading;
 mod names;
 mod rights;
 mod steps;
+#[cfg(test)]
+mod tests;
 
 pub use crate::errors::LoadError;
 pub use crate::loading::load;

@@ -17,7 +17,6 @@ use std::alloc::Global;
 /// The world that a script declares. `Refused` tells the first line that can not be loaded, and the
 /// first of its causes (`docs/FORMATS.md`, "Loading"). Want of memory is `NoMemory`.
 pub fn load(alloc: Global, syntax: &Syntax) -> Result<World, LoadError>
-    requires { IsSyntax syntax.now }
     ensures ok { IfOk result (λ w. load syntax.now ≡ Ok w) }
     ensures refused { (line : ℕ) (cause : LoadCause) → IsRefused result line cause → load syntax.now ≡ Err (line, cause) }
 {

@@ -2,8 +2,11 @@ use Rattle.hk_model.specs.Loading.{load}
 use Rattle.hk_load.proofs.Outcomes.{loaded_ok, loaded_refused}
 use Rattle.hk_load.proofs.loading.load.Goals as goal
 
+pub load_items-requires : goal.load_items-requires
+load_items-requires c = rw c.items.ensures.items c.items.ensures.valid
+
 pub returns-clause-ok : goal.returns-clause-ok
-returns-clause-ok c = rw c.items.ensures at (loaded_ok (λ w. w) c.load_items.result (load c.items.result.now) c.load_items.ensures)
+returns-clause-ok c = rw c.items.ensures.items at (loaded_ok (λ w. w) c.load_items.result (load c.items.result.now) c.load_items.ensures)
 
 pub returns-clause-refused : goal.returns-clause-refused
-returns-clause-refused c = rw c.items.ensures at (loaded_refused (λ w. w) c.load_items.result (load c.items.result.now) c.load_items.ensures)
+returns-clause-refused c = rw c.items.ensures.items at (loaded_refused (λ w. w) c.load_items.result (load c.items.result.now) c.load_items.ensures)
