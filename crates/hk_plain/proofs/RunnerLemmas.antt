@@ -2,7 +2,7 @@
 use Rattle.std.proofs.Common.{◌≡◌, ℕ, zero, suc, ◌+◌, ◌<◌, ◌≤◌, ◌==◌, ◌||◌, Bool, true, false, cond, List, [], ◌∷◌, length, get_or, replicate, Option, Some, None, refl, ap, sym, subst, ◌∙◌, arith, nat_lt}
 use Rattle.std.specs.Prelude.{slice_get, slice_set, count_by}
 use Rattle.std.specs.Option.{unwrap_or}
-use Rattle.std.specs.List.{list_any, sum_by}
+use Rattle.std.specs.List.{list_any}
 use Rattle.std.proofs.lemmas.List.{length-set}
 use Rattle.std.proofs.lemmas.List.Sums.{sum_by-set, sum_by-cons, get_or-le-sum_by}
 use Rattle.std.proofs.lemmas.Option.{unwrap_or-slice_get, slice_get_read}
@@ -13,7 +13,7 @@ use Rattle.hk_model.specs.declared.names.Cpu.{Cpu}
 use Rattle.hk_model.specs.declared.objects.Process.{Process}
 use Rattle.hk_model.specs.declared.objects.ProcessState.{ProcessState}
 use Rattle.hk_model.specs.declared.objects.ProcessState.TheVariants.{Ready, Running, Waiting, Ended}
-use Rattle.hk_model.specs.Processors.{is_on, is_ready, is_running, runner_from}
+use Rattle.hk_model.specs.Processors.{is_on, is_running, runner_from}
 use Rattle.hk_plain.specs.Runners.{process_at, with_run, with_current, is_live, weight, has_place, place_of, freed, IsPlaced}
 
 -- numbers and their tests

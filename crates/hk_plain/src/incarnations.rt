@@ -1,8 +1,9 @@
-//! The live incarnations.
+//! The live incarnations (`docs/RULES.md`, "Objects, incarnations, processes").
 //!
-//! Beside them stands the stack of each process, which has the numbers of its incarnations. So one
-//! more incarnation, its leaving, and the depth of a process cost the logarithm of the number of
-//! incarnations, and the end of a process costs that for each incarnation that goes.
+//! Beside them stands the stack of each process, which has the numbers of its incarnations. So the
+//! depth of a process and one more incarnation cost the logarithm of the number of incarnations, one
+//! that goes costs that and a look at the stack of its process, and the end of a process costs that
+//! for each incarnation that goes.
 
 ghost use Rattle.std.specs.Prelude.{◌≡◌, ◌==◌, ◌<◌, ◌^◌, not, filter, OnOk, OnErr, count_by, [], option_copied};
 ghost use Rattle.std.specs.Map.{lookup, set_value, remove_entry};

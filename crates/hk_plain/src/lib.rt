@@ -1,8 +1,12 @@
 //! The plain kernel: the rule table over ordered maps (`docs/RULES.md`, "The table of the calls").
 //!
 //! Each call is one small function, whose contract is its row of the table. The files are by
-//! subject: `tables` has the state, `walks` and `targets` the tests that the calls share, `plain`
-//! the kernel over them.
+//! subject: `tables` has the state, `processes`, `incarnations` and `stacks` its parts with what is
+//! kept beside them, `walks` and `targets` the tests that the calls share, `plain` the kernel over
+//! them.
+//!
+//! A step costs no more than the size of what it touches and the logarithm of the number of
+//! objects, incarnations and processes.
 #![tactic(auto)]
 
 mod activations;

@@ -1,4 +1,4 @@
-//! The processes, and which of them each processor runs.
+//! The processes, and which of them each processor runs (`docs/RULES.md`, "Steps of processors").
 //!
 //! Beside the processes stands a place for each processor, with the process that it runs, and how many
 //! processes are ready or run. So each call here costs the same however many processes there are.

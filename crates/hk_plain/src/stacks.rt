@@ -1,7 +1,8 @@
 //! The numbers of the live incarnations of each process, oldest first.
 //!
-//! A process has at most 64 live incarnations, so its stack is short; the stack of a process is found
-//! in the logarithm of the number of processes.
+//! The stack of a process is found in the logarithm of the number of processes. It has at most 64
+//! numbers: its length and its end cost the same however many there are, and taking a number out of
+//! it looks at each.
 
 ghost use Rattle.std.specs.Prelude.{◌≡◌, ◌==◌, ◌-◌, [], ◌∷◌, ◌++◌, length, take, OnOk, OnErr, IsSome, unwrap_or, if◌then◌else◌};
 ghost use Rattle.hk_model.specs.declared.names.Proc.{Proc};

@@ -5,7 +5,7 @@ ghost use Rattle.std.specs.Prelude.{◌≡◌, IfOk};
 use crate::Plain;
 use hk_model::{
     Born, Call, Cap, Code, Cpu, Entries, Entry, Inc, Items, Kernel, Kind, Name, Path, Proc,
-    Refusal, Reply, Task, Text, Words, World,
+    Refusal, Reply, Snapshot, Task, Text, Words, World,
 };
 use hk_rights::{Right, Rights};
 use std::alloc::{AllocError, Global};
@@ -50,20 +50,78 @@ fn world(alloc: Global) -> Result<World, Fail> {
     Ok(World::new(10_000, objects, codes, tasks))
 }
 
+// The kernel in which the world opens.
+fn opened(alloc: Global) -> Result<Plain, Fail> {
+    let world = world(alloc)?;
+    match Plain::new(alloc, &world) {
+        Ok(kernel) => Ok(kernel),
+        Err(_) => Err("a kernel".into()),
+    }
+}
+
+// What the opening shows.
+fn shown(alloc: Global) -> Result<Snapshot, Fail> {
+    let kernel = opened(alloc)?;
+    match kernel.snapshot(alloc) {
+        Ok(shown) => Ok(shown),
+        Err(_) => Err("a snapshot".into()),
+    }
+}
+
+// The name of the last object, its type, and its words, where it has one.
+fn last_object(shown: &Snapshot) -> Option<(Name, Name, u32)> {
+    let last = shown.objects.as_slice().last()?;
+    match last.words.as_slice() {
+        [word] => Some((last.name, last.of, *word)),
+        _ => None,
+    }
+}
+
+// The slots of the only incarnation.
+fn slots_of_the_base(shown: &Snapshot) -> Option<usize> {
+    match shown.incarnations.as_slice() {
+        [base] => Some(base.slots.len()),
+        _ => None,
+    }
+}
+
+// The only ready process.
+fn ready_process(shown: &Snapshot) -> Option<Proc> {
+    match shown.ready.as_slice() {
+        [proc] => Some(*proc),
+        _ => None,
+    }
+}
+
+// What the opening shows, in numbers.
+#[derive(Clone, Copy)]
+struct Opening {
+    objects: usize,
+    last: Option<(Name, Name, u32)>,
+    slots: Option<usize>,
+    ready: Option<Proc>,
+    next_name: Name,
+}
+
+fn seen_at_the_opening(alloc: Global) -> Result<Opening, Fail> {
+    let shown = shown(alloc)?;
+    Ok(Opening {
+        objects: shown.objects.len(),
+        last: last_object(&shown),
+        slots: slots_of_the_base(&shown),
+        ready: ready_process(&shown),
+        next_name: shown.next_name,
+    })
+}
+
 #[test]
 fn the_opening_shows_the_object(rt: HostRuntime) -> Result<(), Fail> {
-    let alloc = rt.alloc();
-    let kernel = Plain::new(alloc, &world(alloc)?).ok().ok_or("a kernel")?;
-    let shown = kernel.snapshot(alloc).ok().ok_or("a snapshot")?;
-    assert_eq!(rt; shown.objects.len(), 8);
-    let last = &shown.objects.as_slice()[7];
-    assert_eq!(rt; last.name, Name(7));
-    assert_eq!(rt; last.of, Name(1));
-    assert_eq!(rt; last.words.as_slice(), [7].as_slice());
-    assert_eq!(rt; shown.incarnations.len(), 1);
-    assert_eq!(rt; shown.incarnations.as_slice()[0].slots.len(), 64);
-    assert_eq!(rt; shown.ready.as_slice(), [Proc(0)].as_slice());
-    assert_eq!(rt; shown.next_name, Name(8));
+    let opening = seen_at_the_opening(rt.alloc())?;
+    assert_eq!(rt; opening.objects, 8);
+    assert!(rt; opening.last == Some((Name(7), Name(1), 7)));
+    assert_eq!(rt; opening.slots, Some(64));
+    assert!(rt; opening.ready == Some(Proc(0)));
+    assert!(rt; opening.next_name == Name(8));
     Ok(())
 }
 
@@ -73,6 +131,16 @@ fn dispatched(kernel: &mut Plain) -> Option<Proc> {
         return None;
     }
     kernel.dispatch(Cpu(0))
+}
+
+// The process that the processor runs, and its incarnation.
+fn current(kernel: &Plain) -> Option<(Proc, Inc)> {
+    kernel.current(Cpu(0))
+}
+
+// Whether nothing is left to run.
+fn over(kernel: &Plain) -> bool {
+    kernel.over()
 }
 
 // The reply to a call of the process that the processor runs.
@@ -86,28 +154,72 @@ fn reply_to(alloc: Global, kernel: &mut Plain, call: Call) -> Option<Reply> {
     }
 }
 
-#[test]
-fn a_process_reads_and_is_halted(rt: HostRuntime) -> Result<(), Fail> {
-    let alloc = rt.alloc();
-    let mut kernel = Plain::new(alloc, &world(alloc)?).ok().ok_or("a kernel")?;
-    let slot_0 = Path::new(&[0]).ok_or("a path")?;
-    assert_eq!(rt; dispatched(&mut kernel), Some(Proc(0)));
-    assert_eq!(rt; kernel.current(Cpu(0)), Some((Proc(0), Inc(0))));
-    let call = Call::Get { of: slot_0, at: 0 };
-    assert_eq!(rt; reply_to(alloc, &mut kernel, call), Some(Reply::Word(7)));
-    let call = Call::Add {
-        of: slot_0,
-        word: 8,
-    };
+// Halts the process that the processor runs.
+fn halt(kernel: &mut Plain) {
+    if kernel.current(Cpu(0)).is_some() && !kernel.limit_reached() {
+        kernel.halt(Cpu(0));
+    }
+}
+
+// Whether the process is given to the processor, with its base incarnation.
+fn is_given(kernel: &mut Plain) -> bool {
+    dispatched(kernel) == Some(Proc(0)) && current(kernel) == Some((Proc(0), Inc(0)))
+}
+
+// Whether the word of the object is read.
+fn is_read(alloc: Global, kernel: &mut Plain) -> bool {
+    match Path::new(&[0]) {
+        Some(of) => reply_to(alloc, kernel, Call::Get { of, at: 0 }) == Some(Reply::Word(7)),
+        None => false,
+    }
+}
+
+// Whether no word may be added to the object.
+fn is_kept(alloc: Global, kernel: &mut Plain) -> bool {
     let denied = Refusal::Denied {
         step: 0,
         right: Right::ADDDATA,
     };
-    assert_eq!(rt; reply_to(alloc, &mut kernel, call), Some(Reply::No(denied)));
-    assert!(rt; !kernel.over());
-    if kernel.current(Cpu(0)).is_some() && !kernel.limit_reached() {
-        kernel.halt(Cpu(0));
+    match Path::new(&[0]) {
+        Some(of) => {
+            reply_to(alloc, kernel, Call::Add { of, word: 8 }) == Some(Reply::No(denied))
+        }
+        None => false,
     }
-    assert!(rt; kernel.over());
+}
+
+// Whether the process is all that there is to run.
+fn is_halted(kernel: &mut Plain) -> bool {
+    let before = over(kernel);
+    halt(kernel);
+    !before && over(kernel)
+}
+
+// How the smallest run goes.
+#[derive(Clone, Copy)]
+struct Run {
+    given: bool,
+    read: bool,
+    kept: bool,
+    halted: bool,
+}
+
+fn smallest_run(alloc: Global) -> Result<Run, Fail> {
+    let mut kernel = opened(alloc)?;
+    Ok(Run {
+        given: is_given(&mut kernel),
+        read: is_read(alloc, &mut kernel),
+        kept: is_kept(alloc, &mut kernel),
+        halted: is_halted(&mut kernel),
+    })
+}
+
+#[test]
+fn a_process_reads_and_is_halted(rt: HostRuntime) -> Result<(), Fail> {
+    let run = smallest_run(rt.alloc())?;
+    assert!(rt; run.given);
+    assert!(rt; run.read);
+    assert!(rt; run.kept);
+    assert!(rt; run.halted);
     Ok(())
 }

@@ -1,7 +1,6 @@
 -- The stack of the process has the numbers of all that go.
-use Rattle.std.proofs.Common.{◌∙◌, ◌≡◌, ap, sym, List}
+use Rattle.std.proofs.Common.{◌∙◌, ◌≡◌, ap, List}
 use Rattle.hk_model.specs.declared.names.Inc.{Inc}
-use Rattle.hk_model.specs.declared.names.Proc.{Proc}
 use Rattle.hk_model.specs.declared.objects.Incarnation.{Incarnation}
 use Rattle.hk_plain.specs.Stacks.{LiveOnes}
 use Rattle.hk_plain.proofs.StackLemmas.{others, stacked_gone, none_gone, taken_gone}

@@ -1,5 +1,5 @@
 -- The live processes are counted.
-use Rattle.std.proofs.Common.{◌∙◌, ap, List, ℕ, nat_lt}
+use Rattle.std.proofs.Common.{◌∙◌, ap, List, nat_lt}
 use Rattle.std.specs.List.{list_any}
 use Rattle.hk_model.specs.declared.objects.Process.{Process}
 use Rattle.hk_plain.specs.Runners.{is_live}
