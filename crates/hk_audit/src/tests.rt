@@ -3,7 +3,7 @@
 
 ghost use Rattle.std.specs.Prelude.{◌≡◌, ◌<◌, ◌≤◌, [], length, map};
 ghost use Rattle.hk_model.specs.Limits.{event_limit};
-ghost use Rattle.hk_model.specs.LineRanges.{IsCall, IsReply, IsPathValue};
+ghost use Rattle.hk_model.specs.LineRanges.{IsCall, IsLine, IsReply, IsPathValue, IsWhat};
 ghost use Rattle.hk_model.specs.Setup.{setup};
 
 use crate::{line_text, record_text, steps_have_texts};
@@ -301,38 +301,45 @@ fn empty_world(alloc: Global, limit: u32) -> World
     )
 }
 
+// A line of process 1.
+fn line_of(what: What) -> Line
+    requires { IsWhat what }
+    ensures { IsLine result }
+{
+    Line {
+        cpu: Cpu(0),
+        proc: Proc(1),
+        inc: Inc(1),
+        what,
+        reply: Reply::Done,
+    }
+}
+
 // The text of a record of two lines.
 fn two_lines(alloc: Global, world: &World) -> Result<Text, NoMemory> {
     let lines = [
-        Line {
-            cpu: Cpu(0),
-            proc: Proc(1),
-            inc: Inc(1),
-            what: What::Dispatch,
-            reply: Reply::Done,
-        },
-        Line {
-            cpu: Cpu(0),
-            proc: Proc(1),
-            inc: Inc(1),
-            what: What::Call(Call::Leave { give: None }),
-            reply: Reply::Done,
-        },
+        line_of(What::Dispatch),
+        line_of(What::Call(Call::Leave { give: None })),
     ];
     record_text(alloc, world, &lines, End::Limit)
+}
+
+// The text of a record without lines.
+fn no_lines(alloc: Global, end: End) -> Result<Text, NoMemory> {
+    let world = empty_world(alloc, 10000);
+    steps_have_texts(&world, &[]);
+    record_text(alloc, &world, &[], end)
 }
 
 #[test]
 fn records_are_written(rt: HostRuntime) -> Result<(), Fail> {
     let alloc = rt.alloc();
-    let usual = empty_world(alloc, 10000);
-    steps_have_texts(&usual, &[]);
-    let text = record_text(alloc, &usual, &[], End::Done).map_err(|_error: NoMemory| "memory")?;
+    let text = no_lines(alloc, End::Done).map_err(|_error: NoMemory| "memory")?;
     assert_eq!(rt; text.as_str(), "hydra 1\nrecord\nend done\n");
-    let text = record_text(alloc, &usual, &[], End::Stuck).map_err(|_error: NoMemory| "memory")?;
+    let text = no_lines(alloc, End::Stuck).map_err(|_error: NoMemory| "memory")?;
     assert_eq!(rt; text.as_str(), "hydra 1\nrecord\nend stuck\n");
-    let unusual = empty_world(alloc, 2);
-    let text = two_lines(alloc, &unusual).map_err(|_error: NoMemory| "memory")?;
+    let world = empty_world(alloc, 2);
+    let text = two_lines(alloc, &world).map_err(|_error: NoMemory| "memory")?;
     assert_eq!(rt;
         text.as_str(),
         "hydra 1\nlimit 2\nrecord\n0 1 1 dispatch -> done\n0 1 1 return -> done\nend limit\n",
