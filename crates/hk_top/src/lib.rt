@@ -5,6 +5,8 @@ mod causes;
 mod commands;
 #[cfg(test)]
 mod commands_tests;
+#[cfg(test)]
+mod moments_tests;
 mod reading;
 mod running;
 pub mod status;
