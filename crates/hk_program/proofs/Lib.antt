@@ -1,4 +1,11 @@
+pub mod Calm
+pub mod Depths
+pub mod Frames
+pub mod Kept
 pub mod Locals
 pub mod Paths
+pub mod Queues
+pub mod Regular
+pub mod StepCases
 pub mod Todos
 pub mod TestWorlds
