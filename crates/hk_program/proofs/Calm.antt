@@ -1,8 +1,6 @@
 -- The calls by which no process enters, returns, waits, wakes or yields leave the processes and the queues as they were.
-use Rattle.std.specs.Prelude.{◌≡◌, ◌⊎◌, ℕ, ◌+◌, List, [], ◌∷◌, ◌++◌, Bool, true, false, Option, Some, None, Ok, IfOk, slice_set, refl}
-use Rattle.std.specs.Option.{unwrap_or}
-use Rattle.std.specs.Map.{lookup}
-use Rattle.std.proofs.Common.{sym, ◌∙◌, ap, cond}
+use Rattle.std.specs.Prelude.{◌≡◌, ◌⊎◌, ℕ, List, [], None, IfOk, refl}
+use Rattle.std.proofs.Common.{sym, ◌∙◌}
 use mathlib.Core.Logic.{inl, inr}
 use Rattle.hk_model.specs.declared.names.Name.{Name}
 use Rattle.hk_model.specs.declared.names.Inc.{Inc}

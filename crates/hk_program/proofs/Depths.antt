@@ -1,19 +1,18 @@
 -- How many incarnations each process has after a line.
-use Rattle.std.specs.Prelude.{◌≡◌, ℕ, zero, suc, ◌+◌, ◌<◌, ◌≤◌, ◌==◌, List, [], ◌∷◌, ◌++◌, length, Bool, true, false, Option, Some, None, not, filter, refl, ◌≢◌, slice_get, slice_set}
+use Rattle.std.specs.Prelude.{◌≡◌, ℕ, zero, suc, ◌+◌, ◌≤◌, ◌==◌, List, [], ◌∷◌, ◌++◌, length, Bool, true, false, Option, Some, None, not, filter, refl, ◌≢◌, slice_get, slice_set}
 use Rattle.std.specs.Map.{remove_entry}
 use Rattle.std.proofs.Common.{arith, ap, sym, ◌∙◌, cond}
 use Rattle.std.proofs.lemmas.Bool.Decides.{nat_tests}
 use Rattle.std.proofs.lemmas.Bool.{true≢false}
 use Rattle.std.proofs.lemmas.List.Recursion.{is_count_by}
 use Rattle.hk_model.specs.declared.names.Inc.{Inc}
-use Rattle.hk_model.specs.declared.names.Proc.{Proc}
 use Rattle.hk_model.specs.declared.lines.Line.{Line}
 use Rattle.hk_model.specs.declared.objects.Incarnation.{Incarnation}
 use Rattle.hk_model.specs.declared.objects.Process.{Process}
 use Rattle.hk_model.specs.State.{State, incarnation, same_inc}
 use Rattle.hk_model.specs.Rule.{depth}
 use Rattle.hk_model.specs.Lines.{done_call, enters_call, leaves_call}
-use Rattle.hk_model.proofs.Activations.{Activation, activation, activations_in, currents_in, look_up}
+use Rattle.hk_model.proofs.Activations.{Activation, activations_in, currents_in, look_up}
 use Rattle.hk_model.proofs.Turns.{Turn, Still, Enter, Leave, Halt, CurrentAfter}
 use Rattle.hk_model.proofs.Standing.{on_cond}
 use Rattle.hk_model.proofs.Histories.{Sound}

@@ -1,7 +1,7 @@
 -- What a turn and a reply leave of the frames of a process: frames of the world, and how many.
-use Rattle.std.specs.Prelude.{◌≡◌, ℕ, zero, suc, ◌+◌, ◌<◌, ◌≤◌, ◌==◌, List, [], ◌∷◌, length, drop, Bool, true, false, Option, Some, None, nat_lt, slice_get, slice_set, slice_index, IfSome, refl, if◌then◌else◌}
+use Rattle.std.specs.Prelude.{◌≡◌, ℕ, zero, suc, ◌+◌, ◌<◌, ◌≤◌, ◌==◌, List, [], ◌∷◌, length, Bool, true, false, Option, Some, None, nat_lt, slice_get, slice_set, IfSome, refl, if◌then◌else◌}
 use Rattle.std.specs.List.{AllByRecursion}
-use Rattle.std.proofs.Common.{arith, ap, sym, ◌∙◌, cond}
+use Rattle.std.proofs.Common.{arith, ◌∙◌}
 use Rattle.std.proofs.lemmas.Bool.Decides.{nat_tests}
 use Rattle.std.proofs.lemmas.Option.{slice_get_within}
 use Rattle.hk_model.specs.declared.names.Slot.{Slot}
@@ -15,7 +15,7 @@ use Rattle.hk_model.specs.declared.instructions.Instr.TheVariants as instr
 use Rattle.hk_model.specs.declared.world.Code.{Code}
 use Rattle.hk_model.specs.Limits.{local_limit}
 use Rattle.hk_model.specs.Setup.{Setup, IsInstr, IsCode}
-use Rattle.hk_model.specs.Control.{Context, Meaning, Calls, Local, meaning, here, next_from, next, after, frames_after, behind, with_word, new_frame, steps_of, step_over, go_to, operand, target_register}
+use Rattle.hk_model.specs.Control.{Context, Meaning, Calls, Local, meaning, here, next_from, next, after, frames_after, behind, with_word, steps_of, step_over, go_to, operand, target_register}
 use Rattle.hk_model.proofs.Standing.{on_cond}
 use Rattle.hk_program.specs.Contexts.{IsFrame, AreFrames}
 

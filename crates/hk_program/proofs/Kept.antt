@@ -1,5 +1,5 @@
 -- What every machine of a world keeps: its contexts have frames of the world, and no more of them than a process has incarnations.
-use Rattle.std.specs.Prelude.{◌≡◌, ◌≢◌, ◌⊎◌, ℕ, zero, suc, ◌+◌, ◌<◌, ◌≤◌, List, [], ◌∷◌, length, Bool, true, false, Option, Some, None, Result, Ok, Err, IfOk, IfSome, nat_lt, slice_get, slice_set, map, refl}
+use Rattle.std.specs.Prelude.{◌≡◌, ◌≢◌, ◌⊎◌, ℕ, zero, suc, ◌+◌, ◌<◌, ◌≤◌, List, [], ◌∷◌, length, Bool, true, false, Option, Some, None, Result, Ok, Err, IfOk, IfSome, nat_lt, slice_get, slice_set, refl}
 use Rattle.std.specs.Option.{unwrap_or}
 use Rattle.std.proofs.Common.{arith, ap, sym, ◌∙◌, subst}
 use Rattle.std.proofs.lemmas.Bool.{true≢false}
@@ -26,7 +26,7 @@ use Rattle.hk_model.specs.declared.frames.Todo.{Todo}
 use Rattle.hk_model.specs.declared.frames.Todo.TheVariants.{Do, Halt}
 use Rattle.hk_model.specs.Limits.{depth_limit}
 use Rattle.hk_model.specs.Setup.{Setup, IsWorld}
-use Rattle.hk_model.specs.State.{State, object, incarnation, process}
+use Rattle.hk_model.specs.State.{State, process}
 use Rattle.hk_model.specs.Refusing.{unless}
 use Rattle.hk_model.specs.Walking.{walk}
 use Rattle.hk_model.specs.Rule.{Outcome, outcome, rule, settled, counted, answered, depth, enter_procedure, leave}
@@ -41,8 +41,8 @@ use Rattle.hk_model.proofs.Histories.{Sound, known_each}
 use Rattle.hk_program.specs.Contexts.{AreFrames}
 use Rattle.hk_program.proofs.Frames.{next_frames, next_length, after_frames, after_length, after_kept, after_left}
 use Rattle.hk_program.proofs.Depths.{others_stand, still_stands, one_entered, one_left, processes_stand}
-use Rattle.hk_program.proofs.Regular.{Regular, Goes, goes_each}
-use Rattle.hk_program.proofs.StepCases.{ByEvent, moved_by}
+use Rattle.hk_program.proofs.Regular.{Regular, goes_each}
+use Rattle.hk_program.proofs.StepCases.{moved_by}
 
 pub record Kept (w : Setup) (m : Machine) : Type 0 where
   pub sound : Sound m.state

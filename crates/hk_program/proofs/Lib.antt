@@ -3,6 +3,8 @@ pub mod Depths
 pub mod Frames
 pub mod Kept
 pub mod Locals
+pub mod Machines
+pub mod Opened
 pub mod Paths
 pub mod Queues
 pub mod Regular

@@ -1,5 +1,5 @@
 -- Queues of processes: all do the same, and none stands twice.
-use Rattle.std.specs.Prelude.{◌≡◌, ℕ, zero, suc, ◌+◌, ◌<◌, ◌==◌, List, [], ◌∷◌, ◌++◌, length, Bool, true, false, Option, Some, None, slice_get, slice_set, refl}
+use Rattle.std.specs.Prelude.{◌≡◌, ℕ, zero, suc, ◌+◌, ◌==◌, List, [], ◌∷◌, ◌++◌, Bool, true, false, Some, slice_get, slice_set, refl}
 use Rattle.std.specs.Option.{unwrap_or}
 use Rattle.std.specs.List.{AllByRecursion}
 use Rattle.std.proofs.Common.{arith, ap, sym, ◌∙◌, cond}
@@ -10,7 +10,6 @@ use Rattle.hk_model.specs.declared.names.Cpu.{Cpu}
 use Rattle.hk_model.specs.declared.objects.Process.{Process}
 use Rattle.hk_model.specs.declared.objects.ProcessState.{ProcessState}
 use Rattle.hk_model.specs.declared.objects.ProcessState.TheVariants.{Ready, Running, Waiting, Ended}
-use Rattle.hk_model.specs.State.{State, process}
 use Rattle.hk_model.specs.Processors.{is_on, runner_from}
 
 -- what a process of this number does; one that is not there has ended
@@ -18,14 +17,14 @@ abbrev pub run_at : List Process → ℕ → ProcessState
 run_at ps n = (unwrap_or (slice_get ps n) (record { run = Ended; current = record { 0 = 0 } })).run
 
 -- the process is in the list, with other numbers than this
-abbrev Other : ℕ → List Proc → Type 0
+abbrev pub Other : ℕ → List Proc → Type 0
 Other n qs = AllByRecursion (λ (q : Proc). q.0 ≡ n → ⊥) qs
 
-abbrev AreOnce : List Proc → Type 0
+abbrev pub AreOnce : List Proc → Type 0
 AreOnce [] = Unit {0}
 AreOnce (q ∷ qs) = Other q.0 qs × AreOnce qs
 
-abbrev AllDo : List Process → ProcessState → List Proc → Type 0
+abbrev pub AllDo : List Process → ProcessState → List Proc → Type 0
 AllDo ps r qs = AllByRecursion (λ (q : Proc). run_at ps q.0 ≡ r) qs
 
 -- all of these processes do this, and none of them stands twice

@@ -1,5 +1,5 @@
 -- What holds of the state of every machine of a world, and what an event leaves of the other processors.
-use Rattle.std.specs.Prelude.{◌≡◌, ◌⊎◌, ℕ, ◌+◌, ◌-◌, ◌<◌, ◌==◌, List, [], ◌∷◌, ◌++◌, length, Bool, true, false, Option, Some, None, Ok, Err, IfOk, IfSome, nat_lt, slice_set, filter, not, refl}
+use Rattle.std.specs.Prelude.{◌≡◌, ◌⊎◌, ℕ, ◌+◌, ◌-◌, ◌<◌, ◌==◌, List, [], ◌∷◌, ◌++◌, length, Bool, true, false, Option, Some, None, Ok, Err, IfOk, IfSome, nat_lt, slice_set, refl}
 use Rattle.std.specs.Map.{remove_entry}
 use Rattle.std.proofs.Common.{arith, ap, sym, ◌∙◌, subst}
 use Rattle.std.proofs.lemmas.Bool.{true≢false}
@@ -17,7 +17,6 @@ use Rattle.hk_model.specs.declared.calls.Refusal.TheVariants as refused
 use Rattle.hk_model.specs.declared.calls.What8.TheVariants as full
 use Rattle.hk_model.specs.declared.calls.Answer.{Answer}
 use Rattle.hk_model.specs.declared.calls.Answer.TheVariants.{Done, Waits}
-use Rattle.hk_model.specs.declared.lines.Line.{Line}
 use Rattle.hk_model.specs.declared.objects.Object.{Object}
 use Rattle.hk_model.specs.declared.objects.Process.{Process}
 use Rattle.hk_model.specs.declared.objects.ProcessState.{ProcessState}

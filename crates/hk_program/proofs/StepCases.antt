@@ -1,7 +1,6 @@
 -- A law of each kind of event is a law of the step of a processor.
-use Rattle.std.specs.Prelude.{◌≡◌, ℕ, List, [], ◌∷◌, Bool, true, false, Option, Some, None, IfSome, nat_lt, option_map, refl, if◌then◌else◌}
+use Rattle.std.specs.Prelude.{◌≡◌, List, [], ◌∷◌, Bool, true, false, Option, Some, None, IfSome, nat_lt, option_map, refl, if◌then◌else◌}
 use Rattle.std.specs.Option.{unwrap_or}
-use Rattle.std.proofs.Common.{sym, ap, ◌∙◌}
 use Rattle.hk_model.specs.declared.names.Proc.{Proc}
 use Rattle.hk_model.specs.declared.names.Cpu.{Cpu}
 use Rattle.hk_model.specs.declared.calls.Call.{Call}
@@ -12,7 +11,6 @@ use Rattle.hk_model.specs.declared.frames.Todo.{Todo}
 use Rattle.hk_model.specs.declared.frames.Todo.TheVariants.{Do, Halt}
 use Rattle.hk_model.specs.Limits.{cpu_limit}
 use Rattle.hk_model.specs.Setup.{Setup}
-use Rattle.hk_model.specs.State.{State}
 use Rattle.hk_model.specs.Processors.{runner, may_step, dispatched_from}
 use Rattle.hk_model.specs.Control.{Context, next}
 use Rattle.hk_model.specs.Running.{Machine, context_of, event, event_of, dispatch_event, step, moved}
