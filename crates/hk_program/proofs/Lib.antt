@@ -1,5 +1,6 @@
 pub mod Calm
 pub mod Depths
+pub mod Events
 pub mod Frames
 pub mod Kept
 pub mod Locals

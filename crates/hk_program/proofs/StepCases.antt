@@ -1,6 +1,8 @@
 -- A law of each kind of event is a law of the step of a processor.
-use Rattle.std.specs.Prelude.{◌≡◌, List, [], ◌∷◌, Bool, true, false, Option, Some, None, IfSome, nat_lt, option_map, refl, if◌then◌else◌}
+use Rattle.std.specs.Prelude.{◌≡◌, ℕ, ◌≤◌, List, [], ◌∷◌, Bool, true, false, Option, Some, None, IfSome, nat_lt, option_map, refl, if◌then◌else◌}
 use Rattle.std.specs.Option.{unwrap_or}
+use Rattle.std.proofs.Common.{arith}
+use Rattle.std.proofs.lemmas.Bool.Decides.{nat_tests}
 use Rattle.hk_model.specs.declared.names.Proc.{Proc}
 use Rattle.hk_model.specs.declared.names.Cpu.{Cpu}
 use Rattle.hk_model.specs.declared.calls.Call.{Call}
@@ -68,10 +70,13 @@ pub no_step : (w : Setup) (m : Machine) (cpu : Cpu) → may_step m.state ≡ fal
 unfolding step
 no_step w m cpu h = rw h refl
 
-pub no_processor : (w : Setup) (m : Machine) (cpu : Cpu) → nat_lt cpu.0 cpu_limit ≡ false → step w m cpu ≡ None
+pub no_processor : (w : Setup) (m : Machine) (cpu : Cpu) → 16 ≤ cpu.0 → step w m cpu ≡ None
 unfolding step
-no_processor w m cpu h = rw h (by (may_step m.state))
+no_processor w m cpu h = rw (high cpu.0 h) (by (may_step m.state))
   where
+    high : (n : ℕ) → 16 ≤ n → nat_lt n cpu_limit ≡ false
+    high n h = grind (arith, nat_tests, h)
+
     by : (b : Bool) → ◌≡◌ {A = Option (Line × Machine)} (if b then None else None) None
     by true = refl
     by false = refl

@@ -4,7 +4,7 @@ ghost use Rattle.std.specs.Prelude.{◌≡◌, ◌<◌, IfSome, length, Some};
 ghost use Rattle.hk_model.specs.Limits.{code_limit};
 ghost use Rattle.hk_model.specs.Setup.{IsInstr, IsReg};
 ghost use Rattle.hk_model.specs.Control as control;
-ghost use Rattle.hk_program.specs.Contexts.{AreFrames, Fits, IsFrame, is_return};
+ghost use Rattle.hk_program.specs.Contexts.{AreFrames, IsFrame, is_return};
 
 use crate::codes::code_of;
 use crate::context::{Context, opened};
@@ -16,17 +16,17 @@ use hk_model::{Acted, Call, Frame, Instr, Reply, World};
 /// (`docs/RULES.md`, "Control of a process").
 ///
 /// The context must fit the world; an entered code must be one of the world, and there must be room
-/// for its frame. Afterwards the context fits the world, or has no frame. It takes no memory.
+/// for its frame. It still fits afterwards. A context without a frame stays so. It takes no memory.
 #[tactic(auto, unfolding(hk_model::specs::Control::after))]
 pub fn after(context: &mut Context, world: &World, call: &Call, acted: &Acted)
-    requires fits { Fits world.now context.old }
+    requires fits { AreFrames world.now context.old }
     requires code { IfSome acted.now.code (λ code. code < length world.now.codes) }
     requires room { IfSome acted.now.code (λ _. length context.old < 64) }
     ensures value { context.new ≡ control.after world.now context.old call.now acted.now.reply acted.now.code }
     ensures fits { AreFrames world.now context.new }
 {
     let Some(frame) = context.top() else {
-        unreachable!()
+        return;
     };
     context.put_top(behind(world, &frame, &acted.reply));
     match acted.code {

@@ -72,6 +72,13 @@ impl Context {
     {
         self.frames.pop()
     }
+
+    /// Takes all frames away.
+    pub fn clear(&mut self)
+        ensures { self.new ≡ [] }
+    {
+        self.frames.clear();
+    }
 }
 
 /// A frame at the beginning of a code.

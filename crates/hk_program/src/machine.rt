@@ -1,14 +1,26 @@
 //! A kernel with the control of its processes, and the steps of processors.
 
-ghost use Rattle.std.specs.Prelude.{◌≡◌, IfOk, OnErr, IfSome, IfNone, Some, None};
+ghost use Rattle.std.specs.Prelude.{◌≡◌, ◌<◌, [], ◌∷◌, length, map, IfOk, OnErr, IfSome, IfNone, IsSome, IsTrue, Some, None};
+ghost use Rattle.hk_model.specs.declared.calls.Call.{Call};
+ghost use Rattle.hk_model.specs.declared.calls.Reply.{Reply};
+ghost use Rattle.hk_model.specs.declared.world.Task.{Task};
 ghost use Rattle.hk_model.specs.Opening.{opening};
+ghost use Rattle.hk_model.specs.Control as control;
+ghost use Rattle.hk_model.specs.Control.{new_frame};
+ghost use Rattle.hk_model.specs.Processors.{runner, running_on, may_step, acted_on, entered_on};
 ghost use Rattle.hk_model.specs.Running.{opened, step};
-ghost use Rattle.hk_program.specs.Machines.{IsSound};
+ghost use Rattle.hk_program.specs.Contexts.{AreFrames};
+ghost use Rattle.hk_program.specs.Machines.{IsSound, turn};
 
+use crate::answering::after;
 use crate::context::Context;
-use hk_model::{Cpu, Kernel, Line, NoMemory, World};
+use crate::running::next;
+use hk_model::{Call, Cpu, Inc, Kernel, Line, NoMemory, Proc, Reply, Task, Todo, What, World};
 use std::alloc::Global;
 use std::marker::Model;
+
+// How many processors there are.
+const CPU_LIMIT: u8 = 16;
 
 /// A kernel with the control of each process of its world (`docs/RULES.md`, "Steps of
 /// processors"). Contracts see the state of the kernel and the frames of each process.
@@ -30,12 +42,14 @@ impl<K: Kernel> Model for Machine<K> {
 impl<K: Kernel> Machine<K> {
     /// The machine in which a world opens, of a kernel that has opened it. NoMemory is want of
     /// memory.
+    #[tactic(auto, unfolding(hk_model::specs::Running::opened))]
     pub fn open(alloc: Global, world: &World, kernel: K) -> Result<Machine<K>, NoMemory>
         requires { K.state kernel ≡ opening world.now }
         ensures opened { IfOk result (λ machine. machine ≡ opened world.now) }
         ensures sound { IfOk result (λ machine. IsSound world.now machine) }
     {
-        Err(NoMemory)
+        let contexts = beginnings(alloc, world.tasks())?;
+        Ok(Machine { kernel, contexts })
     }
 
     /// Makes the step of a processor, and gives its line. None exactly where the processor has no
@@ -48,7 +62,68 @@ impl<K: Kernel> Machine<K> {
         ensures err { OnErr result (self.new ≡ self.old) }
         ensures sound { IsSound world.now self.new }
     {
-        Err(NoMemory)
+        if cpu.0 >= CPU_LIMIT {
+            return Ok(None);
+        }
+        if self.kernel.limit_reached() {
+            return Ok(None);
+        }
+        match self.kernel.current(cpu) {
+            Some((proc, inc)) => {
+                let line = self.event(alloc, world, cpu, proc, inc)?;
+                Ok(Some(line))
+            }
+            None => Ok(self.dispatch(world, cpu)),
+        }
+    }
+
+    // The event of the process that the processor runs, in its current incarnation.
+    fn event(
+        &mut self,
+        alloc: Global,
+        world: &World,
+        cpu: Cpu,
+        proc: Proc,
+        inc: Inc,
+    ) -> Result<Line, NoMemory>
+        requires sound { IsSound world.now self.old }
+        requires cpu { cpu.0 < 16 }
+        requires below { IsTrue (may_step self.old.state) }
+        requires runs { running_on self.old.state cpu ≡ Some (proc, inc) }
+        ensures made { IfOk result (λ line. step world.now self.old cpu ≡ Some (line, self.new)) }
+        ensures err { OnErr result (self.new ≡ self.old) }
+    {
+        let context = &mut self.contexts[proc.0 as usize];
+        let (what, reply) = turn(alloc, &mut self.kernel, context, world, cpu)?;
+        Ok(Line {
+            cpu,
+            proc,
+            inc,
+            what,
+            reply,
+        })
+    }
+
+    // The dispatch of the first ready process. None exactly where none is ready.
+    fn dispatch(&mut self, world: &World, cpu: Cpu) -> Option<Line>
+        requires sound { IsSound world.now self.old }
+        requires cpu { cpu.0 < 16 }
+        requires below { IsTrue (may_step self.old.state) }
+        requires idle { running_on self.old.state cpu ≡ None }
+        ensures given { IfSome result (λ line. step world.now self.old cpu ≡ Some (line, self.new)) }
+        ensures none { IfNone result ((step world.now self.old cpu ≡ None) × (self.new ≡ self.old)) }
+    {
+        let proc = self.kernel.dispatch(cpu)?;
+        match self.kernel.current(cpu) {
+            Some((_, inc)) => Some(Line {
+                cpu,
+                proc,
+                inc,
+                what: What::Dispatch,
+                reply: Reply::Done,
+            }),
+            None => unreachable!(),
+        }
     }
 
     /// The kernel.
@@ -63,5 +138,55 @@ impl<K: Kernel> Machine<K> {
         ensures { K.state result ≡ self.state }
     {
         self.kernel
+    }
+}
+
+// The context of each process as it begins.
+fn beginnings(alloc: Global, tasks: &[Task]) -> Result<Vec<Context>, NoMemory>
+    ensures { IfOk result (λ contexts. contexts.items ≡ map (λ (t : Task). new_frame t.code ∷ []) tasks.now) }
+{
+    let mut contexts = Vec::with_capacity(alloc, tasks.len())?;
+    for task in tasks {
+        contexts.push(Context::new(alloc, task.code)?)?;
+    }
+    Ok(contexts)
+}
+
+// The event of the process that a processor runs, whose context this is. After NoMemory nothing has
+// changed.
+fn turn<K: Kernel>(
+    alloc: Global,
+    kernel: &mut K,
+    context: &mut Context,
+    world: &World,
+    cpu: Cpu,
+) -> Result<(What, Reply), NoMemory>
+    requires frames { AreFrames world.now context.old }
+    requires runs { IsSome (runner (K.state kernel.old) cpu) }
+    requires below { IsTrue (may_step (K.state kernel.old)) }
+    requires code { (call : Call) → (reply : Reply) → IfSome (entered_on (K.state kernel.old) cpu call reply) (λ code. code < length world.now.codes) }
+    requires room { (call : Call) → IfSome (entered_on (K.state kernel.old) cpu call (acted_on (K.state kernel.old) cpu call).0) (λ _. length context.old < 64) }
+    ensures made { IfOk result (λ made. turn world.now (K.state kernel.old) cpu (control.next world.now context.old) ≡ (made.0, made.1, K.state kernel.new, context.new)) }
+    ensures err { OnErr result ((K.state kernel.new ≡ K.state kernel.old) × (context.new ≡ context.old)) }
+{
+    let frame = context.top();
+    match next(context, world) {
+        Todo::Do(call) => match kernel.act(alloc, cpu, call) {
+            Ok(acted) => {
+                after(context, world, &call, &acted);
+                Ok((What::Call(call), acted.reply))
+            }
+            Err(error) => {
+                if let Some(frame) = frame {
+                    context.put_top(frame);
+                }
+                Err(error)
+            }
+        },
+        Todo::Halt => {
+            kernel.halt(cpu);
+            context.clear();
+            Ok((What::Halt, Reply::Done))
+        }
     }
 }

@@ -1,11 +1,11 @@
 //! What a process does next.
 
-ghost use Rattle.std.specs.Prelude.{◌≡◌, ◌≤◌, IfSome, length};
+ghost use Rattle.std.specs.Prelude.{◌≡◌, ◌≤◌, IfSome, drop, length};
 ghost use Rattle.hk_model.specs.Limits.{local_limit};
 ghost use Rattle.hk_model.specs.Setup.{IsCode};
 ghost use Rattle.hk_model.specs.Control as control;
 ghost use Rattle.hk_model.specs.Control.{here, next_from, steps_of};
-ghost use Rattle.hk_program.specs.Contexts.{Fits, IsFrame};
+ghost use Rattle.hk_program.specs.Contexts.{AreFrames, IsFrame};
 ghost use Rattle.hk_program.specs.Meanings.{call_in, frame_in, todo_in};
 
 use crate::calling::call_of;
@@ -19,20 +19,21 @@ const LOCAL_LIMIT: u32 = 10000;
 
 /// What a process does next: the kernel call that stands next behind its local instructions, at the
 /// code's end a return without a slot, or a halt where a local instruction still stands next behind
-/// 10,000 of them (`docs/RULES.md`, "Control of a process").
+/// 10,000 of them (`docs/RULES.md`, "Control of a process"). A process without a frame is halted.
 ///
-/// The context must fit the world: it has a frame, and each of its frames is at an instruction of a
-/// code of the world or at that code's end. It still fits afterwards, and keeps what the local
-/// instructions changed. It takes no memory.
+/// The context must fit the world: each of its frames is at an instruction of a code of the world or
+/// at that code's end. It still fits afterwards, and keeps what the local instructions changed, in
+/// the current frame alone. It takes no memory.
 #[tactic(auto, unfolding(hk_model::specs::Control::next))]
 pub fn next(context: &mut Context, world: &World) -> Todo
-    requires { Fits world.now context.old }
+    requires { AreFrames world.now context.old }
     ensures value { (result, context.new) ≡ control.next world.now context.old }
-    ensures fits { Fits world.now context.new }
+    ensures fits { AreFrames world.now context.new }
     ensures depth { length context.new ≡ length context.old }
+    ensures others { drop 1 context.new ≡ drop 1 context.old }
 {
     let Some(mut frame) = context.top() else {
-        unreachable!()
+        return Todo::Halt;
     };
     let todo = run(world, &mut frame);
     context.put_top(frame);
