@@ -10,7 +10,7 @@ use Rattle.hk_model.specs.State.{State, process}
 use Rattle.hk_model.specs.Control.{Context, next}
 use Rattle.hk_model.specs.Processors.{runner, may_step, is_over, is_ready, is_running}
 use Rattle.hk_model.specs.Running.{Machine, opened, after_lines, context_of}
-use Rattle.hk_program.specs.Contexts.{Fits}
+use Rattle.hk_program.specs.Contexts.{AreFrames}
 use Rattle.hk_procs.specs.declared.notes.Noted.{Noted}
 use Rattle.hk_procs.specs.Notes.{lines_of}
 
@@ -30,9 +30,9 @@ abbrev pub Runs : Setup → Cpu → List Noted → Proc → Context → Type 0
 Runs w cpu notes proc context =
     (runner (state_shown w notes) cpu ≡ Some proc) × (context ≡ context_of (machine_shown w notes) proc)
 
--- the same, and the context fits the world
+-- the same, and the context has frames of the world
 abbrev pub HandsOut : Setup → Cpu → List Noted → Proc → Context → Type 0
-HandsOut w cpu notes proc context = Runs w cpu notes proc context × Fits w context
+HandsOut w cpu notes proc context = Runs w cpu notes proc context × AreFrames w context
 
 -- the process waits, is ready or has ended
 abbrev pub has_left_shown : Setup → List Noted → Proc → Bool

@@ -5,7 +5,6 @@ ghost use Rattle.hk_model.specs.declared.calls.Call.{Call};
 ghost use Rattle.hk_model.specs.Setup.{Setup};
 ghost use Rattle.hk_turn.specs.declared.pass.Pass.{Pass as PassOf};
 ghost use Rattle.hk_turn.specs.Passes.{pass_number, seen_list};
-ghost use Rattle.hk_program.specs.Contexts.{Fits};
 ghost use Rattle.hk_procs.specs.declared.notes.Noted.{Noted as NotedOf};
 ghost use Rattle.hk_procs.specs.Notes.{cpu_of};
 ghost use Rattle.hk_procs.specs.Shown.{RunsNothing, MakesNext};
@@ -62,7 +61,6 @@ pub trait Desk {
     ) -> (Pass<Noted>, Called)
         requires own { belongs self.now pass }
         requires shown { MakesNext world (cpu_of pass) (seen_list pass) proc next context }
-        requires fits { Fits world context }
         ensures own { belongs self.now result.0 }
         ensures number { pass_number result.0 ≡ pass_number pass }
         ensures answer { AnswersCall world wants (cpu_of pass) (seen_list pass) (seen_list result.0) proc next result.1 };
