@@ -1,0 +1,4 @@
+pub mod Notes
+pub mod Shown
+pub mod Promises
+pub mod Ends

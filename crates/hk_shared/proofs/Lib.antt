@@ -1,0 +1,10 @@
+pub mod AtDesk
+pub mod Events
+pub mod FromSeen
+pub mod LinesMost
+pub mod Moves
+pub mod Notes
+pub mod OpenBook
+pub mod Placed
+pub mod PlacedAlways
+pub mod Turning

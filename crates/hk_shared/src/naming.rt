@@ -1,0 +1,19 @@
+//! Which world a desk is of (`docs/TURNS.md`, "The shared kernel").
+
+use std::marker::Brand;
+
+/// A world by a name. The call of a function that has the name in no type of its signature, and that
+/// calls `Shared::start` inside, picks it.
+pub trait Naming {
+    ghost use Rattle.hk_model.specs.Setup.{Setup};
+
+    /// The world.
+    ghost world: { Setup };
+}
+
+impl Naming for Brand {
+    ghost use Rattle.std.specs.Prelude.{[]};
+    ghost use Rattle.hk_model.specs.Setup.{setup};
+
+    ghost world = { setup 1 [] [] [] };
+}
