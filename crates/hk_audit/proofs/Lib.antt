@@ -1,0 +1,4 @@
+pub mod DigitTexts
+pub mod Cuts
+pub mod Indices
+pub mod Spelled

@@ -1,0 +1,11 @@
+//! Lines of the audit record, read from their texts.
+//!
+//! `docs/FORMATS.md`, "Audit lines and records", states the rules.
+#![tactic(auto)]
+
+mod forms;
+mod numerals;
+mod parts;
+mod paths;
+mod rights;
+mod verbs;
