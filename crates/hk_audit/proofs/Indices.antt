@@ -54,8 +54,8 @@ size_of cut left indices count inside values =
     let a = length-append (take count indices) (map value left) in
     let b = length-take count indices in
     let c = ap length values in
-    let d = length-map value left in
-    let f = length-map value cut in
+    let d = length-map left value in
+    let f = length-map cut value in
     omega arith
 
 -- a ninth text

@@ -2,3 +2,5 @@ pub mod DigitTexts
 pub mod Cuts
 pub mod Indices
 pub mod Spelled
+pub mod SeenForms
+pub mod Slots

@@ -2,6 +2,7 @@
 //! records"): a text of another form is UnknownWord, a number outside its range OutOfRange.
 
 ghost use Rattle.std.specs.Prelude.{◌≡◌, ◌≤◌, ◌<◌, Ok, Err, IfOk, IfErr};
+ghost use Rattle.hk_model.specs.Labels.{first, is_lower};
 ghost use Rattle.hk_model.specs.Pieces.{Number};
 ghost use Rattle.hk_model.specs.Forms.{as_verb, as_word, as_number_below};
 ghost use Rattle.hk_model.specs.LineReading.{as_path, as_any_slot, as_rights_set, as_right, as_word32, as_full};
@@ -96,10 +97,20 @@ pub fn word(text: &[u8]) -> Result<&[u8], ParseCause>
     ensures ok { IfOk result (λ word. as_word (seen text.now) ≡ Ok word.now) }
     ensures refused { IfErr result (λ cause. as_word (seen text.now) ≡ Err cause) }
 {
-    if !text.is_empty() && b'a' <= text[0] && text[0] <= b'z' {
+    if begins_low(text) {
         Ok(text)
     } else {
         Err(ParseCause::UnknownWord)
+    }
+}
+
+/// Whether the text begins with a lower-case letter.
+fn begins_low(text: &[u8]) -> bool
+    ensures { result ≡ is_lower (first text.now) }
+{
+    match text.first() {
+        Some(byte) => b'a' <= *byte && *byte <= b'z',
+        None => false,
     }
 }
 

@@ -8,6 +8,7 @@ use Rattle.hk_audit.proofs.paths.path_in.Given as goal
 abbrev pub invariant-loop-part : goal.invariant-loop-part
 invariant-loop-part l = record {
   few : l.count ≤ 8;
+  room : length l.indices ≡ 8;
   values : take l.count l.indices ++ map value (texts l.parts) ≡ map value (slice_split (λ b. b == 46) l.text);
   good : list_all is_index_numeral (texts l.parts) ≡ list_all is_index_numeral (slice_split (λ b. b == 46) l.text);
 }
