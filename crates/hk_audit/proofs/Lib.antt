@@ -4,3 +4,4 @@ pub mod Indices
 pub mod Spelled
 pub mod SeenForms
 pub mod Slots
+pub mod FirstWords

@@ -2,7 +2,7 @@
 use Rattle.std.proofs.Common.{◌≡◌, ℕ, ◌+◌, ◌<◌, ◌≤◌, ◌^◌, ◌==◌, Bool, true, false, cond, eqb, ltb, List, [], ◌∷◌, ◌++◌, length, map, refl, sym, ap, subst, ◌∙◌, arith, ◌&&◌, ◌||◌, not, Option, Some, None, Result, Ok, Err, IsTrue}
 use Rattle.std.specs.Prelude.{codes, find}
 use Rattle.std.specs.List.{AllByRecursion, list_all, slice_split, onto_first, join_with_byte}
-use Rattle.std.proofs.lemmas.Bool.{and_parts, and_from, false≢true, eqb-true, lt-ltb, le-ltb, le-leb, lt-leb}
+use Rattle.std.proofs.lemmas.Bool.{and_parts, and_from, false≢true, eqb-true, lt-ltb, le-ltb, le-leb, lt-leb, ltb-true}
 use Rattle.std.proofs.lemmas.Bool.Decides.{nat_tests}
 use Rattle.hk_rights.specs.Rights.{Row, IsRightsWord, number_named, right_table, right_numbers, name_of, is_right}
 use Rattle.hk_model.specs.declared.causes.ParseCause.{ParseCause}
@@ -17,7 +17,7 @@ use Rattle.hk_model.specs.Operands.{rights_piece}
 use Rattle.hk_model.specs.RightsTexts.{rights_of, rights_text}
 use Rattle.hk_model.specs.Syntax.{IsRightsText}
 use Rattle.hk_model.specs.Forms.{as_verb, verb_found, as_number_below, as_word, slot_numbered}
-use Rattle.hk_model.specs.LineReading.{as_word32, as_any_slot, is_number_index, index_number, as_path, as_rights_set, as_right, set_found}
+use Rattle.hk_model.specs.LineReading.{inc_bound, as_word32, as_any_slot, is_number_index, index_number, as_path, as_rights_set, as_right, set_found}
 use Rattle.hk_model.proofs.ItemsGood.{rights_good}
 use Rattle.hk_model.proofs.LineAgain.{same_is}
 use Rattle.hk_model.proofs.LoadGood.{rights_word}
@@ -335,3 +335,15 @@ verb_by_word (Upper t) w o e f = cc
 verb_by_word Dash w o e f = cc
 verb_by_word (Number n) w o e f = cc
 verb_by_word (Path steps) w o e f = cc
+
+-- a number that a text spells has 64 bits
+pub numeral_small : (t : List ℕ) (n : ℕ) → numeral_of t ≡ Some n → n < inc_bound
+numeral_small t n e = go (is_numeral t) (ltb (value t) inc_bound) refl e
+  where
+    go : (a b : Bool) → ltb (value t) inc_bound ≡ b → cond (a && b) (Some (value t)) None ≡ Some n → n < inc_bound
+    go true true k h = let same : value t ≡ n = cc in subst (λ (m : ℕ). m < inc_bound) same (ltb-true (value t) inc_bound k)
+    go true false k h = absurd (let none : None ≡ Some n = h in cc)
+    go false b k h = absurd (let none : None ≡ Some n = h in cc)
+
+pub inc_taken : (t : List ℕ) (n : ℕ) → numeral_of t ≡ Some n → as_number_below inc_bound (seen t) ≡ Ok n
+inc_taken t n e = below_taken inc_bound t n e (numeral_small t n e)

@@ -96,7 +96,7 @@ left_shorter form (p ∷ ps) left x h = rw (left_behind (form p) ps x left h) (o
 -- a path that is refused, and a first slot
 
 pub slot_refused : (pieces : List Piece) (cause : ParseCause) → wanted as_any_slot pieces ≡ Err cause → wanted (as_number_below slot_bound) pieces ≡ Err cause
-slot_refused [] cause h = h
+slot_refused [] cause h = let same : cause ≡ Missing = cc in rw same
 slot_refused (p ∷ ps) cause h = slot_cause p ps cause h
 
 pub call_bad : (before middle : List Piece) (proc : List ℕ) (cause : ParseCause) → wanted as_path before ≡ Ok (proc, middle) → wanted as_any_slot middle ≡ Err cause → call_of verb.Call before ≡ Err cause

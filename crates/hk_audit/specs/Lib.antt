@@ -1,3 +1,5 @@
 pub mod Seen
 pub mod Left
 pub mod Names
+pub mod Refusals
+pub mod Events

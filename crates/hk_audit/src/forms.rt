@@ -5,7 +5,7 @@ ghost use Rattle.std.specs.Prelude.{◌≡◌, ◌≤◌, ◌<◌, Ok, Err, IfOk
 ghost use Rattle.hk_model.specs.Labels.{first, is_lower};
 ghost use Rattle.hk_model.specs.Pieces.{Number};
 ghost use Rattle.hk_model.specs.Forms.{as_verb, as_word, as_number_below};
-ghost use Rattle.hk_model.specs.LineReading.{as_path, as_any_slot, as_rights_set, as_right, as_word32, as_full};
+ghost use Rattle.hk_model.specs.LineReading.{as_path, as_any_slot, as_rights_set, as_right, as_word32, as_full, inc_bound};
 ghost use Rattle.hk_audit.specs.Seen.{seen};
 
 use crate::numerals::numeral;
@@ -22,6 +22,16 @@ pub fn number_below(text: &[u8], bound: u64) -> Result<u64, ParseCause>
 {
     match numeral(text) {
         Some(n) => { if n < bound { Ok(n) } else { Err(ParseCause::OutOfRange) } }
+        None => Err(ParseCause::UnknownWord),
+    }
+}
+
+/// The number of an incarnation, below 2^64.
+pub fn inc(text: &[u8]) -> Result<u64, ParseCause>
+    ensures { as_number_below inc_bound (seen text.now) ≡ result }
+{
+    match numeral(text) {
+        Some(n) => Ok(n),
         None => Err(ParseCause::UnknownWord),
     }
 }

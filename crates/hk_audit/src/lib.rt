@@ -4,10 +4,12 @@
 #![tactic(auto)]
 
 mod calls;
+mod events;
 mod forms;
 mod numerals;
 mod parts;
 mod paths;
+mod replies;
 mod rights;
 mod verbs;
 mod wanted;

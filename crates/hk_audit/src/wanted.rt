@@ -4,7 +4,7 @@
 ghost use Rattle.std.specs.Prelude.{◌≡◌, ◌<◌, Ok, Err, IfOk, IfErr};
 ghost use Rattle.hk_model.specs.Reading.{end, taken, wanted};
 ghost use Rattle.hk_model.specs.Forms.{as_verb, as_word, as_number_below};
-ghost use Rattle.hk_model.specs.LineReading.{as_path, as_any_slot, as_rights_set, as_right, as_word32, as_full};
+ghost use Rattle.hk_model.specs.LineReading.{as_path, as_any_slot, as_rights_set, as_right, as_word32, as_full, inc_bound};
 ghost use Rattle.hk_audit.specs.Left.{rest};
 
 use crate::forms;
@@ -19,6 +19,13 @@ impl<'a> Parts<'a> {
         ensures below { IfOk result (λ n. n < bound) }
     {
         forms::number_below(self.next()?, bound)
+    }
+
+    /// The number of an incarnation.
+    pub fn inc(&mut self) -> Result<u64, ParseCause>
+        ensures { wanted (as_number_below inc_bound) (rest self.old) ≡ taken result (rest self.new) }
+    {
+        forms::inc(self.next()?)
     }
 
     /// A word of 32 bits.

@@ -3,7 +3,7 @@ use Rattle.hk_model.specs.declared.syntax.Verb.TheVariants as verb
 use Rattle.hk_model.specs.LineReading.{call_of}
 use Rattle.hk_audit.specs.Left.{rest}
 use Rattle.hk_audit.proofs.Slots.{slots_on}
-use Rattle.hk_audit.proofs.calls.Parts.enter.Given as goal
+use Rattle.hk_audit.proofs.parts.Parts.enter.Given as goal
 
 abbrev pub invariant-loop-self : goal.invariant-loop-self
 invariant-loop-self l = record {
