@@ -5,3 +5,5 @@ pub mod Spelled
 pub mod SeenForms
 pub mod Slots
 pub mod FirstWords
+pub mod Sound
+pub mod LinesAgain
