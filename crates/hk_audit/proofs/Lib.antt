@@ -7,3 +7,6 @@ pub mod Slots
 pub mod FirstWords
 pub mod Sound
 pub mod LinesAgain
+pub mod Clear
+pub mod SeenFits
+pub mod LineTexts

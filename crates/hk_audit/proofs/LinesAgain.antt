@@ -23,7 +23,8 @@ use Rattle.hk_model.specs.declared.syntax.Verb.TheVariants as verb
 use Rattle.hk_model.specs.Labels.{same_text}
 use Rattle.hk_model.specs.Pieces.{Piece, Word, Upper, Dash, Number, Path}
 use Rattle.hk_model.specs.Operands.{path_piece, slot_piece, rights_set_piece}
-use Rattle.hk_model.specs.Reading.{Reads, ◌>>=◌, wanted, at_most}
+use Rattle.hk_model.specs.declared.causes.ParseCause.{ParseCause}
+use Rattle.hk_model.specs.Reading.{Reads, ◌>>=◌, onward, taken, wanted, at_most, end}
 use Rattle.hk_model.specs.RightsTexts.{rights_of, rights_text}
 use Rattle.hk_model.specs.Forms.{as_word, as_number_below}
 use Rattle.hk_model.specs.LineReading.{is_number_index, index_number, as_path, as_any_slot, as_rights_set, as_right, as_word32, as_full, what_of, reply_line, event_line, line_with, inc_bound}
@@ -42,8 +43,8 @@ numbers_again (n ∷ ns) h = let rest = numbers_again ns h.1 in (and_from _ _ (l
 
 pub path_again : (p : List ℕ) → IsPathValue p → as_path (path_piece p) ≡ Ok p
 path_again [] h = absurd (let some = h.0 in omega arith)
-path_again (n ∷ []) h = rw (lt-ltb n 65536 h.1.1.0) refl
-path_again (x ∷ y ∷ more) h = let all = numbers_again (x ∷ y ∷ more) h.1.1 in rw (all.0, all.1) refl
+path_again (n ∷ []) h = rw (lt-ltb n 65536 h.2.0) refl
+path_again (x ∷ y ∷ more) h = let all = numbers_again (x ∷ y ∷ more) h.2 in rw (all.0, all.1) refl
 
 slot_again : (s : Slot) → IsAnySlot s → as_any_slot (slot_piece s) ≡ Ok s
 slot_again s h = rw (lt-ltb s.0 256 h) refl
@@ -139,10 +140,10 @@ what_again (what.Call (call.Erase list at)) h = rw (verb_again, path_again list 
 what_again (what.Call (call.Drop slot)) h = rw (verb_again, slot_again slot h)
 what_again (what.Call (call.Restrict slot keep)) h = rw (verb_again, slot_again slot h.0, rights_set_again keep h.1)
 what_again (what.Call (call.Look of)) h = rw (verb_again, path_again of h)
-what_again (what.Call (call.MakeTemplate of (making.Amplify check give) into)) h = rw (verb_again, path_again of h.0, verb_again verb.Amplify, rights_set_again check h.1.0.0, rights_set_again give h.1.0.1, slot_again into h.1.1)
-what_again (what.Call (call.MakeTemplate of (making.Create give) into)) h = rw (verb_again, path_again of h.0, verb_again verb.Create, rights_set_again give h.1.0, slot_again into h.1.1)
+what_again (what.Call (call.MakeTemplate of (making.Amplify check give) into)) h = rw (verb_again, path_again of h.0, verb_again verb.Amplify, rights_set_again check h.1.0, rights_set_again give h.1.1, slot_again into h.2)
+what_again (what.Call (call.MakeTemplate of (making.Create give) into)) h = rw (verb_again, path_again of h.0, verb_again verb.Create, rights_set_again give h.1, slot_again into h.2)
 what_again (what.Call (call.Create by into)) h = rw (verb_again, path_again by h.0, slot_again into h.1)
-what_again (what.Call (call.Merge with cap into)) h = rw (verb_again, path_again with h.0, slot_again cap h.1, slot_again into h.2)
+what_again (what.Call (call.Merge with held into)) h = rw (verb_again, path_again with h.0, slot_again held h.1, slot_again into h.2)
 what_again (what.Call (call.Copy of into)) h = rw (verb_again, path_again of h.0, slot_again into h.1)
 what_again (what.Call (call.Enter proc args into)) h = call_again proc args into h
 what_again (what.Call (call.Leave None)) h = rw verb_again
@@ -165,9 +166,14 @@ reply_again (reply.No refused.Count) h = refl
 reply_again (reply.No (refused.Full kind)) h = rw (full_again kind)
 reply_again (reply.No refused.Deep) h = refl
 
+joined : (ps : List Piece) (next : What → Reads (Reply → Line)) → (wanted as_word >>= (λ word. what_of word >>= next)) ps ≡ onward (what_line ps) next
+joined [] next = refl
+joined (p ∷ ps) next = go (as_word p)
+  where
+    go : (r : Result (List ℕ) ParseCause) → onward (taken r ps) (λ word. what_of word >>= next) ≡ onward (onward (taken r ps) what_of) next
+    go (Ok word) = refl
+    go (Err cause) = refl
+
 -- an event is read as what any reply makes this line
 pub event_again : (l : Line) → IsLine l → event_line (event_pieces l) ≡ Ok (line_with l.cpu.0 l.proc.0 l.inc.0 l.what, [])
-event_again l h = rw (below_again 16 l.cpu.0 h.cpu, below_again 256 l.proc.0 h.proc, below_again inc_bound l.inc.0 h.inc) (go (what_pieces l.what) (what_again l.what h.what))
-  where
-    go : (ps : List Piece) → what_line ps ≡ Ok (l.what, []) → _ ≡ Ok (line_with l.cpu.0 l.proc.0 l.inc.0 l.what, [])
-    go ps e = rw e refl
+event_again l h = rw (below_again 16 l.cpu.0 h.cpu, below_again 256 l.proc.0 h.proc, below_again inc_bound l.inc.0 h.inc) (joined (what_pieces l.what) (λ event. end (line_with l.cpu.0 l.proc.0 l.inc.0 event)) ∙ rw (what_again l.what h.what) refl)

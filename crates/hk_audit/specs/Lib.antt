@@ -3,3 +3,4 @@ pub mod Left
 pub mod Names
 pub mod Refusals
 pub mod Events
+pub mod Halves

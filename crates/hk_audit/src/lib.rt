@@ -9,7 +9,10 @@ mod forms;
 mod numerals;
 mod parts;
 mod paths;
+mod reading;
 mod replies;
 mod rights;
 mod verbs;
 mod wanted;
+
+pub use crate::reading::{read_body, read_line};
