@@ -16,7 +16,7 @@ use Rattle.hk_model.specs.Labels.{same_text}
 use Rattle.hk_model.specs.Pieces.{Piece, Number, spell}
 use Rattle.hk_model.specs.Texts.{is_none}
 use Rattle.hk_model.specs.LineReading.{event_line, reply_line, line_with}
-use Rattle.hk_model.specs.AuditLines.{what_pieces, event_pieces, reply_pieces, arrow, line_body}
+use Rattle.hk_model.specs.AuditLines.{what_pieces, event_pieces, reply_pieces, arrow, line_body, line_text}
 use Rattle.hk_model.specs.LineRanges.{IsLine}
 use Rattle.hk_model.proofs.Cutting.{all_joined, none_of, split_at, split_none, split_joined}
 use Rattle.hk_model.proofs.LineAgain.{same_is}
@@ -229,3 +229,34 @@ line_refused body a b only whole none l h e =
 
 pub halves_refused : (body : List ℕ) → ((a b : List ℕ) → HasNoArrow a → HasNoArrow b → halves_text a b ≡ body → ⊥) → (l : Line) → IsLine l → line_body l ≡ body → ⊥
 halves_refused body none l h e = let known = line_halves l h in none known.event known.reply known.event_free known.reply_free (known.text ∙ e)
+
+-- answers for a body, and for a whole line
+
+pub body_none : (r : Option Line) (body a b : List ℕ) → ((c d : List ℕ) → HasNoArrow c → HasNoArrow d → halves_text c d ≡ body → (c ≡ a) × (d ≡ b)) → halves_text a b ≡ body
+    → IfNone r ((l : Line) → IsLine l → HasNoArrow a → HasNoArrow b → line_body l ≡ halves_text a b → ⊥) → IfNone r ((l : Line) → IsLine l → line_body l ≡ body → ⊥)
+body_none (Some x) body a b only whole none = tt
+body_none None body a b only whole none = line_refused body a b only whole none
+
+pub text_some : (r : Option Line) (body bytes : List ℕ) → body ++ 10 ∷ [] ≡ bytes → IfSome r (λ l. IsLine l × (line_body l ≡ body)) → IfSome r (λ l. IsLine l × (line_text l ≡ bytes))
+text_some (Some l) body bytes e h = (h.0, ap (λ (t : List ℕ). t ++ 10 ∷ []) h.1 ∙ e)
+text_some None body bytes e h = tt
+
+pub text_none : (r : Option Line) (body bytes : List ℕ) → body ++ 10 ∷ [] ≡ bytes → IfNone r ((l : Line) → IsLine l → line_body l ≡ body → ⊥) → IfNone r ((l : Line) → IsLine l → line_text l ≡ bytes → ⊥)
+text_none (Some l) body bytes e h = tt
+text_none None body bytes e h = λ l k f. h l k (same_front (line_body l) body (10 ∷ []) (f ∙ sym e))
+
+-- answers for halves, by the texts on both sides
+pub stripped_some : {X : Type 0} (event reply : X → List ℕ) (r : Option X) (body x y : List ℕ) → slice_split (λ c. c == 62) body ≡ x ∷ y ∷ []
+    → IfSome r (λ f. (event f ++ 32 ∷ 45 ∷ [] ≡ x) × (32 ∷ reply f ≡ y)) → IfSome r (λ f. halves_text (event f) (reply f) ≡ body)
+stripped_some event reply (Some f) body x y cut h = halves_join body x y (event f) (reply f) cut h.0 h.1
+stripped_some event reply None body x y cut h = tt
+
+pub stripped_only : {X : Type 0} (event reply : X → List ℕ) (r : Option X) (body x y : List ℕ) → slice_split (λ c. c == 62) body ≡ x ∷ y ∷ []
+    → IfSome r (λ f. (event f ++ 32 ∷ 45 ∷ [] ≡ x) × (32 ∷ reply f ≡ y)) → IfSome r (λ f. (a b : List ℕ) → HasNoArrow a → HasNoArrow b → halves_text a b ≡ body → (a ≡ event f) × (b ≡ reply f))
+stripped_only event reply (Some f) body x y cut h = λ a b ha hb e. halves_only body x y a b (event f) (reply f) cut h.0 h.1 ha hb e
+stripped_only event reply None body x y cut h = tt
+
+pub stripped_none : {X : Type 0} (r : Option X) (body x y : List ℕ) → slice_split (λ c. c == 62) body ≡ x ∷ y ∷ []
+    → IfNone r ((a b : List ℕ) → a ++ 32 ∷ 45 ∷ [] ≡ x → 32 ∷ b ≡ y → ⊥) → IfNone r ((a b : List ℕ) → HasNoArrow a → HasNoArrow b → halves_text a b ≡ body → ⊥)
+stripped_none (Some f) body x y cut h = tt
+stripped_none None body x y cut h = λ a b ha hb e. let parts = halves_parts body x y a b cut ha hb e in h a b parts.0 parts.1

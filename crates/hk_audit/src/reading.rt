@@ -55,9 +55,20 @@ fn halves(body: &[u8]) -> Option<(&[u8], &[u8])>
     ensures none { IfNone result ((a b : List ℕ) → HasNoArrow a → HasNoArrow b → halves_text a b ≡ body.now → ⊥) }
 {
     match two_parts(body) {
-        Some((first, second)) => match (before(first, b" -"), behind(second, b" ")) {
-            (Some(event), Some(reply)) => Some((event, reply)),
-            _ => None,
+        Some((first, second)) => stripped(first, second),
+        None => None,
+    }
+}
+
+/// The texts on both sides of a `>`, without the rest of the arrow and its spaces.
+fn stripped<'a>(first: &'a [u8], second: &'a [u8]) -> Option<(&'a [u8], &'a [u8])>
+    ensures some { IfSome result (λ found. (found.0.now ++ 32 ∷ 45 ∷ [] ≡ first.now) × (32 ∷ found.1.now ≡ second.now)) }
+    ensures none { IfNone result ((a b : List ℕ) → a ++ 32 ∷ 45 ∷ [] ≡ first.now → 32 ∷ b ≡ second.now → ⊥) }
+{
+    match before(first, b" -") {
+        Some(event) => match behind(second, b" ") {
+            Some(reply) => Some((event, reply)),
+            None => None,
         },
         None => None,
     }
