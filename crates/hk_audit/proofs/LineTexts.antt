@@ -75,6 +75,7 @@ halves_parts body x y a b cut ha hb e =
     first_text : List ℕ → List (List ℕ) → List ℕ
     first_text d [] = d
     first_text d (t ∷ ts) = t
+
     second_text : List ℕ → List (List ℕ) → List ℕ
     second_text d [] = d
     second_text d (t ∷ ts) = first_text d ts
@@ -133,9 +134,10 @@ line_found body a b g r left right whole first second =
     let event = (sound_event seen_forms).sound (slice_split (λ c. c == 32) a) g left first in
     let answer = (sound_reply seen_forms).sound (slice_split (λ c. c == 32) b) r right second in
     let same = event.0.event r in
-    let own = event.0.reply r in
-    (event.0.line r answer.0,
-    sym (body_is (g r) (slice_split (λ c. c == 32) a) (slice_split (λ c. c == 32) b) (event.1 ∙ ap (λ (ps : List Piece). map spell ps) (sym same)) (answer.1 ∙ ap (λ (q : Reply). map spell (reply_pieces q)) (sym own))) ∙ joined_cuts a b ∙ whole)
+    let own = event.0.reply r in (
+      event.0.line r answer.0,
+      sym (body_is (g r) (slice_split (λ c. c == 32) a) (slice_split (λ c. c == 32) b) (event.1 ∙ ap (λ (ps : List Piece). map spell ps) (sym same)) (answer.1 ∙ ap (λ (q : Reply). map spell (reply_pieces q)) (sym own))) ∙ joined_cuts a b ∙ whole,
+    )
 
 -- the halves of a line's text, and what is read of them
 pub record LineHalves (l : Line) : Type 0 where

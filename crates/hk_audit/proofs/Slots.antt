@@ -92,7 +92,6 @@ pub left_shorter : {A : Type 0} (form : Piece → Result A ParseCause) (pieces l
 left_shorter form [] left x h = cc
 left_shorter form (p ∷ ps) left x h = rw (left_behind (form p) ps x left h) (omega arith)
 
-
 -- a path that is refused, and a first slot
 
 pub slot_refused : (pieces : List Piece) (cause : ParseCause) → wanted as_any_slot pieces ≡ Err cause → wanted (as_number_below slot_bound) pieces ≡ Err cause

@@ -201,9 +201,10 @@ sound_slots {view} {exact} f proc first h k = record { sound = λ ts x rest e. g
         let few = slots.few in
         let pair : ◌≡◌ {A = Call × List Piece} (call.Enter proc (before_last first more) (slot_numbered (last_of first more)), []) (x, rest) = cc in
         let same : call.Enter proc (before_last first more) (slot_numbered (last_of first more)) ≡ x = ap (λ (q : Call × List Piece). q.0) pair in
-        let spelled = ap (λ (us : List (List ℕ)). codes "call" ∷ spell (path_piece proc) ∷ us) (slots_spelled first more) in
-        (subst IsCall same (h, (rw parts.2 few, parts.0), parts.1),
-        spells exact same (sym spelled) slots.same)
+        let spelled = ap (λ (us : List (List ℕ)). codes "call" ∷ spell (path_piece proc) ∷ us) (slots_spelled first more) in (
+          subst IsCall same (h, (rw parts.2 few, parts.0), parts.1),
+          spells exact same (sym spelled) slots.same,
+        )
       where
         spells : (b : Bool) → call.Enter proc (before_last first more) (slot_numbered (last_of first more)) ≡ x
             → codes "call" ∷ spell (path_piece proc) ∷ decimal first ∷ map decimal more ≡ map spell (call_pieces (call.Enter proc (before_last first more) (slot_numbered (last_of first more))))
@@ -324,9 +325,10 @@ sound_last {view} {exact} f cpu proc inc word a b c = record { sound = λ ts g r
         let here = (sound_what f word).sound ts w [] e in
         let pair : ◌≡◌ {A = (Reply → Line) × List Piece} (line_with cpu proc inc w, []) (g, rest) = cc in
         let same : line_with cpu proc inc w ≡ g = ap (λ (q : (Reply → Line) × List Piece). q.0) pair in
-        subst (λ (z : Reply → Line). IsEvent z × Same exact (decimal cpu ∷ decimal proc ∷ decimal inc ∷ word ∷ ts) (map spell (event_pieces (z reply.Done)))) same
-        (record { line = λ r k. record { cpu = a; proc = b; inc = c; what = here.0; reply = k }; event = λ r. refl; reply = λ r. refl },
-        same_behind exact (λ us. decimal cpu ∷ decimal proc ∷ decimal inc ∷ us) (word ∷ ts) (map spell (what_pieces w)) here.1)
+        subst (λ (z : Reply → Line). IsEvent z × Same exact (decimal cpu ∷ decimal proc ∷ decimal inc ∷ word ∷ ts) (map spell (event_pieces (z reply.Done)))) same (
+          record { line = λ r k. record { cpu = a; proc = b; inc = c; what = here.0; reply = k }; event = λ r. refl; reply = λ r. refl },
+          same_behind exact (λ us. decimal cpu ∷ decimal proc ∷ decimal inc ∷ us) (word ∷ ts) (map spell (what_pieces w)) here.1,
+        )
 
 pub sound_event : {view : List ℕ → Piece} {exact : Bool} (f : Forms view exact) → Sound view exact (Reply → Line) event_line (λ ts. ts) (λ g. event_pieces (g reply.Done)) IsEvent
 sound_event f =

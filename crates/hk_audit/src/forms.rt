@@ -21,7 +21,13 @@ pub fn number_below(text: &[u8], bound: u64) -> Result<u64, ParseCause>
     ensures below { IfOk result (λ n. n < bound) }
 {
     match numeral(text) {
-        Some(n) => { if n < bound { Ok(n) } else { Err(ParseCause::OutOfRange) } }
+        Some(n) => {
+            if n < bound {
+                Ok(n)
+            } else {
+                Err(ParseCause::OutOfRange)
+            }
+        }
         None => Err(ParseCause::UnknownWord),
     }
 }
@@ -41,7 +47,13 @@ pub fn word32(text: &[u8]) -> Result<u32, ParseCause>
     ensures { as_word32 (seen text.now) ≡ result }
 {
     match numeral(text) {
-        Some(n) => { if n <= 4294967295 { Ok(n as u32) } else { Err(ParseCause::OutOfRange) } }
+        Some(n) => {
+            if n <= 4294967295 {
+                Ok(n as u32)
+            } else {
+                Err(ParseCause::OutOfRange)
+            }
+        }
         None => Err(ParseCause::UnknownWord),
     }
 }
@@ -51,7 +63,13 @@ pub fn slot(text: &[u8]) -> Result<Slot, ParseCause>
     ensures { as_any_slot (seen text.now) ≡ result }
 {
     match numeral(text) {
-        Some(n) => { if n < 256 { Ok(Slot(n as u8)) } else { Err(ParseCause::OutOfRange) } }
+        Some(n) => {
+            if n < 256 {
+                Ok(Slot(n as u8))
+            } else {
+                Err(ParseCause::OutOfRange)
+            }
+        }
         None => Err(ParseCause::UnknownWord),
     }
 }

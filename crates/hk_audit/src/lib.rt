@@ -12,6 +12,8 @@ mod paths;
 mod reading;
 mod replies;
 mod rights;
+#[cfg(test)]
+mod tests;
 mod verbs;
 mod wanted;
 

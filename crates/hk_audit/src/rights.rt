@@ -98,7 +98,11 @@ fn are_names_among(numbers: &[u8], rights: Rights, text: &[u8]) -> bool
     for number in numbers {
         if let Some(right) = right_of(rights, *number) {
             match parts.next() {
-                Ok(name) => { if right.name().as_bytes() != name { return false; } }
+                Ok(name) => {
+                    if right.name().as_bytes() != name {
+                        return false;
+                    }
+                }
                 Err(_) => return false,
             }
         }
