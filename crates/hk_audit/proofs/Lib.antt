@@ -10,3 +10,4 @@ pub mod LinesAgain
 pub mod Clear
 pub mod SeenFits
 pub mod LineTexts
+pub mod ReadAgain

@@ -1,11 +1,11 @@
 -- The text of a line, cut at its arrow and at its spaces.
-use Rattle.std.proofs.Common.{◌≡◌, ℕ, ◌<◌, ◌≤◌, ◌+◌, ◌-◌, ◌==◌, Bool, true, false, cond, List, [], ◌∷◌, ◌++◌, length, map, take, drop, refl, sym, ap, subst, ◌∙◌, arith, ◌||◌, ◌&&◌, not, Option, Some, None, Result, Ok, Err}
+use Rattle.std.proofs.Common.{◌≡◌, ℕ, ◌+◌, ◌-◌, ◌==◌, Bool, true, false, List, [], ◌∷◌, ◌++◌, length, map, take, drop, refl, sym, ap, subst, ◌∙◌, arith, ◌||◌, not, Option, Some, None, Ok, Err}
 use Rattle.std.specs.Prelude.{nat_eq, MatchOption, IfSome, IfNone}
 use Rattle.hk_model.specs.declared.causes.ParseCause.{ParseCause}
 use Rattle.std.specs.List.{AllByRecursion, list_all, list_any, slice_split, join_with_byte}
 use Rattle.std.specs.Fmt.{decimal}
 use Rattle.std.specs.Cmp.Lexicographic.{pointwise}
-use Rattle.std.proofs.lemmas.Bool.{and_parts, false≢true}
+use Rattle.std.proofs.lemmas.Bool.{false≢true}
 use Rattle.std.proofs.lemmas.List.{take-append-drop, length-append}
 use Rattle.std.proofs.Math.Seq.{drop-append_seam}
 use Rattle.std.proofs.lemmas.List.Splits.{join_with_byte-slice_split}

@@ -1,6 +1,5 @@
 -- The forms of an audit line take each value of one text alone.
-use Rattle.std.proofs.Common.{◌≡◌, ℕ, ◌<◌, ◌≤◌, ◌+◌, ◌==◌, ◌^◌, Bool, true, false, cond, eqb, ltb, leb, List, [], ◌∷◌, ◌++◌, length, map, refl, sym, ap, subst, ◌∙◌, arith, ◌||◌, ◌&&◌, not, Option, Some, None, Result, Ok, Err, IsTrue}
-use Rattle.std.specs.Prelude.{codes}
+use Rattle.std.proofs.Common.{◌≡◌, ℕ, ◌<◌, ◌≤◌, ◌==◌, ◌^◌, Bool, true, false, cond, ltb, leb, List, [], ◌∷◌, length, map, refl, sym, ap, subst, ◌∙◌, arith, ◌&&◌, Option, Some, None, Ok, Err, IsTrue}
 use Rattle.std.specs.List.{AllByRecursion, list_all, slice_split, join_with_byte, find}
 use Rattle.std.specs.Fmt.{decimal}
 use Rattle.std.proofs.lemmas.Bool.{and_parts, false≢true, ltb-true, leb-true}
@@ -8,16 +7,15 @@ use Rattle.std.proofs.lemmas.List.{length-map}
 use Rattle.std.proofs.lemmas.List.Splits.{join_with_byte-slice_split}
 use Rattle.hk_rights.specs.Rights.{Row, IsRightsWord, is_right, name_of, number_named, right_table}
 use Rattle.hk_rights.proofs.Table.{named-is_right}
-use Rattle.hk_model.specs.declared.causes.ParseCause.{ParseCause}
 use Rattle.hk_model.specs.declared.causes.ParseCause.TheVariants.{UnknownWord, OutOfRange}
 use Rattle.hk_model.specs.declared.instructions.Index.TheVariants.{Fixed}
 use Rattle.hk_model.specs.declared.names.Slot.{Slot}
 use Rattle.hk_model.specs.declared.calls.What8.{What8}
 use Rattle.hk_model.specs.declared.syntax.Verb.{Verb}
 use Rattle.hk_model.specs.Labels.{between, first, is_lower, same_text}
-use Rattle.hk_model.specs.Pieces.{Piece, Word, Upper, Dash, Number, Path, spell, spell_index, value}
+use Rattle.hk_model.specs.Pieces.{Word, Upper, Number, spell, spell_index, value}
 use Rattle.hk_model.specs.Verbs.{verb_word}
-use Rattle.hk_model.specs.Operands.{path_piece, slot_piece, rights_piece, rights_set_piece}
+use Rattle.hk_model.specs.Operands.{path_piece, slot_piece, rights_set_piece}
 use Rattle.hk_model.specs.RightsTexts.{rights_text}
 use Rattle.hk_model.specs.Forms.{as_verb, as_word, as_number_below, slot_numbered}
 use Rattle.hk_model.specs.LineReading.{as_path, as_any_slot, as_rights_set, as_right, as_word32, as_full, all_full, full_found, inc_bound}
@@ -28,9 +26,9 @@ use Rattle.hk_model.proofs.LineAgain.{same_is}
 use Rattle.hk_audit.specs.Seen.{is_numeral, numeral_of, is_index_numeral, indices_of, path_of, rights_spelled, seen}
 use Rattle.hk_audit.proofs.DigitTexts.{numeral_text}
 use Rattle.hk_audit.proofs.Spelled.{named_row}
-use Rattle.hk_audit.proofs.SeenForms.{IsSpelling, spelled_is, numeral_small, seen_numeral, path_taken, seen_path_of, path_refused, several_taken, below_refused, word32_refused, slot_refused, rights_taken, rights_refused, right_taken, right_refused, seen_word, word_refused, not_word}
+use Rattle.hk_audit.proofs.SeenForms.{spelled_is, seen_numeral, path_refused, several_taken, below_refused, word32_refused, slot_refused, rights_taken, rights_refused, right_taken, right_refused, seen_word, word_refused, not_word}
 use Rattle.hk_audit.proofs.Clear.{spelled_rights}
-use Rattle.hk_audit.proofs.Sound.{Same, Fits, Forms, verb_is}
+use Rattle.hk_audit.proofs.Sound.{Fits, Forms, verb_is}
 
 -- a number is of one text
 pub numeral_is : (t : List ℕ) (n : ℕ) → numeral_of t ≡ Some n → decimal n ≡ t

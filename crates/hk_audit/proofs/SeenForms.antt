@@ -1,10 +1,10 @@
 -- What the forms take of the piece that a text spells.
-use Rattle.std.proofs.Common.{◌≡◌, ℕ, ◌+◌, ◌<◌, ◌≤◌, ◌^◌, ◌==◌, Bool, true, false, cond, eqb, ltb, List, [], ◌∷◌, ◌++◌, length, map, refl, sym, ap, subst, ◌∙◌, arith, ◌&&◌, ◌||◌, not, Option, Some, None, Result, Ok, Err, IsTrue}
+use Rattle.std.proofs.Common.{◌≡◌, ℕ, ◌<◌, ◌≤◌, ◌==◌, Bool, true, false, cond, eqb, ltb, List, [], ◌∷◌, length, map, refl, sym, ap, subst, ◌∙◌, arith, ◌&&◌, ◌||◌, Option, Some, None, Result, Ok, Err}
 use Rattle.std.specs.Prelude.{codes, find}
-use Rattle.std.specs.List.{AllByRecursion, list_all, slice_split, onto_first, join_with_byte}
-use Rattle.std.proofs.lemmas.Bool.{and_parts, and_from, false≢true, eqb-true, lt-ltb, le-ltb, le-leb, lt-leb, ltb-true}
+use Rattle.std.specs.List.{AllByRecursion, list_all, slice_split, onto_first}
+use Rattle.std.proofs.lemmas.Bool.{and_parts, and_from, false≢true, lt-ltb, le-ltb, le-leb, lt-leb, ltb-true}
 use Rattle.std.proofs.lemmas.Bool.Decides.{nat_tests}
-use Rattle.hk_rights.specs.Rights.{Row, IsRightsWord, number_named, right_table, right_numbers, name_of, is_right}
+use Rattle.hk_rights.specs.Rights.{Row, IsRightsWord, number_named, right_table, right_numbers, name_of}
 use Rattle.hk_model.specs.declared.causes.ParseCause.{ParseCause}
 use Rattle.hk_model.specs.declared.causes.ParseCause.TheVariants.{UnknownWord, OutOfRange}
 use Rattle.hk_model.specs.declared.instructions.Index.{Index}
@@ -12,7 +12,7 @@ use Rattle.hk_model.specs.declared.instructions.Index.TheVariants.{Fixed}
 use Rattle.hk_model.specs.declared.syntax.Verb.{Verb}
 use Rattle.hk_model.specs.Verbs.{verb_word, all_verbs}
 use Rattle.hk_model.specs.Labels.{between, first, is_lower, is_capital, is_digit, same_text}
-use Rattle.hk_model.specs.Pieces.{Piece, Word, Upper, Dash, Number, Path, is_number, value, is_upper}
+use Rattle.hk_model.specs.Pieces.{Piece, Word, Upper, Dash, Number, Path, value, is_upper}
 use Rattle.hk_model.specs.Operands.{rights_piece}
 use Rattle.hk_model.specs.RightsTexts.{rights_of, rights_text}
 use Rattle.hk_model.specs.Syntax.{IsRightsText}

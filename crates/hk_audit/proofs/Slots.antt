@@ -1,6 +1,6 @@
 -- The slots of a call, read one after another.
-use Rattle.std.proofs.Common.{◌≡◌, ℕ, zero, suc, ◌+◌, ◌<◌, ◌≤◌, arith, Bool, true, false, cond, ltb, List, [], ◌∷◌, ◌++◌, length, map, take, set, ◌-◌, refl, sym, ap, ◌∙◌, Ok, Err, Result}
-use Rattle.std.proofs.lemmas.List.{map-append, length-append, length-take, take_more_set}
+use Rattle.std.proofs.Common.{◌≡◌, ℕ, zero, suc, ◌+◌, ◌<◌, arith, Bool, true, false, cond, ltb, List, [], ◌∷◌, ◌++◌, length, map, take, set, ◌-◌, refl, sym, ap, ◌∙◌, Ok, Err, Result}
+use Rattle.std.proofs.lemmas.List.{map-append, take_more_set}
 use mathlib.Core.List.{append_assoc, append-nil}
 use Rattle.hk_model.specs.declared.causes.ParseCause.{ParseCause}
 use Rattle.hk_model.specs.declared.causes.ParseCause.TheVariants.{OutOfRange, Missing}

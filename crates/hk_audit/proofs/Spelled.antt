@@ -1,23 +1,22 @@
 -- Names of rights, read one after another and compared with the canonical spelling.
-use Rattle.std.proofs.Common.{◌≡◌, ℕ, zero, suc, ltb, ◌+◌, ◌<◌, ◌≤◌, ◌^◌, ◌==◌, Bool, true, false, cond, eqb, List, [], ◌∷◌, ◌++◌, length, map, drop, get_or, refl, sym, ap, subst, ◌∙◌, arith, ◌&&◌, ◌||◌, not, Option, Some, None, IsTrue}
-use Rattle.std.specs.Prelude.{codes, bit_or, option_map, find}
+use Rattle.std.proofs.Common.{◌≡◌, ℕ, zero, suc, ltb, ◌+◌, ◌<◌, ◌≤◌, ◌^◌, ◌==◌, Bool, true, false, cond, List, [], ◌∷◌, length, map, drop, get_or, refl, sym, ap, subst, ◌∙◌, arith, ◌||◌, not, Option, Some, None, IsTrue}
+use Rattle.std.specs.Prelude.{bit_or, option_map, find}
 use Rattle.std.specs.List.{AllByRecursion, list_all, list_any, filter, slice_split, join_with_byte}
 use Rattle.std.specs.Int.Bits.{or_zero_l, or_zero_r}
 use Rattle.std.specs.Str.{IsUtf8, IsAscii}
 use Rattle.std.proofs.lemmas.Str.{IsUtf8-from_ascii}
 use Rattle.std.specs.Cmp.Lexicographic.{pointwise}
 use Rattle.std.specs.Prelude.{nat_eq}
-use Rattle.std.proofs.lemmas.Bool.{and_parts, and_from, false≢true, eqb-true, eqb-false, eq-eqb, ltb-true}
-use Rattle.std.proofs.lemmas.Bool.Decides.{nat_tests}
+use Rattle.std.proofs.lemmas.Bool.{and_parts, and_from, false≢true, eqb-false, eq-eqb, ltb-true}
 use Rattle.std.proofs.lemmas.List.{drop_more, drop_all}
 use Rattle.hk_model.specs.Texts.{is_none}
 use Rattle.std.proofs.lemmas.List.Splits.{join_with_byte-slice_split}
-use Rattle.hk_rights.specs.Rights.{Row, has, is_right, all_rights, IsRightsWord, right_numbers, right_table, name_of, number_named}
+use Rattle.hk_rights.specs.Rights.{Row, has, is_right, IsRightsWord, right_numbers, right_table, name_of, number_named}
 use Rattle.hk_rights.proofs.Sets.{has-bit_or, same_rights}
 use Rattle.hk_rights.proofs.Words.{HasAll-all_rights}
 use Rattle.hk_rights.proofs.Table.{has-all_rights}
 use Rattle.hk_model.specs.Labels.{same_text}
-use Rattle.hk_model.specs.RightsTexts.{right_of, both, union_of, rights_text}
+use Rattle.hk_model.specs.RightsTexts.{both, union_of}
 use Rattle.hk_model.proofs.Cutting.{split_joined}
 use Rattle.hk_model.proofs.LineAgain.{same_is}
 use Rattle.hk_model.proofs.RightsAgain.{word_of, word_again}

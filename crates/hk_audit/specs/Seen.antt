@@ -1,6 +1,6 @@
 -- What stands between the spaces of an audit line: a text is seen as the piece that is spelled so, and in no other way.
 -- docs/FORMATS.md, "Audit lines and records".
-use Rattle.std.specs.Prelude.{ℕ, ◌==◌, Bool, false, not, ◌&&◌, ◌||◌, List, [], ◌∷◌, length, Option, Some, None, if◌then◌else◌, nat_lt, map}
+use Rattle.std.specs.Prelude.{ℕ, ◌==◌, Bool, not, ◌&&◌, ◌||◌, List, [], length, Option, Some, None, if◌then◌else◌, nat_lt, map}
 use Rattle.std.specs.List.{list_all, slice_split}
 use Rattle.hk_model.specs.declared.instructions.Index.TheVariants.{Fixed}
 use Rattle.hk_model.specs.Labels.{between, first, is_lower, same_text}

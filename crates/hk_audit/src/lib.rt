@@ -3,6 +3,7 @@
 //! `docs/FORMATS.md`, "Audit lines and records", states the rules.
 #![tactic(auto)]
 
+mod again;
 mod calls;
 mod events;
 mod forms;
@@ -17,4 +18,5 @@ mod tests;
 mod verbs;
 mod wanted;
 
+pub use crate::again::line_is_read_again;
 pub use crate::reading::{read_body, read_line};
