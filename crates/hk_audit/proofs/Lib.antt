@@ -7,3 +7,16 @@ mod LineTexts
 mod StatesInRange
 mod StepsInRange
 mod TestsInRange
+pub mod DigitTexts
+pub mod Cuts
+pub mod Indices
+pub mod Spelled
+pub mod SeenForms
+pub mod Slots
+pub mod FirstWords
+pub mod Sound
+pub mod LinesAgain
+pub mod Clear
+pub mod SeenFits
+pub mod LineCuts
+pub mod ReadAgain

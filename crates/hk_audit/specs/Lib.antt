@@ -1,0 +1,6 @@
+pub mod Seen
+pub mod Left
+pub mod Names
+pub mod Refusals
+pub mod Events
+pub mod Halves

@@ -1,0 +1,121 @@
+//! The words that lines begin with (`docs/FORMATS.md`, "Grammar").
+
+ghost use Rattle.std.specs.Prelude.{◌≡◌};
+ghost use Rattle.std.specs.List.{find};
+ghost use Rattle.hk_model.specs.Labels.{same_text};
+ghost use Rattle.hk_model.specs.Verbs.{verb_word, all_verbs};
+
+use hk_model::Verb;
+
+const VERBS: [Verb; 41] = [
+    Verb::Hydra,
+    Verb::Limit,
+    Verb::Type,
+    Verb::Object,
+    Verb::Semaphore,
+    Verb::Procedure,
+    Verb::Code,
+    Verb::Process,
+    Verb::End,
+    Verb::Words,
+    Verb::Empty,
+    Verb::Cap,
+    Verb::Amplify,
+    Verb::Create,
+    Verb::Param,
+    Verb::Label,
+    Verb::GetData,
+    Verb::PutData,
+    Verb::AddData,
+    Verb::Length,
+    Verb::Load,
+    Verb::Store,
+    Verb::Append,
+    Verb::Erase,
+    Verb::Drop,
+    Verb::Restrict,
+    Verb::Look,
+    Verb::Template,
+    Verb::Merge,
+    Verb::Copy,
+    Verb::Call,
+    Verb::Return,
+    Verb::P,
+    Verb::V,
+    Verb::Yield,
+    Verb::Set,
+    Verb::Add,
+    Verb::Goto,
+    Verb::IfEq,
+    Verb::IfLess,
+    Verb::IfDenied,
+];
+
+/// The verb that the word is.
+#[tactic(auto, unfolding(hk_model::specs::Verbs::all_verbs))]
+pub fn verb_of(word: &[u8]) -> Option<Verb>
+    ensures { result ≡ find (λ v. same_text word.now (verb_word v)) all_verbs }
+{
+    verb_in(&VERBS, word)
+}
+
+/// The first of the verbs whose word it is.
+fn verb_in(verbs: &[Verb], word: &[u8]) -> Option<Verb>
+    ensures { result ≡ find (λ v. same_text word.now (verb_word v)) verbs.now }
+{
+    for verb in verbs {
+        if word == word_of(*verb) {
+            return Some(*verb);
+        }
+    }
+    None
+}
+
+/// The word of a verb.
+fn word_of(verb: Verb) -> &'static [u8]
+    ensures { result.now ≡ verb_word verb }
+{
+    match verb {
+        Verb::Hydra => b"hydra",
+        Verb::Limit => b"limit",
+        Verb::Type => b"type",
+        Verb::Object => b"object",
+        Verb::Semaphore => b"semaphore",
+        Verb::Procedure => b"procedure",
+        Verb::Code => b"code",
+        Verb::Process => b"process",
+        Verb::End => b"end",
+        Verb::Words => b"words",
+        Verb::Empty => b"empty",
+        Verb::Cap => b"cap",
+        Verb::Amplify => b"amplify",
+        Verb::Create => b"create",
+        Verb::Param => b"param",
+        Verb::Label => b"label",
+        Verb::GetData => b"getdata",
+        Verb::PutData => b"putdata",
+        Verb::AddData => b"adddata",
+        Verb::Length => b"length",
+        Verb::Load => b"load",
+        Verb::Store => b"store",
+        Verb::Append => b"append",
+        Verb::Erase => b"erase",
+        Verb::Drop => b"drop",
+        Verb::Restrict => b"restrict",
+        Verb::Look => b"look",
+        Verb::Template => b"template",
+        Verb::Merge => b"merge",
+        Verb::Copy => b"copy",
+        Verb::Call => b"call",
+        Verb::Return => b"return",
+        Verb::P => b"p",
+        Verb::V => b"v",
+        Verb::Yield => b"yield",
+        Verb::Set => b"set",
+        Verb::Add => b"add",
+        Verb::Goto => b"goto",
+        Verb::IfEq => b"ifeq",
+        Verb::IfLess => b"iflt",
+        Verb::IfDenied => b"ifdenied",
+    }
+}
