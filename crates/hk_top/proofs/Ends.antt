@@ -1,23 +1,19 @@
 -- Where processor 0 has no step, the state has an end word.
-use Rattle.std.proofs.Common.{◌≡◌, ◌≢◌, ℕ, ◌+◌, List, [], ◌∷◌, Bool, true, false, Option, Some, None, refl, subst, cond, ap, ◌∙◌, inl, inr}
-use Rattle.std.specs.Prelude.{◌⊎◌, ◌||◌, ◌&&◌, not, map}
+use Rattle.std.proofs.Common.{◌≡◌, ◌≢◌, ℕ, ◌+◌, List, [], ◌∷◌, Bool, true, false, Option, Some, None, refl, subst, cond, inl, inr}
+use Rattle.std.specs.Prelude.{◌⊎◌, ◌||◌, ◌&&◌, not}
 use Rattle.std.specs.List.{list_all, list_any}
-use Rattle.std.proofs.lemmas.List.Folds.{list_all-map}
 use Rattle.hk_model.specs.declared.names.Inc.{Inc}
 use Rattle.hk_model.specs.declared.names.Proc.{Proc}
-use Rattle.hk_model.specs.declared.lines.End.{End}
 use Rattle.hk_model.specs.declared.lines.End.TheVariants as end
-use Rattle.hk_model.specs.declared.snapshot.Snapshot.{Snapshot}
 use Rattle.hk_model.specs.declared.objects.Process.{Process}
 use Rattle.hk_model.specs.declared.objects.ProcessState.{ProcessState}
 use Rattle.hk_model.specs.declared.objects.ProcessState.TheVariants.{Ready, Running, Waiting, Ended}
 use Rattle.hk_model.specs.Setup.{Setup}
 use Rattle.hk_model.specs.State.{State}
-use Rattle.hk_model.specs.Processors.{runner, runner_from, is_ready, is_running, is_waiting, has_ended, is_over, may_step, dispatched_from}
+use Rattle.hk_model.specs.Processors.{runner, runner_from, is_ready, is_running, is_waiting, has_ended, may_step, dispatched_from}
 use Rattle.hk_model.specs.Running.{Machine, event_of, dispatch_event, step}
-use Rattle.hk_model.specs.Snapshots.{shown}
 use Rattle.hk_model.specs.Legal.{end_word}
-use Rattle.hk_top.specs.Outputs.{first_processor, first_word}
+use Rattle.hk_top.specs.Outputs.{first_processor}
 use Rattle.hk_top.proofs.Scheduled.{Placed, ArePlaced, IsPlaced}
 
 -- processes of which none is ready or runs
@@ -84,16 +80,3 @@ ends w m p h = by (none_of w m h)
     by (idle r e) =
         let s = still 0 m.state.processes (subst (λ ready. ArePlaced ready 0 m.state.processes) e p) r in
         word_by (list_all (λ (p : Process). has_ended p.run) m.state.processes) (list_any (λ (p : Process). is_ready p.run || is_running p.run) m.state.processes) (list_any (λ (p : Process). is_waiting p.run) m.state.processes) (may_step m.state) (inl (s.over, s.settled))
-
--- the end word by the tests of a snapshot
-any_map : (f : ProcessState → Bool) (ps : List Process) → list_any f (map (λ (p : Process). p.run) ps) ≡ list_any (λ (p : Process). f p.run) ps
-any_map f [] = refl
-any_map f (p ∷ ps) = ap (λ b. f p.run || b) (any_map f ps)
-
-pub word_is : (s : State) (snapshot : Snapshot) (processes : List ProcessState) (done over waits full : Bool) (word : Option End) → snapshot ≡ shown s → processes ≡ snapshot.processes
-    → done ≡ list_all has_ended processes → over ≡ is_over s → waits ≡ list_any is_waiting processes → full ≡ not (may_step s) → word ≡ first_word done (over && waits) full → word ≡ end_word s
-word_is s snapshot processes done over waits full word h p d o w l e =
-    let same : processes ≡ map (λ (p : Process). p.run) s.processes = p ∙ ap (λ (t : Snapshot). t.processes) h in
-    let ended : done ≡ list_all (λ (p : Process). has_ended p.run) s.processes = d ∙ ap (list_all has_ended) same ∙ list_all-map has_ended (λ (p : Process). p.run) s.processes in
-    let wait : waits ≡ list_any (λ (p : Process). is_waiting p.run) s.processes = w ∙ ap (list_any is_waiting) same ∙ any_map is_waiting s.processes in
-    e ∙ (rw (ended, o, wait, l) refl)

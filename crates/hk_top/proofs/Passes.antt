@@ -16,8 +16,8 @@ use Rattle.hk_text.specs.declared.errors.TextError.{TextError}
 use Rattle.hk_text.specs.declared.errors.TextError.TheVariants as text_error
 use Rattle.hk_script.specs.declared.errors.ParseError.{ParseError}
 use Rattle.hk_script.specs.declared.errors.ParseError.TheVariants as parse_error
-use Rattle.hk_load.specs.declared.LoadError.{LoadError}
-use Rattle.hk_load.specs.declared.LoadError.TheVariants as load_error
+use Rattle.hk_load.specs.declared.errors.LoadError.{LoadError}
+use Rattle.hk_load.specs.declared.errors.LoadError.TheVariants as load_error
 use Rattle.hk_top.specs.declared.reading.ScriptError.{ScriptError}
 use Rattle.hk_top.specs.Refusals.{IsRefused, of_text, of_parse, of_load}
 

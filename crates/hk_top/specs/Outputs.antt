@@ -1,5 +1,5 @@
 -- What the program writes, and its status. docs/FORMATS.md, "Statuses and outputs".
-use Rattle.std.specs.Prelude.{◌≡◌, ℕ, ◌<◌, ◌≤◌, ◌⊎◌, List, [], ◌∷◌, ◌++◌, length, take, Bool, Option, Some, None, Ok, Err, All, codes, if◌then◌else◌}
+use Rattle.std.specs.Prelude.{◌≡◌, ℕ, ◌<◌, ◌≤◌, ◌⊎◌, List, [], ◌∷◌, ◌++◌, length, take, Option, None, Ok, Err, All, codes}
 use Rattle.std.specs.Io.KnownBytes.{Consumes, Appends, IsAtEnd}
 use Rattle.hk_io.specs.Causes.{Rose}
 use Rattle.hk_io.specs.Streams.{Took}
@@ -34,10 +34,6 @@ pub record IsWholeRun (w : Setup) (lines : List Line) (end : End) : Type 0 where
   pub legal : IsLegal w lines end
   pub alone : All (λ (line : Line). line.cpu ≡ first_processor) lines
   pub last : step w (after_lines w (opened w) lines) first_processor ≡ None
-
--- the first end word whose test passes
-abbrev pub first_word : Bool → Bool → Bool → Option End
-first_word done stuck at_limit = if done then Some end.Done else if stuck then Some end.Stuck else if at_limit then Some end.Limit else None
 
 -- the laws of protection over these lines
 pub record IsLawful (w : Setup) (lines : List Line) : Type 0 where

@@ -5,6 +5,7 @@ ghost use Rattle.hk_io.specs.Causes.{Rose};
 ghost use Rattle.hk_model.specs.CauseTexts.{too_long_text};
 ghost use Rattle.hk_model.specs.Limits.{script_bytes};
 ghost use Rattle.hk_model.specs.Canonical.{canon};
+ghost use Rattle.hk_top.specs.Refusals.{Tells};
 ghost use Rattle.hk_top.specs.Words.{IsCommand, words_of};
 ghost use Rattle.hk_top.specs.Outputs.{Answer, Due, DueTo, IsRecord, IsSaid, stream};
 
@@ -104,6 +105,7 @@ fn due<S: Source>(alloc: Global, command: Command, input: &mut S) -> Result<DueT
 }
 
 // What is due to more bytes than a script may have.
+#[tactic(auto, using(crate::proofs::AnswerLemmas::too_long_is))]
 fn too_long(alloc: Global) -> Result<DueText, NoMemory>
     ensures { IfOk result (λ due. (due.status ≡ 3) × (due.text ≡ too_long_text)) }
 {
@@ -125,11 +127,21 @@ fn due_to_bytes(alloc: Global, command: Command, bytes: &[u8]) -> Result<DueText
             Command::Run => record(alloc, &world),
             Command::Show => script(alloc, &world),
         },
-        Err(ScriptError::Refused { line, cause }) => Ok(DueText {
+        Err(error) => refused(alloc, error),
+    }
+}
+
+// What is due to bytes that are the script of no world: the line and the cause.
+fn refused(alloc: Global, error: ScriptError) -> Result<DueText, NoMemory>
+    ensures status { IfOk result (λ due. due.status ≡ 3) }
+    ensures text { IfOk result (λ due. Tells error due.text) }
+{
+    match error {
+        ScriptError::Refused { line, cause } => Ok(DueText {
             status: status::REFUSED,
             text: refusal_text(alloc, line, cause)?,
         }),
-        Err(ScriptError::NoMemory) => Err(NoMemory),
+        ScriptError::NoMemory => Err(NoMemory),
     }
 }
 
@@ -141,9 +153,10 @@ fn record(alloc: Global, world: &World) -> Result<DueText, NoMemory>
     let lines = run.lines.as_slice();
     laws(world, lines);
     steps_have_texts(world, lines);
+    let text = record_text(alloc, world, lines, run.end)?;
     Ok(DueText {
         status: status::of_run(run.end),
-        text: record_text(alloc, world, lines, run.end)?,
+        text,
     })
 }
 

@@ -70,11 +70,12 @@ fn tells_faults_of_reading_and_writing(rt: HostRuntime) -> Result<(), Fail> {
 #[test]
 fn refuses_words_without_a_read(rt: HostRuntime) -> Result<(), Fail> {
     let alloc = rt.alloc();
-    let refused: [&[&str]; 5] = [
+    let refused: [&[&str]; 6] = [
         &[],
         &["run", "0"],
         &["run", "17"],
         &["check", "1"],
+        &["show", "1"],
         &["Run"],
     ];
     for spelled in refused {
@@ -89,6 +90,40 @@ fn refuses_words_without_a_read(rt: HostRuntime) -> Result<(), Fail> {
             output.taken(),
             b"usage: hydra COMMAND [NUMBER]\n".as_slice()
         );
+    }
+    Ok(())
+}
+
+#[test]
+fn shows_the_canonical_script(rt: HostRuntime) -> Result<(), Fail> {
+    let alloc = rt.alloc();
+    let show = words(alloc, &["show"])?;
+    let script = b"hydra 1 # a comment\nlimit 10000\ntype stack\n";
+    let mut input = SureBytes::new(script.to_vec(alloc)?);
+    let mut output = sink(alloc, Vec::new(alloc))?;
+    assert_eq!(rt; answer(alloc, &show, &mut input, &mut output), status::DONE);
+    assert_eq!(rt; output.taken(), b"hydra 1\ntype stack\n".as_slice());
+    Ok(())
+}
+
+#[test]
+fn tells_the_line_that_is_refused(rt: HostRuntime) -> Result<(), Fail> {
+    let alloc = rt.alloc();
+    let run = words(alloc, &["run"])?;
+    let refused: [(&[u8], &[u8]); 4] = [
+        (b"", b"line 1: Missing\n"),
+        (b"hydra 1\ntype A:\n", b"line 2: BadToken\n"),
+        (b"hydra 1\ntype any\n", b"line 2: UnknownWord\n"),
+        (b"hydra 1\nobject d LNS\nend\n", b"line 2: WrongPart\n"),
+    ];
+    for (script, told) in refused {
+        let mut input = SureBytes::new(script.to_vec(alloc)?);
+        let mut output = sink(alloc, Vec::new(alloc))?;
+        assert_eq!(rt;
+            answer(alloc, &run, &mut input, &mut output),
+            status::REFUSED
+        );
+        assert_eq!(rt; output.taken(), told);
     }
     Ok(())
 }

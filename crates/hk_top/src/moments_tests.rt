@@ -12,11 +12,13 @@ use std::alloc::Global;
 use std::test::Fail;
 
 // A process holds an object without ENV, and tries to store it in a list and to return it.
-const KEPT: &'static [u8; 173] = b"hydra 1\nobject d DATA\nend\nobject u UNIVERSAL\nempty\nend\ncode main\nstore 0 0 1\nlook 0.0 r0\nerase 0 0\nreturn 1\nend\nprocess a main\ncap u LOAD+STORE+MODIFY+ENV\ncap d GETDATA\nend\n";
+const KEPT: &'static [u8; 173] =
+    b"hydra 1\nobject d DATA\nend\nobject u UNIVERSAL\nempty\nend\ncode main\nstore 0 0 1\nlook 0.0 r0\nerase 0 0\nreturn 1\nend\nprocess a main\ncap u LOAD+STORE+MODIFY+ENV\ncap d GETDATA\nend\n";
 
 // A confined call makes an object and hands it over by a list; another process puts an object into
 // the new object's list, and the confined call writes a word of that.
-const HANDED: &'static [u8; 411] = b"hydra 1\nobject hub UNIVERSAL\nempty\nend\nobject y DATA\nwords 1\nend\nprocedure p cp\nparam UNIVERSAL STORE STORE+MODIFY\ncreate UNIVERSAL LOAD+STORE+APPEND+MODIFY+ENV+UNCONF\nend\ncode cp\ncreate 1 2\nstore 0 0 2\nyield\nputdata 2.0 0 5\nend\ncode main\ncall 1 0 2\nend\ncode other\nappend 0.0 1\nend\nprocess a main\ncap hub STORE+MODIFY+ENV\ncap p A0\nend\nprocess b other\ncap hub LOAD+ENV+UNCONF\ncap y PUTDATA+MODIFY+ENV+UNCONF\nend\n";
+const HANDED: &'static [u8; 411] =
+    b"hydra 1\nobject hub UNIVERSAL\nempty\nend\nobject y DATA\nwords 1\nend\nprocedure p cp\nparam UNIVERSAL STORE STORE+MODIFY\ncreate UNIVERSAL LOAD+STORE+APPEND+MODIFY+ENV+UNCONF\nend\ncode cp\ncreate 1 2\nstore 0 0 2\nyield\nputdata 2.0 0 5\nend\ncode main\ncall 1 0 2\nend\ncode other\nappend 0.0 1\nend\nprocess a main\ncap hub STORE+MODIFY+ENV\ncap p A0\nend\nprocess b other\ncap hub LOAD+ENV+UNCONF\ncap y PUTDATA+MODIFY+ENV+UNCONF\nend\n";
 
 // The world of a script.
 fn world(alloc: Global, script: &[u8]) -> Result<World, Fail>
@@ -47,13 +49,21 @@ fn slot(shown: &Snapshot, inc: Inc, at: usize) -> Option<Entry> {
 
 // The object of a name.
 fn object(shown: &Snapshot, name: Name) -> Option<&Seen> {
-    shown.objects.as_slice().iter().find(|seen| seen.name == name)
+    shown
+        .objects
+        .as_slice()
+        .iter()
+        .find(|seen| seen.name == name)
 }
 
 // Whether an object has a capability for another in its list.
 fn has_in_list(shown: &Snapshot, list: Name, name: Name) -> bool {
     match object(shown, list) {
-        Some(seen) => seen.entries.as_slice().iter().any(|entry| names(entry, name)),
+        Some(seen) => seen
+            .entries
+            .as_slice()
+            .iter()
+            .any(|entry| names(entry, name)),
         None => false,
     }
 }
