@@ -152,7 +152,6 @@ fn keeps_limits(rt: HostRuntime) -> Result<(), Fail> {
         ("code d\nlabel l\n", ("yield #", "\n"), 4096, "end\n", 4102),
         ("", ("process p", " c\nend\n"), 256, "", 516),
         ("", ("code d", "\nend\n"), 4095, "", 8194),
-        ("", ("type t", "\n"), 65_529, "", 65_533),
     ];
     for (head, lines, limit, end, line) in rows {
         let full = numbered(alloc, head, lines, limit, end)?;
@@ -162,6 +161,16 @@ fn keeps_limits(rt: HostRuntime) -> Result<(), Fail> {
         let refused = Some(LoadError::Refused { line, cause });
         assert_eq!(rt; refusal(alloc, more.as_str()), refused, "at {line}");
     }
+    Ok(())
+}
+
+#[test]
+fn keeps_the_limit_of_objects(rt: HostRuntime) -> Result<(), Fail> {
+    let alloc = rt.alloc();
+    let (line, cause) = (65_533, LoadCause::TooMany);
+    let more = numbered(alloc, "", ("type t", "\n"), 65_530, "")?;
+    let refused = Some(LoadError::Refused { line, cause });
+    assert_eq!(rt; refusal(alloc, more.as_str()), refused);
     Ok(())
 }
 
