@@ -3,6 +3,7 @@ pub mod Events
 pub mod FromSeen
 pub mod LinesMost
 pub mod Moves
+pub mod NewPasses
 pub mod Notes
 pub mod OpenBook
 pub mod Placed

@@ -77,7 +77,7 @@ from_placed w m (line ∷ lines) sound h =
 
 -- ---- the opening
 
-none_on : (n : ℕ) (ts : List Task) (i : ℕ) (cpu : Cpu) → is_on cpu (run_at (all_ready n ts) i) ≡ true → ⊥
+pub none_on : (n : ℕ) (ts : List Task) (i : ℕ) (cpu : Cpu) → is_on cpu (run_at (all_ready n ts) i) ≡ true → ⊥
 none_on n [] i cpu h = absurd (cc)
 none_on n (t ∷ ts) zero cpu h = absurd (cc)
 none_on n (t ∷ ts) (suc i) cpu h = none_on (n + 1) ts i cpu h

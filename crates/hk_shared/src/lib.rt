@@ -9,6 +9,8 @@ mod calling;
 mod desk;
 mod naming;
 mod shared;
+#[cfg(test)]
+mod tests;
 
 pub use book::Book;
 pub use naming::Naming;

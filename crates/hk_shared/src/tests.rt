@@ -1,0 +1,91 @@
+// A world of one process, run by one processor at a desk.
+
+ghost use Rattle.std.specs.Prelude.{◌≡◌, IfOk};
+
+use crate::{Naming, Shared};
+use hk_model::{Code, Cpu, Entries, Items, Task, Text, World};
+use hk_plain::Plain;
+use hk_procs::{Ended, Gate, work};
+use std::alloc::{AllocError, Global};
+use std::marker::Brand;
+use std::sync::Wait;
+use std::test::Fail;
+
+struct Open;
+
+impl Gate for Open {
+    fn before(&self, _cpu: Cpu, _nth: u64) {}
+}
+
+// What a run leaves.
+#[derive(Clone, Copy, PartialEq, Eq, Debug)]
+struct Left {
+    ended: Ended,
+    lines: usize,
+    stop: Option<Cpu>,
+    current: bool,
+}
+
+// A text of its own.
+fn text(alloc: Global, letters: &str) -> Result<Text, AllocError>
+    ensures { IfOk result (λ text. text ≡ letters.now) }
+{
+    Ok(Text::from_string(String::from_str(alloc, letters)?))
+}
+
+// The world of one process, whose code is empty.
+fn world(alloc: Global) -> Result<World, Fail> {
+    let code = Code {
+        label: text(alloc, "main")?,
+        steps: Items::new(alloc),
+    };
+    let task = Task {
+        label: text(alloc, "a")?,
+        code: 0,
+        slots: Entries::new(alloc),
+    };
+    let codes = Items::from_vec(vec![in alloc; code]?);
+    let tasks = Items::from_vec(vec![in alloc; task]?);
+    Ok(World::new(10, Items::new(alloc), codes, tasks))
+}
+
+// Runs the world that is named.
+#[tactic(auto, using(crate::proofs::NewPasses::new_runs_nothing))]
+fn run_named<J: Naming, R: Wait>(rt: &R, alloc: Global, world: &World) -> Result<Left, Fail>
+    requires { world.now ≡ J.world }
+{
+    let kernel = Plain::new(alloc, world).ok().ok_or("a kernel")?;
+    let started = Shared::<Plain, J>::start(alloc, kernel, world, 1);
+    let (shared, mut passes) = started.ok().ok_or("a desk")?;
+    let pass = passes.remove(0);
+    let (pass, ended) = work(rt, alloc, &shared, &Open, world, pass);
+    passes.push(pass)?;
+    let book = shared.close(passes);
+    let (lines, stop) = (book.lines().len(), book.stop());
+    let current = hk_model::Kernel::current(book.kernel(), Cpu(0)).is_some();
+    let _kernel = book.into_kernel();
+    Ok(Left {
+        ended,
+        lines,
+        stop,
+        current,
+    })
+}
+
+// Runs a world, which it names.
+fn run<R: Wait>(rt: &R, alloc: Global, world: &World) -> Result<Left, Fail> {
+    run_named::<Brand, R>(rt, alloc, world)
+}
+
+#[test]
+fn one_processor_makes_the_dispatch_and_the_return(rt: HostRuntime) -> Result<(), Fail> {
+    let world = world(rt.alloc())?;
+    let left = Left {
+        ended: Ended::Over,
+        lines: 2,
+        stop: None,
+        current: false,
+    };
+    assert_eq!(rt; run(&rt, rt.alloc(), &world)?, left);
+    Ok(())
+}
