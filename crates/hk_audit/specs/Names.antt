@@ -1,4 +1,4 @@
--- Lists of texts.
+-- Lists of texts. docs/FORMATS.md, "Rights".
 use Rattle.std.specs.Prelude.{ℕ, Bool, true, false, ◌&&◌, List, [], ◌∷◌}
 use Rattle.hk_model.specs.Labels.{same_text}
 

@@ -7,8 +7,8 @@ ghost use Rattle.hk_audit.specs.Left.{rest};
 ghost use Rattle.hk_audit.specs.Events.{line_of};
 
 use crate::parts::Parts;
-use crate::verbs::verb_of;
 use hk_model::{Cpu, Inc, Line, ParseCause, Proc, Reply, What};
+use hk_script::verb_of;
 
 /// Which processor, process and incarnation an event is of, and what happened.
 #[derive(Clone, Copy, PartialEq, Eq, Debug)]

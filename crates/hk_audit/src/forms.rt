@@ -11,9 +11,9 @@ ghost use Rattle.hk_audit.specs.Seen.{seen};
 use crate::numerals::numeral;
 use crate::paths::path_in;
 use crate::rights::{right_in, rights_in};
-use crate::verbs::verb_of;
 use hk_model::{ParseCause, Path, Slot, Verb, What8};
 use hk_rights::{Right, Rights};
+use hk_script::verb_of;
 
 /// A number below the bound.
 pub fn number_below(text: &[u8], bound: u64) -> Result<u64, ParseCause>

@@ -21,7 +21,6 @@ mod replies;
 mod rights;
 #[cfg(test)]
 mod tests;
-mod verbs;
 mod wanted;
 
 pub use again::line_is_read_again;

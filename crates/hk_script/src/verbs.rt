@@ -51,7 +51,8 @@ const VERBS: [Verb; 41] = [
     Verb::IfDenied,
 ];
 
-/// The verb that the word is.
+/// The verb that these letters are the word of, in scripts and in audit lines. None exactly where there
+/// is none (`docs/FORMATS.md`, "Grammar").
 #[tactic(auto, unfolding(hk_model::specs::Verbs::all_verbs))]
 pub fn verb_of(word: &[u8]) -> Option<Verb>
     ensures { result ≡ find (λ v. same_text word.now (verb_word v)) all_verbs }
