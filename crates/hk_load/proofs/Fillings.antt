@@ -1,6 +1,6 @@
 -- What an item holds, one line after another.
 use Rattle.std.proofs.Common.{◌≡◌, ℕ, ◌+◌, ◌<◌, Bool, true, false, ltb, leb, List, [], ◌∷◌, ◌++◌, length, drop, get_or, refl, sym, ap, ◌∙◌, Ok, Err, Result}
-use Rattle.std.proofs.lemmas.List.{at_drop_more, at_drop_all, length-append}
+use Rattle.std.proofs.lemmas.List.{at_drop_more, length-append}
 use mathlib.Core.List.{append_assoc, append-nil}
 use Rattle.hk_model.specs.declared.causes.LoadCause.{LoadCause}
 use Rattle.hk_model.specs.declared.entries.Entry.{Entry}

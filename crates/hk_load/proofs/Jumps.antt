@@ -1,5 +1,5 @@
 -- The labels and the instructions of a code, one line after another.
-use Rattle.std.proofs.Common.{◌≡◌, ℕ, ◌+◌, ◌<◌, ◌≤◌, inl, inr, not, Bool, true, false, cond, ltb, List, [], ◌∷◌, ◌++◌, length, map, drop, get_or, refl, sym, ap, ◌∙◌, subst, arith, Ok, Err, Result, Option, Some, None, String, string_bytes, Global}
+use Rattle.std.proofs.Common.{◌≡◌, ℕ, ◌+◌, ◌<◌, ◌≤◌, inl, inr, not, Bool, true, false, cond, ltb, List, [], ◌∷◌, ◌++◌, length, map, drop, get_or, refl, sym, ap, ◌∙◌, subst, arith, Ok, Err, Result, Some, None, String, string_bytes, Global}
 use Rattle.std.specs.Prelude.{◌⊎◌, IsTrue, slice_get, option_map}
 use Rattle.std.specs.List.{find, position, position_or_len}
 use Rattle.std.specs.String.{string_eq}
@@ -7,7 +7,7 @@ use Rattle.std.proofs.lemmas.Bool.{ltb-false}
 use Rattle.std.proofs.lemmas.List.{at_drop_more, length-append, length-map, map-append, get_or-map}
 use Rattle.std.proofs.lemmas.List.Folds.{find_at}
 use Rattle.std.proofs.lemmas.Option.{slice_get_cases}
-use mathlib.Core.List.{append_assoc, append-nil}
+use mathlib.Core.List.{append_assoc}
 use Rattle.indexmap.specs.IndexMap.{insert_entry}
 use Rattle.hk_model.specs.declared.causes.LoadCause.{LoadCause}
 use Rattle.hk_model.specs.declared.causes.LoadCause.TheVariants.{UnknownName}

@@ -1,5 +1,5 @@
 -- Names by their keys or by their texts.
-use Rattle.std.proofs.Common.{◌≡◌, ℕ, Bool, true, false, cond, not, ltb, ◌<◌, ◌≤◌, inl, inr, get_or, List, [], ◌∷◌, ◌++◌, ◌+◌, ◌||◌, length, map, refl, sym, ap, ◌∙◌, Option, Some, None, Ok, Err, String, string_bytes, Global}
+use Rattle.std.proofs.Common.{◌≡◌, ℕ, Bool, true, false, cond, not, ◌<◌, ◌≤◌, inl, inr, get_or, List, [], ◌∷◌, ◌++◌, ◌+◌, ◌||◌, length, map, refl, sym, ap, ◌∙◌, Option, Some, None, Ok, Err, String, string_bytes, Global}
 use Rattle.std.specs.Prelude.{◌⊎◌, slice_get, slice_index_or, option_map}
 use Rattle.std.specs.List.{list_any, position, position_or_len}
 use Rattle.std.specs.String.{string_eq}
@@ -11,7 +11,7 @@ use Rattle.hk_model.specs.declared.causes.LoadCause.TheVariants.{UnknownName}
 use Rattle.hk_model.specs.Labels.{same_text}
 use Rattle.hk_model.specs.Grammar.{is_among}
 use Rattle.hk_model.specs.Loading.{Names, place, found, to_limit, object_named, type_named, code_named}
-use Rattle.hk_load.specs.Naming.{names, names_seen, with_object, with_code}
+use Rattle.hk_load.specs.Naming.{names_seen, with_object, with_code}
 
 -- where a key stands is where its text stands
 

@@ -1,5 +1,5 @@
 -- The names that heads declare, one head after another.
-use Rattle.std.proofs.Common.{◌≡◌, ℕ, ◌+◌, ◌<◌, ◌&&◌, ◌||◌, not, Bool, true, false, List, [], ◌∷◌, ◌++◌, length, map, drop, get_or, refl, sym, ap, ◌∙◌}
+use Rattle.std.proofs.Common.{◌≡◌, ℕ, ◌+◌, ◌<◌, ◌||◌, not, Bool, true, false, List, [], ◌∷◌, ◌++◌, length, map, drop, get_or, refl, sym, ap, ◌∙◌}
 use Rattle.std.specs.List.{list_any, filter_map}
 use Rattle.std.proofs.lemmas.Bool.{and_parts}
 use Rattle.std.proofs.lemmas.List.{at_drop_more}
@@ -12,7 +12,7 @@ use Rattle.hk_model.specs.Grammar.{is_among}
 use Rattle.hk_model.specs.Syntax.{IsSyntax}
 use Rattle.hk_model.specs.Loading.{Names, names_of, object_label, is_type_head, code_label}
 use Rattle.hk_model.proofs.HeadsApart.{objects_apart, codes_apart}
-use Rattle.hk_load.specs.Naming.{names, with_object, with_code, with_head, names_from, IsNewHead}
+use Rattle.hk_load.specs.Naming.{names, with_head, names_from, IsNewHead}
 use Rattle.hk_load.proofs.NameLists.{or_parts}
 
 push_front : {X : Type 0} (xs : List X) (x : X) (ys : List X) → xs ++ x ∷ ys ≡ (xs ++ x ∷ []) ++ ys

@@ -1,5 +1,5 @@
 -- The items of a script: the labels of each code stand once.
-use Rattle.std.proofs.Common.{◌≡◌, ℕ, ◌+◌, ◌<◌, ◌∙◌, sym, List, [], ◌∷◌, length, drop, get_or, subst}
+use Rattle.std.proofs.Common.{◌≡◌, ℕ, ◌+◌, ◌<◌, sym, List, [], ◌∷◌, length, drop, get_or, subst}
 use Rattle.std.specs.List.{AllByRecursion}
 use Rattle.std.proofs.lemmas.List.{at_drop_more}
 use Rattle.hk_model.specs.declared.syntax.Head.{Head}

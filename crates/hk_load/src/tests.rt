@@ -1,11 +1,12 @@
 ghost use Rattle.std.specs.Prelude.{◌<◌, ◌^◌, length};
 
 use crate::{LoadError, World, load};
-use hk_model::{Born, Cap, Entry, Instr, Kind, LoadCause, Name, Template};
+use hk_model::{Cap, Entry, Instr, Kind, LoadCause, Name, Template};
 use hk_rights::Rights;
 use hk_script::parse;
 use hk_text::lines;
 use std::alloc::{AllocError, Global};
+use std::marker::PhantomData;
 use std::test::Fail;
 
 // The world of a source of fewer than 2^31 bytes; None where it is no script.
@@ -174,53 +175,66 @@ fn keeps_the_limit_of_objects(rt: HostRuntime) -> Result<(), Fail> {
     Ok(())
 }
 
-// Where the instruction jumps to.
-fn target(step: &Instr) -> Option<u16> {
-    match step {
+// A world whose names and labels are declared behind their uses.
+fn sample(alloc: Global) -> Option<World> {
+    let source =
+        b"hydra 1\nprocess p c\ncap d ENV\namplify t - ALL\nend\ncode c\nlabel l\ngoto m\nlabel m\ngoto l\nend\nlimit 7\ntype t\nobject d t\nwords 5 6\ncap LNS -\nend\n";
+    world(alloc, source)?.ok()
+}
+
+// Where an instruction of the first code jumps to.
+fn jump(world: &World, step: usize) -> Option<u16> {
+    match world.codes().get(0)?.steps.as_slice().get(step)? {
         Instr::Goto { to } => Some(*to),
         _ => None,
     }
 }
 
-// The type, the words and the entries of an object.
-fn plain(born: &Born) -> Option<(Name, &[u32], &[Entry])> {
-    match &born.kind {
-        Kind::Plain { of, words, entries } => Some((*of, words.as_slice(), entries.as_slice())),
+// The type of an object, its first word and its first entry.
+fn plain(world: &World, object: usize) -> Option<(Name, u32, Entry)> {
+    let _ = PhantomData::<Template>;
+    match &world.objects().get(object)?.kind {
+        Kind::Plain { of, words, entries } => {
+            let word = *words.as_slice().get(0)?;
+            let entry = *entries.as_slice().get(0)?;
+            Some((*of, word, entry))
+        }
         _ => None,
     }
 }
 
+// What a slot of the first process holds.
+fn slot(world: &World, at: usize) -> Option<Entry> {
+    let _ = PhantomData::<Template>;
+    world.tasks().get(0)?.slots.as_slice().get(at).copied()
+}
+
+// A capability as an entry.
+fn held(name: u64, rights: Rights) -> Entry {
+    let name = Name(name);
+    Entry::Held(Cap { name, rights })
+}
+
 #[test]
-fn numbers_names_and_labels(rt: HostRuntime) -> Result<(), Fail> {
-    let source = b"hydra 1\nprocess p c\ncap d ENV\namplify t - ALL\nend\ncode c\nlabel l\ngoto m\n\
-label m\ngoto l\nend\nlimit 7\ntype t\nobject d t\nwords 1 2\ncap LNS -\nend\n";
-    let world = world(rt.alloc(), source)
-        .ok_or("a script")?
-        .ok()
-        .ok_or("a world")?;
+fn numbers_labels(rt: HostRuntime) -> Result<(), Fail> {
+    let world = sample(rt.alloc()).ok_or("a world")?;
     assert_eq!(rt; world.limit(), 7);
-    let code = world.codes().get(0).ok_or("a code")?;
-    let targets: Vec<Option<u16>> = code
-        .steps
-        .as_slice()
-        .iter()
-        .map(|step| target(step))
-        .collect(rt.alloc())?;
-    assert_eq!(rt; targets.as_slice(), [Some(1), Some(0)].as_slice());
-    let (of, words, entries) = plain(world.objects().get(1).ok_or("two objects")?).ok_or("plain")?;
-    assert_eq!(rt; of, Name(7));
-    assert_eq!(rt; words, [1, 2].as_slice());
-    let held = |name, rights| Entry::Held(Cap {
-        name: Name(name),
-        rights,
-    });
-    assert_eq!(rt; entries, [held(6, Rights::none())].as_slice());
-    let form = Entry::Form(Template::Amplify {
+    assert_eq!(rt; jump(&world, 0), Some(1));
+    assert_eq!(rt; jump(&world, 1), Some(0));
+    Ok(())
+}
+
+#[test]
+fn numbers_names(rt: HostRuntime) -> Result<(), Fail> {
+    let world = sample(rt.alloc()).ok_or("a world")?;
+    let object = Some((Name(7), 5, held(6, Rights::none())));
+    assert_eq!(rt; plain(&world, 1), object);
+    assert_eq!(rt; slot(&world, 0), Some(held(8, Rights::ENV)));
+    let form = Template::Amplify {
         of: Some(Name(7)),
         check: Rights::none(),
         give: Rights::all(),
-    });
-    let slots = world.tasks().get(0).ok_or("a process")?.slots.as_slice();
-    assert_eq!(rt; slots, [held(8, Rights::ENV), form].as_slice());
+    };
+    assert_eq!(rt; slot(&world, 1), Some(Entry::Form(form)));
     Ok(())
 }

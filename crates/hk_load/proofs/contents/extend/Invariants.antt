@@ -1,4 +1,4 @@
-use Rattle.std.proofs.Common.{◌≡◌, ◌+◌, ◌≤◌, ◌++◌, length, take}
+use Rattle.std.proofs.Common.{◌≡◌, ◌++◌, take}
 use Rattle.hk_load.proofs.contents.extend.Given as goal
 
 abbrev pub invariant-loop-word : goal.invariant-loop-word

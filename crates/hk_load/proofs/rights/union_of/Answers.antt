@@ -1,4 +1,4 @@
-use Rattle.std.proofs.Common.{◌≡◌, ◌+◌, rules, sym, ◌∙◌, length, drop, ap, arith, lit<, Some, None}
+use Rattle.std.proofs.Common.{◌≡◌, rules, sym, ◌∙◌, length, arith, lit<, Some, None}
 use Rattle.std.proofs.lemmas.List.{length_push, at_drop_all}
 use Rattle.std.proofs.lemmas.Iterator.Consumers.{YieldsList-turn, YieldsList-end}
 use Rattle.std.proofs.lemmas.Iterator.Splits.{YieldsList-from_str_split}

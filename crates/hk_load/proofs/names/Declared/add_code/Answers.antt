@@ -1,4 +1,4 @@
-use Rattle.std.proofs.Common.{◌∙◌, ap, sym}
+use Rattle.std.proofs.Common.{◌∙◌, ap}
 use Rattle.hk_model.specs.Grammar.{is_among}
 use Rattle.hk_model.specs.Loading.{Names}
 use Rattle.hk_load.specs.Naming.{with_code}
