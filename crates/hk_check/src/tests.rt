@@ -1,11 +1,12 @@
 // A process that returns at once: its record, and records that differ from it in one place.
 
 ghost use Rattle.std.specs.Prelude.{◌≡◌, IfOk};
+ghost use Rattle.hk_program.specs.Machines.{IsSound};
 
 use crate::check;
 use hk_model::{
-    Call, Code, Cpu, End, Entries, Inc, Items, Kernel, Line, Misstep, Proc, Reply, Task, Text,
-    Verdict, What, World,
+    Call, Code, Cpu, End, Entries, Inc, Items, Line, Misstep, Proc, Reply, Task, Text, Verdict,
+    What, World,
 };
 use hk_plain::Plain;
 use hk_program::{Machine, end_word};
@@ -58,10 +59,16 @@ fn leave(cpu: u8, inc: u64, reply: Reply) -> Line {
 
 // The verdict on a record of the world.
 fn verdict(alloc: Global, lines: &[Line], end: End) -> Result<Verdict, Fail> {
-    let verdict = check(alloc, &world(alloc)?, lines, end)
-        .ok()
-        .ok_or("a verdict")?;
-    Ok(verdict)
+    let world = world(alloc)?;
+    match check(alloc, &world, lines, end) {
+        Ok(verdict) => Ok(verdict),
+        Err(_) => Err(Fail::from("a verdict")),
+    }
+}
+
+// The verdict on a record of two lines whose end word is done.
+fn of_two(alloc: Global, first: Line, second: Line) -> Result<Verdict, Fail> {
+    verdict(alloc, &[first, second], End::Done)
 }
 
 // The verdict that names a bad line.
@@ -72,71 +79,86 @@ fn illegal(line: u32, cause: Misstep) -> Verdict {
 #[test]
 fn the_steps_of_a_run_are_legal_on_each_processor(rt: HostRuntime) -> Result<(), Fail> {
     let alloc = rt.alloc();
-    let on_0 = [dispatch(0), leave(0, 0, Reply::Done)];
-    assert_eq!(rt; verdict(alloc, &on_0, End::Done)?, Verdict::Legal);
-    let on_15 = [dispatch(15), leave(15, 0, Reply::Done)];
-    assert_eq!(rt; verdict(alloc, &on_15, End::Done)?, Verdict::Legal);
+    let on_0 = of_two(alloc, dispatch(0), leave(0, 0, Reply::Done))?;
+    assert_eq!(rt; on_0, Verdict::Legal);
+    let on_15 = of_two(alloc, dispatch(15), leave(15, 0, Reply::Done))?;
+    assert_eq!(rt; on_15, Verdict::Legal);
     Ok(())
 }
 
 #[test]
-fn the_first_bad_line_is_told(rt: HostRuntime) -> Result<(), Fail> {
+fn a_line_of_another_processor_or_process_is_told(rt: HostRuntime) -> Result<(), Fail> {
     let alloc = rt.alloc();
-    let cpu = [dispatch(1), leave(0, 0, Reply::Done)];
-    assert_eq!(rt; verdict(alloc, &cpu, End::Done)?, illegal(2, Misstep::Cpu));
-    let process = [dispatch(0), leave(0, 1, Reply::Done)];
-    assert_eq!(rt;
-        verdict(alloc, &process, End::Done)?,
-        illegal(2, Misstep::Process)
-    );
-    let call = [dispatch(0), dispatch(0)];
-    assert_eq!(rt;
-        verdict(alloc, &call, End::Done)?,
-        illegal(2, Misstep::Call)
-    );
-    let reply = [dispatch(0), leave(0, 0, Reply::Word(8))];
-    assert_eq!(rt;
-        verdict(alloc, &reply, End::Done)?,
-        illegal(2, Misstep::Reply)
-    );
+    let cpu = of_two(alloc, dispatch(1), leave(0, 0, Reply::Done))?;
+    assert_eq!(rt; cpu, illegal(2, Misstep::Cpu));
+    let process = of_two(alloc, dispatch(0), leave(0, 1, Reply::Done))?;
+    assert_eq!(rt; process, illegal(2, Misstep::Process));
+    Ok(())
+}
+
+#[test]
+fn a_line_with_another_event_or_reply_is_told(rt: HostRuntime) -> Result<(), Fail> {
+    let alloc = rt.alloc();
+    let event = of_two(alloc, dispatch(0), dispatch(0))?;
+    assert_eq!(rt; event, illegal(2, Misstep::Call));
+    let reply = of_two(alloc, dispatch(0), leave(0, 0, Reply::Word(8)))?;
+    assert_eq!(rt; reply, illegal(2, Misstep::Reply));
     Ok(())
 }
 
 #[test]
 fn an_end_word_that_does_not_fit_is_told(rt: HostRuntime) -> Result<(), Fail> {
     let alloc = rt.alloc();
-    let whole = [dispatch(0), leave(0, 0, Reply::Done)];
-    assert_eq!(rt;
-        verdict(alloc, &whole, End::Stuck)?,
-        illegal(3, Misstep::EndWord)
-    );
-    let cut = [dispatch(0)];
-    assert_eq!(rt;
-        verdict(alloc, &cut, End::Limit)?,
-        illegal(2, Misstep::EndWord)
-    );
+    let cut = verdict(alloc, &[dispatch(0)], End::Limit)?;
+    assert_eq!(rt; cut, illegal(2, Misstep::EndWord));
     Ok(())
+}
+
+// The machine in which a world opens.
+fn machine(alloc: Global, world: &World) -> Result<Machine<Plain>, Fail>
+    ensures { IfOk result (λ machine. IsSound world.now machine) }
+{
+    let Ok(kernel) = Plain::new(alloc, world) else {
+        return Err(Fail::from("a kernel"));
+    };
+    match Machine::open(alloc, world, kernel) {
+        Ok(machine) => Ok(machine),
+        Err(_) => Err(Fail::from("a machine")),
+    }
+}
+
+// The line of a step of processor 0.
+fn step(alloc: Global, world: &World, machine: &mut Machine<Plain>) -> Result<Option<Line>, Fail>
+    requires { IsSound world.now machine.old }
+    ensures { IsSound world.now machine.new }
+{
+    match machine.step(alloc, world, Cpu(0)) {
+        Ok(line) => Ok(line),
+        Err(_) => Err(Fail::from("a step")),
+    }
+}
+
+// The end word of a kernel's state.
+fn word_of(alloc: Global, kernel: &Plain) -> Result<Option<End>, Fail> {
+    match end_word(alloc, kernel) {
+        Ok(word) => Ok(word),
+        Err(_) => Err(Fail::from("a state")),
+    }
 }
 
 #[test]
 fn a_machine_steps_until_its_processes_have_ended(rt: HostRuntime) -> Result<(), Fail> {
     let alloc = rt.alloc();
     let world = world(alloc)?;
-    let kernel = Plain::new(alloc, &world).ok().ok_or("a kernel")?;
-    let mut machine = Machine::open(alloc, &world, kernel)
-        .ok()
-        .ok_or("a machine")?;
-    let first = machine.step(alloc, &world, Cpu(0)).ok().ok_or("a step")?;
-    assert_eq!(rt; first, Some(dispatch(0)));
-    let word = end_word(alloc, machine.kernel()).ok().ok_or("a state")?;
-    assert_eq!(rt; word, None);
-    let second = machine.step(alloc, &world, Cpu(0)).ok().ok_or("a step")?;
-    assert_eq!(rt; second, Some(leave(0, 0, Reply::Done)));
-    let third = machine.step(alloc, &world, Cpu(0)).ok().ok_or("a step")?;
-    assert_eq!(rt; third, None);
+    let mut machine = machine(alloc, &world)?;
+    assert_eq!(rt; step(alloc, &world, &mut machine)?, Some(dispatch(0)));
+    assert_eq!(rt; word_of(alloc, machine.kernel())?, None);
+    assert_eq!(rt;
+        step(alloc, &world, &mut machine)?,
+        Some(leave(0, 0, Reply::Done))
+    );
+    assert_eq!(rt; step(alloc, &world, &mut machine)?, None);
     let kernel = machine.into_kernel();
-    assert!(rt; kernel.over());
-    let word = end_word(alloc, &kernel).ok().ok_or("a state")?;
-    assert_eq!(rt; word, Some(End::Done));
+    assert_eq!(rt; word_of(alloc, &kernel)?, Some(End::Done));
     Ok(())
 }
