@@ -5,3 +5,5 @@ pub mod Refusals
 pub mod Events
 pub mod Halves
 pub mod RecordRefusals
+pub mod RecordCuts
+pub mod RecordEvents

@@ -7,9 +7,11 @@ ghost use Rattle.hk_model.specs.Audits.{audit};
 ghost use Rattle.hk_audit.specs.RecordRefusals.{IsRefused};
 
 use crate::record_errors::RecordError;
-use hk_model::{End, Items, Line, World};
+use crate::record_lines::read_events;
+use crate::scripts::{line_count, read_world, script_length};
+use hk_model::{End, Items, Line, Template, World};
 use std::alloc::Global;
-use std::marker::Model;
+use std::marker::{Model, PhantomData};
 
 /// What a record tells: its world, its audit lines and its end word.
 #[derive(Drop)]
@@ -54,10 +56,18 @@ impl Audit {
 /// in the order of `docs/FORMATS.md`, "Audit lines and records". Want of memory is `NoMemory`. The
 /// bytes are to have fewer than 2^32 - 1 lines, so that each, and the line after the last, has a
 /// number.
-pub fn read_record(_alloc: Global, _bytes: &[u8]) -> Result<Audit, RecordError>
-    requires { length (lines_of _bytes.now) < 2 ^ 32 - 1 }
-    ensures ok { IfOk result (λ a. audit _bytes.now ≡ Ok a) }
-    ensures refused { (line : ℕ) (cause : Cause) → IsRefused result line cause → audit _bytes.now ≡ Err (line, cause) }
+pub fn read_record(alloc: Global, bytes: &[u8]) -> Result<Audit, RecordError>
+    requires { length (lines_of bytes.now) < 2 ^ 32 - 1 }
+    ensures ok { IfOk result (λ a. audit bytes.now ≡ Ok a) }
+    ensures refused { (line : ℕ) (cause : Cause) → IsRefused result line cause → audit bytes.now ≡ Err (line, cause) }
 {
-    Err(RecordError::NoMemory)
+    let _ = PhantomData::<Template>;
+    let (script, behind) = bytes.split_at(script_length(bytes));
+    let world = read_world(alloc, script)?;
+    let events = read_events(alloc, behind, line_count(script) + 1)?;
+    Ok(Audit {
+        world,
+        lines: events.lines,
+        end: events.end,
+    })
 }

@@ -18,9 +18,11 @@ mod read_replies;
 mod read_tests;
 mod reading;
 mod record_errors;
+mod record_lines;
 mod records;
 mod replies;
 mod rights;
+mod scripts;
 #[cfg(test)]
 mod tests;
 mod verbs;
