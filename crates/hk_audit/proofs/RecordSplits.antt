@@ -168,7 +168,7 @@ pub line_passed : (bytes : List ℕ) (start len total : ℕ) → start < length 
     → start + script_length (texts_at start bytes) ≡ total → start + (len + 1) + script_length (texts_at (start + (len + 1)) bytes) ≡ total
 line_passed bytes start len total inside place within e h =
     let turn = ap script_length (texts_turn bytes start len inside place)
-          ∙ ap (λ (b : Bool). cond b 0 (length (slice_range bytes start (start + len)) + 1 + script_length (texts_at (start + (len + 1)) bytes))) e in
+    ∙ ap (λ (b : Bool). cond b 0 (length (slice_range bytes start (start + len)) + 1 + script_length (texts_at (start + (len + 1)) bytes))) e in
     let whole = length-take (length bytes - start) (drop start bytes) in
     let size = length-take (start + len - start) (drop start bytes) in
     omega (arith, turn, h)

@@ -3,6 +3,8 @@
 #![tactic(auto)]
 
 mod again;
+#[cfg(test)]
+mod audit_tests;
 mod audits;
 mod calls;
 mod events;
