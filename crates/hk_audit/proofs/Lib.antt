@@ -20,3 +20,7 @@ pub mod Clear
 pub mod SeenFits
 pub mod LineCuts
 pub mod ReadAgain
+mod Passes
+mod RecordSplits
+mod RecordEvents
+mod RecordAudits

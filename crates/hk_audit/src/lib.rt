@@ -1,8 +1,11 @@
-//! Audit lines and records as text, and audit lines read from their texts
-//! (`docs/FORMATS.md`, "Audit lines and records").
+//! Audit lines and records as text, and read from their texts (`docs/FORMATS.md`, "Audit lines and
+//! records").
 #![tactic(auto)]
 
 mod again;
+#[cfg(test)]
+mod audit_tests;
+mod audits;
 mod calls;
 mod events;
 mod forms;
@@ -16,15 +19,20 @@ mod read_replies;
 #[cfg(test)]
 mod read_tests;
 mod reading;
+mod record_errors;
+mod record_lines;
 mod records;
 mod replies;
 mod rights;
+mod scripts;
 #[cfg(test)]
 mod tests;
 mod wanted;
 
 pub use again::line_is_read_again;
+pub use audits::{Audit, read_record};
 pub use lines::line_text;
 pub use ranges::steps_have_texts;
 pub use reading::{read_body, read_line};
+pub use record_errors::RecordError;
 pub use records::record_text;
