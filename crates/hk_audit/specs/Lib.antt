@@ -4,3 +4,4 @@ pub mod Names
 pub mod Refusals
 pub mod Events
 pub mod Halves
+pub mod RecordRefusals

@@ -1,8 +1,9 @@
-//! Audit lines and records as text, and audit lines read from their texts
-//! (`docs/FORMATS.md`, "Audit lines and records").
+//! Audit lines and records as text, and read from their texts (`docs/FORMATS.md`, "Audit lines and
+//! records").
 #![tactic(auto)]
 
 mod again;
+mod audits;
 mod calls;
 mod events;
 mod forms;
@@ -16,6 +17,7 @@ mod read_replies;
 #[cfg(test)]
 mod read_tests;
 mod reading;
+mod record_errors;
 mod records;
 mod replies;
 mod rights;
@@ -25,7 +27,9 @@ mod verbs;
 mod wanted;
 
 pub use again::line_is_read_again;
+pub use audits::{Audit, read_record};
 pub use lines::line_text;
 pub use ranges::steps_have_texts;
 pub use reading::{read_body, read_line};
+pub use record_errors::RecordError;
 pub use records::record_text;

@@ -1,0 +1,63 @@
+//! Bytes as a record (`docs/FORMATS.md`, "Audit lines and records").
+
+ghost use Rattle.std.specs.Prelude.{◌≡◌, ◌<◌, ◌-◌, ◌^◌, ℕ, Ok, Err, IfOk, length};
+ghost use Rattle.hk_model.specs.declared.causes.Cause.{Cause};
+ghost use Rattle.hk_model.specs.Texts.{lines_of};
+ghost use Rattle.hk_model.specs.Audits.{audit};
+ghost use Rattle.hk_audit.specs.RecordRefusals.{IsRefused};
+
+use crate::record_errors::RecordError;
+use hk_model::{End, Items, Line, World};
+use std::alloc::Global;
+use std::marker::Model;
+
+/// What a record tells: its world, its audit lines and its end word.
+#[derive(Drop)]
+pub struct Audit {
+    world: World,
+    lines: Items<Line>,
+    end: End,
+}
+
+impl Model for Audit {
+    ghost use Rattle.hk_model.specs.Audits.{Audited};
+
+    ghost Value = { Audited };
+
+    ghost view = { λ a. record { world = a.world; lines = a.lines; end = a.end } };
+}
+
+impl Audit {
+    /// The world that the script of the record declares.
+    pub fn world(&self) -> &World
+        ensures { result.now ≡ self.now.world }
+    {
+        &self.world
+    }
+
+    /// The audit lines, in their order.
+    pub fn lines(&self) -> &[Line]
+        ensures { result.now ≡ self.now.lines }
+    {
+        self.lines.as_slice()
+    }
+
+    /// The end word.
+    pub fn end(&self) -> End
+        ensures { result ≡ self.now.end }
+    {
+        self.end
+    }
+}
+
+/// The record that bytes spell. `Refused` tells the first line that is refused, and its first cause,
+/// in the order of `docs/FORMATS.md`, "Audit lines and records". Want of memory is `NoMemory`. The
+/// bytes are to have fewer than 2^32 - 1 lines, so that each, and the line after the last, has a
+/// number.
+pub fn read_record(_alloc: Global, _bytes: &[u8]) -> Result<Audit, RecordError>
+    requires { length (lines_of _bytes.now) < 2 ^ 32 - 1 }
+    ensures ok { IfOk result (λ a. audit _bytes.now ≡ Ok a) }
+    ensures refused { (line : ℕ) (cause : Cause) → IsRefused result line cause → audit _bytes.now ≡ Err (line, cause) }
+{
+    Err(RecordError::NoMemory)
+}
