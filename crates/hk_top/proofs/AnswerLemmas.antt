@@ -1,24 +1,50 @@
 -- How answers come about: a text that is due and said, and a text that is due to an input.
-use Rattle.std.proofs.Common.{◌≡◌, ◌<◌, ◌≤◌, ◌↔◌, ℕ, List, length, codes, Option, Ok, Err, IfOk, IsErrOf, refl, subst, sym, inl, inr, Vec, Global, Result}
+use Rattle.std.proofs.Common.{◌≡◌, ◌≢◌, ◌<◌, ◌≤◌, ◌↔◌, ℕ, List, length, codes, Option, Ok, Err, IfOk, IsErrOf, refl, subst, sym, inl, inr, Vec, Global, Result}
 use Rattle.hk_io.specs.Streams.{Took}
 use Rattle.hk_io.specs.declared.whole.ReadError.{ReadError}
 use Rattle.std.specs.Fmt.{digits}
-use Rattle.hk_model.specs.Limits.{script_bytes}
 use Rattle.std.specs.Io.KnownBytes.{Consumes, IsAtEnd}
 use Rattle.hk_model.specs.declared.causes.Cause.{Cause}
+use Rattle.hk_model.specs.declared.causes.Misstep.{Misstep}
+use Rattle.hk_model.specs.declared.causes.Verdict.{Verdict}
+use Rattle.hk_model.specs.declared.causes.Verdict.TheVariants.{Legal, Illegal}
 use Rattle.hk_model.specs.declared.kernel.NoMemory.{NoMemory}
-use Rattle.hk_model.specs.CauseTexts.{cause_name, refusal_text, too_long_text}
+use Rattle.hk_model.specs.declared.lines.Line.{Line}
+use Rattle.hk_model.specs.declared.lines.End.{End}
+use Rattle.hk_model.specs.declared.lines.End.TheVariants as end
+use Rattle.hk_model.specs.CauseTexts.{cause_name, refusal_text, too_long_text, verdict_text}
+use Rattle.hk_model.specs.Audits.{Audited, audit}
+use Rattle.hk_model.specs.Legal.{IsLegal}
+use Rattle.hk_model.specs.Verdicts.{IsVerdict}
 use Rattle.hk_model.specs.Canonical.{canon}
 use Rattle.hk_model.specs.Setup.{Setup}
 use Rattle.hk_model.specs.Worlds.{world}
-use Rattle.hk_top.specs.declared.commands.DueText.{DueText}
+use Rattle.hk_top.specs.declared.outputs.DueText.{DueText}
 use Rattle.hk_top.specs.declared.words.Command.{Command}
 use Rattle.hk_top.specs.declared.words.Command.TheVariants as command
-use Rattle.hk_top.specs.declared.reading.ScriptError.{ScriptError}
-use Rattle.hk_top.specs.declared.reading.ScriptError.TheVariants as script_error
-use Rattle.hk_top.specs.Refusals.{Tells}
-use Rattle.hk_top.specs.Words.{IsCommand, words_of}
-use Rattle.hk_top.specs.Outputs.{Due, DueTo, Answer, IsRecord, Stream, IsSaid, read, record_of, script_of, refused, too_long, written, write_fault}
+use Rattle.hk_top.specs.Words.{IsCommand, ReadsScript, ReadsAtMost, words_of, byte_limit}
+use Rattle.hk_top.specs.Outputs.{
+  Due,
+  DueTo,
+  Answer,
+  IsRecord,
+  IsChecked,
+  IsLawful,
+  Stream,
+  IsSaid,
+  status_of,
+  read,
+  record_of,
+  script_of,
+  verdict_of,
+  script_refused,
+  record_refused,
+  legal,
+  illegal,
+  too_long,
+  written,
+  write_fault,
+}
 
 -- a text that is due and said is an answer
 pub said : {words : List (List ℕ)} {input output : Stream} {status result : ℕ} {text : List ℕ} → Due words input.before input.after status text → IsSaid status text output result → Answer words input output result
@@ -30,9 +56,9 @@ pub due_at : {words others : List (List ℕ)} {before after : Option (List ℕ)}
 due_at {words} {others} {before} {after} {status} {number} {text} {same} w n t due =
     subst (λ x. Due x before after number same) w (subst (λ x. Due words before after x same) n (subst (λ x. Due words before after status x) t due))
 
--- where a read answered that the input is too long, more bytes were taken than a script may have
-pub too_long_taken : (before after : Option (List ℕ)) (r : Result (Vec ℕ Global) ReadError) → r ≡ Err ReadError.TooLong → Took before after (λ bytes. IsErrOf r ReadError.TooLong ↔ (script_bytes < length bytes)) → Took before after (λ bytes. script_bytes < length bytes)
-too_long_taken before after r is took = (took.0, took.1, took.2.0 is)
+-- where a read answered that the input is too long, more bytes were taken than the limit
+pub too_long_taken : (limit : ℕ) (before after : Option (List ℕ)) (r : Result (Vec ℕ Global) ReadError) → r ≡ Err ReadError.TooLong → Took before after (λ bytes. IsErrOf r ReadError.TooLong ↔ (limit < length bytes)) → Took before after (λ bytes. limit < length bytes)
+too_long_taken limit before after r is took = (took.0, took.1, took.2.0 is)
 
 -- the refusal, letter by letter
 pub too_long_is : codes "line 0: TooLong\n" ≡ too_long_text
@@ -41,33 +67,85 @@ too_long_is = refl
 
 -- what is due to the bytes of a script
 
-pub record_due : (c : Command) (bytes : List ℕ) (w : Setup) (r : Result DueText NoMemory) → c ≡ command.Run → world bytes ≡ Ok w → IfOk r (λ due. IsRecord w due.status due.text) → IfOk r (λ due. DueTo (words_of c) bytes due.status due.text)
-record_due c bytes w (Ok due) is world_is h = rw is (record_of w due.status due.text refl world_is h)
-record_due c bytes w (Err error) is world_is h = tt
+pub record_due : (bytes : List ℕ) (w : Setup) (r : Result DueText NoMemory) → world bytes ≡ Ok w → IfOk r (λ due. IsRecord w due.status due.text) → IfOk r (λ due. DueTo (words_of command.Run) bytes due.status due.text)
+record_due bytes w (Ok due) is h = record_of w due.status due.text refl is h
+record_due bytes w (Err error) is h = tt
 
-pub script_due : (c : Command) (bytes : List ℕ) (w : Setup) (r : Result DueText NoMemory) → c ≡ command.Show → world bytes ≡ Ok w → IfOk r (λ due. (due.status ≡ 0) × (due.text ≡ canon w)) → IfOk r (λ due. DueTo (words_of c) bytes due.status due.text)
-script_due c bytes w (Ok due) is world_is h = rw is (rw (h.0, h.1) (script_of w refl world_is))
-script_due c bytes w (Err error) is world_is h = tt
+pub script_due : (bytes : List ℕ) (w : Setup) (r : Result DueText NoMemory) → world bytes ≡ Ok w → IfOk r (λ due. (due.status ≡ 0) × (due.text ≡ canon w)) → IfOk r (λ due. DueTo (words_of command.Show) bytes due.status due.text)
+script_due bytes w (Ok due) is h = rw (h.0, h.1) (script_of w refl is)
+script_due bytes w (Err error) is h = tt
 
--- the words of a command are those of a command
-pub is_command : (c : Command) → IsCommand (words_of c)
-is_command command.Run = inl refl
-is_command command.Show = inr refl
+pub script_refused_due : (c : Command) (bytes : List ℕ) (line : ℕ) (cause : Cause) (r : Result DueText NoMemory) → ReadsScript (words_of c) → world bytes ≡ Err (line, cause)
+    → IfOk r (λ due. (due.status ≡ 3) × (due.text ≡ refusal_text line (cause_name cause))) → IfOk r (λ due. DueTo (words_of c) bytes due.status due.text)
+script_refused_due c bytes line cause (Ok due) reads is h = rw (h.0, h.1) (script_refused line cause reads is)
+script_refused_due c bytes line cause (Err error) reads is h = tt
 
-pub refused_due : (c : Command) (bytes : List ℕ) (error : ScriptError) (r : Result DueText NoMemory) → ((line : ℕ) (cause : Cause) → error ≡ script_error.Refused line cause → world bytes ≡ Err (line, cause))
-    → IfOk r (λ due. due.status ≡ 3) → IfOk r (λ due. Tells error due.text) → IfOk r (λ due. DueTo (words_of c) bytes due.status due.text)
-refused_due c bytes (script_error.Refused line cause) (Ok due) f status text = rw (status, text) (refused line cause (is_command c) (f line cause refl))
-refused_due c bytes script_error.NoMemory (Ok due) f status text = absurd text
-refused_due c bytes error (Err none) f status text = tt
+-- what is due to the bytes of a record
+
+pub verdict_due : (bytes : List ℕ) (a : Audited) (r : Result DueText NoMemory) → audit bytes ≡ Ok a → IfOk r (λ due. IsChecked a due.status due.text) → IfOk r (λ due. DueTo (words_of command.Check) bytes due.status due.text)
+verdict_due bytes a (Ok due) is h = verdict_of a due.status due.text refl is h
+verdict_due bytes a (Err error) is h = tt
+
+pub record_refused_due : (bytes : List ℕ) (line : ℕ) (cause : Cause) (r : Result DueText NoMemory) → audit bytes ≡ Err (line, cause) → IfOk r (λ due. (due.status ≡ 3) × (due.text ≡ refusal_text line (cause_name cause)))
+    → IfOk r (λ due. DueTo (words_of command.Check) bytes due.status due.text)
+record_refused_due bytes line cause (Ok due) is h = rw (h.0, h.1) (record_refused line cause refl is)
+record_refused_due bytes line cause (Err error) is h = tt
+
+pub legal_due : (a : Audited) (w : Setup) (lines : List Line) (end : End) (v : Verdict) (r : Result DueText NoMemory) → w ≡ a.world → lines ≡ a.lines → end ≡ a.end → IsVerdict w lines end v → v ≡ Legal → IsLawful w lines
+    → IfOk r (λ due. (due.status ≡ 0) × (due.text ≡ verdict_text v)) → IfOk r (λ due. IsChecked a due.status due.text)
+legal_due a w lines end v (Ok due) w_is lines_are end_is is v_is laws h =
+    let holds : IsLegal a.world a.lines a.end = rw (w_is, lines_are, end_is, v_is) at is in
+    let lawful : IsLawful a.world a.lines = rw (w_is, lines_are) at laws in
+    let told : due.text ≡ verdict_text Legal = rw v_is at h.1 in
+    rw (h.0, told) (legal holds lawful)
+legal_due a w lines end v (Err error) w_is lines_are end_is is v_is laws h = tt
+
+pub illegal_due : (a : Audited) (w : Setup) (lines : List Line) (end : End) (v : Verdict) (n : ℕ) (cause : Misstep) (r : Result DueText NoMemory) → w ≡ a.world → lines ≡ a.lines → end ≡ a.end → IsVerdict w lines end v → v ≡ Illegal n cause
+    → IfOk r (λ due. (due.status ≡ 8) × (due.text ≡ verdict_text v)) → IfOk r (λ due. IsChecked a due.status due.text)
+illegal_due a w lines end v n cause (Ok due) w_is lines_are end_is is v_is h =
+    let bad : IsVerdict a.world a.lines a.end (Illegal n cause) = rw (w_is, lines_are, end_is, v_is) at is in
+    let told : due.text ≡ verdict_text (Illegal n cause) = rw v_is at h.1 in
+    rw (h.0, told) (illegal n cause bad)
+illegal_due a w lines end v n cause (Err error) w_is lines_are end_is is v_is h = tt
 
 -- what is due to an input
 
-pub read_due : {words : List (List ℕ)} {before after : Option (List ℕ)} {bytes same text : List ℕ} {status : ℕ} → Consumes before after bytes → IsAtEnd after → length bytes ≤ script_bytes → same ≡ bytes → DueTo words same status text → Due words before after status text
-read_due {words} {before} {after} {bytes} {same} {text} {status} taken end few is due = read bytes status text (record { taken = taken; end = end; few = few }) (subst (λ b. DueTo words b status text) is due)
+-- the most bytes that the words of a command may read
+at_most : (c : Command) → ReadsAtMost (words_of c) (byte_limit c)
+at_most command.Run = inl (inl refl, refl)
+at_most command.Show = inl (inr refl, refl)
+at_most command.Check = inr (refl, refl)
 
-pub too_long_due : {before after : Option (List ℕ)} {status : ℕ} {text : List ℕ} (c : Command) → Took before after (λ bytes. script_bytes < length bytes) → (status ≡ 3) × (text ≡ too_long_text) → Due (words_of c) before after status text
-too_long_due c took h = rw (h.0, h.1) (too_long (is_command c) took)
+pub read_due : {before after : Option (List ℕ)} {bytes same text : List ℕ} {status : ℕ} (c : Command) (limit : ℕ) → limit ≡ byte_limit c → Consumes before after bytes → IsAtEnd after → length bytes ≤ limit → same ≡ bytes → DueTo (words_of c) same status text
+    → Due (words_of c) before after status text
+read_due {before} {after} {bytes} {same} {text} {status} c limit limit_is taken end few is due =
+    read bytes status text (record { taken = taken; end = end; limit = limit; at_most = subst (λ n. ReadsAtMost (words_of c) n) (sym limit_is) (at_most c); few = few }) (subst (λ b. DueTo (words_of c) b status text) is due)
+
+pub too_long_due : {before after : Option (List ℕ)} {status : ℕ} {text : List ℕ} (c : Command) (limit : ℕ) → limit ≡ byte_limit c → Took before after (λ bytes. limit < length bytes) → (status ≡ 3) × (text ≡ too_long_text) → Due (words_of c) before after status text
+too_long_due c limit limit_is took h = rw (h.0, h.1) (too_long limit (subst (λ n. ReadsAtMost (words_of c) n) (sym limit_is) (at_most c)) took)
+
+-- a text that is due has a status of its own, which is not that of a fault of reading or of want of memory
+abbrev Speaks : ℕ → Type 0
+Speaks status = (status ≢ 4) × (status ≢ 5)
+
+run_speaks : (e : End) → Speaks (status_of e)
+run_speaks end.Done = (λ e. absurd (cc), λ e. absurd (cc))
+run_speaks end.Stuck = (λ e. absurd (cc), λ e. absurd (cc))
+run_speaks end.Limit = (λ e. absurd (cc), λ e. absurd (cc))
+
+check_speaks : {a : Audited} {status : ℕ} {text : List ℕ} → IsChecked a status text → Speaks status
+check_speaks (legal is laws) = (λ e. absurd (cc), λ e. absurd (cc))
+check_speaks (illegal n cause is) = (λ e. absurd (cc), λ e. absurd (cc))
+
+pub speaks : {words : List (List ℕ)} {bytes : List ℕ} {status : ℕ} {text : List ℕ} → DueTo words bytes status text → (status ≢ 4) × (status ≢ 5)
+speaks (record_of w status text run is r) = subst Speaks (sym r.status_is) (run_speaks r.end)
+speaks (script_of w show is) = (λ e. absurd (cc), λ e. absurd (cc))
+speaks (verdict_of a status text checks is h) = check_speaks h
+speaks (script_refused line cause reads is) = (λ e. absurd (cc), λ e. absurd (cc))
+speaks (record_refused line cause reads is) = (λ e. absurd (cc), λ e. absurd (cc))
 
 -- the words of a command, as they were read
 pub of_command : {words : List (List ℕ)} (c : Command) → words ≡ words_of c → IsCommand words
-of_command c is = rw is (is_command c)
+of_command command.Run is = inl (inl is)
+of_command command.Show is = inl (inr is)
+of_command command.Check is = inr is

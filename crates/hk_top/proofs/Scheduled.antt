@@ -1,9 +1,8 @@
 -- What the lines of processor 0 keep: the limit, that each ready process stands in the list of the ready ones, and that no
 -- process runs on another processor. Each line is one event more.
 use Rattle.std.proofs.Common.{◌≡◌, ◌≢◌, ℕ, zero, suc, ◌+◌, ◌-◌, ◌<◌, List, [], ◌∷◌, ◌++◌, Bool, true, false, Option, Some, None, Ok, Err, refl, sym, ◌∙◌, ap, subst, arith, inl, inr}
-use Rattle.std.specs.Prelude.{◌⊎◌, IfOk, slice_set, slice_get, nat_lt, nat_le, not, ◌==◌, length, filter}
+use Rattle.std.specs.Prelude.{◌⊎◌, IfOk, slice_set, slice_get, nat_lt, not, ◌==◌, length, filter}
 use Rattle.std.specs.Option.{unwrap_or}
-use Rattle.std.specs.Map.{remove_entry}
 use Rattle.hk_model.specs.declared.names.Inc.{Inc}
 use Rattle.hk_model.specs.declared.names.Name.{Name}
 use Rattle.hk_model.specs.declared.names.Proc.{Proc}
@@ -27,13 +26,12 @@ use Rattle.hk_model.specs.declared.world.Task.{Task}
 use Rattle.hk_model.specs.Limits.{token_limit}
 use Rattle.hk_model.specs.Setup.{Setup}
 use Rattle.hk_model.specs.Opening.{opening, all_ready, proc_numbers}
-use Rattle.hk_model.specs.State.{State, object, incarnation, process, put_object, put_slot, put_process, add_object, same_inc}
+use Rattle.hk_model.specs.State.{State, object, process, put_object, put_slot, put_process, add_object}
 use Rattle.hk_model.specs.Refusing.{unless}
 use Rattle.hk_model.specs.Targets.{SEMAPHORE, MODIFY+A0, is_type, target}
-use Rattle.hk_model.specs.Rule.{Outcome, outcome, rule, settled, counted, enter, called_incarnation, give_to, leave_to, leave, enter_procedure, token_given, take_token, give_token, get_word, put_word, add_word, word_count, load_entry, store_entry, append_entry, erase_entry, drop_slot, restrict_slot, look, make_template, create_object, merge_cap, copy_object}
-use Rattle.hk_model.specs.Processors.{halted}
-use Rattle.hk_model.proofs.TestLemmas.{then_is, and_is, ok_more}
-use Rattle.hk_model.proofs.Steps.{EachStep, given_to, settled_keeps}
+use Rattle.hk_model.specs.Rule.{Outcome, outcome, settled, counted, enter, give_to, leave_to, leave, enter_procedure, token_given, take_token, give_token, get_word, put_word, add_word, word_count, load_entry, store_entry, append_entry, erase_entry, drop_slot, restrict_slot, look, make_template, create_object, merge_cap, copy_object}
+use Rattle.hk_model.proofs.TestLemmas.{then_is, and_is}
+use Rattle.hk_model.proofs.Steps.{EachStep, given_to}
 
 -- the list has the process of this number
 abbrev pub Has : List Proc → ℕ → Type 0

@@ -5,21 +5,24 @@ use Rattle.hk_io.specs.Causes.{Rose}
 use Rattle.hk_io.specs.Streams.{Took}
 use Rattle.hk_model.specs.declared.names.Cpu.{Cpu}
 use Rattle.hk_model.specs.declared.causes.Cause.{Cause}
+use Rattle.hk_model.specs.declared.causes.Misstep.{Misstep}
+use Rattle.hk_model.specs.declared.causes.Verdict.TheVariants.{Legal, Illegal}
 use Rattle.hk_model.specs.declared.lines.Line.{Line}
 use Rattle.hk_model.specs.declared.lines.End.{End}
 use Rattle.hk_model.specs.declared.lines.End.TheVariants as end
-use Rattle.hk_model.specs.CauseTexts.{cause_name, refusal_text, too_long_text}
-use Rattle.hk_model.specs.Limits.{script_bytes}
+use Rattle.hk_model.specs.CauseTexts.{cause_name, refusal_text, too_long_text, verdict_text}
 use Rattle.hk_model.specs.Setup.{Setup}
 use Rattle.hk_model.specs.Running.{opened, step, after_lines}
 use Rattle.hk_model.specs.Legal.{IsLegal}
+use Rattle.hk_model.specs.Verdicts.{IsVerdict}
 use Rattle.hk_model.specs.Descent.{DescentLaw}
 use Rattle.hk_model.specs.Marks.{EnvironmentLaw}
 use Rattle.hk_model.specs.Confinement.{ConfinementLaw, ClosedCallLaw}
 use Rattle.hk_model.specs.Worlds.{world}
 use Rattle.hk_model.specs.Canonical.{canon}
 use Rattle.hk_model.specs.Records.{record_text}
-use Rattle.hk_top.specs.Words.{IsRun, IsShow, IsCommand}
+use Rattle.hk_model.specs.Audits.{Audited, audit}
+use Rattle.hk_top.specs.Words.{IsRun, IsShow, IsCheck, ReadsScript, ReadsRecord, IsCommand, ReadsAtMost}
 
 -- what is written of words that are no command
 abbrev pub usage_text : List ℕ
@@ -57,29 +60,42 @@ pub record IsRecord (w : Setup) (status : ℕ) (text : List ℕ) : Type 0 where
   pub status_is : status ≡ status_of end
   pub text_is : text ≡ record_text w lines end
 
--- the status and the text that are due to these words and to the bytes of a script
+-- the verdict on a record that was read, and its status
+pub data IsChecked (a : Audited) : ℕ → List ℕ → Type 0 where
+  -- 0: the record is legal, and the laws hold of its lines
+  legal : IsLegal a.world a.lines a.end → IsLawful a.world a.lines → IsChecked a 0 (verdict_text Legal)
+  -- 8: it is not, and the text is its first bad line, with its first cause
+  illegal : (n : ℕ) (cause : Misstep) → IsVerdict a.world a.lines a.end (Illegal n cause) → IsChecked a 8 (verdict_text (Illegal n cause))
+
+-- the status and the text that are due to these words and to the bytes that were read
 pub data DueTo (words : List (List ℕ)) (bytes : List ℕ) : ℕ → List ℕ → Type 0 where
   -- 0, 1, 7: the bytes are the script of a world, and the text is the record of its run
   record_of : (w : Setup) (status : ℕ) (text : List ℕ) → IsRun words → world bytes ≡ Ok w → IsRecord w status text → DueTo words bytes status text
   -- 0: the bytes are the script of a world, and the text is its canonical script
   script_of : (w : Setup) → IsShow words → world bytes ≡ Ok w → DueTo words bytes 0 (canon w)
+  -- 0, 8: the bytes are a record, and the text is the verdict on it
+  verdict_of : (a : Audited) (status : ℕ) (text : List ℕ) → IsCheck words → audit bytes ≡ Ok a → IsChecked a status text → DueTo words bytes status text
   -- 3: the bytes are the script of no world, and the text is the first line that is refused, with its first cause
-  refused : (line : ℕ) (cause : Cause) → IsCommand words → world bytes ≡ Err (line, cause) → DueTo words bytes 3 (refusal_text line (cause_name cause))
+  script_refused : (line : ℕ) (cause : Cause) → ReadsScript words → world bytes ≡ Err (line, cause) → DueTo words bytes 3 (refusal_text line (cause_name cause))
+  -- 3: the bytes are no record, and the text is the line that is refused first, with its cause
+  record_refused : (line : ℕ) (cause : Cause) → ReadsRecord words → audit bytes ≡ Err (line, cause) → DueTo words bytes 3 (refusal_text line (cause_name cause))
 
--- these bytes were read: they are all that the source had, up to its end, and no more than a script may have
-pub record WasRead (before after : Option (List ℕ)) (bytes : List ℕ) : Type 0 where
+-- these bytes were read: they are all that the source had, up to its end, and no more than these words may read
+pub record WasRead (words : List (List ℕ)) (before after : Option (List ℕ)) (bytes : List ℕ) : Type 0 where
   pub taken : Consumes before after bytes
   pub end : IsAtEnd after
-  pub few : length bytes ≤ script_bytes
+  pub limit : ℕ
+  pub at_most : ReadsAtMost words limit
+  pub few : length bytes ≤ limit
 
 -- the status and the text that are due to these words, by what a source had before and after
 pub data Due (words : List (List ℕ)) (before after : Option (List ℕ)) : ℕ → List ℕ → Type 0 where
-  -- 0, 1, 3, 7: the source was read
-  read : (bytes : List ℕ) (status : ℕ) (text : List ℕ) → WasRead before after bytes → DueTo words bytes status text → Due words before after status text
+  -- 0, 1, 3, 7, 8: the source was read
+  read : (bytes : List ℕ) (status : ℕ) (text : List ℕ) → WasRead words before after bytes → DueTo words bytes status text → Due words before after status text
   -- 2: the words are no command; the source is untouched
   usage : (IsCommand words → ⊥) → after ≡ before → Due words before after 2 usage_text
-  -- 3: more bytes were taken than a script may have
-  too_long : IsCommand words → Took before after (λ bytes. script_bytes < length bytes) → Due words before after 3 too_long_text
+  -- 3: more bytes were taken than these words may read
+  too_long : (limit : ℕ) → ReadsAtMost words limit → Took before after (λ bytes. limit < length bytes) → Due words before after 3 too_long_text
 
 -- a stream before and after a call: the bytes that a source has left or that a sink has taken, where told, and its faults
 pub record Stream : Type 0 where
@@ -97,7 +113,7 @@ HadFault s = Rose s.faults_before s.faults_after
 
 -- the status of a call, and why it comes
 pub data Answer (words : List (List ℕ)) (input output : Stream) : ℕ → Type 0 where
-  -- 0, 1, 2, 3, 7: the sink took the whole text that is due
+  -- 0, 1, 2, 3, 7, 8: the sink took the whole text that is due
   written : (status : ℕ) (text : List ℕ) → Due words input.before input.after status text → Appends output.before output.after text → Answer words input output status
   -- 4: a read failed
   read_fault : IsCommand words → HadFault input → Answer words input output 4

@@ -1,8 +1,7 @@
 -- Refusals of the passes as refusals of a script. docs/FORMATS.md, "Text", "Grammar" and "Loading".
-use Rattle.std.specs.Prelude.{◌≡◌, ℕ, List, Result, Err}
+use Rattle.std.specs.Prelude.{◌≡◌, ℕ, Result, Err}
 use Rattle.hk_model.specs.declared.causes.Cause.{Cause}
 use Rattle.hk_model.specs.declared.causes.Cause.TheVariants.{OfText, OfParse, OfLoad}
-use Rattle.hk_model.specs.CauseTexts.{cause_name, refusal_text}
 use Rattle.hk_text.specs.declared.errors.TextError.{TextError}
 use Rattle.hk_text.specs.declared.errors.TextError.TheVariants as text_error
 use Rattle.hk_script.specs.declared.errors.ParseError.{ParseError}
@@ -29,8 +28,3 @@ of_parse parse_error.NoMemory = script_error.NoMemory
 abbrev pub of_load : LoadError → ScriptError
 of_load (load_error.Refused line cause) = script_error.Refused line (OfLoad cause)
 of_load load_error.NoMemory = script_error.NoMemory
-
--- the text tells the line and the cause of this error
-abbrev pub Tells : ScriptError → List ℕ → Type 0
-Tells (script_error.Refused line cause) text = text ≡ refusal_text line (cause_name cause)
-Tells script_error.NoMemory text = ⊥

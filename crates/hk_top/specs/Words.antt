@@ -1,5 +1,6 @@
--- The words that are commands. docs/FORMATS.md, "Statuses and outputs".
+-- The words that are commands, and how much each may read. docs/FORMATS.md, "Statuses and outputs".
 use Rattle.std.specs.Prelude.{◌≡◌, ℕ, ◌⊎◌, List, [], ◌∷◌, Option, Some, None, codes}
+use Rattle.hk_model.specs.Limits.{script_bytes, record_bytes}
 use Rattle.hk_top.specs.declared.words.Command.{Command}
 use Rattle.hk_top.specs.declared.words.Command.TheVariants as command
 
@@ -11,14 +12,37 @@ IsRun words = words ≡ codes "run" ∷ []
 abbrev pub IsShow : List (List ℕ) → Type 0
 IsShow words = words ≡ codes "show" ∷ []
 
+-- the words `check`
+abbrev pub IsCheck : List (List ℕ) → Type 0
+IsCheck words = words ≡ codes "check" ∷ []
+
+-- the words of a command that reads a script
+abbrev pub ReadsScript : List (List ℕ) → Type 0
+ReadsScript words = IsRun words ⊎ IsShow words
+
+-- the words of a command that reads a record
+abbrev pub ReadsRecord : List (List ℕ) → Type 0
+ReadsRecord words = IsCheck words
+
 -- the words of a command
 abbrev pub IsCommand : List (List ℕ) → Type 0
-IsCommand words = IsRun words ⊎ IsShow words
+IsCommand words = ReadsScript words ⊎ ReadsRecord words
+
+-- the words are those of a command, and this is the most bytes that what it reads may have
+abbrev pub ReadsAtMost : List (List ℕ) → ℕ → Type 0
+ReadsAtMost words limit = (ReadsScript words × (limit ≡ script_bytes)) ⊎ (ReadsRecord words × (limit ≡ record_bytes))
 
 -- the words of this command
 abbrev pub words_of : Command → List (List ℕ)
 words_of command.Run = codes "run" ∷ []
 words_of command.Show = codes "show" ∷ []
+words_of command.Check = codes "check" ∷ []
+
+-- the most bytes that this command reads
+abbrev pub byte_limit : Command → ℕ
+byte_limit command.Run = script_bytes
+byte_limit command.Show = script_bytes
+byte_limit command.Check = record_bytes
 
 -- the words are those of this command, or of none
 abbrev pub Calls : Option Command → List (List ℕ) → Type 0

@@ -1,9 +1,9 @@
-//! How a refused line is told (`docs/FORMATS.md`, "Statuses and outputs").
+//! How refusals and verdicts are told (`docs/FORMATS.md`, "Statuses and outputs" and "Legal records").
 
 ghost use Rattle.std.specs.Prelude.{◌≡◌, IfOk, codes};
-ghost use Rattle.hk_model.specs.CauseTexts.{text_cause, parse_cause, load_cause, cause_name, refusal_text};
+ghost use Rattle.hk_model.specs.CauseTexts.{text_cause, parse_cause, load_cause, cause_name, misstep_name, refusal_text, verdict_text};
 
-use hk_model::{Cause, LoadCause, NoMemory, ParseCause, Text, TextCause};
+use hk_model::{Cause, LoadCause, Misstep, NoMemory, ParseCause, Text, TextCause, Verdict};
 use std::alloc::Global;
 
 /// `line L: CAUSE`, and a line feed. NoMemory is want of memory.
@@ -12,6 +12,37 @@ pub(crate) fn refusal_text(alloc: Global, line: u32, cause: Cause) -> Result<Tex
 {
     let name = cause_name(cause);
     Ok(Text::from_string(format!(in alloc; "line {line}: {name}\n")?))
+}
+
+/// `legal`, or `illegal L CAUSE`, and a line feed. NoMemory is want of memory.
+pub(crate) fn verdict_text(alloc: Global, verdict: Verdict) -> Result<Text, NoMemory>
+    ensures { IfOk result (λ text. text ≡ verdict_text verdict) }
+{
+    match verdict {
+        Verdict::Legal => Ok(Text::from_string(String::from_str(alloc, "legal\n")?)),
+        Verdict::Illegal { line, cause } => illegal_text(alloc, line, cause),
+    }
+}
+
+// The verdict on a record whose first bad line is this.
+fn illegal_text(alloc: Global, line: u32, cause: Misstep) -> Result<Text, NoMemory>
+    ensures { IfOk result (λ text. text ≡ verdict_text (Verdict.Illegal line cause)) }
+{
+    let name = misstep_name(cause);
+    Ok(Text::from_string(format!(in alloc; "illegal {line} {name}\n")?))
+}
+
+// The name of the cause for which a line is bad.
+fn misstep_name(cause: Misstep) -> &'static str
+    ensures { result.now ≡ misstep_name cause }
+{
+    match cause {
+        Misstep::Cpu => "Cpu",
+        Misstep::Process => "Process",
+        Misstep::Call => "Call",
+        Misstep::Reply => "Reply",
+        Misstep::EndWord => "EndWord",
+    }
 }
 
 /// The name of a cause.

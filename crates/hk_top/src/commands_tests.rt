@@ -107,6 +107,28 @@ fn shows_the_canonical_script(rt: HostRuntime) -> Result<(), Fail> {
 }
 
 #[test]
+fn tells_the_verdict_on_a_record(rt: HostRuntime) -> Result<(), Fail> {
+    let alloc = rt.alloc();
+    let check = words(alloc, &["check"])?;
+    let told: [(&[u8], u8, &[u8]); 3] = [
+        (RECORD, status::DONE, b"legal\n"),
+        (
+            b"hydra 1\nrecord\nend stuck\n",
+            status::ILLEGAL,
+            b"illegal 1 EndWord\n",
+        ),
+        (b"hydra 1\nrecord\n", status::REFUSED, b"line 3: Missing\n"),
+    ];
+    for (record, status, text) in told {
+        let mut input = SureBytes::new(record.to_vec(alloc)?);
+        let mut output = sink(alloc, Vec::new(alloc))?;
+        assert_eq!(rt; answer(alloc, &check, &mut input, &mut output), status);
+        assert_eq!(rt; output.taken(), text);
+    }
+    Ok(())
+}
+
+#[test]
 fn tells_the_line_that_is_refused(rt: HostRuntime) -> Result<(), Fail> {
     let alloc = rt.alloc();
     let run = words(alloc, &["run"])?;

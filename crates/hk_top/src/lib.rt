@@ -7,6 +7,7 @@ mod commands;
 mod commands_tests;
 #[cfg(test)]
 mod moments_tests;
+mod outputs;
 mod reading;
 mod running;
 pub mod status;

@@ -5,7 +5,7 @@ ghost use Rattle.hk_top.specs.Outputs.{status_of};
 
 use hk_model::End;
 
-/// The text was written; of a run, every process had ended.
+/// The text was written; of a run, every process had ended; of a record, it is legal.
 pub const DONE: u8 = 0;
 
 /// The record was written, of a run in which no process was ready or ran at the end, and some waited.
@@ -28,6 +28,9 @@ pub const WRITE_FAULT: u8 = 6;
 
 /// The record was written, of a run whose events came to the limit before it was done or stuck.
 pub const LIMIT: u8 = 7;
+
+/// The verdict was written, on a record that is not legal.
+pub const ILLEGAL: u8 = 8;
 
 /// The status of a run that ended so.
 pub(crate) fn of_run(end: End) -> u8

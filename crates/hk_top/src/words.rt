@@ -10,6 +10,8 @@ pub enum Command {
     Run,
     /// Writes the canonical script of the world that a script declares.
     Show,
+    /// Writes the verdict on a record.
+    Check,
 }
 
 /// The command of these words. None exactly where they are no command.
@@ -31,6 +33,9 @@ fn command_of_word(word: &str) -> Option<Command>
     }
     if word == "show" {
         return Some(Command::Show);
+    }
+    if word == "check" {
+        return Some(Command::Check);
     }
     None
 }

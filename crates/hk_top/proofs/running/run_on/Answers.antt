@@ -1,6 +1,6 @@
 use Rattle.std.proofs.Common.{List, subst, sym}
 use Rattle.hk_model.specs.declared.lines.Line.{Line}
-use Rattle.hk_top.proofs.Histories.{IsHistory, Grows, IsLast, begins, grows_by, last}
+use Rattle.hk_top.proofs.Histories.{IsHistory, begins, grows_by, last}
 use Rattle.hk_top.proofs.running.run_on.Goals as goal
 
 pub loop-lines-init : goal.loop-lines-init
