@@ -1,13 +1,12 @@
 -- A record, cut where its script ends.
-use Rattle.std.proofs.Common.{◌≡◌, ℕ, zero, suc, ◌+◌, ◌-◌, ◌<◌, ◌≤◌, Bool, true, false, cond, eqb, ltb, List, [], ◌∷◌, ◌++◌, length, refl, sym, ap, subst, ◌∙◌, arith, take, drop, Option, Some, None, ◌||◌, ◌&&◌, not, ◌==◌}
-use Rattle.std.specs.List.{slice_split, slice_range, position_or_len, join_with_byte, list_any, list_all, onto_first}
+use Rattle.std.proofs.Common.{◌≡◌, ℕ, suc, ◌+◌, ◌-◌, ◌<◌, ◌≤◌, Bool, true, false, cond, eqb, ltb, List, [], ◌∷◌, ◌++◌, length, refl, sym, ap, subst, ◌∙◌, arith, take, drop, Some, None, not}
+use Rattle.std.specs.List.{slice_range, position_or_len, join_with_byte, list_any, list_all, onto_first}
 use Rattle.std.proofs.lemmas.Bool.{false≢true, le-ltb, and_parts}
 use Rattle.std.proofs.lemmas.List.{take_all, drop_all, length-drop, length-take}
-use Rattle.std.proofs.lemmas.List.Sums.{prefix_len-le-length}
 use Rattle.std.proofs.lemmas.List.Splits.{join_with_byte-slice_split}
 use Rattle.hk_model.specs.Records.{record_word}
 use Rattle.hk_model.specs.Texts.{is_none, lines_of, without_last_empty}
-use Rattle.hk_model.specs.Audits.{Cut, cut, cut_at_record, is_record, last_cut, one_more}
+use Rattle.hk_model.specs.Audits.{cut, cut_at_record, is_record, last_cut, one_more}
 use Rattle.hk_model.proofs.Cutting.{split_at, split_none, split_joined}
 use Rattle.hk_model.proofs.LineAgain.{same_is}
 use Rattle.hk_audit.specs.RecordCuts.{texts_of, script_length, behind_first}
@@ -26,20 +25,20 @@ parts_have_none (b ∷ bytes) = go (eqb b 10) refl (texts_of bytes) (parts_have_
     go false e [] h = rw e
     go false e (t ∷ ts) h = rw e h
 
+texts_some : (bytes : List ℕ) → is_none (texts_of bytes) ≡ false
+texts_some [] = refl
+texts_some (b ∷ bytes) = go (eqb b 10) (texts_of bytes)
+  where
+    go : (x : Bool) (ts : List (List ℕ)) → is_none (cond x ([] ∷ ts) (onto_first b ts)) ≡ false
+    go true ts = refl
+    go false [] = refl
+    go false (t ∷ ts) = refl
+
 -- a text, a line feed, and what follows
 
 lines_first : (x rest : List ℕ) → list_any (λ b. eqb b 10) x ≡ false → lines_of (x ++ 10 ∷ rest) ≡ x ∷ lines_of rest
 lines_first x rest h = ap without_last_empty (split_at (λ b. eqb b 10) x 10 rest h refl) ∙ go (texts_of rest) (texts_some rest)
   where
-    texts_some : (bytes : List ℕ) → is_none (texts_of bytes) ≡ false
-    texts_some [] = refl
-    texts_some (b ∷ bytes) = by (eqb b 10) (texts_of bytes)
-      where
-        by : (c : Bool) (ts : List (List ℕ)) → is_none (cond c ([] ∷ ts) (onto_first b ts)) ≡ false
-        by true ts = refl
-        by false [] = refl
-        by false (t ∷ ts) = refl
-
     go : (ts : List (List ℕ)) → is_none ts ≡ false → without_last_empty (x ∷ ts) ≡ x ∷ without_last_empty ts
     go [] e = absurd (false≢true (sym e))
     go (t ∷ ts) e = refl
@@ -128,15 +127,6 @@ cut_so x (y ∷ more) h = next_so x y more h (cut_so y more (and_parts (not (lis
 bytes_so : (bytes : List ℕ) → CutSo (texts_of bytes) (script_length (texts_of bytes)) bytes
 bytes_so bytes = go (texts_of bytes) (parts_have_none bytes) (texts_some bytes) (join_with_byte-slice_split 10 bytes)
   where
-    texts_some : (t : List ℕ) → is_none (texts_of t) ≡ false
-    texts_some [] = refl
-    texts_some (b ∷ t) = by (eqb b 10) (texts_of t)
-      where
-        by : (c : Bool) (ts : List (List ℕ)) → is_none (cond c ([] ∷ ts) (onto_first b ts)) ≡ false
-        by true ts = refl
-        by false [] = refl
-        by false (u ∷ ts) = refl
-
     go : (ts : List (List ℕ)) → have_none ts ≡ true → is_none ts ≡ false → join_with_byte 10 ts ≡ bytes → CutSo ts (script_length ts) bytes
     go [] h some e = absurd (false≢true (sym some))
     go (x ∷ more) h some e = subst (CutSo (x ∷ more) (script_length (x ∷ more))) e (cut_so x more h)

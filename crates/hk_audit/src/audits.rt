@@ -52,10 +52,9 @@ impl Audit {
     }
 }
 
-/// The record that bytes spell. `Refused` tells the first line that is refused, and its first cause,
-/// in the order of `docs/FORMATS.md`, "Audit lines and records". Want of memory is `NoMemory`. The
-/// bytes are to have fewer than 2^32 - 1 lines, so that each, and the line after the last, has a
-/// number.
+/// The record that bytes spell. `Refused` tells the line and the cause that come first, in the order
+/// of `docs/FORMATS.md`, "Audit lines and records". Want of memory is `NoMemory`. The bytes are to
+/// have fewer than 2^32 - 1 lines, so that each, and the line after the last, has a number.
 pub fn read_record(alloc: Global, bytes: &[u8]) -> Result<Audit, RecordError>
     requires { length (lines_of bytes.now) < 2 ^ 32 - 1 }
     ensures ok { IfOk result (λ a. audit bytes.now ≡ Ok a) }

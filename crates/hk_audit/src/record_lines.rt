@@ -28,8 +28,8 @@ enum Found {
     End(End),
 }
 
-/// What stands behind the script, in bytes that begin with the line `record`, which has this number, or
-/// in none, where that line is missing.
+/// What stands behind the script: the bytes begin with the line `record`, which has this number, or
+/// are none, where that line is missing.
 pub(crate) fn read_events(alloc: Global, bytes: &[u8], number: u32) -> Result<Events, RecordError>
     requires few { number + length (lines_of bytes.now) < 2 ^ 32 }
     ensures { GivesEvents result (events_behind number (behind_first bytes.now)) }
