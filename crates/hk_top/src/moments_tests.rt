@@ -4,11 +4,15 @@ ghost use Rattle.std.specs.Prelude.{◌≤◌, length};
 ghost use Rattle.hk_model.specs.Limits.{script_bytes};
 
 use crate::reading::read_world;
-use hk_model::{Cap, Cpu, Entry, Inc, Kernel, Name, NoMemory, Seen, Snapshot, World};
+use hk_model::{
+    Call, Cpu, Entry, Inc, Kernel, Making, Name, NoMemory, Refusal, Reply, Seen, Snapshot, What,
+    World,
+};
 use hk_plain::Plain;
 use hk_program::Machine;
 use hk_rights::Rights;
 use std::alloc::Global;
+use std::marker::PhantomData;
 use std::test::Fail;
 
 // A process holds an object without ENV, and tries to store it in a list and to return it.
@@ -32,6 +36,8 @@ fn world(alloc: Global, script: &[u8]) -> Result<World, Fail>
 
 // The state after so many steps of processor 0.
 fn moment(alloc: Global, world: &World, steps: u32) -> Result<Snapshot, NoMemory> {
+    // Rattle is to know what a Line holds.
+    let _ = PhantomData::<(What, Call, Making, Reply, Refusal)>;
     let kernel = Plain::new(alloc, world)?;
     let mut machine = Machine::open(alloc, world, kernel)?;
     for _ in 0..steps {
@@ -78,19 +84,27 @@ fn first_word(shown: &Snapshot, name: Name) -> Option<u32> {
     object(shown, name)?.words.as_slice().first().copied()
 }
 
+// Whether an entry is the capability that the process holds.
+fn is_held(entry: Option<Entry>) -> bool {
+    match entry {
+        Some(Entry::Held(cap)) => cap.name == Name(7) && cap.rights == Rights::GETDATA,
+        _ => false,
+    }
+}
+
+// Whether the capability stands in its slot, and not in the list, after so many steps.
+fn stays(alloc: Global, world: &World, steps: u32) -> Result<bool, NoMemory> {
+    let shown = moment(alloc, world, steps)?;
+    Ok(is_held(slot(&shown, Inc(0), 1)) && !has_in_list(&shown, Name(8), Name(7)))
+}
+
 #[test]
 fn a_capability_without_env_stays_in_its_slot(rt: HostRuntime) -> Result<(), Fail> {
     let alloc = rt.alloc();
     let world = world(alloc, KEPT)?;
-    let held = Entry::Held(Cap {
-        name: Name(7),
-        rights: Rights::GETDATA,
-    });
     for steps in 0..6 {
-        let shown = moment(alloc, &world, steps).map_err(|_error: NoMemory| "memory")?;
-        assert_eq!(rt; shown.events, steps);
-        assert_eq!(rt; slot(&shown, Inc(0), 1), Some(held));
-        assert_eq!(rt; has_in_list(&shown, Name(8), Name(7)), false);
+        let stays = stays(alloc, &world, steps).map_err(|_error: NoMemory| "memory")?;
+        assert!(rt; stays);
     }
     Ok(())
 }
