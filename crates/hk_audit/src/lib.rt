@@ -1,5 +1,5 @@
-//! Audit lines and records as text, and read from their texts (`docs/FORMATS.md`, "Audit lines and
-//! records").
+//! Audit lines and records as text, and read from their texts; and scripts, read as worlds
+//! (`docs/FORMATS.md`, "Audit lines and records").
 #![tactic(auto)]
 
 mod again;
@@ -15,11 +15,11 @@ mod parts;
 mod paths;
 mod ranges;
 mod read_calls;
+mod read_errors;
 mod read_replies;
 #[cfg(test)]
 mod read_tests;
 mod reading;
-mod record_errors;
 mod record_lines;
 mod records;
 mod replies;
@@ -33,6 +33,7 @@ pub use again::line_is_read_again;
 pub use audits::{Audit, read_record};
 pub use lines::line_text;
 pub use ranges::steps_have_texts;
+pub use read_errors::ReadError;
 pub use reading::{read_body, read_line};
-pub use record_errors::RecordError;
 pub use records::record_text;
+pub use scripts::read_world;
