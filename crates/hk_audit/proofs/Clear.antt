@@ -1,4 +1,4 @@
--- The pieces of a line are seen in their texts, in which no space and no arrow stands.
+-- The pieces of a line are seen in their texts, in which no space, no arrow and no line feed stands.
 use Rattle.std.proofs.Common.{◌≡◌, ℕ, zero, suc, ◌<◌, ◌≤◌, ◌==◌, ◌^◌, Bool, true, false, cond, eqb, ltb, List, [], ◌∷◌, ◌++◌, length, map, refl, sym, ap, subst, ◌∙◌, arith, ◌||◌, ◌&&◌, not, Some, None, Ok, IsTrue, get_or, ⊎_elim}
 use Rattle.std.specs.Prelude.{codes}
 use Rattle.std.specs.List.{AllByRecursion, list_all, list_any, join_with_byte}
@@ -41,9 +41,9 @@ use Rattle.hk_audit.proofs.Spelled.{same_self}
 use Rattle.hk_audit.proofs.SeenForms.{seen_numeral, seen_path_of, seen_spelled}
 use Rattle.hk_audit.proofs.LinesAgain.{right_among}
 
--- no space, and no byte of an arrow that is no dash
+-- no space, no byte of an arrow that is no dash, and no line feed
 abbrev pub is_plain : ℕ → Bool
-is_plain b = not (b == 32) && not (b == 62)
+is_plain b = not (b == 32) && not (b == 62) && not (b == 10)
 
 pub record Clear (p : Piece) : Type 0 where
   pub seen : seen (spell p) ≡ p
@@ -274,11 +274,12 @@ pub record ClearTexts (ps : List Piece) : Type 0 where
   pub seen : map seen (map spell ps) ≡ ps
   pub free : list_all (λ t. not (list_any (λ b. b == 32) t)) (map spell ps) ≡ true
   pub plain : list_all (list_all (λ b. not (b == 62))) (map spell ps) ≡ true
+  pub unbroken : list_all (list_all (λ b. not (b == 10))) (map spell ps) ≡ true
   pub wide : wide_pieces (map spell ps) ≡ Ok ps
   pub apart : (more : List (List ℕ)) → halves (map spell ps ++ arrow ∷ more) ≡ record { event = map spell ps; reply = more }
 
 pub clear_texts : (ps : List Piece) → AllByRecursion Clear ps → ClearTexts ps
-clear_texts [] h = record { seen = refl; free = refl; plain = refl; wide = refl; apart = λ more. refl }
+clear_texts [] h = record { seen = refl; free = refl; plain = refl; unbroken = refl; wide = refl; apart = λ more. refl }
 clear_texts (p ∷ ps) h =
     let here = h.0 in
     let rest = clear_texts ps h.1 in
@@ -288,6 +289,7 @@ clear_texts (p ∷ ps) h =
       seen = rw here.seen (ap (λ (qs : List Piece). p ∷ qs) rest.seen);
       free = and_from _ _ (ap not blank) rest.free;
       plain = and_from _ _ (all_weaker is_plain (λ b. not (b == 62)) (λ b k. grind (arith, nat_tests)) (spell p) here.plain) rest.plain;
+      unbroken = and_from _ _ (all_weaker is_plain (λ b. not (b == 10)) (λ b k. grind (arith, nat_tests)) (spell p) here.plain) rest.unbroken;
       wide = rw (here.wide, rest.wide) refl;
       apart = λ more. rw (other, rest.apart more) refl;
     }

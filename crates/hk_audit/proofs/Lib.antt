@@ -24,3 +24,5 @@ mod Passes
 mod RecordSplits
 mod RecordEvents
 mod RecordAudits
+mod ScriptLines
+mod RecordAgain

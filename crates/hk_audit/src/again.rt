@@ -1,12 +1,14 @@
-//! The definition that reads a line, and the text of a line (`docs/FORMATS.md`, "Audit lines and
-//! records").
+//! The definitions that read a line and a record, and the texts of these (`docs/FORMATS.md`, "Audit
+//! lines and records").
 
-ghost use Rattle.std.specs.Prelude.{◌≡◌, ◌↔◌, Some};
+ghost use Rattle.std.specs.Prelude.{◌≡◌, ◌↔◌, All, Ok, Some};
 ghost use Rattle.hk_model.specs.AuditLines.{line_body};
 ghost use Rattle.hk_model.specs.LineReading.{read_body};
 ghost use Rattle.hk_model.specs.LineRanges.{IsLine};
+ghost use Rattle.hk_model.specs.Audits.{audit, audited, events};
+ghost use Rattle.hk_model.specs.Records.{record_text};
 
-use hk_model::Line;
+use hk_model::{End, Line, World};
 
 /// The definition reads a line in exactly the bytes on which that line stands, before its line
 /// feed. The function does nothing; its contract is the law.
@@ -15,4 +17,37 @@ pub fn line_is_read_again(bytes: &[u8], line: &Line)
 {
     let _cpu = line.cpu;
     let _len = bytes.len();
+}
+
+/// The definition reads the text of a record as its world, its lines and its end word. The function
+/// does nothing; its contract is the law.
+#[tactic(auto, using(crate::proofs::RecordAgain::record_again))]
+pub fn record_is_read_again(world: &World, lines: &[Line], end: End)
+    requires { All IsLine lines.now }
+    ensures { audit (record_text world.now lines.now end) ≡ Ok (audited world.now (events lines.now end)) }
+{
+    let _limit = world.limit();
+    let _count = lines.len();
+}
+
+/// Records with the same text are of the same world, lines and end word. The function does nothing;
+/// its contract is the law.
+#[tactic(auto, using(crate::proofs::RecordAgain::record_is_of_one))]
+pub fn record_text_is_of_one(
+    world: &World,
+    lines: &[Line],
+    end: End,
+    other_world: &World,
+    other_lines: &[Line],
+    other_end: End,
+)
+    requires lines { All IsLine lines.now }
+    requires other_lines { All IsLine other_lines.now }
+    requires same { record_text world.now lines.now end ≡ record_text other_world.now other_lines.now other_end }
+    ensures world { world.now ≡ other_world.now }
+    ensures lines { lines.now ≡ other_lines.now }
+    ensures end { end ≡ other_end }
+{
+    let _limits = (world.limit(), other_world.limit());
+    let _counts = (lines.len(), other_lines.len());
 }

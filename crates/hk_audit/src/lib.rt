@@ -29,7 +29,7 @@ mod scripts;
 mod tests;
 mod wanted;
 
-pub use again::line_is_read_again;
+pub use again::{line_is_read_again, record_is_read_again, record_text_is_of_one};
 pub use audits::{Audit, read_record};
 pub use lines::line_text;
 pub use ranges::steps_have_texts;

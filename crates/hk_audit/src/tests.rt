@@ -6,7 +6,7 @@ ghost use Rattle.hk_model.specs.Limits.{event_limit};
 ghost use Rattle.hk_model.specs.LineRanges.{IsCall, IsLine, IsReply, IsPathValue, IsWhat};
 ghost use Rattle.hk_model.specs.Setup.{setup};
 
-use crate::{line_text, record_text, steps_have_texts};
+use crate::{line_text, record_is_read_again, record_text, steps_have_texts};
 use hk_model::{
     Args, Call, Cpu, End, Inc, Items, Line, Making, NoMemory, Path, Proc, Refusal, Reply, Slot,
     Text, What, What8, World,
@@ -328,6 +328,7 @@ fn two_lines(alloc: Global, world: &World) -> Result<Text, NoMemory> {
 fn no_lines(alloc: Global, end: End) -> Result<Text, NoMemory> {
     let world = empty_world(alloc, 10000);
     steps_have_texts(&world, &[]);
+    record_is_read_again(&world, &[], end);
     record_text(alloc, &world, &[], end)
 }
 
