@@ -4,6 +4,6 @@ pub mod Names
 pub mod Refusals
 pub mod Events
 pub mod Halves
-pub mod ReadRefusals
+pub mod RecordRefusals
 pub mod RecordCuts
 pub mod RecordEvents

@@ -2,14 +2,14 @@
 
 ghost use Rattle.std.specs.Prelude.{◌<◌, ◌^◌, length};
 
-use crate::{Audit, ReadError, read_record};
+use crate::{Audit, RecordError, read_record};
 use hk_model::{Cause, Cpu, End, Inc, Line, LoadCause, ParseCause, Proc, Reply, TextCause, What};
 use std::alloc::Global;
 use std::test::Fail;
 
 // Reads a record of few bytes.
 #[tactic(auto, using(hk_text::proofs::LineCount::lines_few))]
-fn read(alloc: Global, bytes: &[u8]) -> Result<Audit, ReadError>
+fn read(alloc: Global, bytes: &[u8]) -> Result<Audit, RecordError>
     requires { length bytes.now < 2 ^ 31 }
 {
     read_record(alloc, bytes)
@@ -82,7 +82,7 @@ fn refuses_the_first_bad_line(rt: HostRuntime) -> Result<(), Fail> {
     ];
     for (bytes, line, cause) in rows {
         let found = read(rt.alloc(), bytes).map(|audit| size(&audit));
-        assert_eq!(rt; found, Err(ReadError::Refused { line, cause }));
+        assert_eq!(rt; found, Err(RecordError::Refused { line, cause }));
     }
     Ok(())
 }
@@ -114,7 +114,7 @@ fn refuses_a_script_before_what_stands_behind(rt: HostRuntime) -> Result<(), Fai
     ];
     for (bytes, line, cause) in rows {
         let found = read(rt.alloc(), bytes).map(|audit| size(&audit));
-        assert_eq!(rt; found, Err(ReadError::Refused { line, cause }));
+        assert_eq!(rt; found, Err(RecordError::Refused { line, cause }));
     }
     Ok(())
 }

@@ -4,9 +4,9 @@ ghost use Rattle.std.specs.Prelude.{◌≡◌, ◌<◌, ◌-◌, ◌^◌, ℕ, O
 ghost use Rattle.hk_model.specs.declared.causes.Cause.{Cause};
 ghost use Rattle.hk_model.specs.Texts.{lines_of};
 ghost use Rattle.hk_model.specs.Audits.{audit};
-ghost use Rattle.hk_audit.specs.ReadRefusals.{IsRefused};
+ghost use Rattle.hk_audit.specs.RecordRefusals.{IsRefused};
 
-use crate::read_errors::ReadError;
+use crate::record_errors::RecordError;
 use crate::record_lines::read_events;
 use crate::scripts::{line_count, read_world, script_length};
 use hk_model::{End, Items, Line, Template, World};
@@ -55,7 +55,7 @@ impl Audit {
 /// The record that bytes spell. `Refused` tells the line and the cause that come first, in the order
 /// of `docs/FORMATS.md`, "Audit lines and records". Want of memory is `NoMemory`. The bytes are to
 /// have fewer than 2^32 - 1 lines, so that each, and the line after the last, has a number.
-pub fn read_record(alloc: Global, bytes: &[u8]) -> Result<Audit, ReadError>
+pub fn read_record(alloc: Global, bytes: &[u8]) -> Result<Audit, RecordError>
     requires { length (lines_of bytes.now) < 2 ^ 32 - 1 }
     ensures ok { IfOk result (λ a. audit bytes.now ≡ Ok a) }
     ensures refused { (line : ℕ) (cause : Cause) → IsRefused result line cause → audit bytes.now ≡ Err (line, cause) }

@@ -8,7 +8,7 @@ ghost use Rattle.hk_audit.specs.RecordCuts.{behind_first};
 ghost use Rattle.hk_audit.specs.RecordEvents.{Finds, GivesEvents, have_no_byte};
 
 use crate::parts::Parts;
-use crate::read_errors::ReadError;
+use crate::record_errors::RecordError;
 use crate::reading::read_body;
 use hk_model::{Cause, End, Items, Line, ParseCause, Template};
 use std::alloc::Global;
@@ -30,13 +30,13 @@ enum Found {
 
 /// What stands behind the script: the bytes begin with the line `record`, which has this number, or
 /// are none, where that line is missing.
-pub(crate) fn read_events(alloc: Global, bytes: &[u8], number: u32) -> Result<Events, ReadError>
+pub(crate) fn read_events(alloc: Global, bytes: &[u8], number: u32) -> Result<Events, RecordError>
     requires few { number + length (lines_of bytes.now) < 2 ^ 32 }
     ensures { GivesEvents result (events_behind number (behind_first bytes.now)) }
 {
     let mut left = Parts::new(bytes, b'\n');
     if bytes.is_empty() || left.next().is_err() {
-        return Err(ReadError::Refused {
+        return Err(RecordError::Refused {
             line: number,
             cause: Cause::OfParse(ParseCause::Missing),
         });
@@ -45,7 +45,7 @@ pub(crate) fn read_events(alloc: Global, bytes: &[u8], number: u32) -> Result<Ev
 }
 
 /// The audit lines and the end word of what is left, where the next line has this number.
-fn read_lines(alloc: Global, left: &mut Parts, first: u32) -> Result<Events, ReadError>
+fn read_lines(alloc: Global, left: &mut Parts, first: u32) -> Result<Events, RecordError>
     requires few { first + length (without_last_empty (texts left.old)) < 2 ^ 32 }
     ensures { GivesEvents result (events_from first (texts left.old)) }
 {
@@ -59,13 +59,13 @@ fn read_lines(alloc: Global, left: &mut Parts, first: u32) -> Result<Events, Rea
                 if is_at_end(left) {
                     return Ok(Events { lines, end });
                 }
-                return Err(ReadError::Refused {
+                return Err(RecordError::Refused {
                     line: number + 1,
                     cause: Cause::OfParse(ParseCause::Extra),
                 });
             }
             Err(cause) => {
-                return Err(ReadError::Refused {
+                return Err(RecordError::Refused {
                     line: number,
                     cause,
                 });

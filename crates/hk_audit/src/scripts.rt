@@ -7,10 +7,10 @@ ghost use Rattle.hk_model.specs.Audits.{cut, cut_at_record, is_record};
 ghost use Rattle.hk_model.specs.Texts.{lines_of};
 ghost use Rattle.hk_model.specs.Worlds.{world};
 ghost use Rattle.hk_audit.specs.RecordCuts.{texts_of, behind_first};
-ghost use Rattle.hk_audit.specs.ReadRefusals.{IsRefused};
+ghost use Rattle.hk_audit.specs.RecordRefusals.{IsRefused};
 
 use crate::parts::first_of;
-use crate::read_errors::ReadError;
+use crate::record_errors::RecordError;
 use hk_load::load;
 use hk_model::World;
 use hk_script::parse;
@@ -59,7 +59,7 @@ pub(crate) fn line_count(bytes: &[u8]) -> u32
 /// "Grammar" and "Loading"). `Refused` tells the first line that is refused, and its first cause.
 /// Want of memory is `NoMemory`. The bytes are to have fewer than 2^32 - 1 lines, so that each, and
 /// the line after the last, has a number.
-pub fn read_world(alloc: Global, script: &[u8]) -> Result<World, ReadError>
+pub fn read_world(alloc: Global, script: &[u8]) -> Result<World, RecordError>
     requires few { length (lines_of script.now) < 2 ^ 32 - 1 }
     ensures ok { IfOk result (λ w. world script.now ≡ Ok w) }
     ensures refused { (line : ℕ) (cause : Cause) → IsRefused result line cause → world script.now ≡ Err (line, cause) }

@@ -76,11 +76,11 @@ goes_self number notes = ([], sym (append_nil notes), λ k d l. absurd (omega (a
 
 -- ---- other processors
 
-after_append : (w : Setup) (m : Machine) (xs ys : List Line) → after_lines w m (xs ++ ys) ≡ after_lines w (after_lines w m xs) ys
+pub after_append : (w : Setup) (m : Machine) (xs ys : List Line) → after_lines w m (xs ++ ys) ≡ after_lines w (after_lines w m xs) ys
 after_append w m [] ys = refl
 after_append w m (x ∷ xs) ys = after_append w (moved w m x.cpu) xs ys
 
-steps_first : (w : Setup) (m : Machine) (xs ys : List Line) → AreSteps w m (xs ++ ys) → AreSteps w m xs
+pub steps_first : (w : Setup) (m : Machine) (xs ys : List Line) → AreSteps w m (xs ++ ys) → AreSteps w m xs
 steps_first w m [] ys h = tt
 steps_first w m (x ∷ xs) ys h = (h.0, steps_first w (moved w m x.cpu) xs ys h.1)
 

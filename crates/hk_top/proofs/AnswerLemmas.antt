@@ -1,5 +1,5 @@
 -- How answers come about: a text that is due and said, and a text that is due to an input.
-use Rattle.std.proofs.Common.{◌≡◌, ◌≢◌, ◌<◌, ◌≤◌, ◌↔◌, ℕ, List, length, codes, Option, Ok, Err, IfOk, IsErrOf, refl, subst, sym, inl, inr, Vec, Global, Result}
+use Rattle.std.proofs.Common.{◌≡◌, ◌∙◌, ap, ◌≢◌, ◌<◌, ◌≤◌, ◌↔◌, ℕ, List, length, codes, Option, Some, None, option_map, Ok, Err, IfOk, IfErr, IsErrOf, refl, subst, sym, inl, inr, Vec, Global, Result}
 use Rattle.hk_io.specs.Streams.{Took}
 use Rattle.hk_io.specs.declared.whole.ReadError.{ReadError}
 use Rattle.std.specs.Fmt.{digits}
@@ -19,15 +19,21 @@ use Rattle.hk_model.specs.Verdicts.{IsVerdict}
 use Rattle.hk_model.specs.Canonical.{canon}
 use Rattle.hk_model.specs.Setup.{Setup}
 use Rattle.hk_model.specs.Worlds.{world}
-use Rattle.hk_top.specs.declared.outputs.DueText.{DueText}
+use Rattle.hk_model.specs.State.{State}
+use Rattle.hk_top.specs.declared.served.DueText.{DueText}
+use Rattle.hk_top.specs.declared.served.Served.{Served}
+use Rattle.hk_top.specs.declared.served.Silence.{Silence}
+use Rattle.hk_top.specs.declared.served.Silence.TheVariants as silence
 use Rattle.hk_top.specs.declared.words.Command.{Command}
 use Rattle.hk_top.specs.declared.words.Command.TheVariants as command
-use Rattle.hk_top.specs.Words.{IsCommand, ReadsScript, ReadsAtMost, words_of, byte_limit}
+use Rattle.hk_top.specs.Words.{IsAlone, IsCommand, IsInRange, MayRun, ReadsScript, ReadsAtMost, words_of, byte_limit}
+use Rattle.hk_top.specs.Served.{IsTooLong, silent_status}
 use Rattle.hk_top.specs.Outputs.{
   Due,
   DueTo,
   Answer,
-  IsRecord,
+  IsRecorded,
+  IsRunOf,
   IsChecked,
   IsLawful,
   Stream,
@@ -43,18 +49,21 @@ use Rattle.hk_top.specs.Outputs.{
   illegal,
   too_long,
   written,
+  read_fault,
+  no_memory,
   write_fault,
+  HadFault,
 }
 
 -- a text that is due and said is an answer
-pub said : {words : List (List ℕ)} {input output : Stream} {status result : ℕ} {text : List ℕ} → Due words input.before input.after status text → IsSaid status text output result → Answer words input output result
-said {words} {input} {output} due (inl h) = subst (λ n. Answer words input output n) (sym h.0) (written _ _ due h.1)
-said {words} {input} {output} due (inr h) = subst (λ n. Answer words input output n) (sym h.0) (write_fault _ _ h.2.0 due h.1 h.2.1 h.2.2)
+pub said : {words : List (List ℕ)} {input output : Stream} {status result : ℕ} {text : List ℕ} {made : Option State} → Due words input.before input.after status text made → IsSaid status text output result → Answer words input output result made
+said {words} {input} {output} {status} {result} {text} {made} due (inl h) = subst (λ n. Answer words input output n made) (sym h.0) (written _ _ _ due h.1)
+said {words} {input} {output} {status} {result} {text} {made} due (inr h) = subst (λ n. Answer words input output n made) (sym h.0) (write_fault _ _ _ h.2.0 due h.1 h.2.1 h.2.2)
 
--- what is due to words and a text is due to the same words, status and text
-pub due_at : {words others : List (List ℕ)} {before after : Option (List ℕ)} {status number : ℕ} {text same : List ℕ} → words ≡ others → status ≡ number → text ≡ same → Due words before after status text → Due others before after number same
-due_at {words} {others} {before} {after} {status} {number} {text} {same} w n t due =
-    subst (λ x. Due x before after number same) w (subst (λ x. Due words before after x same) n (subst (λ x. Due words before after status x) t due))
+-- what is due to words and a text is due to the same words, status, text and kernel
+pub due_at : {words others : List (List ℕ)} {before after : Option (List ℕ)} {status number : ℕ} {text same : List ℕ} {made : Option State} → words ≡ others → status ≡ number → text ≡ same → Due words before after status text made → Due others before after number same made
+due_at {words} {others} {before} {after} {status} {number} {text} {same} {made} w n t due =
+    subst (λ x. Due x before after number same made) w (subst (λ x. Due words before after x same made) n (subst (λ x. Due words before after status x made) t due))
 
 -- where a read answered that the input is too long, more bytes were taken than the limit
 pub too_long_taken : (limit : ℕ) (before after : Option (List ℕ)) (r : Result (Vec ℕ Global) ReadError) → r ≡ Err ReadError.TooLong → Took before after (λ bytes. IsErrOf r ReadError.TooLong ↔ (limit < length bytes)) → Took before after (λ bytes. limit < length bytes)
@@ -67,27 +76,28 @@ too_long_is = refl
 
 -- what is due to the bytes of a script
 
-pub record_due : (bytes : List ℕ) (w : Setup) (r : Result DueText NoMemory) → world bytes ≡ Ok w → IfOk r (λ due. IsRecord w due.status due.text) → IfOk r (λ due. DueTo (words_of command.Run) bytes due.status due.text)
-record_due bytes w (Ok due) is h = record_of w due.status due.text refl is h
-record_due bytes w (Err error) is h = tt
+pub record_due : {K : Type 0} (state : K → State) (words : List (List ℕ)) (bytes : List ℕ) (w : Setup) (r : Result (Served K) NoMemory) → world bytes ≡ Ok w → IfOk r (λ served. IsRecorded words w served.due.status served.due.text (option_map state served.kernel))
+    → IfOk r (λ served. DueTo words bytes served.due.status served.due.text (option_map state served.kernel))
+record_due state words bytes w (Ok served) is h = record_of w served.due.status served.due.text (option_map state served.kernel) is h
+record_due state words bytes w (Err error) is h = tt
 
-pub script_due : (bytes : List ℕ) (w : Setup) (r : Result DueText NoMemory) → world bytes ≡ Ok w → IfOk r (λ due. (due.status ≡ 0) × (due.text ≡ canon w)) → IfOk r (λ due. DueTo (words_of command.Show) bytes due.status due.text)
+pub script_due : (bytes : List ℕ) (w : Setup) (r : Result DueText NoMemory) → world bytes ≡ Ok w → IfOk r (λ due. (due.status ≡ 0) × (due.text ≡ canon w)) → IfOk r (λ due. DueTo (words_of command.Show) bytes due.status due.text None)
 script_due bytes w (Ok due) is h = rw (h.0, h.1) (script_of w refl is)
 script_due bytes w (Err error) is h = tt
 
 pub script_refused_due : (c : Command) (bytes : List ℕ) (line : ℕ) (cause : Cause) (r : Result DueText NoMemory) → ReadsScript (words_of c) → world bytes ≡ Err (line, cause)
-    → IfOk r (λ due. (due.status ≡ 3) × (due.text ≡ refusal_text line (cause_name cause))) → IfOk r (λ due. DueTo (words_of c) bytes due.status due.text)
+    → IfOk r (λ due. (due.status ≡ 3) × (due.text ≡ refusal_text line (cause_name cause))) → IfOk r (λ due. DueTo (words_of c) bytes due.status due.text None)
 script_refused_due c bytes line cause (Ok due) reads is h = rw (h.0, h.1) (script_refused line cause reads is)
 script_refused_due c bytes line cause (Err error) reads is h = tt
 
 -- what is due to the bytes of a record
 
-pub verdict_due : (bytes : List ℕ) (a : Audited) (r : Result DueText NoMemory) → audit bytes ≡ Ok a → IfOk r (λ due. IsChecked a due.status due.text) → IfOk r (λ due. DueTo (words_of command.Check) bytes due.status due.text)
+pub verdict_due : (bytes : List ℕ) (a : Audited) (r : Result DueText NoMemory) → audit bytes ≡ Ok a → IfOk r (λ due. IsChecked a due.status due.text) → IfOk r (λ due. DueTo (words_of command.Check) bytes due.status due.text None)
 verdict_due bytes a (Ok due) is h = verdict_of a due.status due.text refl is h
 verdict_due bytes a (Err error) is h = tt
 
 pub record_refused_due : (bytes : List ℕ) (line : ℕ) (cause : Cause) (r : Result DueText NoMemory) → audit bytes ≡ Err (line, cause) → IfOk r (λ due. (due.status ≡ 3) × (due.text ≡ refusal_text line (cause_name cause)))
-    → IfOk r (λ due. DueTo (words_of command.Check) bytes due.status due.text)
+    → IfOk r (λ due. DueTo (words_of command.Check) bytes due.status due.text None)
 record_refused_due bytes line cause (Ok due) is h = rw (h.0, h.1) (record_refused line cause refl is)
 record_refused_due bytes line cause (Err error) is h = tt
 
@@ -111,18 +121,20 @@ illegal_due a w lines end v n cause (Err error) w_is lines_are end_is is v_is h 
 -- what is due to an input
 
 -- the most bytes that the words of a command may read
-at_most : (c : Command) → ReadsAtMost (words_of c) (byte_limit c)
-at_most command.Run = inl (inl refl, refl)
-at_most command.Show = inl (inr refl, refl)
-at_most command.Check = inr (refl, refl)
+at_most : (c : Command) → IsInRange c → ReadsAtMost (words_of c) (byte_limit c)
+at_most command.Run range = inl (inl refl, refl)
+at_most (command.RunOn cpus) range = inl (inr (inl (cpus, (refl, range))), refl)
+at_most command.Show range = inl (inr (inr refl), refl)
+at_most command.Check range = inr (refl, refl)
 
-pub read_due : {before after : Option (List ℕ)} {bytes same text : List ℕ} {status : ℕ} (c : Command) (limit : ℕ) → limit ≡ byte_limit c → Consumes before after bytes → IsAtEnd after → length bytes ≤ limit → same ≡ bytes → DueTo (words_of c) same status text
-    → Due (words_of c) before after status text
-read_due {before} {after} {bytes} {same} {text} {status} c limit limit_is taken end few is due =
-    read bytes status text (record { taken = taken; end = end; limit = limit; at_most = subst (λ n. ReadsAtMost (words_of c) n) (sym limit_is) (at_most c); few = few }) (subst (λ b. DueTo (words_of c) b status text) is due)
+pub read_due : {before after : Option (List ℕ)} {bytes same text : List ℕ} {status : ℕ} {made : Option State} (c : Command) (limit : ℕ) → IsInRange c → limit ≡ byte_limit c → Consumes before after bytes → IsAtEnd after → length bytes ≤ limit → same ≡ bytes
+    → DueTo (words_of c) same status text made → Due (words_of c) before after status text made
+read_due {before} {after} {bytes} {same} {text} {status} {made} c limit range limit_is taken end few is due =
+    read bytes status text made (record { taken = taken; end = end; limit = limit; at_most = subst (λ n. ReadsAtMost (words_of c) n) (sym limit_is) (at_most c range); few = few }) (subst (λ b. DueTo (words_of c) b status text made) is due)
 
-pub too_long_due : {before after : Option (List ℕ)} {status : ℕ} {text : List ℕ} (c : Command) (limit : ℕ) → limit ≡ byte_limit c → Took before after (λ bytes. limit < length bytes) → (status ≡ 3) × (text ≡ too_long_text) → Due (words_of c) before after status text
-too_long_due c limit limit_is took h = rw (h.0, h.1) (too_long limit (subst (λ n. ReadsAtMost (words_of c) n) (sym limit_is) (at_most c)) took)
+pub too_long_due : {before after : Option (List ℕ)} {status : ℕ} {text : List ℕ} {made : Option State} (c : Command) (limit : ℕ) → IsInRange c → limit ≡ byte_limit c → Took before after (λ bytes. limit < length bytes) → (status ≡ 3) × (text ≡ too_long_text) × (made ≡ None)
+    → Due (words_of c) before after status text made
+too_long_due c limit range limit_is took h = rw (h.0, h.1, h.2) (too_long limit (subst (λ n. ReadsAtMost (words_of c) n) (sym limit_is) (at_most c range)) took)
 
 -- a text that is due has a status of its own, which is not that of a fault of reading or of want of memory
 abbrev Speaks : ℕ → Type 0
@@ -137,15 +149,47 @@ check_speaks : {a : Audited} {status : ℕ} {text : List ℕ} → IsChecked a st
 check_speaks (legal is laws) = (λ e. absurd (cc), λ e. absurd (cc))
 check_speaks (illegal n cause is) = (λ e. absurd (cc), λ e. absurd (cc))
 
-pub speaks : {words : List (List ℕ)} {bytes : List ℕ} {status : ℕ} {text : List ℕ} → DueTo words bytes status text → (status ≢ 4) × (status ≢ 5)
-speaks (record_of w status text run is r) = subst Speaks (sym r.status_is) (run_speaks r.end)
+pub speaks : {words : List (List ℕ)} {bytes : List ℕ} {status : ℕ} {text : List ℕ} {made : Option State} → DueTo words bytes status text made → (status ≢ 4) × (status ≢ 5)
+speaks (record_of w status text made is r) = subst Speaks (sym r.record_is.status_is) (run_speaks r.end)
 speaks (script_of w show is) = (λ e. absurd (cc), λ e. absurd (cc))
 speaks (verdict_of a status text checks is h) = check_speaks h
 speaks (script_refused line cause reads is) = (λ e. absurd (cc), λ e. absurd (cc))
 speaks (record_refused line cause reads is) = (λ e. absurd (cc), λ e. absurd (cc))
 
 -- the words of a command, as they were read
-pub of_command : {words : List (List ℕ)} (c : Command) → words ≡ words_of c → IsCommand words
-of_command command.Run is = inl (inl is)
-of_command command.Show is = inl (inr is)
-of_command command.Check is = inr is
+pub of_command : {words : List (List ℕ)} (c : Command) → IsInRange c → words ≡ words_of c → IsCommand words
+of_command command.Run range is = inl (inl is)
+of_command (command.RunOn cpus) range is = inl (inr (inl (cpus, (is, range))))
+of_command command.Show range is = inl (inr (inr is))
+of_command command.Check range is = inr is
+
+-- a command that one processor serves, and one that many serve
+pub alone_ranges : (c : Command) → IsAlone c → IsInRange c
+alone_ranges command.Run alone = tt
+alone_ranges (command.RunOn cpus) alone = absurd alone
+alone_ranges command.Show alone = tt
+alone_ranges command.Check alone = tt
+
+-- what a run of many processors, or of one, came to where the script is refused
+pub refused_served : {K : Type 0} (state : K → State) (c : Command) (bytes : List ℕ) (line : ℕ) (cause : Cause) (due : DueText) (served : Served K) → ReadsScript (words_of c) → world bytes ≡ Err (line, cause)
+    → (due.status ≡ 3) × (due.text ≡ refusal_text line (cause_name cause)) → served.due ≡ due → served.kernel ≡ None → DueTo (words_of c) bytes served.due.status served.due.text (option_map state served.kernel)
+refused_served state c bytes line cause due served reads is told due_is none = rw (due_is, none, told.0, told.1) (script_refused line cause reads is)
+
+-- what is due where the source was not read to its end
+pub unread_due : {K : Type 0} (state : K → State) (c : Command) (limit : ℕ) (before after : Option (List ℕ)) (r : Result (Vec ℕ Global) ReadError) (error : ReadError) (out : Result (Served K) Silence) → IsInRange c → limit ≡ byte_limit c → r ≡ Err error
+    → Took before after (λ bytes. IsErrOf r ReadError.TooLong ↔ (limit < length bytes)) → IfOk out (λ served. (error ≡ ReadError.TooLong) × IsTooLong served)
+    → IfOk out (λ served. Due (words_of c) before after served.due.status served.due.text (option_map state served.kernel))
+unread_due state c limit before after r error (Ok served) range limit_is is took h =
+    too_long_due c limit range limit_is (too_long_taken limit before after r (is ∙ ap (λ e. Err e) h.0) took) (h.1.0, h.1.1, ap (option_map state) h.1.2)
+unread_due state c limit before after r error (Err silence) range limit_is is took h = tt
+
+-- a call whose text is said, or that is silent, with the kernel that it hands back
+pub answered : {K : Type 0} (P : Type 0) (state : K → State) {words : List (List ℕ)} {input output : Stream} (c : Command) (due : Result (Served K) Silence) (out : ℕ × Option K) → IsInRange c → words ≡ words_of c
+    → IfOk due (λ served. Due (words_of c) input.before input.after served.due.status served.due.text (option_map state served.kernel)) → (IsErrOf due Silence.ReadFault → HadFault input)
+    → IfOk due (λ served. (out.1 ≡ served.kernel) × IsSaid served.due.status served.due.text output out.0) → IfErr due (λ silence. (out ≡ (silent_status silence, None)) × P)
+    → Answer words input output out.0 (option_map state out.1)
+answered {K} P state {words} {input} {output} c (Ok served) out range is due fault spoken quiet =
+    let said_as : Answer words input output out.0 (option_map state served.kernel) = said (due_at (sym is) refl refl due) spoken.1 in
+    subst (λ (k : Option K). Answer words input output out.0 (option_map state k)) (sym spoken.0) said_as
+answered {K} P state {words} {input} {output} c (Err silence.ReadFault) out range is due fault spoken quiet = rw quiet.0 (read_fault (of_command c range is) (fault refl))
+answered {K} P state {words} {input} {output} c (Err silence.NoMemory) out range is due fault spoken quiet = rw quiet.0 (no_memory (of_command c range is))

@@ -16,22 +16,34 @@ use Rattle.hk_model.specs.Legal.{end_word}
 use Rattle.hk_top.specs.Outputs.{first_processor}
 use Rattle.hk_top.proofs.Scheduled.{Placed, ArePlaced, IsPlaced}
 
--- processes of which none is ready or runs
-record AreStill (ps : List Process) : Type 0 where
-  over : list_any (λ (p : Process). is_ready p.run || is_running p.run) ps ≡ false
-  settled : (list_all (λ (p : Process). has_ended p.run) ps ≡ true) ⊎ (list_any (λ (p : Process). is_waiting p.run) ps ≡ true)
+-- none of the processes is ready or runs
+abbrev pub AreStill : List Process → Type 0
+AreStill ps = list_any (λ (p : Process). is_ready p.run || is_running p.run) ps ≡ false
+
+-- of processes that are still all have ended, or some waits
+pub settled : (ps : List Process) → AreStill ps → (list_all (λ (p : Process). has_ended p.run) ps ≡ true) ⊎ (list_any (λ (p : Process). is_waiting p.run) ps ≡ true)
+settled [] h = inl refl
+settled (p ∷ ps) h = by p.run (settled ps) h
+  where
+    by : (run : ProcessState) → (AreStill ps → (list_all (λ (p : Process). has_ended p.run) ps ≡ true) ⊎ (list_any (λ (p : Process). is_waiting p.run) ps ≡ true))
+        → ((is_ready run || is_running run) || list_any (λ (p : Process). is_ready p.run || is_running p.run) ps) ≡ false
+        → ((has_ended run && list_all (λ (p : Process). has_ended p.run) ps) ≡ true) ⊎ ((is_waiting run || list_any (λ (p : Process). is_waiting p.run) ps) ≡ true)
+    by Ready rest h = absurd (cc)
+    by (Running cpu) rest h = absurd (cc)
+    by (Waiting at) rest h = inr refl
+    by Ended rest h = rest h
 
 -- a process before processes that are still
 still_before : (n : ℕ) (run : ProcessState) (current : Inc) (ps : List Process) → IsPlaced [] n run → runner_from (record { run = run; current = current } ∷ ps) first_processor n ≡ None
     → (runner_from ps first_processor (n + 1) ≡ None → AreStill ps) → AreStill (record { run = run; current = current } ∷ ps)
 still_before n Ready current ps h r rest = absurd h
 still_before n (Running cpu) current ps h r rest = let g = rw h at r in absurd (cc)
-still_before n (Waiting at) current ps h r rest = record { over = (rest r).over; settled = inr refl }
-still_before n Ended current ps h r rest = record { over = (rest r).over; settled = (rest r).settled }
+still_before n (Waiting at) current ps h r rest = rest r
+still_before n Ended current ps h r rest = rest r
 
 -- processes in their places are still where none is ready and processor 0 runs none
 still : (n : ℕ) (ps : List Process) → ArePlaced [] n ps → runner_from ps first_processor n ≡ None → AreStill ps
-still n [] h r = record { over = refl; settled = inl refl }
+still n [] h r = refl
 still n (p ∷ ps) h r = still_before n p.run p.current ps h.0 r (still (n + 1) ps h.1)
 
 -- where processor 0 has no step
@@ -71,12 +83,15 @@ word_by false false false true (inl (h, inl g)) e = absurd (cc)
 word_by false false false true (inl (h, inr g)) e = absurd (cc)
 word_by false false false true (inr h) e = absurd (cc)
 
+-- where no process is ready or runs, or the limit is reached, the state has an end word
+pub word_there : (s : State) → AreStill s.processes ⊎ (may_step s ≡ false) → end_word s ≢ None
+word_there s (inl h) = word_by (list_all (λ (p : Process). has_ended p.run) s.processes) (list_any (λ (p : Process). is_ready p.run || is_running p.run) s.processes) (list_any (λ (p : Process). is_waiting p.run) s.processes) (may_step s) (inl (h, settled s.processes h))
+word_there s (inr h) = word_by (list_all (λ (p : Process). has_ended p.run) s.processes) (list_any (λ (p : Process). is_ready p.run || is_running p.run) s.processes) (list_any (λ (p : Process). is_waiting p.run) s.processes) (may_step s) (inr h)
+
 -- the end word of a state in whose places processor 0 has no step
 pub ends : (w : Setup) (m : Machine) → Placed m.state → step w m first_processor ≡ None → end_word m.state ≢ None
 ends w m p h = by (none_of w m h)
   where
     by : HasNone m.state → end_word m.state ≢ None
-    by (at_limit e) = word_by (list_all (λ (p : Process). has_ended p.run) m.state.processes) (list_any (λ (p : Process). is_ready p.run || is_running p.run) m.state.processes) (list_any (λ (p : Process). is_waiting p.run) m.state.processes) (may_step m.state) (inr e)
-    by (idle r e) =
-        let s = still 0 m.state.processes (subst (λ ready. ArePlaced ready 0 m.state.processes) e p) r in
-        word_by (list_all (λ (p : Process). has_ended p.run) m.state.processes) (list_any (λ (p : Process). is_ready p.run || is_running p.run) m.state.processes) (list_any (λ (p : Process). is_waiting p.run) m.state.processes) (may_step m.state) (inl (s.over, s.settled))
+    by (at_limit e) = word_there m.state (inr e)
+    by (idle r e) = word_there m.state (inl (still 0 m.state.processes (subst (λ ready. ArePlaced ready 0 m.state.processes) e p) r))

@@ -15,7 +15,7 @@ use Rattle.hk_model.specs.State.{State}
 use Rattle.hk_model.specs.Legal.{end_word}
 use Rattle.hk_model.specs.Processors.{runner, may_step, dispatched_from}
 use Rattle.hk_model.specs.Control.{Context, next}
-use Rattle.hk_model.specs.Running.{Machine, AreSteps, AreStepsOf, after_lines, context_of, dispatch_event, event, event_of, line_of, moved, opened, step}
+use Rattle.hk_model.specs.Running.{Machine, AreSteps, AreStepsOf, after_lines, context_of, dispatch_event, event, event_of, line_of, moved, opened, state_after, step}
 use Rattle.hk_model.proofs.Steps.{moved_holds}
 use Rattle.hk_top.specs.Outputs.{first_processor, IsWholeRun}
 use Rattle.hk_top.proofs.Ends.{ends}
@@ -104,17 +104,19 @@ pub grows_by : (w : Setup) (lines : List Line) (m : Machine) (found : Option Lin
 grows_by w lines m found line after h made is = let e = rw is at made in grows w lines m line after h e
 
 -- the end of a history of processor 0
-pub record IsLast (w : Setup) (lines : List Line) (word : Option End) : Type 0 where
+pub record IsLast (w : Setup) (lines : List Line) (s : State) (word : Option End) : Type 0 where
+  pub state : s ≡ state_after w lines
   pub whole : (end : End) → word ≡ Some end → IsWholeRun w lines end
   pub there : word ≢ None
 
 pub last : (w : Setup) (lines : List Line) (m : Machine) (found : Option Line) (after : Machine) (s : State) (word : Option End) → IsHistory w lines m → IfNone found ((step w m first_processor ≡ None) × (after ≡ m)) → found ≡ None
-    → s ≡ after.state → word ≡ end_word s → IsLast w lines word
+    → s ≡ after.state → word ≡ end_word s → IsLast w lines s word
 last w lines m found after s word h none is at e =
     let n = rw is at none in
     let state : s ≡ m.state = at ∙ ap (λ (x : Machine). x.state) n.1 in
     let is_word : word ≡ end_word m.state = e ∙ ap end_word state in
     record {
+      state = state ∙ sym (ap (λ (x : Machine). x.state) h.machine);
       whole = λ end g. record {
         legal = record { steps = h.steps; ends = ap (λ (x : Machine). end_word x.state) h.machine ∙ sym is_word ∙ g };
         alone = h.alone;

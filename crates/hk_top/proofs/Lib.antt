@@ -1,5 +1,6 @@
 pub mod AnswerLemmas
 pub mod Histories
-pub mod Passes
 pub mod Scheduled
+pub mod Closing
 pub mod Ends
+pub mod WordLemmas

@@ -1,3 +1,4 @@
 pub mod Outputs
-pub mod Refusals
+pub mod Served
 pub mod Words
+pub mod Workers

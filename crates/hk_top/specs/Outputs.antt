@@ -1,5 +1,5 @@
 -- What the program writes, and its status. docs/FORMATS.md, "Statuses and outputs".
-use Rattle.std.specs.Prelude.{◌≡◌, ℕ, ◌<◌, ◌≤◌, ◌⊎◌, List, [], ◌∷◌, ◌++◌, length, take, Option, None, Ok, Err, All, codes}
+use Rattle.std.specs.Prelude.{◌≡◌, ℕ, ◌<◌, ◌≤◌, ◌⊎◌, List, [], ◌∷◌, ◌++◌, length, take, Option, Some, None, Ok, Err, All, codes}
 use Rattle.std.specs.Io.KnownBytes.{Consumes, Appends, IsAtEnd}
 use Rattle.hk_io.specs.Causes.{Rose}
 use Rattle.hk_io.specs.Streams.{Took}
@@ -12,7 +12,8 @@ use Rattle.hk_model.specs.declared.lines.End.{End}
 use Rattle.hk_model.specs.declared.lines.End.TheVariants as end
 use Rattle.hk_model.specs.CauseTexts.{cause_name, refusal_text, too_long_text, verdict_text}
 use Rattle.hk_model.specs.Setup.{Setup}
-use Rattle.hk_model.specs.Running.{opened, step, after_lines}
+use Rattle.hk_model.specs.State.{State}
+use Rattle.hk_model.specs.Running.{opened, step, after_lines, state_after}
 use Rattle.hk_model.specs.Legal.{IsLegal}
 use Rattle.hk_model.specs.Verdicts.{IsVerdict}
 use Rattle.hk_model.specs.Descent.{DescentLaw}
@@ -22,7 +23,7 @@ use Rattle.hk_model.specs.Worlds.{world}
 use Rattle.hk_model.specs.Canonical.{canon}
 use Rattle.hk_model.specs.Records.{record_text}
 use Rattle.hk_model.specs.Audits.{Audited, audit}
-use Rattle.hk_top.specs.Words.{IsRun, IsShow, IsCheck, ReadsScript, ReadsRecord, IsCommand, ReadsAtMost}
+use Rattle.hk_top.specs.Words.{IsRun, IsRunOn, IsShow, IsCheck, ReadsScript, ReadsRecord, IsCommand, ReadsAtMost}
 
 -- what is written of words that are no command
 abbrev pub usage_text : List ℕ
@@ -38,6 +39,16 @@ pub record IsWholeRun (w : Setup) (lines : List Line) (end : End) : Type 0 where
   pub alone : All (λ (line : Line). line.cpu ≡ first_processor) lines
   pub last : step w (after_lines w (opened w) lines) first_processor ≡ None
 
+-- a run of a world on so many processors: whichever of them made each line, the history is legal
+pub record IsRunBy (w : Setup) (cpus : ℕ) (lines : List Line) (end : End) : Type 0 where
+  pub legal : IsLegal w lines end
+  pub below : All (λ (line : Line). line.cpu.0 < cpus) lines
+
+-- a run of a world that these words ask for
+pub data IsRunOf (words : List (List ℕ)) (w : Setup) (lines : List Line) (end : End) : Type 0 where
+  alone : IsRun words → IsWholeRun w lines end → IsRunOf words w lines end
+  shared : (cpus : ℕ) → IsRunOn words cpus → IsRunBy w cpus lines end → IsRunOf words w lines end
+
 -- the laws of protection over these lines
 pub record IsLawful (w : Setup) (lines : List Line) : Type 0 where
   pub descent : DescentLaw w lines
@@ -51,14 +62,19 @@ status_of end.Done = 0
 status_of end.Stuck = 1
 status_of end.Limit = 7
 
--- the record of a whole run, of which the laws hold, and its status
-pub record IsRecord (w : Setup) (status : ℕ) (text : List ℕ) : Type 0 where
-  pub lines : List Line
-  pub end : End
-  pub run : IsWholeRun w lines end
+-- the record of these lines, of which the laws hold, and its status
+pub record IsRecord (w : Setup) (lines : List Line) (end : End) (status : ℕ) (text : List ℕ) : Type 0 where
   pub laws : IsLawful w lines
   pub status_is : status ≡ status_of end
   pub text_is : text ≡ record_text w lines end
+
+-- the record of a run that these words ask for, and the state of the kernel that made it: the lines lead there
+pub record IsRecorded (words : List (List ℕ)) (w : Setup) (status : ℕ) (text : List ℕ) (made : Option State) : Type 0 where
+  pub lines : List Line
+  pub end : End
+  pub run : IsRunOf words w lines end
+  pub record_is : IsRecord w lines end status text
+  pub kernel : made ≡ Some (state_after w lines)
 
 -- the verdict on a record that was read, and its status
 pub data IsChecked (a : Audited) : ℕ → List ℕ → Type 0 where
@@ -67,18 +83,19 @@ pub data IsChecked (a : Audited) : ℕ → List ℕ → Type 0 where
   -- 8: it is not, and the text is its first bad line, with its first cause
   illegal : (n : ℕ) (cause : Misstep) → IsVerdict a.world a.lines a.end (Illegal n cause) → IsChecked a 8 (verdict_text (Illegal n cause))
 
--- the status and the text that are due to these words and to the bytes that were read
-pub data DueTo (words : List (List ℕ)) (bytes : List ℕ) : ℕ → List ℕ → Type 0 where
+-- the status and the text that are due to these words and to the bytes that were read, and the state of the kernel, if one
+-- made a record
+pub data DueTo (words : List (List ℕ)) (bytes : List ℕ) : ℕ → List ℕ → Option State → Type 0 where
   -- 0, 1, 7: the bytes are the script of a world, and the text is the record of its run
-  record_of : (w : Setup) (status : ℕ) (text : List ℕ) → IsRun words → world bytes ≡ Ok w → IsRecord w status text → DueTo words bytes status text
+  record_of : (w : Setup) (status : ℕ) (text : List ℕ) (made : Option State) → world bytes ≡ Ok w → IsRecorded words w status text made → DueTo words bytes status text made
   -- 0: the bytes are the script of a world, and the text is its canonical script
-  script_of : (w : Setup) → IsShow words → world bytes ≡ Ok w → DueTo words bytes 0 (canon w)
+  script_of : (w : Setup) → IsShow words → world bytes ≡ Ok w → DueTo words bytes 0 (canon w) None
   -- 0, 8: the bytes are a record, and the text is the verdict on it
-  verdict_of : (a : Audited) (status : ℕ) (text : List ℕ) → IsCheck words → audit bytes ≡ Ok a → IsChecked a status text → DueTo words bytes status text
+  verdict_of : (a : Audited) (status : ℕ) (text : List ℕ) → IsCheck words → audit bytes ≡ Ok a → IsChecked a status text → DueTo words bytes status text None
   -- 3: the bytes are the script of no world, and the text is the first line that is refused, with its first cause
-  script_refused : (line : ℕ) (cause : Cause) → ReadsScript words → world bytes ≡ Err (line, cause) → DueTo words bytes 3 (refusal_text line (cause_name cause))
+  script_refused : (line : ℕ) (cause : Cause) → ReadsScript words → world bytes ≡ Err (line, cause) → DueTo words bytes 3 (refusal_text line (cause_name cause)) None
   -- 3: the bytes are no record, and the text is the line that is refused first, with its cause
-  record_refused : (line : ℕ) (cause : Cause) → ReadsRecord words → audit bytes ≡ Err (line, cause) → DueTo words bytes 3 (refusal_text line (cause_name cause))
+  record_refused : (line : ℕ) (cause : Cause) → ReadsRecord words → audit bytes ≡ Err (line, cause) → DueTo words bytes 3 (refusal_text line (cause_name cause)) None
 
 -- these bytes were read: they are all that the source had, up to its end, and no more than these words may read
 pub record WasRead (words : List (List ℕ)) (before after : Option (List ℕ)) (bytes : List ℕ) : Type 0 where
@@ -88,14 +105,14 @@ pub record WasRead (words : List (List ℕ)) (before after : Option (List ℕ)) 
   pub at_most : ReadsAtMost words limit
   pub few : length bytes ≤ limit
 
--- the status and the text that are due to these words, by what a source had before and after
-pub data Due (words : List (List ℕ)) (before after : Option (List ℕ)) : ℕ → List ℕ → Type 0 where
+-- the same, by what a source had before and after
+pub data Due (words : List (List ℕ)) (before after : Option (List ℕ)) : ℕ → List ℕ → Option State → Type 0 where
   -- 0, 1, 3, 7, 8: the source was read
-  read : (bytes : List ℕ) (status : ℕ) (text : List ℕ) → WasRead words before after bytes → DueTo words bytes status text → Due words before after status text
+  read : (bytes : List ℕ) (status : ℕ) (text : List ℕ) (made : Option State) → WasRead words before after bytes → DueTo words bytes status text made → Due words before after status text made
   -- 2: the words are no command; the source is untouched
-  usage : (IsCommand words → ⊥) → after ≡ before → Due words before after 2 usage_text
+  usage : (IsCommand words → ⊥) → after ≡ before → Due words before after 2 usage_text None
   -- 3: more bytes were taken than these words may read
-  too_long : (limit : ℕ) → ReadsAtMost words limit → Took before after (λ bytes. limit < length bytes) → Due words before after 3 too_long_text
+  too_long : (limit : ℕ) → ReadsAtMost words limit → Took before after (λ bytes. limit < length bytes) → Due words before after 3 too_long_text None
 
 -- a stream before and after a call: the bytes that a source has left or that a sink has taken, where told, and its faults
 pub record Stream : Type 0 where
@@ -111,18 +128,18 @@ stream before after faults_before faults_after =
 abbrev pub HadFault : Stream → Type 0
 HadFault s = Rose s.faults_before s.faults_after
 
--- the status of a call, and why it comes
-pub data Answer (words : List (List ℕ)) (input output : Stream) : ℕ → Type 0 where
+-- the status of a call and the state of the kernel that it hands back, if it does, and why they come
+pub data Answer (words : List (List ℕ)) (input output : Stream) : ℕ → Option State → Type 0 where
   -- 0, 1, 2, 3, 7, 8: the sink took the whole text that is due
-  written : (status : ℕ) (text : List ℕ) → Due words input.before input.after status text → Appends output.before output.after text → Answer words input output status
+  written : (status : ℕ) (text : List ℕ) (made : Option State) → Due words input.before input.after status text made → Appends output.before output.after text → Answer words input output status made
   -- 4: a read failed
-  read_fault : IsCommand words → HadFault input → Answer words input output 4
+  read_fault : IsCommand words → HadFault input → Answer words input output 4 None
   -- 5: want of memory
-  no_memory : IsCommand words → Answer words input output 5
+  no_memory : IsCommand words → Answer words input output 5 None
   -- 6: a write failed, and the sink took a part of the text that is due, from its front
   write_fault :
-      (status : ℕ) (text : List ℕ) (sent : ℕ) → Due words input.before input.after status text → HadFault output
-      → sent < length text → Appends output.before output.after (take sent text) → Answer words input output 6
+      (status : ℕ) (text : List ℕ) (made : Option State) (sent : ℕ) → Due words input.before input.after status text made → HadFault output
+      → sent < length text → Appends output.before output.after (take sent text) → Answer words input output 6 made
 
 -- a text was written and this status stands, or a write failed behind a part of it
 abbrev pub IsSaid : ℕ → List ℕ → Stream → ℕ → Type 0

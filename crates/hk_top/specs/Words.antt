@@ -1,5 +1,6 @@
 -- The words that are commands, and how much each may read. docs/FORMATS.md, "Statuses and outputs".
-use Rattle.std.specs.Prelude.{◌≡◌, ℕ, ◌⊎◌, List, [], ◌∷◌, Option, Some, None, codes}
+use Rattle.std.specs.Prelude.{◌≡◌, ℕ, ◌≤◌, ◌⊎◌, List, [], ◌∷◌, Option, Some, None, codes}
+use Rattle.std.specs.Fmt.{decimal}
 use Rattle.hk_model.specs.Limits.{script_bytes, record_bytes}
 use Rattle.hk_top.specs.declared.words.Command.{Command}
 use Rattle.hk_top.specs.declared.words.Command.TheVariants as command
@@ -7,6 +8,22 @@ use Rattle.hk_top.specs.declared.words.Command.TheVariants as command
 -- the words `run`
 abbrev pub IsRun : List (List ℕ) → Type 0
 IsRun words = words ≡ codes "run" ∷ []
+
+-- so many processors may run a script
+abbrev pub MayRun : ℕ → Type 0
+MayRun cpus = (1 ≤ cpus) × (cpus ≤ 16)
+
+-- the words `run` and this number of processors, from 1 to 16, in decimal digits without a leading zero
+abbrev pub IsRunOn : List (List ℕ) → ℕ → Type 0
+IsRunOn words cpus = (words ≡ codes "run" ∷ decimal cpus ∷ []) × MayRun cpus
+
+-- the word spells no number of processors
+abbrev pub IsNoNumber : List ℕ → Type 0
+IsNoNumber word = (cpus : ℕ) → MayRun cpus → word ≡ decimal cpus → ⊥
+
+-- the words `run` and a number of processors
+abbrev pub RunsOnMany : List (List ℕ) → Type 0
+RunsOnMany words = (cpus : ℕ) × IsRunOn words cpus
 
 -- the words `show`
 abbrev pub IsShow : List (List ℕ) → Type 0
@@ -18,7 +35,7 @@ IsCheck words = words ≡ codes "check" ∷ []
 
 -- the words of a command that reads a script
 abbrev pub ReadsScript : List (List ℕ) → Type 0
-ReadsScript words = IsRun words ⊎ IsShow words
+ReadsScript words = IsRun words ⊎ (RunsOnMany words ⊎ IsShow words)
 
 -- the words of a command that reads a record
 abbrev pub ReadsRecord : List (List ℕ) → Type 0
@@ -35,16 +52,28 @@ ReadsAtMost words limit = (ReadsScript words × (limit ≡ script_bytes)) ⊎ (R
 -- the words of this command
 abbrev pub words_of : Command → List (List ℕ)
 words_of command.Run = codes "run" ∷ []
+words_of (command.RunOn cpus) = codes "run" ∷ decimal cpus ∷ []
 words_of command.Show = codes "show" ∷ []
 words_of command.Check = codes "check" ∷ []
+
+-- one processor serves the command
+abbrev pub IsAlone : Command → Type 0
+IsAlone (command.RunOn cpus) = ⊥
+IsAlone c = Unit {0}
 
 -- the most bytes that this command reads
 abbrev pub byte_limit : Command → ℕ
 byte_limit command.Run = script_bytes
+byte_limit (command.RunOn cpus) = script_bytes
 byte_limit command.Show = script_bytes
 byte_limit command.Check = record_bytes
 
+-- a number of processors that the command has may run a script
+abbrev pub IsInRange : Command → Type 0
+IsInRange (command.RunOn cpus) = MayRun cpus
+IsInRange c = Unit {0}
+
 -- the words are those of this command, or of none
 abbrev pub Calls : Option Command → List (List ℕ) → Type 0
-Calls (Some c) words = words ≡ words_of c
+Calls (Some c) words = (words ≡ words_of c) × IsInRange c
 Calls None words = IsCommand words → ⊥

@@ -1,16 +1,23 @@
 //! The commands, from words and bytes to bytes and a status.
 
-ghost use Rattle.std.specs.Prelude.{◌≡◌, ◌≢◌, ◌⊎◌, IfOk, IsErrOf, map, string_bytes};
+ghost use Rattle.std.specs.Prelude.{◌≡◌, ◌≢◌, ◌⊎◌, IfOk, IfErr, IsErrOf, None, map, option_map, string_bytes};
 ghost use Rattle.hk_io.specs.Causes.{Rose};
-ghost use Rattle.hk_top.specs.Words.{IsCommand, words_of, byte_limit};
+ghost use Rattle.hk_model.specs.Limits.{script_bytes};
+ghost use Rattle.hk_top.specs.Words.{IsCommand, IsAlone, MayRun, RunsOnMany, words_of, byte_limit};
 ghost use Rattle.hk_top.specs.Outputs.{Answer, Due, IsSaid, stream};
+ghost use Rattle.hk_top.specs.Served.{IsTooLong, silent_status};
 
-use crate::outputs::{DueText, due_to_bytes, too_long};
+use crate::maker::Maker;
+use crate::outputs::{due_to_bytes, text_alone, too_long};
+use crate::processors::run_script_on;
+use crate::served::{Served, Silence};
 use crate::status;
 use crate::words::{Command, read_command};
 use hk_io::{ReadError, Sink, Source, read_all, write_all};
-use hk_model::NoMemory;
+use hk_procs::Gate;
 use std::alloc::Global;
+use std::sync::Wait;
+use std::thread::Threads;
 
 /// The largest script, in bytes.
 const SCRIPT_BYTES: usize = 1_048_576;
@@ -18,77 +25,126 @@ const SCRIPT_BYTES: usize = 1_048_576;
 /// The largest record, in bytes.
 const RECORD_BYTES: usize = 536_870_912;
 
-/// Serves the words of a command: reads the source, writes one text to the sink, and answers the status
-/// (`docs/FORMATS.md`, "Statuses and outputs"). The clause `answer` says when each status comes.
-pub fn answer<S: Source, W: Sink>(
+/// The top call: serves the words of a command. It reads the source, writes one text to the sink, and
+/// gives the status (`docs/FORMATS.md`, "Statuses and outputs"); where the text is the record of a
+/// run, it gives the kernel that was run, in the state that the lines of the record lead to. The
+/// clause `answer` says when each status comes.
+///
+/// `run N` runs N processors, each a thread, and may wait for ever. Each tells the gate of its calls.
+pub fn hydra<S: Source, W: Sink, G: Gate + Sync, M: Maker, R: Threads + Wait + Sync>(
+    rt: &R,
     alloc: Global,
     words: &[String],
     input: &mut S,
     output: &mut W,
-) -> u8
+    gate: &G,
+    kernels: &M,
+) -> (u8, Option<M::Made>)
     ensures answer { Answer (map string_bytes words.now)
         (stream (S.left input.old) (S.left input.new) (S.faults input.old) (S.faults input.new))
-        (stream (W.taken output.old) (W.taken output.new) (W.faults output.old) (W.faults output.new)) result }
+        (stream (W.taken output.old) (W.taken output.new) (W.faults output.old) (W.faults output.new))
+        result.0 (option_map M.Made.state result.1) }
 
     // Words that are no command leave the source as it was, and what fails before the first write leaves the sink so.
     ensures untouched { (IsCommand (map string_bytes words.now) → ⊥) → input.new ≡ input.old }
-    ensures silent { (result ≡ 4) ⊎ (result ≡ 5) → output.new ≡ output.old }
+    ensures silent { (result.0 ≡ 4) ⊎ (result.0 ≡ 5) → output.new ≡ output.old }
 {
-    let Some(command) = read_command(words) else {
-        return say(output, status::USAGE, b"usage: hydra COMMAND [NUMBER]\n");
-    };
-    match due(alloc, command, input) {
-        Ok(due) => say(output, due.status, due.text.as_bytes()),
-        Err(Silence::ReadFault) => status::READ_FAULT,
-        Err(Silence::NoMemory) => status::NO_MEMORY,
+    match read_command(words) {
+        Some(Command::RunOn(cpus)) => {
+            let due = due_on(rt, alloc, cpus, input, gate, kernels);
+            say_due(output, due)
+        }
+        _ => answer(alloc, words, input, output, kernels),
     }
 }
 
-/// The top call: what `answer` does for all words that need no threads.
-pub fn hydra<S: Source, W: Sink>(
+/// What `hydra` does for all words but `run N`. It waits for nobody and always returns.
+pub fn answer<S: Source, W: Sink, M: Maker>(
     alloc: Global,
     words: &[String],
     input: &mut S,
     output: &mut W,
-) -> u8
+    kernels: &M,
+) -> (u8, Option<M::Made>)
+    requires alone { RunsOnMany (map string_bytes words.now) → ⊥ }
     ensures answer { Answer (map string_bytes words.now)
         (stream (S.left input.old) (S.left input.new) (S.faults input.old) (S.faults input.new))
-        (stream (W.taken output.old) (W.taken output.new) (W.faults output.old) (W.faults output.new)) result }
+        (stream (W.taken output.old) (W.taken output.new) (W.faults output.old) (W.faults output.new))
+        result.0 (option_map M.Made.state result.1) }
     ensures untouched { (IsCommand (map string_bytes words.now) → ⊥) → input.new ≡ input.old }
-    ensures silent { (result ≡ 4) ⊎ (result ≡ 5) → output.new ≡ output.old }
+    ensures silent { (result.0 ≡ 4) ⊎ (result.0 ≡ 5) → output.new ≡ output.old }
 {
-    answer(alloc, words, input, output)
+    let Some(command) = read_command(words) else {
+        let status = say(output, status::USAGE, b"usage: hydra COMMAND [NUMBER]\n");
+        return (status, None);
+    };
+    let due = due(alloc, command, input, kernels);
+    say_due(output, due)
 }
 
-// Why nothing is written.
-#[derive(Clone, Copy)]
-enum Silence {
-    ReadFault,
-    NoMemory,
-}
-
-impl From<NoMemory> for Silence {
-    ghost use Rattle.std.specs.Prelude.{◌≡◌};
-    ghost use Rattle.hk_top.specs.declared.commands.Silence.{Silence};
-
-    ghost from_gives = { λ _ error. error ≡ Silence.NoMemory };
-
-    fn from(_error: NoMemory) -> Silence {
-        Silence::NoMemory
-    }
-}
-
-// What is due to a command, which reads the source.
-fn due<S: Source>(alloc: Global, command: Command, input: &mut S) -> Result<DueText, Silence>
-    ensures due { IfOk result (λ due. Due (words_of command) (S.left input.old) (S.left input.new) due.status due.text) }
-    ensures status { IfOk result (λ due. due.status ≢ 4 × due.status ≢ 5) }
+// What is due to a command that one processor serves, which reads the source.
+fn due<S: Source, M: Maker>(
+    alloc: Global,
+    command: Command,
+    input: &mut S,
+    kernels: &M,
+) -> Result<Served<M::Made>, Silence>
+    requires alone { IsAlone command }
+    ensures due { IfOk result (λ served. Due (words_of command) (S.left input.old) (S.left input.new) served.due.status served.due.text (option_map M.Made.state served.kernel)) }
+    ensures status { IfOk result (λ served. served.due.status ≢ 4 × served.due.status ≢ 5) }
     ensures fault { IsErrOf result Silence.ReadFault → Rose (S.faults input.old) (S.faults input.new) }
 {
     match read_all(alloc, input, byte_limit(command)) {
-        Ok(bytes) => Ok(due_to_bytes(alloc, command, &bytes)?),
-        Err(ReadError::TooLong) => Ok(too_long(alloc)?),
-        Err(ReadError::ReadFault) => Err(Silence::ReadFault),
-        Err(ReadError::NoMemory) => Err(Silence::NoMemory),
+        Ok(bytes) => Ok(due_to_bytes(alloc, command, &bytes, kernels)?),
+        Err(error) => unread(alloc, error),
+    }
+}
+
+// What is due to `run N`, which reads the source. It may wait.
+fn due_on<S: Source, G: Gate + Sync, M: Maker, R: Threads + Wait + Sync>(
+    rt: &R,
+    alloc: Global,
+    cpus: u8,
+    input: &mut S,
+    gate: &G,
+    kernels: &M,
+) -> Result<Served<M::Made>, Silence>
+    requires cpus { MayRun cpus }
+    ensures due { IfOk result (λ served. Due (words_of (Command.RunOn cpus)) (S.left input.old) (S.left input.new) served.due.status served.due.text (option_map M.Made.state served.kernel)) }
+    ensures status { IfOk result (λ served. served.due.status ≢ 4 × served.due.status ≢ 5) }
+    ensures fault { IsErrOf result Silence.ReadFault → Rose (S.faults input.old) (S.faults input.new) }
+{
+    match read_all(alloc, input, SCRIPT_BYTES) {
+        Ok(bytes) => Ok(run_script_on(rt, alloc, cpus, &bytes, gate, kernels)?),
+        Err(error) => unread(alloc, error),
+    }
+}
+
+// What is due where the source was not read to its end.
+fn unread<K>(alloc: Global, error: ReadError) -> Result<Served<K>, Silence>
+    ensures long { IfOk result (λ served. (error ≡ ReadError.TooLong) × IsTooLong served) }
+    ensures fault { IsErrOf result Silence.ReadFault → error ≡ ReadError.ReadFault }
+{
+    match error {
+        ReadError::TooLong => Ok(text_alone(too_long(alloc)?)),
+        ReadError::ReadFault => Err(Silence::ReadFault),
+        ReadError::NoMemory => Err(Silence::NoMemory),
+    }
+}
+
+// Says what is due, and hands back the kernel that was run.
+fn say_due<W: Sink, K>(output: &mut W, due: Result<Served<K>, Silence>) -> (u8, Option<K>)
+    ensures said { IfOk due (λ served. (result.1 ≡ served.kernel)
+        × IsSaid served.due.status served.due.text (stream (W.taken output.old) (W.taken output.new) (W.faults output.old) (W.faults output.new)) result.0) }
+    ensures silent { IfErr due (λ silence. (result ≡ (silent_status silence, None)) × (output.new ≡ output.old)) }
+{
+    match due {
+        Ok(served) => {
+            let status = say(output, served.due.status, served.due.text.as_bytes());
+            (status, served.kernel)
+        }
+        Err(Silence::ReadFault) => (status::READ_FAULT, None),
+        Err(Silence::NoMemory) => (status::NO_MEMORY, None),
     }
 }
 
@@ -97,7 +153,7 @@ fn byte_limit(command: Command) -> usize
     ensures { result ≡ byte_limit command }
 {
     match command {
-        Command::Run | Command::Show => SCRIPT_BYTES,
+        Command::Run | Command::RunOn(_) | Command::Show => SCRIPT_BYTES,
         Command::Check => RECORD_BYTES,
     }
 }

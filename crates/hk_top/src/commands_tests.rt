@@ -1,9 +1,15 @@
 // The top call over streams in memory.
 
-use crate::{answer, hydra, status};
-use hk_io::{Bytes, Out, SureBytes, SureOut};
+ghost use Rattle.std.specs.Prelude.{◌≡◌, [], ◌∷◌, IfOk, codes, map, string_bytes};
+
+use crate::{Maps, answer, hydra, status};
+use hk_io::{Bytes, Out, Sink, Source, SureBytes, SureOut};
+use hk_model::{Cpu, Kernel};
+use hk_procs::Gate;
 use std::alloc::{AllocError, Global};
+use std::sync::Wait;
 use std::test::Fail;
+use std::thread::Threads;
 
 const SCRIPT: &'static [u8; 96] =
     b"hydra 1\nobject d DATA\nwords 7\nend\ncode main\ngetdata 0 0 r0\nend\nprocess a main\ncap d GETDATA\nend\n";
@@ -11,8 +17,26 @@ const SCRIPT: &'static [u8; 96] =
 const RECORD: &'static [u8; 184] =
     b"hydra 1\nobject d DATA\nwords 7\nend\ncode main\ngetdata 0 0 r0\nend\nprocess a main\ncap d GETDATA\nend\nrecord\n0 0 0 dispatch -> done\n0 0 0 getdata 0 0 -> word 7\n0 0 0 return -> done\nend done\n";
 
+// It holds nobody up.
+pub struct Open;
+
+impl Gate for Open {
+    fn before(&self, _cpu: Cpu, _nth: u64) {}
+}
+
+// The status of the top call, over plain kernels.
+pub fn status_of<S: Source, W: Sink, R: Threads + Wait + Sync>(
+    rt: &R,
+    alloc: Global,
+    words: &[String],
+    input: &mut S,
+    output: &mut W,
+) -> u8 {
+    hydra(rt, alloc, words, input, output, &Open, &Maps).0
+}
+
 // These words, as the program gets them.
-fn words(alloc: Global, spelled: &[&str]) -> Result<Vec<String>, AllocError> {
+pub fn words(alloc: Global, spelled: &[&str]) -> Result<Vec<String>, AllocError> {
     let mut words = Vec::new(alloc);
     for word in spelled {
         words.push(String::from_str(alloc, word)?)?;
@@ -21,13 +45,13 @@ fn words(alloc: Global, spelled: &[&str]) -> Result<Vec<String>, AllocError> {
 }
 
 // A source of the script that gives 20 bytes a read.
-fn source(alloc: Global, fails: Vec<u32>) -> Result<Bytes, AllocError> {
+pub fn source(alloc: Global, fails: Vec<u32>) -> Result<Bytes, AllocError> {
     Ok(Bytes::new(SCRIPT.to_vec(alloc)?, 20, fails))
 }
 
 // A sink that takes 10 bytes a write.
-fn sink(alloc: Global, fails: Vec<u32>) -> Result<Out, Fail> {
-    Ok(Out::with(alloc, 200, 10, fails).ok().ok_or("a sink")?)
+pub fn sink(alloc: Global, fails: Vec<u32>) -> Result<Out, Fail> {
+    Ok(Out::with(alloc, 400, 10, fails).ok().ok_or("a sink")?)
 }
 
 #[test]
@@ -36,12 +60,29 @@ fn writes_the_record_of_the_run(rt: HostRuntime) -> Result<(), Fail> {
     let run = words(alloc, &["run"])?;
     let mut input = source(alloc, Vec::new(alloc))?;
     let mut output = sink(alloc, Vec::new(alloc))?;
-    assert_eq!(rt; hydra(alloc, &run, &mut input, &mut output), status::DONE);
+    assert_eq!(rt; status_of(&rt, alloc, &run, &mut input, &mut output), status::DONE);
     assert_eq!(rt; output.taken(), RECORD.as_slice());
+    Ok(())
+}
 
+// The word `run`.
+fn run_word(alloc: Global) -> Result<Vec<String>, AllocError>
+    ensures { IfOk result (λ words. map string_bytes words.items ≡ codes "run" ∷ []) }
+{
+    Ok(vec![in alloc; String::from_str(alloc, "run")?]?)
+}
+
+#[test]
+fn hands_back_the_kernel_that_was_run(rt: HostRuntime) -> Result<(), Fail> {
+    let alloc = rt.alloc();
+    let run = run_word(alloc)?;
     let mut input = SureBytes::new(SCRIPT.to_vec(alloc)?);
     let mut output = SureOut::new();
-    assert_eq!(rt; answer(alloc, &run, &mut input, &mut output), status::DONE);
+    let (status, kernel) = answer(alloc, &run, &mut input, &mut output, &Maps);
+    assert_eq!(rt; status, status::DONE);
+    let kernel = kernel.ok_or("a kernel")?;
+    let snapshot = kernel.snapshot(alloc).ok().ok_or("a snapshot")?;
+    assert_eq!(rt; snapshot.events, 3);
     Ok(())
 }
 
@@ -52,7 +93,7 @@ fn tells_faults_of_reading_and_writing(rt: HostRuntime) -> Result<(), Fail> {
     let mut input = source(alloc, vec![in alloc; 2]?)?;
     let mut output = sink(alloc, Vec::new(alloc))?;
     assert_eq!(rt;
-        answer(alloc, &run, &mut input, &mut output),
+        status_of(&rt, alloc, &run, &mut input, &mut output),
         status::READ_FAULT
     );
     assert_eq!(rt; output.taken().len(), 0);
@@ -60,7 +101,7 @@ fn tells_faults_of_reading_and_writing(rt: HostRuntime) -> Result<(), Fail> {
     let mut input = source(alloc, Vec::new(alloc))?;
     let mut output = sink(alloc, vec![in alloc; 2]?)?;
     assert_eq!(rt;
-        answer(alloc, &run, &mut input, &mut output),
+        status_of(&rt, alloc, &run, &mut input, &mut output),
         status::WRITE_FAULT
     );
     assert_eq!(rt; output.taken(), b"hydra 1\nob".as_slice());
@@ -70,10 +111,12 @@ fn tells_faults_of_reading_and_writing(rt: HostRuntime) -> Result<(), Fail> {
 #[test]
 fn refuses_words_without_a_read(rt: HostRuntime) -> Result<(), Fail> {
     let alloc = rt.alloc();
-    let refused: [&[&str]; 6] = [
+    let refused: [&[&str]; 8] = [
         &[],
         &["run", "0"],
         &["run", "17"],
+        &["run", "04"],
+        &["run", "x"],
         &["check", "1"],
         &["show", "1"],
         &["Run"],
@@ -83,7 +126,7 @@ fn refuses_words_without_a_read(rt: HostRuntime) -> Result<(), Fail> {
         let mut input = source(alloc, vec![in alloc; 1]?)?;
         let mut output = sink(alloc, Vec::new(alloc))?;
         assert_eq!(rt;
-            answer(alloc, &words, &mut input, &mut output),
+            status_of(&rt, alloc, &words, &mut input, &mut output),
             status::USAGE
         );
         assert_eq!(rt;
@@ -101,7 +144,7 @@ fn shows_the_canonical_script(rt: HostRuntime) -> Result<(), Fail> {
     let script = b"hydra 1 # a comment\nlimit 10000\ntype stack\n";
     let mut input = SureBytes::new(script.to_vec(alloc)?);
     let mut output = sink(alloc, Vec::new(alloc))?;
-    assert_eq!(rt; answer(alloc, &show, &mut input, &mut output), status::DONE);
+    assert_eq!(rt; status_of(&rt, alloc, &show, &mut input, &mut output), status::DONE);
     assert_eq!(rt; output.taken(), b"hydra 1\ntype stack\n".as_slice());
     Ok(())
 }
@@ -122,7 +165,7 @@ fn tells_the_verdict_on_a_record(rt: HostRuntime) -> Result<(), Fail> {
     for (record, status, text) in told {
         let mut input = SureBytes::new(record.to_vec(alloc)?);
         let mut output = sink(alloc, Vec::new(alloc))?;
-        assert_eq!(rt; answer(alloc, &check, &mut input, &mut output), status);
+        assert_eq!(rt; status_of(&rt, alloc, &check, &mut input, &mut output), status);
         assert_eq!(rt; output.taken(), text);
     }
     Ok(())
@@ -142,7 +185,7 @@ fn tells_the_line_that_is_refused(rt: HostRuntime) -> Result<(), Fail> {
         let mut input = SureBytes::new(script.to_vec(alloc)?);
         let mut output = sink(alloc, Vec::new(alloc))?;
         assert_eq!(rt;
-            answer(alloc, &run, &mut input, &mut output),
+            status_of(&rt, alloc, &run, &mut input, &mut output),
             status::REFUSED
         );
         assert_eq!(rt; output.taken(), told);
@@ -157,7 +200,7 @@ fn refuses_what_is_too_long(rt: HostRuntime) -> Result<(), Fail> {
     let mut input = SureBytes::new(vec![in alloc; b'\n'; 1_048_577]?);
     let mut output = sink(alloc, Vec::new(alloc))?;
     assert_eq!(rt;
-        answer(alloc, &run, &mut input, &mut output),
+        status_of(&rt, alloc, &run, &mut input, &mut output),
         status::REFUSED
     );
     assert_eq!(rt; output.taken(), b"line 0: TooLong\n".as_slice());

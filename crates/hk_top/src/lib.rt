@@ -5,12 +5,17 @@ mod causes;
 mod commands;
 #[cfg(test)]
 mod commands_tests;
+mod maker;
 #[cfg(test)]
 mod moments_tests;
 mod outputs;
-mod reading;
+mod processors;
+#[cfg(test)]
+mod processors_tests;
 mod running;
+mod served;
 pub mod status;
 mod words;
 
 pub use commands::{answer, hydra};
+pub use maker::{Maker, Maps};

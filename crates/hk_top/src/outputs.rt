@@ -1,45 +1,53 @@
 //! The status and the text that are due to what a command read (`docs/FORMATS.md`, "Statuses and
 //! outputs").
 
-ghost use Rattle.std.specs.Prelude.{◌≡◌, ◌≢◌, ◌≤◌, IfOk, length};
+ghost use Rattle.std.specs.Prelude.{◌≡◌, ◌≢◌, ◌≤◌, IfOk, None, length, option_map};
 ghost use Rattle.hk_model.specs.CauseTexts.{cause_name, refusal_text, too_long_text, verdict_text};
 ghost use Rattle.hk_model.specs.Limits.{script_bytes, record_bytes};
 ghost use Rattle.hk_model.specs.Canonical.{canon};
-ghost use Rattle.hk_top.specs.Words.{words_of, byte_limit};
-ghost use Rattle.hk_top.specs.Outputs.{DueTo, IsChecked, IsRecord};
+ghost use Rattle.hk_model.specs.Opening.{opening};
+ghost use Rattle.hk_model.specs.Running.{AreStepsOf};
+ghost use Rattle.hk_top.specs.Words.{words_of, byte_limit, IsAlone};
+ghost use Rattle.hk_top.specs.Outputs.{DueTo, IsChecked, IsRecord, IsRecorded};
 
 use crate::causes::{refusal_text, verdict_text};
-use crate::reading::{ScriptError, read_world};
-use crate::running::{laws, run_world};
+use crate::maker::Maker;
+use crate::running::{laws, run_alone};
+use crate::served::{DueText, Served};
 use crate::status;
 use crate::words::Command;
-use hk_audit::{Audit, RecordError, read_record, record_text, steps_have_texts};
+use hk_audit::{Audit, RecordError, read_record, read_world, record_text, steps_have_texts};
 use hk_check::check;
-use hk_model::{Cause, NoMemory, Text, Verdict, World};
+use hk_model::{Cause, End, Kernel, Line, NoMemory, Text, Verdict, World};
 use hk_print::script_text;
 use std::alloc::Global;
 
-/// A status, and the text that goes with it.
-#[derive(Drop)]
-pub struct DueText {
-    pub status: u8,
-    pub text: Text,
-}
-
-/// What is due to a command and the bytes that it read. NoMemory is want of memory.
-pub(crate) fn due_to_bytes(
+/// What is due to a command and the bytes that it read, where one processor serves it. NoMemory is
+/// want of memory.
+pub(crate) fn due_to_bytes<M: Maker>(
     alloc: Global,
     command: Command,
     bytes: &[u8],
-) -> Result<DueText, NoMemory>
+    kernels: &M,
+) -> Result<Served<M::Made>, NoMemory>
     requires few { length bytes.now ≤ byte_limit command }
-    ensures { IfOk result (λ due. DueTo (words_of command) bytes.now due.status due.text) }
+    requires alone { IsAlone command }
+    ensures { IfOk result (λ served. DueTo (words_of command) bytes.now served.due.status served.due.text (option_map M.Made.state served.kernel)) }
 {
     match command {
-        Command::Run => run_script(alloc, bytes),
-        Command::Show => show_script(alloc, bytes),
-        Command::Check => check_record(alloc, bytes),
+        Command::Run => run_script(alloc, bytes, kernels),
+        Command::RunOn(_) => unreachable!(),
+        Command::Show => Ok(text_alone(show_script(alloc, bytes)?)),
+        Command::Check => Ok(text_alone(check_record(alloc, bytes)?)),
     }
+}
+
+/// A text that is the record of no run.
+pub(crate) fn text_alone<K>(due: DueText) -> Served<K>
+    ensures due { result.due ≡ due }
+    ensures kernel { result.kernel ≡ None }
+{
+    Served { due, kernel: None }
 }
 
 /// What is due to more bytes than a command may read. NoMemory is want of memory.
@@ -55,33 +63,54 @@ pub(crate) fn too_long(alloc: Global) -> Result<DueText, NoMemory>
 }
 
 // What is due to `run` and the bytes of a script.
-fn run_script(alloc: Global, bytes: &[u8]) -> Result<DueText, NoMemory>
+fn run_script<M: Maker>(
+    alloc: Global,
+    bytes: &[u8],
+    kernels: &M,
+) -> Result<Served<M::Made>, NoMemory>
     requires few { length bytes.now ≤ script_bytes }
-    ensures { IfOk result (λ due. DueTo (words_of Command.Run) bytes.now due.status due.text) }
+    ensures { IfOk result (λ served. DueTo (words_of Command.Run) bytes.now served.due.status served.due.text (option_map M.Made.state served.kernel)) }
 {
     match read_world(alloc, bytes) {
-        Ok(world) => record(alloc, &world),
-        Err(ScriptError::Refused { line, cause }) => refused(alloc, line, cause),
-        Err(ScriptError::NoMemory) => Err(NoMemory),
+        Ok(world) => {
+            let kernel = kernels.make(alloc, &world)?;
+            recorded(alloc, &world, kernel)
+        }
+        Err(RecordError::Refused { line, cause }) => {
+            Ok(text_alone(refused(alloc, line, cause)?))
+        }
+        Err(RecordError::NoMemory) => Err(NoMemory),
     }
+}
+
+// What is due to `run` and a world, run on this kernel: the record of its run.
+fn recorded<K: Kernel>(alloc: Global, world: &World, kernel: K) -> Result<Served<K>, NoMemory>
+    requires { K.state kernel ≡ opening world.now }
+    ensures { IfOk result (λ served. IsRecorded (words_of Command.Run) world.now served.due.status served.due.text (option_map K.state served.kernel)) }
+{
+    let run = run_alone(alloc, world, kernel)?;
+    Ok(Served {
+        due: record(alloc, world, run.lines.as_slice(), run.end)?,
+        kernel: Some(run.kernel),
+    })
 }
 
 // What is due to `show` and the bytes of a script.
 fn show_script(alloc: Global, bytes: &[u8]) -> Result<DueText, NoMemory>
     requires few { length bytes.now ≤ script_bytes }
-    ensures { IfOk result (λ due. DueTo (words_of Command.Show) bytes.now due.status due.text) }
+    ensures { IfOk result (λ due. DueTo (words_of Command.Show) bytes.now due.status due.text None) }
 {
     match read_world(alloc, bytes) {
         Ok(world) => script(alloc, &world),
-        Err(ScriptError::Refused { line, cause }) => refused(alloc, line, cause),
-        Err(ScriptError::NoMemory) => Err(NoMemory),
+        Err(RecordError::Refused { line, cause }) => refused(alloc, line, cause),
+        Err(RecordError::NoMemory) => Err(NoMemory),
     }
 }
 
 // What is due to `check` and the bytes of a record.
 fn check_record(alloc: Global, bytes: &[u8]) -> Result<DueText, NoMemory>
     requires few { length bytes.now ≤ record_bytes }
-    ensures { IfOk result (λ due. DueTo (words_of Command.Check) bytes.now due.status due.text) }
+    ensures { IfOk result (λ due. DueTo (words_of Command.Check) bytes.now due.status due.text None) }
 {
     match read_record(alloc, bytes) {
         Ok(audit) => verdict(alloc, &audit),
@@ -90,8 +119,8 @@ fn check_record(alloc: Global, bytes: &[u8]) -> Result<DueText, NoMemory>
     }
 }
 
-// What is due to bytes that are refused: the line and the cause.
-fn refused(alloc: Global, line: u32, cause: Cause) -> Result<DueText, NoMemory>
+/// What is due to bytes that are refused: the line and the cause. NoMemory is want of memory.
+pub(crate) fn refused(alloc: Global, line: u32, cause: Cause) -> Result<DueText, NoMemory>
     ensures { IfOk result (λ due. (due.status ≡ 3) × (due.text ≡ refusal_text line (cause_name cause))) }
 {
     Ok(DueText {
@@ -100,18 +129,22 @@ fn refused(alloc: Global, line: u32, cause: Cause) -> Result<DueText, NoMemory>
     })
 }
 
-// What is due to `run` and a world: the record of its run.
-fn record(alloc: Global, world: &World) -> Result<DueText, NoMemory>
-    ensures { IfOk result (λ due. IsRecord world.now due.status due.text) }
+/// The record of lines that are steps of a world, of which the laws of protection hold. NoMemory is
+/// want of memory.
+pub(crate) fn record(
+    alloc: Global,
+    world: &World,
+    lines: &[Line],
+    end: End,
+) -> Result<DueText, NoMemory>
+    requires { AreStepsOf world.now lines.now }
+    ensures { IfOk result (λ due. IsRecord world.now lines.now end due.status due.text) }
 {
-    let run = run_world(alloc, world)?;
-    let lines = run.lines.as_slice();
     laws(world, lines);
     steps_have_texts(world, lines);
-    let text = record_text(alloc, world, lines, run.end)?;
     Ok(DueText {
-        status: status::of_run(run.end),
-        text,
+        status: status::of_run(end),
+        text: record_text(alloc, world, lines, end)?,
     })
 }
 

@@ -1,13 +1,18 @@
 //! The words that the program is called with (`docs/FORMATS.md`, "Statuses and outputs").
 
-ghost use Rattle.std.specs.Prelude.{[], ◌∷◌, map, string_bytes};
-ghost use Rattle.hk_top.specs.Words.{Calls};
+ghost use Rattle.std.specs.Prelude.{◌≡◌, [], ◌∷◌, IfSome, IfNone, map, string_bytes};
+ghost use Rattle.std.specs.Fmt.{decimal};
+ghost use Rattle.hk_top.specs.Words.{Calls, MayRun, IsNoNumber};
+
+use hk_audit::numeral;
 
 /// What the program can do.
 #[derive(Clone, Copy, PartialEq, Eq, Debug)]
 pub enum Command {
     /// Runs a script on processor 0, and writes its record.
     Run,
+    /// Runs a script on so many processors, 1 to 16, and writes its record.
+    RunOn(u8),
     /// Writes the canonical script of the world that a script declares.
     Show,
     /// Writes the verdict on a record.
@@ -20,6 +25,7 @@ pub(crate) fn read_command(words: &[String]) -> Option<Command>
 {
     match words {
         [word] => command_of_word(word.as_str()),
+        [word, number] => command_of_words(word.as_str(), number.as_str()),
         _ => None,
     }
 }
@@ -38,4 +44,26 @@ fn command_of_word(word: &str) -> Option<Command>
         return Some(Command::Check);
     }
     None
+}
+
+// The command of this word and this number.
+fn command_of_words(word: &str, number: &str) -> Option<Command>
+    ensures { Calls result (word.now ∷ number.now ∷ []) }
+{
+    if word == "run" {
+        return Some(Command::RunOn(processors(number)?));
+    }
+    None
+}
+
+// The number of processors, 1 to 16, that the word spells in digits without a leading zero.
+fn processors(word: &str) -> Option<u8>
+    ensures some { IfSome result (λ cpus. (word.now ≡ decimal cpus) × MayRun cpus) }
+    ensures none { IfNone result (IsNoNumber word.now) }
+{
+    let cpus = numeral(word.as_bytes())?;
+    if cpus < 1 || cpus > 16 {
+        return None;
+    }
+    Some(cpus as u8)
 }

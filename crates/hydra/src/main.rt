@@ -2,13 +2,22 @@
 #![tactic(auto)]
 
 use hk_io::{StdIn, StdOut};
-use hk_top::{hydra, status};
+use hk_model::Cpu;
+use hk_procs::Gate;
+use hk_top::{Maps, hydra, status};
 use std::env;
 use std::io::ErrorKind;
 use std::process::ExitCode;
 
 /// The status where the words can't be had for another reason than want of memory.
 const NO_WORDS: u8 = 9;
+
+/// A gate that holds nobody up.
+struct Open;
+
+impl Gate for Open {
+    fn before(&self, _cpu: Cpu, _nth: u64) {}
+}
 
 fn main(rt: HostRuntime) -> ExitCode {
     let mut args = match env::args(&rt) {
@@ -25,5 +34,14 @@ fn main(rt: HostRuntime) -> ExitCode {
     };
     let mut input = StdIn::new(rt.stdin());
     let mut output = StdOut::new(rt.stdout());
-    ExitCode::from(hydra(rt.alloc(), &words, &mut input, &mut output))
+    let (status, _kernel) = hydra(
+        &rt,
+        rt.alloc(),
+        &words,
+        &mut input,
+        &mut output,
+        &Open,
+        &Maps,
+    );
+    ExitCode::from(status)
 }

@@ -9,23 +9,23 @@ use Rattle.hk_script.specs.declared.errors.ParseError.{ParseError}
 use Rattle.hk_script.specs.declared.errors.ParseError.TheVariants as parse_error
 use Rattle.hk_load.specs.declared.errors.LoadError.{LoadError}
 use Rattle.hk_load.specs.declared.errors.LoadError.TheVariants as load_error
-use Rattle.hk_audit.specs.declared.read_errors.ReadError.{ReadError}
-use Rattle.hk_audit.specs.declared.read_errors.ReadError.TheVariants as read_error
+use Rattle.hk_audit.specs.declared.record_errors.RecordError.{RecordError}
+use Rattle.hk_audit.specs.declared.record_errors.RecordError.TheVariants as record_error
 
 -- the answer is that this line is refused for this cause
-abbrev pub IsRefused : {X : Type 0} → Result X ReadError → ℕ → Cause → Type 0
-IsRefused result line cause = result ≡ Err (read_error.Refused line cause)
+abbrev pub IsRefused : {X : Type 0} → Result X RecordError → ℕ → Cause → Type 0
+IsRefused result line cause = result ≡ Err (record_error.Refused line cause)
 
 -- the error of a pass, as an error of the whole
 
-abbrev pub of_text : TextError → ReadError
-of_text (text_error.Refused line cause) = read_error.Refused line (OfText cause)
-of_text text_error.NoMemory = read_error.NoMemory
+abbrev pub of_text : TextError → RecordError
+of_text (text_error.Refused line cause) = record_error.Refused line (OfText cause)
+of_text text_error.NoMemory = record_error.NoMemory
 
-abbrev pub of_parse : ParseError → ReadError
-of_parse (parse_error.Refused line cause) = read_error.Refused line (OfParse cause)
-of_parse parse_error.NoMemory = read_error.NoMemory
+abbrev pub of_parse : ParseError → RecordError
+of_parse (parse_error.Refused line cause) = record_error.Refused line (OfParse cause)
+of_parse parse_error.NoMemory = record_error.NoMemory
 
-abbrev pub of_load : LoadError → ReadError
-of_load (load_error.Refused line cause) = read_error.Refused line (OfLoad cause)
-of_load load_error.NoMemory = read_error.NoMemory
+abbrev pub of_load : LoadError → RecordError
+of_load (load_error.Refused line cause) = record_error.Refused line (OfLoad cause)
+of_load load_error.NoMemory = record_error.NoMemory

@@ -1,7 +1,7 @@
-use Rattle.std.proofs.Common.{List, subst, sym}
+use Rattle.std.proofs.Common.{List, subst, sym, ◌∙◌}
 use Rattle.hk_model.specs.declared.lines.Line.{Line}
 use Rattle.hk_top.proofs.Histories.{IsHistory, begins, grows_by, last}
-use Rattle.hk_top.proofs.running.run_on.Goals as goal
+use Rattle.hk_top.proofs.running.run_alone.Goals as goal
 
 pub loop-lines-init : goal.loop-lines-init
 loop-lines-init g c = record {
@@ -27,9 +27,15 @@ loop-lines-preserved g c = record {
 pub unreachable-requires : goal.unreachable-requires
 unreachable-requires g c =
     (last c.args.world.now c.loop-lines.lines c.loop-lines.machine c.in_ok-line.field-0 c.step.new.self (g.K.Kernel.state c.kernel.result.now) c.in_ok-end.field-0 c.loop-lines.invariant.history c.in_ok-line.ensures.none
-    c.in_default.is c.kernel.ensures c.in_ok-end.ensures).there c.in-None.is
+    c.in_default.is c.kernel.ensures c.in_ok-end.ensures).there c.in_default-2.is
 
-pub returns : goal.returns
-returns g c =
+
+pub returns-clause-run : goal.returns-clause-run
+returns-clause-run g c =
     (last c.args.world.now c.loop-lines.lines c.loop-lines.machine c.in_ok-line.field-0 c.step.new.self (g.K.Kernel.state c.kernel.result.now) c.in_ok-end.field-0 c.loop-lines.invariant.history c.in_ok-line.ensures.none
     c.in_default.is c.kernel.ensures c.in_ok-end.ensures).whole c.in-Some-2.end c.in-Some-2.is
+
+pub returns-clause-kernel : goal.returns-clause-kernel
+returns-clause-kernel g c =
+    c.into_kernel.ensures ∙ (sym c.kernel.ensures ∙ (last c.args.world.now c.loop-lines.lines c.loop-lines.machine c.in_ok-line.field-0 c.step.new.self (g.K.Kernel.state c.kernel.result.now) c.in_ok-end.field-0 c.loop-lines.invariant.history
+    c.in_ok-line.ensures.none c.in_default.is c.kernel.ensures c.in_ok-end.ensures).state)

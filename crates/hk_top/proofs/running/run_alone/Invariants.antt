@@ -1,7 +1,7 @@
 use Rattle.std.proofs.Common.{◌-◌}
 use Rattle.hk_program.specs.Machines.{IsSound}
 use Rattle.hk_top.proofs.Histories.{IsHistory}
-use Rattle.hk_top.proofs.running.run_on.Given as goal
+use Rattle.hk_top.proofs.running.run_alone.Given as goal
 
 -- the lines are a history of processor 0, and the machine stands behind them
 abbrev pub invariant-loop-lines : goal.invariant-loop-lines
