@@ -141,6 +141,13 @@ pub data Answer (words : List (List ℕ)) (input output : Stream) : ℕ → Opti
       (status : ℕ) (text : List ℕ) (made : Option State) (sent : ℕ) → Due words input.before input.after status text made → HadFault output
       → sent < length text → Appends output.before output.after (take sent text) → Answer words input output 6 made
 
+-- completeness: where no read and no write failed, and the source told bytes that these words may read, the text that is due to
+-- the bytes was written whole, or memory was wanted
+abbrev pub IsComplete : List (List ℕ) → Stream → Stream → ℕ → Option State → Type 0
+IsComplete words input output status made =
+    (bytes : List ℕ) (limit : ℕ) → input.before ≡ Some bytes → ReadsAtMost words limit → length bytes ≤ limit → (HadFault input → ⊥) → (HadFault output → ⊥)
+    → (status ≡ 5) ⊎ ((text : List ℕ) × DueTo words bytes status text made × Appends output.before output.after text)
+
 -- a text was written and this status stands, or a write failed behind a part of it
 abbrev pub IsSaid : ℕ → List ℕ → Stream → ℕ → Type 0
 IsSaid status text output result =

@@ -4,7 +4,7 @@ ghost use Rattle.std.specs.Prelude.{◌≡◌, ◌≢◌, ◌⊎◌, IfOk, IfErr
 ghost use Rattle.hk_io.specs.Causes.{Rose};
 ghost use Rattle.hk_model.specs.Limits.{script_bytes};
 ghost use Rattle.hk_top.specs.Words.{IsCommand, IsAlone, MayRun, RunsOnMany, words_of, byte_limit};
-ghost use Rattle.hk_top.specs.Outputs.{Answer, Due, IsSaid, stream};
+ghost use Rattle.hk_top.specs.Outputs.{Answer, Due, IsComplete, IsSaid, stream};
 ghost use Rattle.hk_top.specs.Served.{IsTooLong, silent_status};
 
 use crate::maker::Maker;
@@ -28,7 +28,7 @@ const RECORD_BYTES: usize = 536_870_912;
 /// The top call: serves the words of a command. It reads the source, writes one text to the sink, and
 /// gives the status (`docs/FORMATS.md`, "Statuses and outputs"); where the text is the record of a
 /// run, it gives the kernel that was run, in the state that the lines of the record lead to. The
-/// clause `answer` says when each status comes.
+/// clause `answer` says when each status comes, and `complete` that no other comes where nothing fails.
 ///
 /// `run N` runs N processors, each a thread, and may wait for ever. Each tells the gate of its calls.
 pub fn hydra<S: Source, W: Sink, G: Gate + Sync, M: Maker, R: Threads + Wait + Sync>(
@@ -41,6 +41,10 @@ pub fn hydra<S: Source, W: Sink, G: Gate + Sync, M: Maker, R: Threads + Wait + S
     kernels: &M,
 ) -> (u8, Option<M::Made>)
     ensures answer { Answer (map string_bytes words.now)
+        (stream (S.left input.old) (S.left input.new) (S.faults input.old) (S.faults input.new))
+        (stream (W.taken output.old) (W.taken output.new) (W.faults output.old) (W.faults output.new))
+        result.0 (option_map M.Made.state result.1) }
+    ensures complete { IsComplete (map string_bytes words.now)
         (stream (S.left input.old) (S.left input.new) (S.faults input.old) (S.faults input.new))
         (stream (W.taken output.old) (W.taken output.new) (W.faults output.old) (W.faults output.new))
         result.0 (option_map M.Made.state result.1) }
@@ -68,6 +72,10 @@ pub fn answer<S: Source, W: Sink, M: Maker>(
 ) -> (u8, Option<M::Made>)
     requires alone { RunsOnMany (map string_bytes words.now) → ⊥ }
     ensures answer { Answer (map string_bytes words.now)
+        (stream (S.left input.old) (S.left input.new) (S.faults input.old) (S.faults input.new))
+        (stream (W.taken output.old) (W.taken output.new) (W.faults output.old) (W.faults output.new))
+        result.0 (option_map M.Made.state result.1) }
+    ensures complete { IsComplete (map string_bytes words.now)
         (stream (S.left input.old) (S.left input.new) (S.faults input.old) (S.faults input.new))
         (stream (W.taken output.old) (W.taken output.new) (W.faults output.old) (W.faults output.new))
         result.0 (option_map M.Made.state result.1) }

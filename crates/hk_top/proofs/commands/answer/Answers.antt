@@ -1,6 +1,7 @@
 use Rattle.std.proofs.Common.{refl}
 use Rattle.hk_top.specs.Outputs.{usage}
 use Rattle.hk_top.proofs.AnswerLemmas.{said, answered}
+use Rattle.hk_top.proofs.Complete.{complete}
 use Rattle.hk_top.proofs.commands.answer.Goals as goal
 
 pub returns-in_default-clause-answer : goal.returns-in_default-clause-answer
@@ -9,3 +10,9 @@ returns-in_default-clause-answer g c = said (usage c.in_default.ensures refl) c.
 pub returns-clause-answer : goal.returns-clause-answer
 returns-clause-answer g c =
     answered _ g.M.Made.Kernel.state c.in-Some.command c.due-due.result c.say_due.result c.in-Some.ensures.1 c.in-Some.ensures.0 c.due-due.ensures.due c.due-due.ensures.fault c.say_due.ensures.said c.say_due.ensures.silent
+
+pub returns-in_default-clause-complete : goal.returns-in_default-clause-complete
+returns-in_default-clause-complete g c = complete (returns-in_default-clause-answer g c)
+
+pub returns-clause-complete : goal.returns-clause-complete
+returns-clause-complete g c = complete (returns-clause-answer g c)
