@@ -1,7 +1,8 @@
 // Processors at a desk, call by call.
 
-ghost use Rattle.std.specs.Prelude.{◌≡◌, ◌<◌, ◌+◌, [], length, IfOk};
+ghost use Rattle.std.specs.Prelude.{◌≡◌, ◌≤◌, ◌+◌, true, [], length, IfOk};
 ghost use Rattle.hk_model.specs.declared.frames.Todo.{Todo as TodoOf};
+ghost use Rattle.hk_model.specs.Opening.{opening};
 ghost use Rattle.hk_turn.specs.Passes.{pass_number, seen_list};
 ghost use Rattle.hk_turn.specs.Turns.{IsPassOf, ArePassesOf, AreNewPasses, seat_count};
 ghost use Rattle.hk_procs.specs.Notes.{cpu_of, IsStopped, IsStoppedBy};
@@ -236,6 +237,23 @@ fn call_stopped<D: Desk, R: Wait>(
     }
 }
 
+// The desk of a kernel, with a pass for each of so many processors.
+fn started<K: Kernel, J: Naming>(
+    alloc: Global,
+    kernel: K,
+    world: &World,
+    cpus: u8,
+) -> Result<(Shared<K, J>, Vec<Pass<Noted>>), Fail>
+    requires cpus { (1 ≤ cpus) × (cpus ≤ 16) }
+    requires world { world.now ≡ J.world }
+    requires opening { K.state kernel ≡ opening world.now }
+    ensures count { IfOk result (λ made. length made.1.items ≡ seat_count made.0.turns) }
+    ensures passes { IfOk result (λ made. AreNewPasses made.0.turns 0 made.1.items) }
+{
+    let started = Shared::<K, J>::start(alloc, kernel, world, cpus);
+    Ok(started.ok().ok_or("a desk")?)
+}
+
 // The first of the passes, which are new and numbered from there on.
 fn first_of<K: Kernel, J: Naming>(
     _shared: &Shared<K, J>,
@@ -288,9 +306,17 @@ struct SmallestRun {
     proc: Proc,
     frame: Option<Frame>,
     lines_at_idle: u64,
-    read: Reply,
-    left: Reply,
+    word: Option<u32>,
+    done: bool,
     told: bool,
+}
+
+// The word of a reply that has one.
+fn word_of(reply: Reply) -> Option<u32> {
+    match reply {
+        Reply::Word(word) => Some(word),
+        Reply::Done | Reply::Waits | Reply::No(_) => None,
+    }
 }
 
 // Whether the book has the three lines of the smallest run, and no stop.
@@ -316,8 +342,7 @@ fn smallest_run_named<J: Naming, R: Wait>(
     requires { world.now ≡ J.world }
 {
     let kernel = Plain::new(alloc, world).ok().ok_or("a kernel")?;
-    let started = Shared::<Plain, J>::start(alloc, kernel, world, 2);
-    let (shared, mut passes) = started.ok().ok_or("a desk")?;
+    let (shared, mut passes) = started::<Plain, J>(alloc, kernel, world, 2)?;
     let zero = first_of(&shared, &mut passes, 0)?;
     let one = first_of(&shared, &mut passes, 1)?;
     let zero = given(rt, &shared, zero)?;
@@ -332,8 +357,8 @@ fn smallest_run_named<J: Naming, R: Wait>(
         proc,
         frame,
         lines_at_idle,
-        read,
-        left,
+        word: word_of(read),
+        done: left == Reply::Done,
         told: tells_the_smallest_run(&book)?,
     })
 }
@@ -356,8 +381,8 @@ fn each_answer_of_the_smallest_run(rt: HostRuntime) -> Result<(), Fail> {
         proc: Proc(0),
         frame: Some(frame),
         lines_at_idle: 1,
-        read: Reply::Word(7),
-        left: Reply::Done,
+        word: Some(7),
+        done: true,
         told: true,
     };
     assert_eq!(rt; smallest_run(&rt, rt.alloc(), &world)?, wanted);
@@ -430,15 +455,18 @@ fn tells_two_dispatches<K: Kernel, J: Naming>(book: &Book<K, J>) -> bool {
 // Runs the world that is named on three processors: the first wants memory, the second runs nothing,
 // and the third runs a process.
 #[tactic(auto, using(crate::proofs::NewPasses::new_runs_nothing))]
-fn stopped_run_named<J: Naming, R: Wait>(rt: &R, alloc: Global, world: &World) -> Result<StoppedRun, Fail>
+fn stopped_run_named<J: Naming, R: Wait>(
+    rt: &R,
+    alloc: Global,
+    world: &World,
+) -> Result<StoppedRun, Fail>
     requires { world.now ≡ J.world }
 {
     let kernel = Wanting {
         plain: Plain::new(alloc, world).ok().ok_or("a kernel")?,
         wanted: false,
     };
-    let started = Shared::<Wanting, J>::start(alloc, kernel, world, 3);
-    let (shared, mut passes) = started.ok().ok_or("a desk")?;
+    let (shared, mut passes) = started::<Wanting, J>(alloc, kernel, world, 3)?;
     let zero = first_of(&shared, &mut passes, 0)?;
     let one = first_of(&shared, &mut passes, 1)?;
     let two = first_of(&shared, &mut passes, 2)?;
@@ -478,8 +506,7 @@ fn limited_named<J: Naming, R: Wait>(rt: &R, alloc: Global, world: &World) -> Re
     requires { world.now ≡ J.world }
 {
     let kernel = Plain::new(alloc, world).ok().ok_or("a kernel")?;
-    let started = Shared::<Plain, J>::start(alloc, kernel, world, 1);
-    let (shared, mut passes) = started.ok().ok_or("a desk")?;
+    let (shared, mut passes) = started::<Plain, J>(alloc, kernel, world, 1)?;
     let zero = first_of(&shared, &mut passes, 0)?;
     let zero = given(rt, &shared, zero)?;
     let zero = limit(rt, alloc, &shared, world, zero)?;

@@ -1,8 +1,11 @@
 // The worlds of the tests.
 
-ghost use Rattle.std.specs.Prelude.{◌≡◌, ◌∷◌, [], IfOk};
+ghost use Rattle.std.specs.Prelude.{◌≡◌, ◌≤◌, ◌∷◌, [], codes, IfOk};
+ghost use Rattle.hk_model.specs.declared.entries.Entry.TheVariants.{Held};
 ghost use Rattle.hk_model.specs.declared.instructions.Index.TheVariants.{Fixed};
+ghost use Rattle.hk_model.specs.declared.world.Kind.TheVariants as kinds;
 ghost use Rattle.hk_model.specs.Setup.{IsInstr};
+ghost use Rattle.hk_rights.specs.Rights.{IsRightsWord};
 
 use hk_model::{
     Born, Cap, Code, Entries, Entry, Index, Instr, Items, Kind, Name, Operand, Route, Task, Text,
@@ -13,14 +16,17 @@ use std::alloc::{AllocError, Global};
 use std::test::Fail;
 
 // A text of its own.
-pub(crate) fn text(alloc: Global, letters: &str) -> Result<Text, AllocError>
+fn text(alloc: Global, letters: &str) -> Result<Text, AllocError>
     ensures { IfOk result (λ text. text ≡ letters.now) }
 {
     Ok(Text::from_string(String::from_str(alloc, letters)?))
 }
 
 // The object `d` of DATA, which has the word 7.
-fn object(alloc: Global) -> Result<Born, Fail> {
+fn object(alloc: Global) -> Result<Born, Fail>
+    ensures label { IfOk result (λ born. born.label ≡ codes "d") }
+    ensures kind { IfOk result (λ born. born.kind ≡ kinds.Plain (record { 0 = 1 }) (7 ∷ []) []) }
+{
     let mut words = Words::new(alloc);
     words.push(7)?;
     Ok(Born {
@@ -34,7 +40,7 @@ fn object(alloc: Global) -> Result<Born, Fail> {
 }
 
 // The route of slot 0.
-pub(crate) fn slot_0(alloc: Global) -> Result<Route, AllocError>
+fn slot_0(alloc: Global) -> Result<Route, AllocError>
     ensures { IfOk result (λ route. route.at ≡ Fixed 0 ∷ []) }
 {
     Ok(Route {
@@ -42,8 +48,24 @@ pub(crate) fn slot_0(alloc: Global) -> Result<Route, AllocError>
     })
 }
 
+// The code of one instruction.
+fn code(alloc: Global, step: Instr) -> Result<Code, Fail>
+    ensures label { IfOk result (λ code. code.label ≡ codes "main") }
+    ensures steps { IfOk result (λ code. code.steps ≡ step ∷ []) }
+{
+    Ok(Code {
+        label: text(alloc, "main")?,
+        steps: Items::from_vec(vec![in alloc; step]?),
+    })
+}
+
 // A process of code 0, which holds the object with these rights.
-fn task(alloc: Global, label: &str, rights: Rights) -> Result<Task, Fail> {
+fn task(alloc: Global, label: &str, rights: Rights) -> Result<Task, Fail>
+    ensures label { IfOk result (λ task. task.label ≡ label.now) }
+    ensures code { IfOk result (λ task. task.code ≡ 0) }
+    ensures slots { IfOk result (λ task. task.slots ≡ Held (record { name = record { 0 = 7 }; rights = rights }) ∷ []) }
+    ensures rights { IsRightsWord rights }
+{
     let mut slots = Entries::new(alloc);
     slots.push(Entry::Held(Cap {
         name: Name(7),
@@ -57,17 +79,17 @@ fn task(alloc: Global, label: &str, rights: Rights) -> Result<Task, Fail> {
 }
 
 // The world of the object, and of a process that reads its word.
-pub(crate) fn reads(alloc: Global, limit: u32) -> Result<World, Fail> {
+pub(crate) fn reads(alloc: Global, limit: u32) -> Result<World, Fail>
+    requires { (1 ≤ limit) × (limit ≤ 10) }
+{
     let of = slot_0(alloc)?;
     let at = Operand::Number(0);
-    let steps = vec![in alloc; Instr::Get { of, at, reg: 0 }]?;
-    let code = Code {
-        label: text(alloc, "main")?,
-        steps: Items::from_vec(steps),
-    };
-    let objects = Items::from_vec(vec![in alloc; object(alloc)?]?);
+    let code = code(alloc, Instr::Get { of, at, reg: 0 })?;
+    let object = object(alloc)?;
+    let task = task(alloc, "a", Rights::GETDATA)?;
+    let objects = Items::from_vec(vec![in alloc; object]?);
     let codes = Items::from_vec(vec![in alloc; code]?);
-    let tasks = Items::from_vec(vec![in alloc; task(alloc, "a", Rights::GETDATA)?]?);
+    let tasks = Items::from_vec(vec![in alloc; task]?);
     Ok(World::new(limit, objects, codes, tasks))
 }
 
@@ -75,15 +97,12 @@ pub(crate) fn reads(alloc: Global, limit: u32) -> Result<World, Fail> {
 pub(crate) fn adds(alloc: Global) -> Result<World, Fail> {
     let of = slot_0(alloc)?;
     let word = Operand::Number(8);
-    let steps = vec![in alloc; Instr::Add { of, word }]?;
-    let code = Code {
-        label: text(alloc, "main")?,
-        steps: Items::from_vec(steps),
-    };
-    let objects = Items::from_vec(vec![in alloc; object(alloc)?]?);
-    let codes = Items::from_vec(vec![in alloc; code]?);
+    let code = code(alloc, Instr::Add { of, word })?;
+    let object = object(alloc)?;
     let one = task(alloc, "a", Rights::ADDDATA)?;
     let other = task(alloc, "b", Rights::ADDDATA)?;
+    let objects = Items::from_vec(vec![in alloc; object]?);
+    let codes = Items::from_vec(vec![in alloc; code]?);
     let tasks = Items::from_vec(vec![in alloc; one, other]?);
     Ok(World::new(10, objects, codes, tasks))
 }
