@@ -1,10 +1,13 @@
 // Processors at a desk, call by call.
 
-ghost use Rattle.std.specs.Prelude.{◌≡◌, ◌≤◌, ◌+◌, true, [], length, IfOk};
+ghost use Rattle.std.specs.Prelude.{◌≡◌, ◌≤◌, ◌+◌, true, [], length, All, IfOk, Some};
 ghost use Rattle.hk_model.specs.declared.frames.Todo.{Todo as TodoOf};
+ghost use Rattle.hk_model.specs.declared.names.Cpu.{Cpu as CpuOf};
 ghost use Rattle.hk_model.specs.Opening.{opening};
+ghost use Rattle.hk_turn.specs.declared.pass.Pass.{Pass as PassOf};
 ghost use Rattle.hk_turn.specs.Passes.{pass_number, seen_list};
 ghost use Rattle.hk_turn.specs.Turns.{IsPassOf, ArePassesOf, AreNewPasses, seat_count};
+ghost use Rattle.hk_procs.specs.declared.notes.Noted.{Noted as NotedOf};
 ghost use Rattle.hk_procs.specs.Notes.{cpu_of, IsStopped, IsStoppedBy};
 ghost use Rattle.hk_procs.specs.Promises.{AnswersCall};
 ghost use Rattle.hk_procs.specs.Shown.{RunsNothing, HandsOut, is_limit_shown, is_end_shown};
@@ -247,7 +250,8 @@ fn started<K: Kernel, J: Naming>(
     requires cpus { (1 ≤ cpus) × (cpus ≤ 16) }
     requires world { world.now ≡ J.world }
     requires opening { K.state kernel ≡ opening world.now }
-    ensures count { IfOk result (λ made. length made.1.items ≡ seat_count made.0.turns) }
+    ensures seats { IfOk result (λ made. seat_count made.0.turns ≡ cpus) }
+    ensures count { IfOk result (λ made. length made.1.items ≡ cpus) }
     ensures passes { IfOk result (λ made. AreNewPasses made.0.turns 0 made.1.items) }
 {
     let started = Shared::<K, J>::start(alloc, kernel, world, cpus);
@@ -283,6 +287,7 @@ fn put_back<K: Kernel, J: Naming>(
     requires back { IsPassOf _shared.now.turns pass }
     ensures own { IfOk result (λ all. ArePassesOf _shared.now.turns all.items) }
     ensures count { IfOk result (λ all. length all.items ≡ length passes.items + 1) }
+    ensures stopped { IfOk result (λ all. All (λ (p : PassOf NotedOf). IsStopped (seen_list p)) passes.items → IsStopped (seen_list pass) → All (λ (p : PassOf NotedOf). IsStopped (seen_list p)) all.items) }
 {
     passes.reserve(1)?;
     passes.push_reserved(pass);
@@ -436,6 +441,19 @@ impl Kernel for Wanting {
     }
 }
 
+// The book, once all passes are back, each of which shows a stop: it is the stop of the book.
+fn closed_at_a_stop<K: Kernel, J: Naming>(
+    shared: Shared<K, J>,
+    passes: Vec<Pass<Noted>>,
+) -> Book<K, J>
+    requires count { length passes.items ≡ seat_count shared.turns }
+    requires own { ArePassesOf shared.turns passes.items }
+    requires stopped { All (λ (pass : PassOf NotedOf). IsStopped (seen_list pass)) passes.items }
+    ensures { All (λ (pass : PassOf NotedOf). (cpu : CpuOf) × (result.stop ≡ Some cpu) × IsStoppedBy cpu (seen_list pass)) passes.items }
+{
+    shared.close(passes)
+}
+
 // What is left where a call wants memory.
 #[derive(Clone, Copy, PartialEq, Eq, Debug)]
 struct StoppedRun {
@@ -477,7 +495,7 @@ fn stopped_run_named<J: Naming, R: Wait>(
     let two = call_stopped(rt, alloc, &shared, world, two)?;
     let passes = put_back(&shared, put_back(&shared, passes, zero)?, one)?;
     let passes = put_back(&shared, passes, two)?;
-    let book = shared.close(passes);
+    let book = closed_at_a_stop(shared, passes);
     Ok(StoppedRun {
         stop: book.stop(),
         told: tells_two_dispatches(&book),
