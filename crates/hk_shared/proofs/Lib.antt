@@ -6,6 +6,7 @@ pub mod Moves
 pub mod NewPasses
 pub mod Notes
 pub mod OpenBook
+pub mod OneStop
 pub mod Placed
 pub mod PlacedAlways
 pub mod Turning

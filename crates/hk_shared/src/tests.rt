@@ -1,12 +1,13 @@
-// A world of one process, run by one processor at a desk.
+// A world of one process, run by one worker at a desk.
 
-ghost use Rattle.std.specs.Prelude.{◌≡◌, IfOk};
+ghost use Rattle.std.specs.Prelude.{◌≡◌};
 
+use crate::test_worlds::reads;
 use crate::{Naming, Shared};
-use hk_model::{Code, Cpu, Entries, Items, Task, Text, World};
+use hk_model::{Cpu, World};
 use hk_plain::Plain;
 use hk_procs::{Ended, Gate, work};
-use std::alloc::{AllocError, Global};
+use std::alloc::Global;
 use std::marker::Brand;
 use std::sync::Wait;
 use std::test::Fail;
@@ -24,29 +25,6 @@ struct Left {
     lines: usize,
     stop: Option<Cpu>,
     current: bool,
-}
-
-// A text of its own.
-fn text(alloc: Global, letters: &str) -> Result<Text, AllocError>
-    ensures { IfOk result (λ text. text ≡ letters.now) }
-{
-    Ok(Text::from_string(String::from_str(alloc, letters)?))
-}
-
-// The world of one process, whose code is empty.
-fn world(alloc: Global) -> Result<World, Fail> {
-    let code = Code {
-        label: text(alloc, "main")?,
-        steps: Items::new(alloc),
-    };
-    let task = Task {
-        label: text(alloc, "a")?,
-        code: 0,
-        slots: Entries::new(alloc),
-    };
-    let codes = Items::from_vec(vec![in alloc; code]?);
-    let tasks = Items::from_vec(vec![in alloc; task]?);
-    Ok(World::new(10, Items::new(alloc), codes, tasks))
 }
 
 // Runs the world that is named.
@@ -78,13 +56,26 @@ fn run<R: Wait>(rt: &R, alloc: Global, world: &World) -> Result<Left, Fail> {
 }
 
 #[test]
-fn one_processor_makes_the_dispatch_and_the_return(rt: HostRuntime) -> Result<(), Fail> {
-    let world = world(rt.alloc())?;
+fn a_worker_makes_the_steps_of_the_only_process(rt: HostRuntime) -> Result<(), Fail> {
+    let world = reads(rt.alloc(), 10)?;
     let left = Left {
         ended: Ended::Over,
-        lines: 2,
+        lines: 3,
         stop: None,
         current: false,
+    };
+    assert_eq!(rt; run(&rt, rt.alloc(), &world)?, left);
+    Ok(())
+}
+
+#[test]
+fn a_worker_is_over_at_the_limit(rt: HostRuntime) -> Result<(), Fail> {
+    let world = reads(rt.alloc(), 1)?;
+    let left = Left {
+        ended: Ended::Over,
+        lines: 1,
+        stop: None,
+        current: true,
     };
     assert_eq!(rt; run(&rt, rt.alloc(), &world)?, left);
     Ok(())
