@@ -1,9 +1,10 @@
 // Runs on several processors, each a thread.
 
-use crate::commands_tests::{sink, status_of, words};
-use crate::{Maps, hydra, status};
+use crate::commands_tests::{Open, sink, status_of, words};
+use crate::{Maker, Maps, hydra, status};
 use hk_io::SureBytes;
-use hk_model::{Cpu, Kernel};
+use hk_model::{Acted, Call, Cpu, Inc, Kernel, NoMemory, Proc, Snapshot, World};
+use hk_plain::Plain;
 use hk_procs::Gate;
 use std::alloc::Global;
 use std::sync::Wait;
@@ -166,5 +167,82 @@ fn one_processor_writes_what_run_writes(rt: HostRuntime) -> Result<(), Fail> {
     let shared = written(&rt, alloc, &["run", "1"])?;
     assert!(rt; alone.len() > SCRIPT.len());
     assert_eq!(rt; alone.as_slice(), shared.as_slice());
+    Ok(())
+}
+
+// A plain kernel, but each of its calls wants memory.
+#[derive(Drop)]
+struct Wanting {
+    plain: Plain,
+}
+
+impl Kernel for Wanting {
+    ghost use Rattle.std.specs.Prelude.{true};
+
+    ghost state = { λ kernel. kernel.plain };
+
+    ghost wants = { λ _. true };
+
+    fn act(&mut self, _alloc: Global, _cpu: Cpu, _call: Call) -> Result<Acted, NoMemory> {
+        Err(NoMemory)
+    }
+
+    fn dispatch(&mut self, cpu: Cpu) -> Option<Proc> {
+        self.plain.dispatch(cpu)
+    }
+
+    fn halt(&mut self, cpu: Cpu) {
+        self.plain.halt(cpu)
+    }
+
+    fn current(&self, cpu: Cpu) -> Option<(Proc, Inc)> {
+        self.plain.current(cpu)
+    }
+
+    fn over(&self) -> bool {
+        self.plain.over()
+    }
+
+    fn limit_reached(&self) -> bool {
+        self.plain.limit_reached()
+    }
+
+    fn snapshot(&self, alloc: Global) -> Result<Snapshot, NoMemory> {
+        self.plain.snapshot(alloc)
+    }
+}
+
+// It makes such kernels.
+struct Wants;
+
+impl Maker for Wants {
+    type Made = Wanting;
+
+    fn make(&self, alloc: Global, world: &World) -> Result<Wanting, NoMemory> {
+        Ok(Wanting {
+            plain: Plain::new(alloc, world)?,
+        })
+    }
+}
+
+// The status of a run of such a kernel, whether a kernel came back, and how much was written.
+fn wanting<R: Threads + Wait + Sync>(
+    rt: &R,
+    alloc: Global,
+    spelled: &[&str],
+) -> Result<(u8, bool, usize), Fail> {
+    let words = words(alloc, spelled)?;
+    let mut input = SureBytes::new(SCRIPT.to_vec(alloc)?);
+    let mut output = sink(alloc, Vec::new(alloc))?;
+    let (status, kernel) = hydra(rt, alloc, &words, &mut input, &mut output, &Open, &Wants);
+    Ok((status, kernel.is_some(), output.taken().len()))
+}
+
+#[test]
+fn a_stop_writes_nothing(rt: HostRuntime) -> Result<(), Fail> {
+    let alloc = rt.alloc();
+    for spelled in [&["run"][..], &["run", "1"], &["run", "4"]] {
+        assert_eq!(rt; wanting(&rt, alloc, spelled)?, (status::NO_MEMORY, false, 0));
+    }
     Ok(())
 }
