@@ -1,5 +1,5 @@
 -- What is known of a record after so many of its lines were found to be steps.
-use Rattle.std.specs.Prelude.{◌≡◌, ℕ, zero, suc, ◌+◌, ◌<◌, ◌≤◌, List, [], ◌∷◌, ◌++◌, length, Bool, true, false, Decides, Option, Some, None, IfSome, IfNone, slice_get, take, refl}
+use Rattle.std.specs.Prelude.{◌≡◌, ℕ, zero, suc, ◌+◌, ◌≤◌, List, [], ◌∷◌, ◌++◌, length, Bool, true, false, Decides, Option, Some, None, IfSome, IfNone, slice_get, take, refl}
 use Rattle.std.proofs.Common.{arith, ap, sym, ◌∙◌, subst}
 use Rattle.std.proofs.lemmas.Bool.{true≢false}
 use Rattle.hk_model.specs.declared.names.Cpu.{Cpu}
@@ -11,7 +11,7 @@ use Rattle.hk_model.specs.declared.lines.Line.{Line}
 use Rattle.hk_model.specs.declared.lines.End.{End}
 use Rattle.hk_model.specs.declared.causes.Misstep.{Misstep}
 use Rattle.hk_model.specs.declared.causes.Misstep.TheVariants as misstep
-use Rattle.hk_model.specs.Setup.{Setup, IsWorld}
+use Rattle.hk_model.specs.Setup.{Setup}
 use Rattle.hk_model.specs.Running.{Machine, AreStepsOf, after_lines, opened, step, line_of}
 use Rattle.hk_model.specs.Legal.{IsLegal, end_word}
 use Rattle.hk_model.specs.Verdicts.{Differs, IsBySame, IsMisstep}

@@ -8,6 +8,8 @@ mod checking;
 mod differences;
 #[cfg(test)]
 mod tests;
+mod verdicts;
 
 pub use checking::check;
 pub use hk_model::{End, Line, Misstep, NoMemory, Verdict, World};
+pub use verdicts::verdict_is_one;

@@ -3,7 +3,7 @@
 ghost use Rattle.std.specs.Prelude.{◌≡◌, IfOk};
 ghost use Rattle.hk_program.specs.Machines.{IsSound};
 
-use crate::check;
+use crate::{check, verdict_is_one};
 use hk_model::{
     Call, Code, Cpu, End, Entries, Inc, Items, Line, Misstep, Proc, Reply, Task, Text, Verdict,
     What, World,
@@ -61,7 +61,10 @@ fn leave(cpu: u8, inc: u64, reply: Reply) -> Line {
 fn verdict(alloc: Global, lines: &[Line], end: End) -> Result<Verdict, Fail> {
     let world = world(alloc)?;
     match check(alloc, &world, lines, end) {
-        Ok(verdict) => Ok(verdict),
+        Ok(verdict) => {
+            verdict_is_one(&world, lines, end, verdict, verdict);
+            Ok(verdict)
+        }
         Err(_) => Err(Fail::from("a verdict")),
     }
 }

@@ -1,4 +1,3 @@
-use Rattle.std.proofs.Common.{◌≡◌}
 use Rattle.hk_check.proofs.Replays.{step_is_of}
 use Rattle.hk_check.proofs.checking.misstep.Goals as goal
 
