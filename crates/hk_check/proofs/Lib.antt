@@ -1,2 +1,2 @@
 pub mod Replays
-mod OneVerdict
+pub mod OneVerdict

@@ -4,4 +4,5 @@ pub mod Scheduled
 pub mod Closing
 pub mod Complete
 pub mod Ends
+pub mod FoundLegal
 pub mod WordLemmas

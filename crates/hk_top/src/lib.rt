@@ -9,6 +9,7 @@ mod maker;
 #[cfg(test)]
 mod moments_tests;
 mod outputs;
+mod printed;
 mod processors;
 #[cfg(test)]
 mod processors_tests;
@@ -19,3 +20,4 @@ mod words;
 
 pub use commands::{answer, hydra};
 pub use maker::{Maker, Maps};
+pub use printed::printed_record_is_legal;

@@ -1,0 +1,50 @@
+-- The record of a legal history is read again, and has the verdict that it is legal.
+use Rattle.std.proofs.Common.{◌≡◌, ◌∙◌, ap, sym, ℕ, List, [], ◌∷◌, codes, Option, Ok, Err, Result, refl, subst, inl, inr}
+use Rattle.hk_model.specs.declared.causes.Misstep.{Misstep}
+use Rattle.hk_model.specs.declared.causes.Verdict.TheVariants.{Legal, Illegal}
+use Rattle.hk_model.specs.declared.lines.Line.{Line}
+use Rattle.hk_model.specs.declared.lines.End.{End}
+use Rattle.hk_model.specs.CauseTexts.{verdict_text}
+use Rattle.hk_model.specs.Audits.{Audited, audit, audited, events}
+use Rattle.hk_model.specs.Legal.{IsLegal}
+use Rattle.hk_model.specs.Records.{record_text}
+use Rattle.hk_model.specs.Setup.{Setup, IsWorld}
+use Rattle.hk_model.specs.State.{State}
+use Rattle.hk_model.specs.Verdicts.{IsVerdict}
+use Rattle.hk_model.specs.Worlds.{Refused}
+use Rattle.hk_audit.proofs.RecordAgain.{record_again}
+use Rattle.hk_audit.proofs.StepsInRange.{steps_in_range}
+use Rattle.hk_check.proofs.OneVerdict.{one_verdict}
+use Rattle.hk_top.specs.declared.words.Command.TheVariants as command
+use Rattle.hk_top.specs.Words.{words_of, ReadsScript}
+use Rattle.hk_top.specs.Outputs.{DueTo, IsChecked, IsRunOf, record_of, script_of, verdict_of, script_refused, record_refused, legal, illegal, alone, shared}
+
+-- the words `check` read no script and ask for no run
+no_run : {w : Setup} {lines : List Line} {end : End} → IsRunOf (words_of command.Check) w lines end → ⊥
+no_run (alone is run) = absurd (cc)
+no_run (shared cpus is run) = let words = is.0 in absurd (cc)
+
+no_script : ReadsScript (words_of command.Check) → ⊥
+no_script (inl is) = absurd (cc)
+no_script (inr (inl many)) = let words = many.1.0 in absurd (cc)
+no_script (inr (inr is)) = absurd (cc)
+
+checked_legal : (a : Audited) (status : ℕ) (text : List ℕ) → IsLegal a.world a.lines a.end → IsChecked a status text → (status ≡ 0) × (text ≡ verdict_text Legal)
+checked_legal a status text h (legal is laws) = (refl, refl)
+checked_legal a status text h (illegal n cause is) = let same = one_verdict a.world a.lines a.end Legal (Illegal n cause) h is in absurd (cc)
+
+pub found_legal : (w : Setup) (lines : List Line) (end : End) → IsWorld w → IsLegal w lines end → (status : ℕ) (text : List ℕ) (made : Option State) → DueTo (words_of command.Check) (record_text w lines end) status text made → (status ≡ 0) × (text ≡ verdict_text Legal)
+found_legal w lines end world is status text made due = by due
+  where
+    again : audit (record_text w lines end) ≡ Ok (audited w (events lines end))
+    again = record_again w lines end world (steps_in_range w lines world is.steps)
+
+    by : {status : ℕ} {text : List ℕ} {made : Option State} → DueTo (words_of command.Check) (record_text w lines end) status text made → (status ≡ 0) × (text ≡ verdict_text Legal)
+    by (record_of v _ _ _ reads recorded) = absurd (no_run recorded.run)
+    by (script_of v show reads) = absurd (cc)
+    by (verdict_of a _ _ check reads checked) =
+        let both = sym again ∙ reads in
+        let same : audited w (events lines end) ≡ a = cc in
+        checked_legal a _ _ (subst (λ (x : Audited). IsLegal x.world x.lines x.end) same is) checked
+    by (script_refused line cause reads refused) = absurd (no_script reads)
+    by (record_refused line cause reads refused) = let both = sym again ∙ refused in absurd (cc)

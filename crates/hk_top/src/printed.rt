@@ -1,0 +1,25 @@
+//! What `run` prints, `check` finds legal (`docs/FORMATS.md`, "Statuses and outputs").
+
+ghost use Rattle.std.specs.Prelude.{◌≡◌, ℕ, List, Option};
+ghost use Rattle.hk_model.specs.State.{State};
+ghost use Rattle.hk_model.specs.Legal.{IsLegal};
+ghost use Rattle.hk_model.specs.Records.{record_text};
+ghost use Rattle.hk_model.specs.CauseTexts.{verdict_text};
+ghost use Rattle.hk_model.specs.declared.causes.Verdict.TheVariants.{Legal};
+ghost use Rattle.hk_top.specs.declared.words.Command.TheVariants as command;
+ghost use Rattle.hk_top.specs.Words.{words_of};
+ghost use Rattle.hk_top.specs.Outputs.{DueTo};
+
+use hk_model::{End, Line, World};
+
+/// The record of a legal history is found legal: nothing else is due to `check` and its bytes than
+/// status 0 and `legal`. The function does nothing; its contract is the law.
+#[tactic(auto, using(crate::proofs::FoundLegal::found_legal))]
+pub fn printed_record_is_legal(world: &World, lines: &[Line], end: End)
+    requires { IsLegal world.now lines.now end }
+    ensures { (status : ℕ) (text : List ℕ) (made : Option State) → DueTo (words_of command.Check) (record_text world.now lines.now end) status text made
+        → (status ≡ 0) × (text ≡ verdict_text Legal) }
+{
+    let _limit = world.limit();
+    let _count = lines.len();
+}
