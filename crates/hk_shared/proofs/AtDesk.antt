@@ -1,20 +1,19 @@
 -- What a desk knows of the book that it finds at a turn, by what the pass has seen.
-use Rattle.std.specs.Prelude.{◌≡◌, ℕ, ◌+◌, ◌<◌, ◌≤◌, ◌^◌, List, [], ◌∷◌, ◌++◌, length, Option, Some, None, map, slice_get, refl}
+use Rattle.std.specs.Prelude.{◌≡◌, ◌<◌, ◌^◌, List, ◌++◌, length, Option, Some, None}
 use Rattle.std.proofs.Common.{arith, ap, sym, ◌∙◌, subst}
 use Rattle.hk_model.specs.declared.names.Proc.{Proc}
 use Rattle.hk_model.specs.declared.names.Cpu.{Cpu}
 use Rattle.hk_model.specs.declared.lines.Line.{Line}
 use Rattle.hk_model.specs.declared.frames.Todo.{Todo}
-use Rattle.hk_model.specs.Limits.{event_limit}
 use Rattle.hk_model.specs.Setup.{Setup}
 use Rattle.hk_model.specs.State.{State}
 use Rattle.hk_model.specs.Control.{Context, next}
 use Rattle.hk_model.specs.Processors.{runner}
-use Rattle.hk_model.specs.Running.{Machine, context_of, AreStepsOf, state_after}
+use Rattle.hk_model.specs.Running.{context_of, AreStepsOf, state_after}
 use Rattle.hk_turn.specs.Rule.{GoesOn}
 use Rattle.hk_procs.specs.declared.notes.Noted.{Noted}
 use Rattle.hk_procs.specs.Notes.{owner_of, lines_of}
-use Rattle.hk_procs.specs.Shown.{RunsNothing, MakesNext, state_shown, machine_shown}
+use Rattle.hk_procs.specs.Shown.{RunsNothing, MakesNext, state_shown}
 use Rattle.hk_procs.specs.declared.answers.Asked.{Asked}
 use Rattle.hk_procs.specs.declared.answers.Called.{Called}
 use Rattle.hk_procs.specs.Promises.{AnswersAsk, AnswersCall}
@@ -23,7 +22,7 @@ use Rattle.hk_shared.proofs.FromSeen.{ask_from, call_from}
 use Rattle.std.specs.Prelude.{Bool}
 use Rattle.hk_shared.specs.declared.book.Book.{Book}
 use Rattle.hk_shared.specs.Contexts.{machine_after}
-use Rattle.hk_shared.specs.Books.{IsSound, IsNext, IsBookOf, notes_of_book, added}
+use Rattle.hk_shared.specs.Books.{IsNext, IsBookOf, added}
 use Rattle.hk_shared.proofs.LinesMost.{lines_most}
 use Rattle.hk_shared.proofs.Notes.{lines_book, few_notes, runner_same, context_same}
 

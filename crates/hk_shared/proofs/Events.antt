@@ -1,8 +1,7 @@
 -- What one line more makes of a history: its state, the context of its process, and the contexts of those that rest.
-use Rattle.std.specs.Prelude.{◌≡◌, ◌⊎◌, ℕ, zero, suc, ◌+◌, ◌<◌, ◌==◌, List, [], ◌∷◌, ◌++◌, length, Bool, true, false, Option, Some, None, nat_lt, option_map, slice_get, slice_set, refl}
+use Rattle.std.specs.Prelude.{◌≡◌, ◌⊎◌, ℕ, zero, suc, ◌<◌, List, [], ◌∷◌, ◌++◌, length, true, false, Option, Some, None, nat_lt, option_map, slice_get, slice_set, refl}
 use Rattle.std.specs.Option.{unwrap_or}
 use Rattle.std.proofs.Common.{arith, ap, sym, ◌∙◌, subst}
-use Rattle.std.proofs.lemmas.Bool.{true≢false}
 use Rattle.std.proofs.lemmas.Bool.Decides.{nat_tests}
 use mathlib.Core.Logic.{inl, inr}
 use Rattle.hk_model.specs.declared.names.Proc.{Proc}
@@ -11,12 +10,10 @@ use Rattle.hk_model.specs.declared.names.Cpu.{Cpu}
 use Rattle.hk_model.specs.declared.calls.Call.{Call}
 use Rattle.hk_model.specs.declared.calls.Reply.{Reply}
 use Rattle.hk_model.specs.declared.calls.Reply.TheVariants.{Done}
-use Rattle.hk_model.specs.declared.lines.What.{What}
 use Rattle.hk_model.specs.declared.lines.What.TheVariants as what
 use Rattle.hk_model.specs.declared.lines.Line.{Line}
 use Rattle.hk_model.specs.declared.objects.Process.{Process}
-use Rattle.hk_model.specs.declared.objects.ProcessState.{ProcessState}
-use Rattle.hk_model.specs.declared.objects.ProcessState.TheVariants.{Ready, Running, Ended}
+use Rattle.hk_model.specs.declared.objects.ProcessState.TheVariants.{Ready}
 use Rattle.hk_model.specs.declared.frames.Todo.{Todo}
 use Rattle.hk_model.specs.declared.frames.Todo.TheVariants as todo
 use Rattle.hk_model.specs.Limits.{cpu_limit}
@@ -25,9 +22,8 @@ use Rattle.hk_model.specs.State.{State, process}
 use Rattle.hk_model.specs.Control.{Context, next, after}
 use Rattle.hk_model.specs.Rule.{rule}
 use Rattle.hk_model.specs.Processors.{is_on, is_running, runner, running_on, may_step, acted_on, acted_by, entered, entered_on, entered_by, halted, halted_on, halted_by, dispatched, dispatched_from}
-use Rattle.hk_model.specs.Running.{Machine, context_of, event, event_of, dispatch_event, step, opened, after_lines, AreStepsOf, state_after}
+use Rattle.hk_model.specs.Running.{Machine, context_of, event, event_of, dispatch_event, step, AreStepsOf, state_after}
 use Rattle.hk_model.proofs.Steps.{given_to}
-use Rattle.hk_program.specs.Machines.{IsSound}
 use Rattle.hk_program.proofs.Queues.{run_at, runs_on}
 use Rattle.hk_program.proofs.Kept.{Kept}
 use Rattle.hk_program.proofs.StepCases.{step_is}

@@ -1,6 +1,6 @@
 -- What is promised by the history found is promised by what was seen, where that history goes on from it.
-use Rattle.std.specs.Prelude.{◌≡◌, ◌≢◌, ℕ, zero, suc, ◌+◌, ◌<◌, Bool, List, [], ◌∷◌, ◌++◌, length, refl, All}
-use Rattle.std.proofs.Common.{arith, ap, sym, ◌∙◌, append_assoc}
+use Rattle.std.specs.Prelude.{◌≢◌, ℕ, zero, suc, Bool, List, [], ◌∷◌, ◌++◌, All}
+use Rattle.std.proofs.Common.{arith, ap, ◌∙◌, append_assoc}
 use Rattle.hk_model.specs.declared.names.Proc.{Proc}
 use Rattle.hk_model.specs.declared.names.Cpu.{Cpu}
 use Rattle.hk_model.specs.declared.calls.Call.{Call}

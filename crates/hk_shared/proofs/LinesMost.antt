@@ -1,16 +1,15 @@
 -- A history has at most as many lines as the limit.
-use Rattle.std.specs.Prelude.{◌≡◌, ℕ, ◌+◌, ◌<◌, ◌≤◌, List, [], ◌∷◌, length, Bool, true, false, Option, Some, None, option_map, refl}
+use Rattle.std.specs.Prelude.{◌≡◌, ◌+◌, ◌<◌, ◌≤◌, List, [], ◌∷◌, length, Bool, true, false, Option, Some, None, option_map, refl}
 use Rattle.std.proofs.Common.{arith, ap, sym, ◌∙◌}
 use Rattle.std.proofs.lemmas.Bool.Decides.{nat_tests}
 use Rattle.hk_model.specs.declared.lines.Line.{Line}
-use Rattle.hk_model.specs.declared.names.Cpu.{Cpu}
 use Rattle.hk_model.specs.Setup.{Setup, IsWorld}
 use Rattle.hk_model.specs.State.{State, process}
 use Rattle.hk_model.specs.Opening.{opening}
 use Rattle.hk_model.specs.Rule.{Outcome, outcome, settled}
 use Rattle.std.specs.Prelude.{Ok, Err}
 use Rattle.hk_model.specs.Processors.{may_step}
-use Rattle.hk_model.specs.Running.{Machine, step, line_of, moved, opened, AreSteps, AreStepsOf}
+use Rattle.hk_model.specs.Running.{Machine, line_of, moved, opened, AreSteps, AreStepsOf}
 use Rattle.hk_model.proofs.Steps.{EachStep, moved_holds}
 use Rattle.hk_program.specs.Machines.{IsSound}
 use Rattle.hk_program.proofs.Machines.{sound_kept, moved_sound, opened_sound}

@@ -1,11 +1,10 @@
 -- What an event does to the processes and the ready list: at most one process does something else after it.
-use Rattle.std.specs.Prelude.{◌≡◌, ◌⊎◌, ℕ, ◌+◌, ◌-◌, List, [], ◌∷◌, ◌++◌, length, Bool, true, false, Option, Some, None, Ok, Err, IfOk, nat_lt, slice_set, refl}
+use Rattle.std.specs.Prelude.{◌≡◌, ℕ, ◌+◌, ◌-◌, List, [], ◌∷◌, ◌++◌, Bool, true, false, Option, Some, None, Ok, Err, IfOk, nat_lt, slice_set, refl}
 use Rattle.std.specs.Map.{remove_entry}
-use Rattle.std.proofs.Common.{ap, sym, ◌∙◌, subst}
+use Rattle.std.proofs.Common.{ap, sym, subst}
 use Rattle.hk_model.specs.declared.names.Name.{Name}
 use Rattle.hk_model.specs.declared.names.Inc.{Inc}
 use Rattle.hk_model.specs.declared.names.Proc.{Proc}
-use Rattle.hk_model.specs.declared.names.Cpu.{Cpu}
 use Rattle.hk_model.specs.declared.names.Slot.{Slot}
 use Rattle.hk_model.specs.declared.entries.Cap.{Cap}
 use Rattle.hk_model.specs.declared.calls.Call.{Call}
@@ -15,14 +14,13 @@ use Rattle.hk_model.specs.declared.calls.What8.TheVariants as full
 use Rattle.hk_model.specs.declared.calls.Answer.{Answer}
 use Rattle.hk_model.specs.declared.calls.Answer.TheVariants.{Done, Waits}
 use Rattle.hk_model.specs.declared.objects.Process.{Process}
-use Rattle.hk_model.specs.declared.objects.ProcessState.{ProcessState}
-use Rattle.hk_model.specs.declared.objects.ProcessState.TheVariants.{Ready, Running, Waiting, Ended}
+use Rattle.hk_model.specs.declared.objects.ProcessState.TheVariants.{Ready, Waiting, Ended}
 use Rattle.hk_model.specs.Limits.{token_limit}
 use Rattle.hk_model.specs.Setup.{Setup}
 use Rattle.hk_model.specs.State.{State, object, process, put_object, put_process, same_inc}
 use Rattle.hk_model.specs.Refusing.{unless}
 use Rattle.hk_model.specs.Targets.{SEMAPHORE, is_type, MODIFY+A0, MODIFY+A1, target}
-use Rattle.hk_model.specs.Rule.{Outcome, outcome, rule, settled, counted, yielded, enter, leave_to, token_given, enter_procedure, leave, take_token, give_token}
+use Rattle.hk_model.specs.Rule.{Outcome, outcome, rule, settled, counted, leave_to, token_given, enter_procedure, leave, take_token, give_token}
 use Rattle.hk_model.specs.Processors.{is_waiting, is_running, is_ready, halted}
 use Rattle.hk_model.proofs.TestLemmas.{then_is, and_is}
 use Rattle.hk_model.proofs.Turns.{EntersBy, enters_by}

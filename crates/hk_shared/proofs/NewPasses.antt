@@ -1,5 +1,5 @@
 -- Passes that have seen nothing show that their processors run nothing.
-use Rattle.std.specs.Prelude.{◌≡◌, List, [], refl}
+use Rattle.std.specs.Prelude.{◌≡◌, List, []}
 use Rattle.hk_model.specs.declared.names.Cpu.{Cpu}
 use Rattle.hk_model.specs.Opening.{opening}
 use Rattle.hk_model.specs.Running.{opened}

@@ -1,13 +1,12 @@
 -- Lists of notes: their lines, and what they show.
-use Rattle.std.specs.Prelude.{◌≡◌, ◌≢◌, ℕ, zero, suc, ◌+◌, ◌<◌, ◌≤◌, List, [], ◌∷◌, ◌++◌, length, Bool, true, false, not, Option, Some, None, refl, All}
-use Rattle.std.proofs.Common.{arith, ap, sym, ◌∙◌, subst, append_assoc, length-append}
+use Rattle.std.specs.Prelude.{◌≡◌, ◌≢◌, ℕ, suc, ◌+◌, ◌≤◌, List, [], ◌∷◌, ◌++◌, length, Option, Some, None, refl, All}
+use Rattle.std.proofs.Common.{arith, ap, sym, ◌∙◌, subst, length-append}
 use Rattle.hk_model.specs.declared.names.Proc.{Proc}
 use Rattle.hk_model.specs.declared.names.Cpu.{Cpu}
 use Rattle.hk_model.specs.declared.lines.Line.{Line}
 use Rattle.hk_model.specs.Setup.{Setup, IsWorld}
-use Rattle.hk_model.specs.State.{State}
 use Rattle.hk_model.specs.Processors.{runner}
-use Rattle.hk_model.specs.Running.{Machine, context_of, moved, opened, after_lines, AreSteps, AreStepsOf, state_after}
+use Rattle.hk_model.specs.Running.{Machine, context_of, moved, opened, after_lines, AreSteps, AreStepsOf}
 use Rattle.hk_program.specs.Machines.{IsSound}
 use Rattle.hk_program.proofs.Machines.{sound_after, moved_sound, other_runs, other_context}
 use Rattle.hk_turn.specs.Rule.{GoesOn}

@@ -1,13 +1,11 @@
 -- After every history no two processes run on one processor, and the ready processes stand in the ready list.
-use Rattle.std.specs.Prelude.{◌≡◌, ◌⊎◌, ℕ, zero, suc, ◌+◌, List, [], ◌∷◌, Bool, true, false, Option, Some, None, nat_lt, option_map, refl, if◌then◌else◌}
+use Rattle.std.specs.Prelude.{◌≡◌, ℕ, zero, suc, ◌+◌, List, [], ◌∷◌, Bool, true, false, Option, Some, None, nat_lt, option_map, refl, if◌then◌else◌}
 use Rattle.std.specs.Option.{unwrap_or}
-use Rattle.std.proofs.Common.{arith, ap, sym, ◌∙◌, subst}
+use Rattle.std.proofs.Common.{arith, subst}
 use mathlib.Core.Logic.{inl, inr}
 use Rattle.hk_model.specs.declared.names.Proc.{Proc}
 use Rattle.hk_model.specs.declared.names.Cpu.{Cpu}
 use Rattle.hk_model.specs.declared.lines.Line.{Line}
-use Rattle.hk_model.specs.declared.objects.Process.{Process}
-use Rattle.hk_model.specs.declared.objects.ProcessState.{ProcessState}
 use Rattle.hk_model.specs.declared.objects.ProcessState.TheVariants.{Ready}
 use Rattle.hk_model.specs.declared.frames.Todo.{Todo}
 use Rattle.hk_model.specs.declared.frames.Todo.TheVariants.{Do, Halt}
@@ -19,7 +17,7 @@ use Rattle.hk_model.specs.Control.{Context, next}
 use Rattle.hk_model.specs.Opening.{opening, all_ready, proc_numbers}
 use Rattle.hk_model.specs.Rule.{rule}
 use Rattle.hk_model.specs.Processors.{is_on, runner, may_step, dispatched_from, halted}
-use Rattle.hk_model.specs.Running.{Machine, context_of, event, event_of, dispatch_event, step, moved, opened, after_lines, AreStepsOf, state_after}
+use Rattle.hk_model.specs.Running.{Machine, context_of, event, event_of, dispatch_event, step, moved, opened, after_lines, state_after}
 use Rattle.hk_program.specs.Machines.{IsSound}
 use Rattle.hk_program.proofs.Queues.{run_at, IsQueue}
 use Rattle.hk_program.proofs.Regular.{Regular}

@@ -1,5 +1,5 @@
 -- What a turn at a sound book leaves, and what it may answer.
-use Rattle.std.specs.Prelude.{◌≡◌, ◌≢◌, ◌⊎◌, ℕ, zero, suc, ◌+◌, ◌<◌, ◌≤◌, List, [], ◌∷◌, ◌++◌, length, Bool, true, false, not, ◌||◌, ◌&&◌, Option, Some, None, slice_get, slice_set, refl, IfSome, option_map, is_some}
+use Rattle.std.specs.Prelude.{◌≡◌, ◌⊎◌, ℕ, zero, suc, ◌<◌, List, [], ◌∷◌, ◌++◌, length, Bool, true, false, not, ◌||◌, Option, Some, None, slice_get, slice_set, refl, IfSome, option_map, is_some}
 use Rattle.std.specs.List.{list_any}
 use Rattle.std.specs.Vec.{vec_capacity}
 use Rattle.std.proofs.Common.{arith, ap, sym, ◌∙◌, subst, get_or}
@@ -11,7 +11,6 @@ use Rattle.hk_model.specs.declared.names.Cpu.{Cpu}
 use Rattle.hk_model.specs.declared.calls.Call.{Call}
 use Rattle.hk_model.specs.declared.calls.Reply.{Reply}
 use Rattle.hk_model.specs.declared.calls.Reply.TheVariants.{Done}
-use Rattle.hk_model.specs.declared.lines.What.{What}
 use Rattle.hk_model.specs.declared.lines.What.TheVariants as what
 use Rattle.hk_model.specs.declared.lines.Line.{Line}
 use Rattle.hk_model.specs.declared.objects.Process.{Process}
@@ -19,25 +18,22 @@ use Rattle.hk_model.specs.declared.objects.ProcessState.{ProcessState}
 use Rattle.hk_model.specs.declared.objects.ProcessState.TheVariants.{Ready, Running, Waiting, Ended}
 use Rattle.hk_model.specs.declared.frames.Todo.{Todo}
 use Rattle.hk_model.specs.declared.frames.Todo.TheVariants as todo
-use Rattle.hk_model.specs.Setup.{Setup, IsWorld}
+use Rattle.hk_model.specs.Setup.{Setup}
 use Rattle.hk_model.specs.State.{State, process}
 use Rattle.hk_model.specs.Control.{Context, next, after}
 use Rattle.hk_model.specs.Rule.{rule}
 use Rattle.hk_model.specs.Processors.{is_ready, is_running, is_over, runner, running_on, may_step, acted_on, acted_by, entered, entered_by, entered_on, halted_on, halted_by, has_left, left_by, dispatched, dispatched_from}
-use Rattle.hk_model.specs.Running.{Machine, context_of, AreStepsOf, state_after}
+use Rattle.hk_model.specs.Running.{context_of, AreStepsOf, state_after}
 use Rattle.hk_program.specs.Contexts.{AreFrames}
 use Rattle.hk_program.proofs.Queues.{run_at}
 use Rattle.hk_program.proofs.Frames.{next_frames, next_length}
 use Rattle.hk_program.proofs.Machines.{sound_after, sound_frames, sound_code, sound_room, lines_few}
-use Rattle.hk_procs.specs.declared.notes.Noted.{Noted}
 use Rattle.hk_procs.specs.declared.notes.Noted.TheVariants.{Event, Stop}
-use Rattle.hk_procs.specs.declared.answers.Asked.{Asked}
 use Rattle.hk_procs.specs.declared.answers.Asked.TheVariants as asked
-use Rattle.hk_procs.specs.declared.answers.Called.{Called}
 use Rattle.hk_procs.specs.declared.answers.Called.TheVariants as called
 use Rattle.hk_procs.specs.Notes.{lines_of, events}
-use Rattle.hk_procs.specs.Shown.{state_shown, machine_shown, HandsOut, RunsNothing, is_idle_shown, is_idle_of, is_end_shown, is_limit_shown, has_left_shown}
-use Rattle.hk_procs.specs.Promises.{IsFound, Adds, AddsLine, AnswersAsk, AnswersCall, told, may_want}
+use Rattle.hk_procs.specs.Shown.{state_shown, HandsOut, is_idle_of}
+use Rattle.hk_procs.specs.Promises.{IsFound, Adds, AnswersAsk, AnswersCall}
 use Rattle.hk_shared.specs.declared.book.Book.{Book}
 use Rattle.hk_shared.specs.Contexts.{machine_after, rests, KeepsContexts}
 use Rattle.hk_shared.specs.Books.{IsSound, IsNext, notes_of_book, added, stops}

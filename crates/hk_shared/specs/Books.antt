@@ -2,7 +2,7 @@
 use Rattle.std.specs.Prelude.{◌≡◌, ◌≤◌, ℕ, List, [], ◌∷◌, ◌++◌, Option, Some, None}
 use Rattle.std.specs.Vec.{vec_capacity}
 use Rattle.hk_model.specs.declared.names.Cpu.{Cpu}
-use Rattle.hk_model.specs.Setup.{Setup, IsWorld, setup}
+use Rattle.hk_model.specs.Setup.{Setup, IsWorld}
 use Rattle.hk_model.specs.State.{State}
 use Rattle.hk_model.specs.Running.{AreStepsOf, state_after}
 use Rattle.hk_procs.specs.declared.notes.Noted.{Noted}

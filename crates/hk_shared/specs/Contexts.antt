@@ -1,5 +1,5 @@
 -- The contexts that a desk keeps. docs/TURNS.md, "The shared kernel".
-use Rattle.std.specs.Prelude.{◌≡◌, ◌||◌, ◌<◌, ℕ, Bool, true, List, length, Option, Some, slice_get}
+use Rattle.std.specs.Prelude.{◌≡◌, ◌||◌, ℕ, Bool, true, List, length, Option, Some, slice_get}
 use Rattle.hk_model.specs.declared.lines.Line.{Line}
 use Rattle.hk_model.specs.declared.objects.ProcessState.{ProcessState}
 use Rattle.hk_model.specs.Setup.{Setup}

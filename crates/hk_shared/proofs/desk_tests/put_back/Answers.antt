@@ -1,5 +1,3 @@
-use Rattle.std.specs.Prelude.{List, All}
-use Rattle.std.proofs.Common.{sym, subst}
 use Rattle.std.proofs.lemmas.List.Elements.{All-push}
 use Rattle.hk_turn.specs.declared.pass.Pass.{Pass}
 use Rattle.hk_turn.specs.Passes.{seen_list}

@@ -1,4 +1,4 @@
-use Rattle.std.proofs.Common.{arith, refl, ap, sym, ◌∙◌, subst, ◌≡◌, ℕ, ◌≤◌, [], ◌∷◌, Some, map}
+use Rattle.std.proofs.Common.{arith, ap, ◌∙◌, subst, [], ◌∷◌, Some, map}
 use Rattle.hk_model.specs.declared.world.Task.{Task}
 use Rattle.hk_model.specs.Control.{new_frame}
 use Rattle.hk_model.specs.Opening.{opening}

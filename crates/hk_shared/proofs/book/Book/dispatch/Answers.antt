@@ -1,15 +1,7 @@
-use Rattle.std.proofs.Common.{rules, arith, refl, ap, sym, ◌∙◌, subst, ◌≡◌, ℕ, ◌+◌, ◌<◌, ◌≤◌, true, false, Bool, List, [], ◌∷◌, ◌++◌, length, Option, Some, None}
-use Rattle.std.specs.Prelude.{IfSome, not, slice_set}
-use Rattle.hk_model.specs.declared.frames.Todo.TheVariants.{Do, Halt}
-use Rattle.hk_model.specs.Control as control
-use Rattle.hk_model.specs.Setup.{Setup}
-use Rattle.hk_model.specs.State.{State, process}
-use Rattle.hk_model.specs.Processors.{may_step, is_over, runner, is_running}
-use Rattle.hk_program.specs.Contexts.{AreFrames}
-use Rattle.hk_shared.specs.Contexts.{rests}
-use Rattle.hk_shared.specs.Books.{IsSound, IsNext, notes_of_book}
-use Rattle.hk_shared.proofs.Events.{Gets, Makes}
-use Rattle.hk_shared.proofs.Turning.{stays, same_kernel, has_room, ask_stopped, ask_over, goes_below, ask_idle, gets, adds, hands_out, shown_now, sound_more, more_notes, acts, halts, left_is, frames_next, code_known, room_known, next_stop, adds_stop, call_stopped, call_limit, taken_keeps, goes_keeps, gone_keeps, ended_keeps, no_current, current_is, get_below, taken_is, not_both, same_frames, some_of, none_of, not_true, not_false, halted_ends}
+use Rattle.std.proofs.Common.{arith, refl, ap, sym, ◌∙◌}
+use Rattle.std.specs.Prelude.{slice_set}
+use Rattle.hk_model.specs.State.{process}
+use Rattle.hk_shared.proofs.Turning.{has_room, goes_below, ask_idle, gets, adds, hands_out, sound_more, taken_keeps, no_current, current_is, get_below, taken_is, not_both, same_frames}
 use Rattle.hk_shared.proofs.book.Book.dispatch.Goals as goal
 
 pub returns-in_default-clause-answer : goal.returns-in_default-clause-answer

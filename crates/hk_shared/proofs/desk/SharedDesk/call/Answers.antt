@@ -1,12 +1,9 @@
-use Rattle.std.proofs.Common.{rules, arith, refl, ap, sym, ◌∙◌, subst, ◌≡◌, ℕ, ◌+◌, ◌<◌, ◌≤◌, true, false, List, [], ◌∷◌, ◌++◌, length, Option, Some, None}
-use Rattle.hk_turn.specs.Passes.{pass_number, seen_list}
+use Rattle.std.proofs.Common.{ap, ◌∙◌, subst, ℕ}
+use Rattle.hk_turn.specs.Passes.{seen_list}
 use Rattle.hk_turn.specs.Turns.{found_list, turn_value}
 use Rattle.hk_procs.specs.Notes.{cpu_of}
-use Rattle.hk_procs.specs.Promises.{AnswersAsk, AnswersCall}
+use Rattle.hk_procs.specs.Promises.{AnswersCall}
 use Rattle.hk_shared.specs.Books.{notes_of_book}
-use Rattle.hk_model.specs.Control as control
-use Rattle.hk_model.specs.Running.{context_of}
-use Rattle.hk_shared.specs.Contexts.{machine_after}
 use Rattle.hk_shared.proofs.AtDesk.{few_found, still_runs, still_next, call_answers}
 use Rattle.hk_shared.proofs.desk.SharedDesk.call.Goals as goal
 
