@@ -5,7 +5,7 @@ mod Every
 mod Joined
 mod LineTexts
 mod StatesInRange
-mod StepsInRange
+pub mod StepsInRange
 mod TestsInRange
 pub mod DigitTexts
 pub mod Cuts
@@ -25,4 +25,4 @@ mod RecordSplits
 mod RecordEvents
 mod RecordAudits
 mod ScriptLines
-mod RecordAgain
+pub mod RecordAgain
