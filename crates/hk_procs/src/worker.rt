@@ -16,6 +16,7 @@ use hk_program::{Context, next};
 use hk_turn::Pass;
 use std::alloc::Global;
 use std::sync::Wait;
+use std::thread;
 
 /// How a worker has ended.
 #[derive(Clone, Copy, PartialEq, Eq, Debug)]
@@ -116,7 +117,10 @@ fn ask<D: Desk, R: Wait>(rt: &R, desk: &D, pass: Pass<Noted>) -> (Pass<Noted>, T
     let (pass, asked) = desk.ask(rt, pass);
     let turned = match asked {
         Asked::Given(proc, context) => Turned::Goes(Some((proc, context))),
-        Asked::Idle(_) => Turned::Goes(None),
+        Asked::Idle(_) => {
+            thread::yield_now();
+            Turned::Goes(None)
+        }
         Asked::Over => Turned::Ends(Ended::Over),
         Asked::Stopped => Turned::Ends(Ended::Stopped),
     };
