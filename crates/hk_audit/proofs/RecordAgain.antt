@@ -1,8 +1,8 @@
 -- The text of a record is read as its world, its lines and its end word.
-use Rattle.std.proofs.Common.{◌≡◌, ℕ, ◌+◌, ◌==◌, Bool, true, false, List, [], ◌∷◌, ◌++◌, length, map, refl, sym, ap, subst, ◌∙◌, arith, ◌&&◌, ◌||◌, not, Option, Some, None, Result, Ok, Err}
+use Rattle.std.proofs.Common.{◌≡◌, ℕ, ◌+◌, ◌==◌, Bool, true, false, List, [], ◌∷◌, ◌++◌, length, map, refl, sym, ap, ◌∙◌, arith, not, Some, None, Result, Ok, Err}
 use Rattle.std.specs.Prelude.{All}
-use Rattle.std.specs.List.{AllByRecursion, list_all, list_any, flat_map, join_with_byte}
-use Rattle.std.proofs.lemmas.Bool.{and_parts, and_from, false≢true}
+use Rattle.std.specs.List.{AllByRecursion, list_all, list_any, flat_map}
+use Rattle.std.proofs.lemmas.Bool.{and_parts, and_from}
 use Rattle.std.proofs.lemmas.Bool.Decides.{nat_tests}
 use Rattle.std.proofs.lemmas.List.Elements.{recursion_from_All}
 use mathlib.Core.List.{append_assoc}
@@ -13,7 +13,7 @@ use Rattle.hk_model.specs.declared.lines.End.TheVariants as end
 use Rattle.hk_model.specs.Labels.{same_text}
 use Rattle.hk_model.specs.Pieces.{Piece, spell, piece_of, is_piece}
 use Rattle.hk_model.specs.Setup.{Setup, IsWorld}
-use Rattle.hk_model.specs.Texts.{is_line, is_none, ended_line, lines_of, spell_line, spell_lines, without_last_empty}
+use Rattle.hk_model.specs.Texts.{is_line, is_none, ended_line, lines_of, spell_line, without_last_empty}
 use Rattle.hk_model.specs.Spelling.{script_lines}
 use Rattle.hk_model.specs.Canonical.{canon, syntax_of}
 use Rattle.hk_model.specs.Verbs.{all_verbs}
@@ -22,9 +22,8 @@ use Rattle.hk_model.specs.AuditLines.{arrow, event_pieces, reply_pieces, line_bo
 use Rattle.hk_model.specs.LineReading.{read_body}
 use Rattle.hk_model.specs.LineRanges.{IsLine}
 use Rattle.hk_model.specs.Worlds.{Refused, world, world_of}
-use Rattle.hk_model.specs.Loading.{◌>>=◌}
 use Rattle.hk_model.specs.Records.{record_word, end_text, lines_text, record_text}
-use Rattle.hk_model.specs.Audits.{Audited, Events, audit, audit_cut, audited, cut, cut_at_record, end_of, events, events_behind, events_from, is_record, line_before, one_more}
+use Rattle.hk_model.specs.Audits.{Audited, audit, audit_cut, audited, cut, cut_at_record, end_of, events, events_from, is_record, line_before}
 use Rattle.hk_model.proofs.Cutting.{all_both, all_joined, all_weaker, none_of, split_at}
 use Rattle.hk_model.proofs.LineAgain.{same_is}
 use Rattle.hk_model.proofs.LinesGood.{lines_good}

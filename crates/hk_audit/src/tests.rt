@@ -6,7 +6,9 @@ ghost use Rattle.hk_model.specs.Limits.{event_limit};
 ghost use Rattle.hk_model.specs.LineRanges.{IsCall, IsLine, IsReply, IsPathValue, IsWhat};
 ghost use Rattle.hk_model.specs.Setup.{setup};
 
-use crate::{line_text, record_is_read_again, record_text, steps_have_texts};
+use crate::{
+    line_text, record_is_read_again, record_text, record_text_is_of_one, steps_have_texts,
+};
 use hk_model::{
     Args, Call, Cpu, End, Inc, Items, Line, Making, NoMemory, Path, Proc, Refusal, Reply, Slot,
     Text, What, What8, World,
@@ -329,6 +331,7 @@ fn no_lines(alloc: Global, end: End) -> Result<Text, NoMemory> {
     let world = empty_world(alloc, 10000);
     steps_have_texts(&world, &[]);
     record_is_read_again(&world, &[], end);
+    record_text_is_of_one(&world, &[], end, &world, &[], end);
     record_text(alloc, &world, &[], end)
 }
 

@@ -226,7 +226,7 @@ impl Maker for Wants {
 }
 
 // The status of a run of such a kernel, whether a kernel came back, and how much was written.
-fn wanting<R: Threads + Wait + Sync>(
+fn run_wanting<R: Threads + Wait + Sync>(
     rt: &R,
     alloc: Global,
     spelled: &[&str],
@@ -242,7 +242,7 @@ fn wanting<R: Threads + Wait + Sync>(
 fn a_stop_writes_nothing(rt: HostRuntime) -> Result<(), Fail> {
     let alloc = rt.alloc();
     for spelled in [&["run"][..], &["run", "1"], &["run", "4"]] {
-        assert_eq!(rt; wanting(&rt, alloc, spelled)?, (status::NO_MEMORY, false, 0));
+        assert_eq!(rt; run_wanting(&rt, alloc, spelled)?, (status::NO_MEMORY, false, 0));
     }
     Ok(())
 }
