@@ -1,5 +1,5 @@
 -- How answers come about: a text that is due and said, and a text that is due to an input.
-use Rattle.std.proofs.Common.{◌≡◌, ◌∙◌, ap, ◌≢◌, ◌<◌, ◌≤◌, ◌↔◌, ℕ, List, length, codes, Option, Some, None, option_map, Ok, Err, IfOk, IfErr, IsErrOf, refl, subst, sym, inl, inr, Vec, Global, Result}
+use Rattle.std.proofs.Common.{◌≡◌, ◌∙◌, ap, ◌≢◌, ◌<◌, ◌≤◌, ◌↔◌, ℕ, List, length, codes, Option, None, option_map, Ok, Err, IfOk, IfErr, IsErrOf, refl, subst, sym, inl, inr, Vec, Global, Result}
 use Rattle.hk_io.specs.Streams.{Took}
 use Rattle.hk_io.specs.declared.whole.ReadError.{ReadError}
 use Rattle.std.specs.Fmt.{digits}
@@ -26,34 +26,9 @@ use Rattle.hk_top.specs.declared.served.Silence.{Silence}
 use Rattle.hk_top.specs.declared.served.Silence.TheVariants as silence
 use Rattle.hk_top.specs.declared.words.Command.{Command}
 use Rattle.hk_top.specs.declared.words.Command.TheVariants as command
-use Rattle.hk_top.specs.Words.{IsAlone, IsCommand, IsInRange, MayRun, ReadsScript, ReadsAtMost, words_of, byte_limit}
+use Rattle.hk_top.specs.Words.{IsAlone, IsCommand, IsInRange, ReadsScript, ReadsAtMost, words_of, byte_limit}
 use Rattle.hk_top.specs.Served.{IsTooLong, silent_status}
-use Rattle.hk_top.specs.Outputs.{
-  Due,
-  DueTo,
-  Answer,
-  IsRecorded,
-  IsRunOf,
-  IsChecked,
-  IsLawful,
-  Stream,
-  IsSaid,
-  status_of,
-  read,
-  record_of,
-  script_of,
-  verdict_of,
-  script_refused,
-  record_refused,
-  legal,
-  illegal,
-  too_long,
-  written,
-  read_fault,
-  no_memory,
-  write_fault,
-  HadFault,
-}
+use Rattle.hk_top.specs.Outputs.{Due, DueTo, Answer, IsRecorded, IsChecked, IsLawful, Stream, IsSaid, status_of, read, record_of, script_of, verdict_of, script_refused, record_refused, legal, illegal, too_long, written, read_fault, no_memory, write_fault, HadFault}
 
 -- a text that is due and said is an answer
 pub said : {words : List (List ℕ)} {input output : Stream} {status result : ℕ} {text : List ℕ} {made : Option State} → Due words input.before input.after status text made → IsSaid status text output result → Answer words input output result made

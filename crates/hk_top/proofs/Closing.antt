@@ -1,7 +1,7 @@
 -- A history that has come to its end goes no further: so workers that have seen an end leave a book that is closed.
-use Rattle.std.specs.Prelude.{◌≡◌, ◌⊎◌, ◌||◌, not, ℕ, zero, suc, ◌+◌, ◌<◌, ◌≤◌, List, [], ◌∷◌, ◌++◌, length, Bool, true, false, Option, Some, None, All, nat_lt, option_map, is_some, refl, if◌then◌else◌}
+use Rattle.std.specs.Prelude.{◌≡◌, ◌||◌, not, ℕ, zero, suc, ◌+◌, ◌<◌, ◌≤◌, List, [], ◌∷◌, ◌++◌, length, Bool, true, false, Option, Some, None, All, nat_lt, option_map, is_some, refl, if◌then◌else◌}
 use Rattle.std.specs.List.{list_any}
-use Rattle.std.proofs.Common.{arith, ap, sym, ◌∙◌, subst, cond}
+use Rattle.std.proofs.Common.{arith, ap, sym, ◌∙◌, subst}
 use mathlib.Core.Logic.{inl, inr}
 use mathlib.Core.List.{IsPrefix}
 use Rattle.hk_model.specs.declared.names.Proc.{Proc}
@@ -11,28 +11,27 @@ use Rattle.hk_model.specs.declared.lines.End.{End}
 use Rattle.hk_model.specs.declared.objects.Process.{Process}
 use Rattle.hk_model.specs.declared.objects.ProcessState.{ProcessState}
 use Rattle.hk_model.specs.declared.objects.ProcessState.TheVariants.{Ready, Running, Waiting, Ended}
-use Rattle.hk_model.specs.Setup.{Setup, IsWorld}
+use Rattle.hk_model.specs.Setup.{Setup}
 use Rattle.hk_model.specs.State.{State}
-use Rattle.hk_model.specs.Processors.{is_on, is_ready, is_running, is_over, may_step, runner, runner_from, dispatched_from}
-use Rattle.hk_model.specs.Running.{Machine, AreSteps, AreStepsOf, after_lines, event_of, dispatch_event, line_of, moved, opened, state_after, step}
+use Rattle.hk_model.specs.Processors.{is_on, is_ready, is_running, is_over, may_step, runner, runner_from}
+use Rattle.hk_model.specs.Running.{Machine, AreSteps, AreStepsOf, after_lines, event_of, line_of, moved, opened, state_after, step}
 use Rattle.hk_model.specs.Legal.{end_word}
 use Rattle.hk_program.proofs.Machines.{sound_after, sound_kept}
 use Rattle.hk_program.proofs.Queues.{run_at, IsQueue}
 use Rattle.hk_program.proofs.Regular.{Regular}
 use Rattle.hk_turn.specs.declared.pass.Pass.{Pass}
 use Rattle.hk_turn.specs.declared.turns.Turns.{Turns}
-use Rattle.hk_turn.specs.Passes.{pass_number, seen_list}
+use Rattle.hk_turn.specs.Passes.{seen_list}
 use Rattle.hk_turn.specs.Turns.{AreNewPasses, Extends}
 use Rattle.hk_procs.specs.declared.notes.Noted.{Noted}
 use Rattle.hk_procs.specs.declared.notes.Noted.TheVariants.{Event, Stop}
 use Rattle.hk_procs.specs.declared.worker.Ended.{Ended as How}
 use Rattle.hk_procs.specs.declared.worker.Ended.TheVariants as ended
-use Rattle.hk_procs.specs.Notes.{lines_of, events, owner_of, IsStopped}
+use Rattle.hk_procs.specs.Notes.{lines_of, events, owner_of}
 use Rattle.hk_procs.specs.Ends.{Ends}
-use Rattle.hk_procs.specs.Shown.{is_end_shown}
 use Rattle.hk_shared.specs.declared.book.Book.{Book}
-use Rattle.hk_shared.specs.Books.{IsBookOf, notes_of_book, stops}
-use Rattle.hk_shared.proofs.Notes.{append_nil, lines_append, lines_book, after_append, steps_first}
+use Rattle.hk_shared.specs.Books.{IsBookOf, stops}
+use Rattle.hk_shared.proofs.Notes.{append_nil, lines_append, lines_book, steps_first}
 use Rattle.hk_top.specs.declared.words.Command.TheVariants as command
 use Rattle.hk_top.specs.Words.{MayRun, words_of}
 use Rattle.hk_top.specs.Outputs.{IsRecord, IsRecorded, shared}

@@ -1,10 +1,9 @@
 -- Where nothing failed, the text that is due to the bytes was written whole.
-use Rattle.std.proofs.Common.{◌≡◌, ◌∙◌, ◌+◌, ◌<◌, ◌≤◌, ℕ, List, [], ◌∷◌, ◌++◌, length, codes, Option, Some, None, refl, sym, subst, ap, arith, inl, inr, length-append, append-nil}
-use Rattle.std.specs.Io.KnownBytes.{Appends, Consumes, IsAtEnd}
-use Rattle.hk_io.specs.Streams.{Took}
+use Rattle.std.proofs.Common.{◌≡◌, ◌∙◌, ◌≤◌, ℕ, List, [], ◌∷◌, ◌++◌, length, codes, Option, Some, None, refl, sym, subst, ap, arith, inl, inr, length-append, append-nil}
+use Rattle.std.specs.Io.KnownBytes.{Consumes, IsAtEnd}
 use Rattle.hk_model.specs.State.{State}
 use Rattle.hk_top.specs.Words.{IsCommand, ReadsAtMost, ReadsRecord, ReadsScript}
-use Rattle.hk_top.specs.Outputs.{Answer, Due, DueTo, HadFault, IsComplete, Stream, WasRead, read, usage, too_long, written, read_fault, no_memory, write_fault}
+use Rattle.hk_top.specs.Outputs.{Answer, Due, DueTo, IsComplete, Stream, read, usage, too_long, written, read_fault, no_memory, write_fault}
 
 -- a source that told its bytes and was read to its end gave them all
 all_read : (before after : Option (List ℕ)) (bytes got : List ℕ) → before ≡ Some bytes → Consumes before after got → IsAtEnd after → got ≡ bytes

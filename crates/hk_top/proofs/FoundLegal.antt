@@ -1,6 +1,5 @@
 -- The record of a legal history is read again, and has the verdict that it is legal.
-use Rattle.std.proofs.Common.{◌≡◌, ◌∙◌, ap, sym, ℕ, List, [], ◌∷◌, codes, Option, Ok, Err, Result, refl, subst, inl, inr}
-use Rattle.hk_model.specs.declared.causes.Misstep.{Misstep}
+use Rattle.std.proofs.Common.{◌≡◌, ◌∙◌, sym, ℕ, List, Option, Ok, refl, subst, inl, inr}
 use Rattle.hk_model.specs.declared.causes.Verdict.TheVariants.{Legal, Illegal}
 use Rattle.hk_model.specs.declared.lines.Line.{Line}
 use Rattle.hk_model.specs.declared.lines.End.{End}
@@ -10,8 +9,6 @@ use Rattle.hk_model.specs.Legal.{IsLegal}
 use Rattle.hk_model.specs.Records.{record_text}
 use Rattle.hk_model.specs.Setup.{Setup, IsWorld}
 use Rattle.hk_model.specs.State.{State}
-use Rattle.hk_model.specs.Verdicts.{IsVerdict}
-use Rattle.hk_model.specs.Worlds.{Refused}
 use Rattle.hk_audit.proofs.RecordAgain.{record_again}
 use Rattle.hk_audit.proofs.StepsInRange.{steps_in_range}
 use Rattle.hk_check.proofs.OneVerdict.{one_verdict}

@@ -1,7 +1,6 @@
 -- Words that spell a number of processors.
-use Rattle.std.specs.Prelude.{◌≡◌, ℕ, ◌<◌, ◌≤◌, ◌⊎◌, List, Option, Some, None, IfNone}
-use Rattle.std.proofs.Common.{arith, ap, sym, ◌∙◌, Fits}
-use Rattle.std.specs.Fmt.{decimal}
+use Rattle.std.specs.Prelude.{◌≡◌, ℕ, List, Option, Some, None, IfNone}
+use Rattle.std.proofs.Common.{arith, ap, sym, ◌∙◌}
 use Rattle.hk_audit.specs.Seen.{numeral_of}
 use Rattle.hk_audit.proofs.Clear.{numeral_again}
 use Rattle.hk_top.specs.Words.{MayRun, IsNoNumber}

@@ -60,7 +60,10 @@ fn writes_the_record_of_the_run(rt: HostRuntime) -> Result<(), Fail> {
     let run = words(alloc, &["run"])?;
     let mut input = source(alloc, Vec::new(alloc))?;
     let mut output = sink(alloc, Vec::new(alloc))?;
-    assert_eq!(rt; status_of(&rt, alloc, &run, &mut input, &mut output), status::DONE);
+    assert_eq!(rt;
+        status_of(&rt, alloc, &run, &mut input, &mut output),
+        status::DONE
+    );
     assert_eq!(rt; output.taken(), RECORD.as_slice());
     Ok(())
 }
@@ -144,7 +147,10 @@ fn shows_the_canonical_script(rt: HostRuntime) -> Result<(), Fail> {
     let script = b"hydra 1 # a comment\nlimit 10000\ntype stack\n";
     let mut input = SureBytes::new(script.to_vec(alloc)?);
     let mut output = sink(alloc, Vec::new(alloc))?;
-    assert_eq!(rt; status_of(&rt, alloc, &show, &mut input, &mut output), status::DONE);
+    assert_eq!(rt;
+        status_of(&rt, alloc, &show, &mut input, &mut output),
+        status::DONE
+    );
     assert_eq!(rt; output.taken(), b"hydra 1\ntype stack\n".as_slice());
     Ok(())
 }
@@ -165,7 +171,10 @@ fn tells_the_verdict_on_a_record(rt: HostRuntime) -> Result<(), Fail> {
     for (record, status, text) in told {
         let mut input = SureBytes::new(record.to_vec(alloc)?);
         let mut output = sink(alloc, Vec::new(alloc))?;
-        assert_eq!(rt; status_of(&rt, alloc, &check, &mut input, &mut output), status);
+        assert_eq!(rt;
+            status_of(&rt, alloc, &check, &mut input, &mut output),
+            status
+        );
         assert_eq!(rt; output.taken(), text);
     }
     Ok(())

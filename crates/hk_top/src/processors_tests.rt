@@ -130,7 +130,8 @@ fn the_lines_are_those_of_the_processors(rt: HostRuntime) -> Result<(), Fail> {
     assert_eq!(rt; ran.status, status::DONE);
     assert_eq!(rt; ran.missed, 0);
     assert_eq!(rt; ran.events, 8);
-    let record = b"hydra 1\ncode main\nyield\nend\nprocess a main\nend\nprocess b main\nend\nrecord\n0 0 0 dispatch -> done\n0 0 0 yield -> done\n0 1 1 dispatch -> done\n1 0 0 dispatch -> done\n1 0 0 return -> done\n0 1 1 yield -> done\n1 1 1 dispatch -> done\n1 1 1 return -> done\nend done\n";
+    let record =
+        b"hydra 1\ncode main\nyield\nend\nprocess a main\nend\nprocess b main\nend\nrecord\n0 0 0 dispatch -> done\n0 0 0 yield -> done\n0 1 1 dispatch -> done\n1 0 0 dispatch -> done\n1 0 0 return -> done\n0 1 1 yield -> done\n1 1 1 dispatch -> done\n1 1 1 return -> done\nend done\n";
     assert_eq!(rt; ran.text.as_slice(), record.as_slice());
     Ok(())
 }
@@ -142,7 +143,8 @@ fn another_order_makes_another_record(rt: HostRuntime) -> Result<(), Fail> {
     assert_eq!(rt; ran.status, status::DONE);
     assert_eq!(rt; ran.missed, 0);
     assert_eq!(rt; ran.events, 8);
-    let record = b"hydra 1\ncode main\nyield\nend\nprocess a main\nend\nprocess b main\nend\nrecord\n1 0 0 dispatch -> done\n0 1 1 dispatch -> done\n0 1 1 yield -> done\n1 0 0 yield -> done\n1 1 1 dispatch -> done\n0 0 0 dispatch -> done\n0 0 0 return -> done\n1 1 1 return -> done\nend done\n";
+    let record =
+        b"hydra 1\ncode main\nyield\nend\nprocess a main\nend\nprocess b main\nend\nrecord\n1 0 0 dispatch -> done\n0 1 1 dispatch -> done\n0 1 1 yield -> done\n1 0 0 yield -> done\n1 1 1 dispatch -> done\n0 0 0 dispatch -> done\n0 0 0 return -> done\n1 1 1 return -> done\nend done\n";
     assert_eq!(rt; ran.text.as_slice(), record.as_slice());
     Ok(())
 }
@@ -242,7 +244,10 @@ fn run_wanting<R: Threads + Wait + Sync>(
 fn a_stop_writes_nothing(rt: HostRuntime) -> Result<(), Fail> {
     let alloc = rt.alloc();
     for spelled in [&["run"][..], &["run", "1"], &["run", "4"]] {
-        assert_eq!(rt; run_wanting(&rt, alloc, spelled)?, (status::NO_MEMORY, false, 0));
+        assert_eq!(rt;
+            run_wanting(&rt, alloc, spelled)?,
+            (status::NO_MEMORY, false, 0)
+        );
     }
     Ok(())
 }

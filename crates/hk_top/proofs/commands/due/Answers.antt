@@ -1,4 +1,3 @@
-use Rattle.std.proofs.Common.{Err, ap, ◌∙◌}
 use Rattle.hk_top.proofs.AnswerLemmas.{alone_ranges, read_due, unread_due}
 use Rattle.hk_top.proofs.commands.due.Goals as goal
 

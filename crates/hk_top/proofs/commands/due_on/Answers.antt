@@ -1,4 +1,4 @@
-use Rattle.std.proofs.Common.{Err, ap, refl, ◌∙◌}
+use Rattle.std.proofs.Common.{refl}
 use Rattle.hk_top.specs.declared.words.Command.TheVariants as command
 use Rattle.hk_top.proofs.AnswerLemmas.{read_due, unread_due}
 use Rattle.hk_top.proofs.commands.due_on.Goals as goal

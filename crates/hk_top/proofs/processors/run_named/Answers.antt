@@ -1,5 +1,5 @@
-use Rattle.std.proofs.Common.{arith, ap, subst, sym, ◌≡◌, ◌∙◌, ℕ}
-use Rattle.std.specs.Prelude.{All, List, length, ◌<◌, is_some}
+use Rattle.std.proofs.Common.{arith, ap, subst, sym, ◌∙◌, ℕ}
+use Rattle.std.specs.Prelude.{All, ◌<◌, is_some}
 use Rattle.hk_model.specs.Setup.{Setup}
 use Rattle.hk_procs.specs.Notes.{owner_of}
 use Rattle.hk_turn.specs.Turns.{seat_count}

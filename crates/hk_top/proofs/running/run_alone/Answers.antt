@@ -29,7 +29,6 @@ unreachable-requires g c =
     (last c.args.world.now c.loop-lines.lines c.loop-lines.machine c.in_ok-line.field-0 c.step.new.self (g.K.Kernel.state c.kernel.result.now) c.in_ok-end.field-0 c.loop-lines.invariant.history c.in_ok-line.ensures.none
     c.in_default.is c.kernel.ensures c.in_ok-end.ensures).there c.in_default-2.is
 
-
 pub returns-clause-run : goal.returns-clause-run
 returns-clause-run g c =
     (last c.args.world.now c.loop-lines.lines c.loop-lines.machine c.in_ok-line.field-0 c.step.new.self (g.K.Kernel.state c.kernel.result.now) c.in_ok-end.field-0 c.loop-lines.invariant.history c.in_ok-line.ensures.none
