@@ -7,8 +7,8 @@ use Rattle.hk_model.specs.Setup.{Setup}
 use Rattle.hk_procs.specs.declared.notes.Noted.{Noted}
 use Rattle.hk_procs.specs.declared.worker.Ended.{Ended}
 use Rattle.hk_procs.specs.declared.worker.Ended.TheVariants as ended
-use Rattle.hk_procs.specs.declared.worker.Turned.{Turned}
-use Rattle.hk_procs.specs.declared.worker.Turned.TheVariants as turned
+use Rattle.hk_procs.specs.declared.worker.Outcome.{Outcome}
+use Rattle.hk_procs.specs.declared.worker.Outcome.TheVariants as outcome
 use Rattle.hk_procs.specs.Notes.{IsStopped, IsStoppedBy}
 use Rattle.hk_procs.specs.Shown.{RunsNothing, HandsOut, is_end_shown}
 
@@ -24,6 +24,6 @@ Holds w cpu notes None = RunsNothing w cpu notes
 Holds w cpu notes (Some (proc, context)) = HandsOut w cpu notes proc context
 
 -- what comes of a call of the desk
-abbrev pub Turns : Setup → Cpu → List Noted → Turned → Type 0
-Turns w cpu notes (turned.Goes held) = Holds w cpu notes held
-Turns w cpu notes (turned.Ends ended) = Ends w cpu notes ended
+abbrev pub ComesTo : Setup → Cpu → List Noted → Outcome → Type 0
+ComesTo w cpu notes (outcome.Goes held) = Holds w cpu notes held
+ComesTo w cpu notes (outcome.Ends ended) = Ends w cpu notes ended

@@ -5,7 +5,7 @@ ghost use Rattle.hk_model.specs.Running.{AreStepsOf};
 ghost use Rattle.hk_turn.specs.Passes.{pass_number, seen_list};
 ghost use Rattle.hk_procs.specs.Notes.{cpu_of, lines_of};
 ghost use Rattle.hk_procs.specs.Shown.{RunsNothing, HandsOut};
-ghost use Rattle.hk_procs.specs.Ends.{Ends, Holds, Turns};
+ghost use Rattle.hk_procs.specs.Ends.{Ends, Holds, ComesTo};
 
 use crate::answers::{Asked, Called};
 use crate::desk::Desk;
@@ -31,7 +31,7 @@ pub enum Ended {
 
 // How it goes on after a call of the desk.
 #[derive(Drop)]
-pub(crate) enum Turned {
+pub(crate) enum Outcome {
     // With the process that its processor runs, if there is one, and the control of that process.
     Goes(Option<(Proc, Context)>),
     // There is no more to do.
@@ -70,34 +70,34 @@ pub fn work<D: Desk, G: Gate, R: Wait>(
     for _ in rt.forever() {
         gate.before(cpu, nth);
         nth = nth.saturating_add(1);
-        let (back, turned) = turn(rt, alloc, desk, world, pass, held);
-        match turned {
-            Turned::Goes(next) => {
+        let (back, outcome) = call_desk(rt, alloc, desk, world, pass, held);
+        match outcome {
+            Outcome::Goes(next) => {
                 pass = back;
                 held = next;
             }
-            Turned::Ends(ended) => return (back, ended),
+            Outcome::Ends(ended) => return (back, ended),
         }
     }
     unreachable!()
 }
 
 // One call of the desk, by what the processor runs.
-fn turn<D: Desk, R: Wait>(
+fn call_desk<D: Desk, R: Wait>(
     rt: &R,
     alloc: Global,
     desk: &D,
     world: &World,
     pass: Pass<Noted>,
     held: Option<(Proc, Context)>,
-) -> (Pass<Noted>, Turned)
+) -> (Pass<Noted>, Outcome)
     requires world { world.now ≡ D.world }
     requires own { D.belongs desk.now pass }
     requires held { Holds D.world (cpu_of pass) (seen_list pass) held }
     ensures own { D.belongs desk.now result.0 }
     ensures number { pass_number result.0 ≡ pass_number pass }
     ensures steps { AreStepsOf D.world (lines_of (seen_list result.0)) }
-    ensures turned { Turns D.world (cpu_of pass) (seen_list result.0) result.1 }
+    ensures outcome { ComesTo D.world (cpu_of pass) (seen_list result.0) result.1 }
 {
     match held {
         Some((proc, context)) => call_next(rt, alloc, desk, world, pass, proc, context),
@@ -106,25 +106,25 @@ fn turn<D: Desk, R: Wait>(
 }
 
 // Asks for a process.
-fn ask<D: Desk, R: Wait>(rt: &R, desk: &D, pass: Pass<Noted>) -> (Pass<Noted>, Turned)
+fn ask<D: Desk, R: Wait>(rt: &R, desk: &D, pass: Pass<Noted>) -> (Pass<Noted>, Outcome)
     requires own { D.belongs desk.now pass }
     requires idle { RunsNothing D.world (cpu_of pass) (seen_list pass) }
     ensures own { D.belongs desk.now result.0 }
     ensures number { pass_number result.0 ≡ pass_number pass }
     ensures steps { AreStepsOf D.world (lines_of (seen_list result.0)) }
-    ensures turned { Turns D.world (cpu_of pass) (seen_list result.0) result.1 }
+    ensures outcome { ComesTo D.world (cpu_of pass) (seen_list result.0) result.1 }
 {
     let (pass, asked) = desk.ask(rt, pass);
-    let turned = match asked {
-        Asked::Given(proc, context) => Turned::Goes(Some((proc, context))),
+    let outcome = match asked {
+        Asked::Given(proc, context) => Outcome::Goes(Some((proc, context))),
         Asked::Idle(_) => {
             thread::yield_now();
-            Turned::Goes(None)
+            Outcome::Goes(None)
         }
-        Asked::Over => Turned::Ends(Ended::Over),
-        Asked::Stopped => Turned::Ends(Ended::Stopped),
+        Asked::Over => Outcome::Ends(Ended::Over),
+        Asked::Stopped => Outcome::Ends(Ended::Stopped),
     };
-    (pass, turned)
+    (pass, outcome)
 }
 
 // Makes what is next for the process.
@@ -136,23 +136,23 @@ fn call_next<D: Desk, R: Wait>(
     pass: Pass<Noted>,
     proc: Proc,
     mut context: Context,
-) -> (Pass<Noted>, Turned)
+) -> (Pass<Noted>, Outcome)
     requires world { world.now ≡ D.world }
     requires own { D.belongs desk.now pass }
     requires held { HandsOut D.world (cpu_of pass) (seen_list pass) proc context }
     ensures own { D.belongs desk.now result.0 }
     ensures number { pass_number result.0 ≡ pass_number pass }
     ensures steps { AreStepsOf D.world (lines_of (seen_list result.0)) }
-    ensures turned { Turns D.world (cpu_of pass) (seen_list result.0) result.1 }
+    ensures outcome { ComesTo D.world (cpu_of pass) (seen_list result.0) result.1 }
 {
     let todo = next(&mut context, world);
     let (pass, called) = desk.call(rt, alloc, pass, proc, context, todo);
-    let turned = match called {
-        Called::Goes(_, context) => Turned::Goes(Some((proc, context))),
-        Called::Gone(_) => Turned::Goes(None),
-        Called::Limit => Turned::Ends(Ended::Over),
-        Called::Stopped => Turned::Ends(Ended::Stopped),
-        Called::NoMemory => Turned::Ends(Ended::NoMemory),
+    let outcome = match called {
+        Called::Goes(_, context) => Outcome::Goes(Some((proc, context))),
+        Called::Gone(_) => Outcome::Goes(None),
+        Called::Limit => Outcome::Ends(Ended::Over),
+        Called::Stopped => Outcome::Ends(Ended::Stopped),
+        Called::NoMemory => Outcome::Ends(Ended::NoMemory),
     };
-    (pass, turned)
+    (pass, outcome)
 }

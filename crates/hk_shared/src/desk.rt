@@ -30,7 +30,7 @@ impl<K: Kernel, J: Naming> Desk for Shared<K, J> {
         let cpu = Cpu(pass.number() as u8);
         let mut turn = self.turns.take(rt, pass);
         let (note, asked) = turn.value().ask(cpu);
-        (ended(turn, note), asked)
+        (give_back(turn, note), asked)
     }
 
     fn call<R: Wait>(
@@ -45,12 +45,12 @@ impl<K: Kernel, J: Naming> Desk for Shared<K, J> {
         let cpu = Cpu(pass.number() as u8);
         let mut turn = self.turns.take(rt, pass);
         let (note, called) = turn.value().call(alloc, cpu, proc, context, next);
-        (ended(turn, note), called)
+        (give_back(turn, note), called)
     }
 }
 
 // Gives a turn back with a note of its pass, if there is one.
-fn ended<K: Kernel, J: Naming>(turn: Turn<'_, Book<K, J>>, note: Option<Noted>) -> Pass<Noted>
+fn give_back<K: Kernel, J: Naming>(turn: Turn<'_, Book<K, J>>, note: Option<Noted>) -> Pass<Noted>
     requires stands { IsBookOf K.state J.world (turn_value turn) (found_list turn ++ added note) }
     requires own { IsOwnedBy (turn_number turn) note }
     requires room { length (found_list turn) < 2 ^ 62 }

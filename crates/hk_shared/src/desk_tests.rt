@@ -396,7 +396,7 @@ fn each_answer_of_the_smallest_run(rt: HostRuntime) -> Result<(), Fail> {
 
 // A plain kernel, whose first `adddata` wants memory.
 #[derive(Drop)]
-struct Wanting {
+pub(crate) struct Wanting {
     plain: Plain,
     wanted: bool,
 }
@@ -441,6 +441,16 @@ impl Kernel for Wanting {
     }
 }
 
+// Such a kernel, which has opened the world.
+pub(crate) fn opened_wanting(alloc: Global, world: &World) -> Result<Wanting, Fail>
+    ensures { IfOk result (λ kernel. kernel.plain ≡ opening world.now) }
+{
+    Ok(Wanting {
+        plain: Plain::new(alloc, world).ok().ok_or("a kernel")?,
+        wanted: false,
+    })
+}
+
 // The book, once all passes are back, each of which shows a stop: it is the stop of the book.
 fn closed_at_a_stop<K: Kernel, J: Naming>(
     shared: Shared<K, J>,
@@ -480,10 +490,7 @@ fn stopped_run_named<J: Naming, R: Wait>(
 ) -> Result<StoppedRun, Fail>
     requires { world.now ≡ J.world }
 {
-    let kernel = Wanting {
-        plain: Plain::new(alloc, world).ok().ok_or("a kernel")?,
-        wanted: false,
-    };
+    let kernel = opened_wanting(alloc, world)?;
     let (shared, mut passes) = started::<Wanting, J>(alloc, kernel, world, 3)?;
     let zero = first_of(&shared, &mut passes, 0)?;
     let one = first_of(&shared, &mut passes, 1)?;

@@ -1,10 +1,12 @@
-// A world of one process, run by one worker at a desk.
+// A world that one worker runs at a desk.
 
 ghost use Rattle.std.specs.Prelude.{◌≡◌};
+ghost use Rattle.hk_model.specs.Opening.{opening};
 
-use crate::test_worlds::reads;
+use crate::desk_tests::{Wanting, opened_wanting};
+use crate::test_worlds::{adds, reads};
 use crate::{Naming, Shared};
-use hk_model::{Cpu, World};
+use hk_model::{Cpu, Kernel, World};
 use hk_plain::Plain;
 use hk_procs::{Ended, Gate, work};
 use std::alloc::Global;
@@ -27,20 +29,25 @@ struct Left {
     current: bool,
 }
 
-// Runs the world that is named.
+// Runs the world that is named on a kernel that has opened it.
 #[tactic(auto, using(crate::proofs::NewPasses::new_runs_nothing))]
-fn run_named<J: Naming, R: Wait>(rt: &R, alloc: Global, world: &World) -> Result<Left, Fail>
-    requires { world.now ≡ J.world }
+fn run_named<K: Kernel, J: Naming, R: Wait>(
+    rt: &R,
+    alloc: Global,
+    world: &World,
+    kernel: K,
+) -> Result<Left, Fail>
+    requires world { world.now ≡ J.world }
+    requires opening { K.state kernel ≡ opening world.now }
 {
-    let kernel = Plain::new(alloc, world).ok().ok_or("a kernel")?;
-    let started = Shared::<Plain, J>::start(alloc, kernel, world, 1);
+    let started = Shared::<K, J>::start(alloc, kernel, world, 1);
     let (shared, mut passes) = started.ok().ok_or("a desk")?;
     let pass = passes.remove(0);
     let (pass, ended) = work(rt, alloc, &shared, &Open, world, pass);
     passes.push(pass)?;
     let book = shared.close(passes);
     let (lines, stop) = (book.lines().len(), book.stop());
-    let current = hk_model::Kernel::current(book.kernel(), Cpu(0)).is_some();
+    let current = book.kernel().current(Cpu(0)).is_some();
     let _kernel = book.into_kernel();
     Ok(Left {
         ended,
@@ -50,9 +57,10 @@ fn run_named<J: Naming, R: Wait>(rt: &R, alloc: Global, world: &World) -> Result
     })
 }
 
-// Runs a world, which it names.
+// Runs a world, which it names, on a plain kernel.
 fn run<R: Wait>(rt: &R, alloc: Global, world: &World) -> Result<Left, Fail> {
-    run_named::<Brand, R>(rt, alloc, world)
+    let kernel = Plain::new(alloc, world).ok().ok_or("a kernel")?;
+    run_named::<Plain, Brand, R>(rt, alloc, world, kernel)
 }
 
 #[test]
@@ -78,5 +86,24 @@ fn a_worker_is_over_at_the_limit(rt: HostRuntime) -> Result<(), Fail> {
         current: true,
     };
     assert_eq!(rt; run(&rt, rt.alloc(), &world)?, left);
+    Ok(())
+}
+
+// Runs a world, which it names, on a kernel whose first `adddata` wants memory.
+fn run_wanting<R: Wait>(rt: &R, alloc: Global, world: &World) -> Result<Left, Fail> {
+    let kernel = opened_wanting(alloc, world)?;
+    run_named::<Wanting, Brand, R>(rt, alloc, world, kernel)
+}
+
+#[test]
+fn a_worker_whose_call_wants_memory_ends_so(rt: HostRuntime) -> Result<(), Fail> {
+    let world = adds(rt.alloc())?;
+    let left = Left {
+        ended: Ended::NoMemory,
+        lines: 1,
+        stop: Some(Cpu(0)),
+        current: true,
+    };
+    assert_eq!(rt; run_wanting(&rt, rt.alloc(), &world)?, left);
     Ok(())
 }
