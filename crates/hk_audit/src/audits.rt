@@ -60,7 +60,7 @@ pub fn read_record(alloc: Global, bytes: &[u8]) -> Result<Audit, RecordError>
     ensures ok { IfOk result (λ a. audit bytes.now ≡ Ok a) }
     ensures refused { (line : ℕ) (cause : Cause) → IsRefused result line cause → audit bytes.now ≡ Err (line, cause) }
 {
-    let _ = PhantomData::<Template>;
+    let _ = PhantomData::<Template>; // Rattle is to know what an Entry holds
     let (script, behind) = bytes.split_at(script_length(bytes));
     let world = read_world(alloc, script)?;
     let events = read_events(alloc, behind, line_count(script) + 1)?;

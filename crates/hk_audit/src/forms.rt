@@ -87,7 +87,7 @@ pub fn path(text: &[u8]) -> Result<Path, ParseCause>
     }
 }
 
-/// The path of one index.
+// The path of one index.
 fn one_index(n: u64) -> Result<Path, ParseCause>
     ensures { as_path (Number n) ≡ result }
 {
@@ -132,7 +132,7 @@ pub fn word(text: &[u8]) -> Result<&[u8], ParseCause>
     }
 }
 
-/// Whether the text begins with a lower-case letter.
+// Whether the text begins with a lower-case letter.
 fn begins_low(text: &[u8]) -> bool
     ensures { result ≡ is_lower (first text.now) }
 {

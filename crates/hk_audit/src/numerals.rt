@@ -20,14 +20,14 @@ pub fn numeral(text: &[u8]) -> Option<u64>
     number(text)
 }
 
-/// Whether all bytes are digits.
+// Whether all bytes are digits.
 fn are_digits(text: &[u8]) -> bool
     ensures { result ≡ list_all is_digit text.now }
 {
     text.iter().all(|byte| b'0' <= *byte && *byte <= b'9')
 }
 
-/// The number that digits stand for, if 64 bits hold it.
+// The number that digits stand for, if 64 bits hold it.
 fn number(text: &[u8]) -> Option<u64>
     requires { IsTrue (is_number text.now) }
     ensures { result ≡ (if nat_lt (value text.now) inc_bound then Some (value text.now) else None) }

@@ -29,7 +29,7 @@ pub fn path_in(text: &[u8]) -> Option<Path>
     Path::new(&indices[..count])
 }
 
-/// The index that the text spells.
+// The index that the text spells.
 fn index(text: &[u8]) -> Option<u16>
     ensures { result ≡ (if is_index_numeral text.now then Some (value text.now) else None) }
 {

@@ -23,7 +23,7 @@ pub fn rights_in(text: &[u8]) -> Option<Rights>
     }
 }
 
-/// The set that the text means, in any spelling.
+// The set that the text means, in any spelling.
 #[tactic(auto, unfolding(hk_model::specs::RightsTexts::rights_of))]
 fn rights_meant(text: &[u8]) -> Option<Rights>
     ensures { result ≡ rights_of text.now }
@@ -37,7 +37,7 @@ fn rights_meant(text: &[u8]) -> Option<Rights>
     names_in(text)
 }
 
-/// The set of the rights whose names `+` joins.
+// The set of the rights whose names `+` joins.
 fn names_in(text: &[u8]) -> Option<Rights>
     ensures { result ≡ union_of (slice_split (λ b. b == 43) text.now) }
 {
@@ -60,7 +60,7 @@ pub fn right_in(name: &[u8]) -> Option<Right>
     }
 }
 
-/// Whether the text is the canonical spelling of the set.
+// Whether the text is the canonical spelling of the set.
 #[tactic(auto, unfolding(hk_model::specs::RightsTexts::rights_text))]
 fn is_spelling(rights: Rights, text: &[u8]) -> bool
     ensures { result ≡ same_text (rights_text rights) text.now }
@@ -74,7 +74,7 @@ fn is_spelling(rights: Rights, text: &[u8]) -> bool
     are_names(rights, text)
 }
 
-/// Whether the text is the names of the rights of the set, by rising number and joined by `+`.
+// Whether the text is the names of the rights of the set, by rising number and joined by `+`.
 #[tactic(auto, unfolding(hk_rights::specs::Rights::right_numbers, hk_rights::specs::Rights::right_table))]
 fn are_names(rights: Rights, text: &[u8]) -> bool
     requires set { IsRightsWord rights }
@@ -89,7 +89,7 @@ const NUMBERS: [u8; 19] = [
     0, 1, 2, 3, 4, 5, 6, 7, 8, 9, 10, 16, 17, 18, 19, 20, 21, 22, 23,
 ];
 
-/// Whether the texts that `+` joins are the names of those of these rights that the set has.
+// Whether the texts that `+` joins are the names of those of these rights that the set has.
 fn are_names_among(numbers: &[u8], rights: Rights, text: &[u8]) -> bool
     requires { IsRightsWord rights }
     ensures { result ≡ same_texts (map name_of (filter (has rights) numbers.now)) (slice_split (λ b. b == 43) text.now) }
@@ -110,7 +110,7 @@ fn are_names_among(numbers: &[u8], rights: Rights, text: &[u8]) -> bool
     parts.is_read()
 }
 
-/// The right of this number, if the set has it.
+// The right of this number, if the set has it.
 fn right_of(rights: Rights, number: u8) -> Option<Right>
     requires { IsRightsWord rights }
     ensures { result ≡ (if has rights number then Some number else None) }

@@ -13,8 +13,9 @@ use hk_program::{Machine, end_word};
 use std::alloc::Global;
 
 /// The verdict on the lines and the end word of a record of a world (`docs/FORMATS.md`, "Legal
-/// records"): Legal, or the first bad line, counted from 1, with its first cause. The lines are
-/// steps of the world run again from its opening. NoMemory is want of memory.
+/// records"): Legal, or the first bad line, counted from 1, with its first cause. It runs the
+/// world again from its opening, and compares each line with the step of its processor. NoMemory is
+/// want of memory.
 pub fn check(alloc: Global, world: &World, lines: &[Line], end: End) -> Result<Verdict, NoMemory>
     ensures { IfOk result (λ verdict. IsVerdict world.now lines.now end verdict) }
 {

@@ -11,6 +11,7 @@ pub trait Naming {
     ghost world: { Setup };
 }
 
+// Who picks the name says which world it is; without that it is this one, which nobody uses.
 impl Naming for Brand {
     ghost use Rattle.std.specs.Prelude.{[]};
     ghost use Rattle.hk_model.specs.Setup.{setup};

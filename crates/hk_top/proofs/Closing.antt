@@ -71,7 +71,7 @@ none_stands w s reg h = by s.ready reg.ready
     by (first ∷ rest) q = absurd (still_ready s.processes first.0 h q.0.0)
 
 -- the limit is reached, or no process is ready and none runs
-data HasEnded (s : State) : Type 0 where
+pub data HasEnded (s : State) : Type 0 where
   at_limit : may_step s ≡ false → HasEnded s
   still : AreStill s.processes → HasEnded s
 
@@ -83,15 +83,18 @@ has_ended_of s h = by (may_step s) (list_any (λ (p : Process). is_ready p.run |
     by true false e f g = still f
     by true true e f g = absurd (cc)
 
-no_line : (w : Setup) (m : Machine) (cpu : Cpu) → Regular w m.state → HasEnded m.state → line_of w m cpu ≡ None
+pub no_step : (w : Setup) (m : Machine) (cpu : Cpu) → Regular w m.state → HasEnded m.state → step w m cpu ≡ None
 unfolding step
-no_line w m cpu reg (at_limit e) = rw e refl
-no_line w m cpu reg (still h) = by (may_step m.state) (nat_lt cpu.0 16)
+no_step w m cpu reg (at_limit e) = rw e refl
+no_step w m cpu reg (still h) = by (may_step m.state) (nat_lt cpu.0 16)
   where
-    by : (may low : Bool) → option_map (λ found. found.0) (if may then (if low then event_of w m cpu (runner m.state cpu) else None) else None) ≡ None
+    by : (may low : Bool) → (if may then (if low then event_of w m cpu (runner m.state cpu) else None) else None) ≡ None
     by true true = rw (still_on cpu m.state.processes 0 h, none_stands w m.state reg h) refl
     by true false = refl
     by false low = refl
+
+no_line : (w : Setup) (m : Machine) (cpu : Cpu) → Regular w m.state → HasEnded m.state → line_of w m cpu ≡ None
+no_line w m cpu reg h = ap (λ (found : Option (Line × Machine)). option_map (λ f. f.0) found) (no_step w m cpu reg h)
 
 goes_no_further : (w : Setup) (m : Machine) (rest : List Line) → Regular w m.state → HasEnded m.state → AreSteps w m rest → rest ≡ []
 goes_no_further w m [] reg h steps = refl

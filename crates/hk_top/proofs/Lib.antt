@@ -6,3 +6,4 @@ pub mod Complete
 pub mod Ends
 pub mod FoundLegal
 pub mod WordLemmas
+pub mod OneRun

@@ -45,7 +45,7 @@ fn misstep_name(cause: Misstep) -> &'static str
     }
 }
 
-/// The name of a cause.
+// The name of a cause.
 fn cause_name(cause: Cause) -> &'static str
     ensures { result.now ≡ cause_name cause }
 {

@@ -4,8 +4,8 @@ ghost use Rattle.std.specs.Prelude.{◌≡◌, ◌≢◌, ◌⊎◌, IfOk, IfErr
 ghost use Rattle.hk_io.specs.Causes.{Rose};
 ghost use Rattle.hk_model.specs.Limits.{script_bytes};
 ghost use Rattle.hk_top.specs.Words.{IsCommand, IsAlone, MayRun, RunsOnMany, words_of, byte_limit};
-ghost use Rattle.hk_top.specs.Outputs.{Answer, Due, IsComplete, IsSaid, stream};
-ghost use Rattle.hk_top.specs.Served.{IsTooLong, silent_status};
+ghost use Rattle.hk_top.specs.Outputs.{Answer, IsComplete, IsSaid, stream};
+ghost use Rattle.hk_top.specs.Served.{IsDue, IsTooLong, silent_status};
 
 use crate::maker::Maker;
 use crate::outputs::{due_to_bytes, text_alone, too_long};
@@ -28,7 +28,8 @@ const RECORD_BYTES: usize = 536_870_912;
 /// The top call: serves the words of a command. It reads the source, writes one text to the sink, and
 /// gives the status (`docs/FORMATS.md`, "Statuses and outputs"); where the text is the record of a
 /// run, it gives the kernel that was run, in the state that the lines of the record lead to. The
-/// clause `answer` says when each status comes, and `complete` that no other comes where nothing fails.
+/// clause `answer` says when each status comes, and `complete` what comes where nothing fails and the
+/// source tells its bytes.
 ///
 /// `run N` runs N processors, each a thread, and may wait for ever. Each tells the gate of its calls.
 pub fn hydra<S: Source, W: Sink, G: Gate + Sync, M: Maker, R: Threads + Wait + Sync>(
@@ -98,7 +99,7 @@ fn due<S: Source, M: Maker>(
     kernels: &M,
 ) -> Result<Served<M::Made>, Silence>
     requires alone { IsAlone command }
-    ensures due { IfOk result (λ served. Due (words_of command) (S.left input.old) (S.left input.new) served.due.status served.due.text (option_map M.Made.state served.kernel)) }
+    ensures due { IfOk result (λ served. IsDue M.Made.state (words_of command) (S.left input.old) (S.left input.new) served) }
     ensures status { IfOk result (λ served. served.due.status ≢ 4 × served.due.status ≢ 5) }
     ensures fault { IsErrOf result Silence.ReadFault → Rose (S.faults input.old) (S.faults input.new) }
 {
@@ -118,7 +119,7 @@ fn due_on<S: Source, G: Gate + Sync, M: Maker, R: Threads + Wait + Sync>(
     kernels: &M,
 ) -> Result<Served<M::Made>, Silence>
     requires cpus { MayRun cpus }
-    ensures due { IfOk result (λ served. Due (words_of (Command.RunOn cpus)) (S.left input.old) (S.left input.new) served.due.status served.due.text (option_map M.Made.state served.kernel)) }
+    ensures due { IfOk result (λ served. IsDue M.Made.state (words_of (Command.RunOn cpus)) (S.left input.old) (S.left input.new) served) }
     ensures status { IfOk result (λ served. served.due.status ≢ 4 × served.due.status ≢ 5) }
     ensures fault { IsErrOf result Silence.ReadFault → Rose (S.faults input.old) (S.faults input.new) }
 {

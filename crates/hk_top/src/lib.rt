@@ -20,4 +20,4 @@ mod words;
 
 pub use commands::{answer, hydra};
 pub use maker::{Maker, Maps};
-pub use printed::printed_record_is_legal;
+pub use printed::{one_processor_runs_alone, printed_record_is_legal, whole_run_is_one};

@@ -1,14 +1,15 @@
 //! The status and the text that are due to what a command read (`docs/FORMATS.md`, "Statuses and
 //! outputs").
 
-ghost use Rattle.std.specs.Prelude.{◌≡◌, ◌≢◌, ◌≤◌, IfOk, None, length, option_map};
+ghost use Rattle.std.specs.Prelude.{◌≡◌, ◌≢◌, ◌≤◌, IfOk, None, length};
 ghost use Rattle.hk_model.specs.CauseTexts.{cause_name, refusal_text, too_long_text, verdict_text};
 ghost use Rattle.hk_model.specs.Limits.{script_bytes, record_bytes};
 ghost use Rattle.hk_model.specs.Canonical.{canon};
 ghost use Rattle.hk_model.specs.Opening.{opening};
 ghost use Rattle.hk_model.specs.Running.{AreStepsOf};
 ghost use Rattle.hk_top.specs.Words.{words_of, byte_limit, IsAlone};
-ghost use Rattle.hk_top.specs.Outputs.{DueTo, IsChecked, IsRecord, IsRecorded};
+ghost use Rattle.hk_top.specs.Outputs.{DueTo, IsChecked, IsRecord};
+ghost use Rattle.hk_top.specs.Served.{IsDueTo, Records};
 
 use crate::causes::{refusal_text, verdict_text};
 use crate::maker::Maker;
@@ -32,7 +33,7 @@ pub(crate) fn due_to_bytes<M: Maker>(
 ) -> Result<Served<M::Made>, NoMemory>
     requires few { length bytes.now ≤ byte_limit command }
     requires alone { IsAlone command }
-    ensures { IfOk result (λ served. DueTo (words_of command) bytes.now served.due.status served.due.text (option_map M.Made.state served.kernel)) }
+    ensures { IfOk result (λ served. IsDueTo M.Made.state (words_of command) bytes.now served) }
 {
     match command {
         Command::Run => run_script(alloc, bytes, kernels),
@@ -69,7 +70,7 @@ fn run_script<M: Maker>(
     kernels: &M,
 ) -> Result<Served<M::Made>, NoMemory>
     requires few { length bytes.now ≤ script_bytes }
-    ensures { IfOk result (λ served. DueTo (words_of Command.Run) bytes.now served.due.status served.due.text (option_map M.Made.state served.kernel)) }
+    ensures { IfOk result (λ served. IsDueTo M.Made.state (words_of Command.Run) bytes.now served) }
 {
     match read_world(alloc, bytes) {
         Ok(world) => {
@@ -86,7 +87,7 @@ fn run_script<M: Maker>(
 // What is due to `run` and a world, run on this kernel: the record of its run.
 fn recorded<K: Kernel>(alloc: Global, world: &World, kernel: K) -> Result<Served<K>, NoMemory>
     requires { K.state kernel ≡ opening world.now }
-    ensures { IfOk result (λ served. IsRecorded (words_of Command.Run) world.now served.due.status served.due.text (option_map K.state served.kernel)) }
+    ensures { IfOk result (λ served. Records K.state (words_of Command.Run) world.now served) }
 {
     let run = run_alone(alloc, world, kernel)?;
     Ok(Served {

@@ -1,14 +1,11 @@
 //! The run of a world on many processors, each a thread (`docs/TURNS.md`, "Runs").
 
-ghost use Rattle.std.specs.Prelude.{◌≡◌, ◌≤◌, IfOk, length, option_map, All};
+ghost use Rattle.std.specs.Prelude.{◌≡◌, ◌≤◌, IfOk, length, All};
 ghost use Rattle.hk_model.specs.Limits.{script_bytes};
 ghost use Rattle.hk_model.specs.Opening.{opening};
-ghost use Rattle.hk_turn.specs.Turns.{ArePassesOf, IsPassOf, seat_count};
-ghost use Rattle.hk_turn.specs.Passes.{pass_number, seen_list};
-ghost use Rattle.hk_procs.specs.Notes.{cpu_of};
-ghost use Rattle.hk_procs.specs.Shown.{RunsNothing};
+ghost use Rattle.hk_turn.specs.Turns.{ArePassesOf, IsPassOf};
 ghost use Rattle.hk_top.specs.Words.{words_of, MayRun};
-ghost use Rattle.hk_top.specs.Outputs.{DueTo, IsRecorded};
+ghost use Rattle.hk_top.specs.Served.{IsDueTo, Records};
 ghost use Rattle.hk_top.specs.Workers.{IsFresh, HasSeenEnd, IsClosed};
 
 use crate::maker::Maker;
@@ -38,7 +35,7 @@ pub(crate) fn run_script_on<G: Gate + Sync, M: Maker, R: Threads + Wait + Sync>(
 ) -> Result<Served<M::Made>, NoMemory>
     requires few { length bytes.now ≤ script_bytes }
     requires cpus { MayRun cpus }
-    ensures { IfOk result (λ served. DueTo (words_of (Command.RunOn cpus)) bytes.now served.due.status served.due.text (option_map M.Made.state served.kernel)) }
+    ensures { IfOk result (λ served. IsDueTo M.Made.state (words_of (Command.RunOn cpus)) bytes.now served) }
 {
     match read_world(alloc, bytes) {
         Ok(world) => {
@@ -52,7 +49,8 @@ pub(crate) fn run_script_on<G: Gate + Sync, M: Maker, R: Threads + Wait + Sync>(
     }
 }
 
-// What is due to `run N` and a world, run on this kernel: the record of its run. The world is named here.
+// What is due to `run N` and a world, run on this kernel: the record of its run. It picks the
+// name of the world (`docs/TURNS.md`, "The shared kernel").
 fn run_on<K: Kernel + Send, G: Gate + Sync, R: Threads + Wait + Sync>(
     rt: &R,
     alloc: Global,
@@ -63,7 +61,7 @@ fn run_on<K: Kernel + Send, G: Gate + Sync, R: Threads + Wait + Sync>(
 ) -> Result<Served<K>, NoMemory>
     requires cpus { MayRun cpus }
     requires opening { K.state kernel ≡ opening world.now }
-    ensures { IfOk result (λ served. IsRecorded (words_of (Command.RunOn cpus)) world.now served.due.status served.due.text (option_map K.state served.kernel)) }
+    ensures { IfOk result (λ served. Records K.state (words_of (Command.RunOn cpus)) world.now served) }
 {
     run_named::<Brand, K, G, R>(rt, alloc, cpus, world, gate, kernel)
 }
@@ -80,7 +78,7 @@ fn run_named<J: Naming + Send + Sync, K: Kernel + Send, G: Gate + Sync, R: Threa
     requires cpus { MayRun cpus }
     requires world { world.now ≡ J.world }
     requires opening { K.state kernel ≡ opening world.now }
-    ensures { IfOk result (λ served. IsRecorded (words_of (Command.RunOn cpus)) world.now served.due.status served.due.text (option_map K.state served.kernel)) }
+    ensures { IfOk result (λ served. Records K.state (words_of (Command.RunOn cpus)) world.now served) }
 {
     let (desk, passes) = Shared::<K, J>::start(alloc, kernel, world, cpus)?;
     let (desk, passes) = work_all(rt, alloc, world, gate, desk, passes)?;
@@ -88,7 +86,7 @@ fn run_named<J: Naming + Send + Sync, K: Kernel + Send, G: Gate + Sync, R: Threa
     if book.stop().is_some() {
         return Err(NoMemory);
     }
-    of_book(alloc, cpus, world, book)
+    record_of_book(alloc, cpus, world, book)
 }
 
 // Each pass works in a thread of its own, until all have ended.
@@ -124,7 +122,7 @@ fn work_all<J: Naming + Send + Sync, K: Kernel + Send, G: Gate + Sync, R: Thread
 }
 
 // The record of a book in which no processor has stopped, and its kernel.
-fn of_book<K: Kernel, J: Naming>(
+fn record_of_book<K: Kernel, J: Naming>(
     alloc: Global,
     cpus: u8,
     world: &World,
@@ -132,7 +130,7 @@ fn of_book<K: Kernel, J: Naming>(
 ) -> Result<Served<K>, NoMemory>
     requires cpus { MayRun cpus }
     requires closed { IsClosed K.state world.now cpus book }
-    ensures { IfOk result (λ served. IsRecorded (words_of (Command.RunOn cpus)) world.now served.due.status served.due.text (option_map K.state served.kernel)) }
+    ensures { IfOk result (λ served. Records K.state (words_of (Command.RunOn cpus)) world.now served) }
 {
     let Some(end) = end_word(alloc, book.kernel())? else {
         unreachable!()

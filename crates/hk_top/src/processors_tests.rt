@@ -40,15 +40,14 @@ impl Counts {
     }
 }
 
-// A gate that lets two processors through in the order of a list, each once the one before it stands
-// before its next call. Behind the end of the list every call passes.
+// A gate that lets processors 0, 1 and 2 through in the order of a list, each once the one before it
+// stands before its next call. Behind the end of the list every call passes.
 #[derive(Drop)]
 struct Listed {
     list: &'static [u8],
     at: AtomicU64,
-    first: Counts,
-    second: Counts,
-    // Calls that looked too often.
+    counts: [Counts; 3],
+    // Calls that looked too often, or whose number was not that of the calls before them.
     missed: AtomicU64,
 }
 
@@ -57,14 +56,13 @@ impl Listed {
         Listed {
             list,
             at: AtomicU64::new(0),
-            first: Counts::new(),
-            second: Counts::new(),
+            counts: [Counts::new(), Counts::new(), Counts::new()],
             missed: AtomicU64::new(0),
         }
     }
 
     fn counts(&self, cpu: u8) -> &Counts {
-        if cpu == 0 { &self.first } else { &self.second }
+        &self.counts[usize::from(cpu % 3)]
     }
 
     // Whether the processor may pass.
@@ -78,9 +76,11 @@ impl Listed {
 }
 
 impl Gate for Listed {
-    fn before(&self, cpu: Cpu, _nth: u64) {
+    fn before(&self, cpu: Cpu, nth: u64) {
         let counts = self.counts(cpu.0);
-        counts.came.fetch_add(1, Ordering::SeqCst);
+        if counts.came.fetch_add(1, Ordering::SeqCst) != nth {
+            self.missed.fetch_add(1, Ordering::SeqCst);
+        }
         for _ in 0..TURNS {
             if self.lets_through(cpu.0) {
                 counts.passed.fetch_add(1, Ordering::SeqCst);
@@ -102,14 +102,15 @@ struct Ran {
     text: Vec<u8>,
 }
 
-// Runs two processes that yield on two processors, in the order of the list.
+// Runs two processes that yield on so many processors, in the order of the list.
 fn run_in_order<R: Threads + Wait + Sync>(
     rt: &R,
     alloc: Global,
+    cpus: &str,
     list: &'static [u8],
 ) -> Result<Ran, Fail> {
     let gate = Listed::new(list);
-    let words = words(alloc, &["run", "2"])?;
+    let words = words(alloc, &["run", cpus])?;
     let mut input = SureBytes::new(SCRIPT.to_vec(alloc)?);
     let mut output = sink(alloc, Vec::new(alloc))?;
     let (status, kernel) = hydra(rt, alloc, &words, &mut input, &mut output, &gate, &Maps);
@@ -126,7 +127,7 @@ fn run_in_order<R: Threads + Wait + Sync>(
 #[test]
 fn the_lines_are_those_of_the_processors(rt: HostRuntime) -> Result<(), Fail> {
     let alloc = rt.alloc();
-    let ran = run_in_order(&rt, alloc, &[0, 0, 0, 1, 1, 1, 0, 1, 1])?;
+    let ran = run_in_order(&rt, alloc, "2", &[0, 0, 0, 1, 1, 1, 0, 1, 1])?;
     assert_eq!(rt; ran.status, status::DONE);
     assert_eq!(rt; ran.missed, 0);
     assert_eq!(rt; ran.events, 8);
@@ -139,12 +140,25 @@ fn the_lines_are_those_of_the_processors(rt: HostRuntime) -> Result<(), Fail> {
 #[test]
 fn another_order_makes_another_record(rt: HostRuntime) -> Result<(), Fail> {
     let alloc = rt.alloc();
-    let ran = run_in_order(&rt, alloc, &[1, 0, 0, 1, 1, 0, 0, 1])?;
+    let ran = run_in_order(&rt, alloc, "2", &[1, 0, 0, 1, 1, 0, 0, 1])?;
     assert_eq!(rt; ran.status, status::DONE);
     assert_eq!(rt; ran.missed, 0);
     assert_eq!(rt; ran.events, 8);
     let record =
         b"hydra 1\ncode main\nyield\nend\nprocess a main\nend\nprocess b main\nend\nrecord\n1 0 0 dispatch -> done\n0 1 1 dispatch -> done\n0 1 1 yield -> done\n1 0 0 yield -> done\n1 1 1 dispatch -> done\n0 0 0 dispatch -> done\n0 0 0 return -> done\n1 1 1 return -> done\nend done\n";
+    assert_eq!(rt; ran.text.as_slice(), record.as_slice());
+    Ok(())
+}
+
+#[test]
+fn the_last_of_three_processors_makes_lines(rt: HostRuntime) -> Result<(), Fail> {
+    let alloc = rt.alloc();
+    let ran = run_in_order(&rt, alloc, "3", &[2, 1, 2, 0, 0, 1, 2, 2])?;
+    assert_eq!(rt; ran.status, status::DONE);
+    assert_eq!(rt; ran.missed, 0);
+    assert_eq!(rt; ran.events, 8);
+    let record =
+        b"hydra 1\ncode main\nyield\nend\nprocess a main\nend\nprocess b main\nend\nrecord\n2 0 0 dispatch -> done\n1 1 1 dispatch -> done\n2 0 0 yield -> done\n0 0 0 dispatch -> done\n0 0 0 return -> done\n1 1 1 yield -> done\n2 1 1 dispatch -> done\n2 1 1 return -> done\nend done\n";
     assert_eq!(rt; ran.text.as_slice(), record.as_slice());
     Ok(())
 }
@@ -172,10 +186,11 @@ fn one_processor_writes_what_run_writes(rt: HostRuntime) -> Result<(), Fail> {
     Ok(())
 }
 
-// A plain kernel, but each of its calls wants memory.
+// A plain kernel, but its first call wants memory.
 #[derive(Drop)]
 struct Wanting {
     plain: Plain,
+    wanted: bool,
 }
 
 impl Kernel for Wanting {
@@ -185,8 +200,12 @@ impl Kernel for Wanting {
 
     ghost wants = { λ _. true };
 
-    fn act(&mut self, _alloc: Global, _cpu: Cpu, _call: Call) -> Result<Acted, NoMemory> {
-        Err(NoMemory)
+    fn act(&mut self, alloc: Global, cpu: Cpu, call: Call) -> Result<Acted, NoMemory> {
+        if !self.wanted {
+            self.wanted = true;
+            return Err(NoMemory);
+        }
+        self.plain.act(alloc, cpu, call)
     }
 
     fn dispatch(&mut self, cpu: Cpu) -> Option<Proc> {
@@ -223,6 +242,7 @@ impl Maker for Wants {
     fn make(&self, alloc: Global, world: &World) -> Result<Wanting, NoMemory> {
         Ok(Wanting {
             plain: Plain::new(alloc, world)?,
+            wanted: false,
         })
     }
 }

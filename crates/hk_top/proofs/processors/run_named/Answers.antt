@@ -7,8 +7,8 @@ use Rattle.hk_top.specs.Workers.{IsClosed}
 use Rattle.hk_top.proofs.Closing.{closed_all, unstopped}
 use Rattle.hk_top.proofs.processors.run_named.Goals as goal
 
-pub of_book-requires-clause-closed : goal.of_book-requires-clause-closed
-of_book-requires-clause-closed g c =
+pub record_of_book-requires-clause-closed : goal.record_of_book-requires-clause-closed
+record_of_book-requires-clause-closed g c =
     let stands = c.close-book.ensures in
     let back = c.in_ok-desk-2.ensures in
     let made = c.in_ok-desk.ensures in

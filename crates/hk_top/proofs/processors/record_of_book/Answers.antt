@@ -1,5 +1,5 @@
 use Rattle.hk_top.proofs.Closing.{book_recorded}
-use Rattle.hk_top.proofs.processors.of_book.Goals as goal
+use Rattle.hk_top.proofs.processors.record_of_book.Goals as goal
 
 pub returns : goal.returns
 returns g c =
