@@ -1,8 +1,7 @@
 -- A world has one whole run on processor 0, and a run by one processor is that run.
-use Rattle.std.specs.Prelude.{◌≡◌, ◌⊎◌, ◌||◌, ◌&&◌, not, ℕ, zero, suc, ◌<◌, List, [], ◌∷◌, length, Bool, true, false, Option, Some, None, All, nat_lt, option_map, refl, if◌then◌else◌}
+use Rattle.std.specs.Prelude.{◌≡◌, ◌||◌, ◌&&◌, not, ℕ, suc, ◌<◌, List, [], ◌∷◌, Bool, true, false, Option, Some, None, All, option_map, refl}
 use Rattle.std.specs.List.{list_all, list_any}
 use Rattle.std.proofs.Common.{arith, ap, sym, ◌∙◌, subst, cond}
-use Rattle.hk_model.specs.declared.names.Cpu.{Cpu}
 use Rattle.hk_model.specs.declared.lines.Line.{Line}
 use Rattle.hk_model.specs.declared.lines.End.{End}
 use Rattle.hk_model.specs.declared.lines.End.TheVariants as end
@@ -11,7 +10,7 @@ use Rattle.hk_model.specs.declared.objects.ProcessState.{ProcessState}
 use Rattle.hk_model.specs.declared.objects.ProcessState.TheVariants.{Ready, Running, Waiting, Ended}
 use Rattle.hk_model.specs.Setup.{Setup, IsWorld}
 use Rattle.hk_model.specs.State.{State}
-use Rattle.hk_model.specs.Processors.{has_ended, is_over, is_ready, is_running, is_waiting, may_step}
+use Rattle.hk_model.specs.Processors.{has_ended, is_ready, is_running, is_waiting, may_step}
 use Rattle.hk_model.specs.Running.{Machine, AreSteps, after_lines, line_of, moved, opened, state_after, step}
 use Rattle.hk_model.specs.Legal.{end_word}
 use Rattle.hk_program.proofs.Machines.{sound_after, sound_kept}

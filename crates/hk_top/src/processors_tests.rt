@@ -46,7 +46,9 @@ impl Counts {
 struct Listed {
     list: &'static [u8],
     at: AtomicU64,
-    counts: [Counts; 3],
+    first: Counts,
+    second: Counts,
+    third: Counts,
     // Calls that looked too often, or whose number was not that of the calls before them.
     missed: AtomicU64,
 }
@@ -56,13 +58,19 @@ impl Listed {
         Listed {
             list,
             at: AtomicU64::new(0),
-            counts: [Counts::new(), Counts::new(), Counts::new()],
+            first: Counts::new(),
+            second: Counts::new(),
+            third: Counts::new(),
             missed: AtomicU64::new(0),
         }
     }
 
     fn counts(&self, cpu: u8) -> &Counts {
-        &self.counts[usize::from(cpu % 3)]
+        match cpu {
+            0 => &self.first,
+            1 => &self.second,
+            _ => &self.third,
+        }
     }
 
     // Whether the processor may pass.
