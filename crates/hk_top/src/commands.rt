@@ -2,6 +2,7 @@
 
 ghost use Rattle.std.specs.Prelude.{◌≡◌, ◌≢◌, ◌⊎◌, IfOk, IfErr, IsErrOf, None, map, option_map, string_bytes};
 ghost use Rattle.hk_io.specs.Causes.{Rose};
+ghost use Rattle.hk_io.specs.Streams.{Took};
 ghost use Rattle.hk_model.specs.Limits.{script_bytes};
 ghost use Rattle.hk_top.specs.Words.{IsCommand, IsAlone, MayRun, RunsOnMany, words_of, byte_limit};
 ghost use Rattle.hk_top.specs.Outputs.{Answer, IsComplete, IsSaid, stream};
@@ -50,6 +51,9 @@ pub fn hydra<S: Source, W: Sink, G: Gate + Sync, M: Maker, R: Threads + Wait + S
         (stream (W.taken output.old) (W.taken output.new) (W.faults output.old) (W.faults output.new))
         result.0 (option_map M.Made.state result.1) }
 
+    // A source that tells its bytes has lost some from its front, and nothing else.
+    ensures taken { Took (S.left input.old) (S.left input.new) (λ _. Unit {0}) }
+
     // Words that are no command leave the source as it was, and what fails before the first write leaves the sink so.
     ensures untouched { (IsCommand (map string_bytes words.now) → ⊥) → input.new ≡ input.old }
     ensures silent { (result.0 ≡ 4) ⊎ (result.0 ≡ 5) → output.new ≡ output.old }
@@ -80,6 +84,7 @@ pub fn answer<S: Source, W: Sink, M: Maker>(
         (stream (S.left input.old) (S.left input.new) (S.faults input.old) (S.faults input.new))
         (stream (W.taken output.old) (W.taken output.new) (W.faults output.old) (W.faults output.new))
         result.0 (option_map M.Made.state result.1) }
+    ensures taken { Took (S.left input.old) (S.left input.new) (λ _. Unit {0}) }
     ensures untouched { (IsCommand (map string_bytes words.now) → ⊥) → input.new ≡ input.old }
     ensures silent { (result.0 ≡ 4) ⊎ (result.0 ≡ 5) → output.new ≡ output.old }
 {
@@ -101,6 +106,7 @@ fn due<S: Source, M: Maker>(
     requires alone { IsAlone command }
     ensures due { IfOk result (λ served. IsDue M.Made.state (words_of command) (S.left input.old) (S.left input.new) served) }
     ensures status { IfOk result (λ served. served.due.status ≢ 4 × served.due.status ≢ 5) }
+    ensures taken { Took (S.left input.old) (S.left input.new) (λ _. Unit {0}) }
     ensures fault { IsErrOf result Silence.ReadFault → Rose (S.faults input.old) (S.faults input.new) }
 {
     match read_all(alloc, input, byte_limit(command)) {
@@ -121,6 +127,7 @@ fn due_on<S: Source, G: Gate + Sync, M: Maker, R: Threads + Wait + Sync>(
     requires cpus { MayRun cpus }
     ensures due { IfOk result (λ served. IsDue M.Made.state (words_of (Command.RunOn cpus)) (S.left input.old) (S.left input.new) served) }
     ensures status { IfOk result (λ served. served.due.status ≢ 4 × served.due.status ≢ 5) }
+    ensures taken { Took (S.left input.old) (S.left input.new) (λ _. Unit {0}) }
     ensures fault { IsErrOf result Silence.ReadFault → Rose (S.faults input.old) (S.faults input.new) }
 {
     match read_all(alloc, input, SCRIPT_BYTES) {
