@@ -21,6 +21,7 @@ use Rattle.hk_model.specs.State.{State, object, process, put_object, put_process
 use Rattle.hk_model.specs.Refusing.{unless}
 use Rattle.hk_model.specs.Targets.{SEMAPHORE, is_type, MODIFY+A0, MODIFY+A1, target}
 use Rattle.hk_model.specs.Rule.{Outcome, outcome, rule, settled, counted, leave_to, token_given, enter_procedure, leave, take_token, give_token}
+use Rattle.hk_model.specs.Keeping.{restricted}
 use Rattle.hk_model.specs.Processors.{is_waiting, is_running, is_ready, halted}
 use Rattle.hk_model.proofs.TestLemmas.{then_is, and_is}
 use Rattle.hk_model.proofs.Turns.{EntersBy, enters_by}
@@ -92,7 +93,7 @@ module _ (w : Setup) (s : State) (reg : Regular w s) where
   outcome_moves proc inc call.Yield = Yields (record (process s proc) { run = Ready }) refl refl refl
   outcome_moves proc inc c = calm_moves proc (outcome s proc inc c) (outcome_calm s proc inc c)
 
-  counted_moves : (proc : Proc) (t : State) (n : ℕ) → Moves s proc t → Moves s proc (counted n t)
+  counted_moves : (proc : Proc) (t : State) (n : ℕ) → Moves s proc t → Moves s proc (counted n (restricted t))
   counted_moves proc t n (Calm a b) = Calm a b
   counted_moves proc t n (Same i new a b c) = Same i new a b c
   counted_moves proc t n (Rests new a b c d) = Rests new a b c d

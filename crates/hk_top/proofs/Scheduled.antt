@@ -29,6 +29,7 @@ use Rattle.hk_model.specs.Opening.{opening, all_ready, proc_numbers}
 use Rattle.hk_model.specs.State.{State, object, process, put_object, put_slot, put_process, add_object}
 use Rattle.hk_model.specs.Refusing.{unless}
 use Rattle.hk_model.specs.Targets.{SEMAPHORE, MODIFY+A0, is_type, target}
+use Rattle.hk_model.specs.Keeping.{restricted}
 use Rattle.hk_model.specs.Rule.{Outcome, outcome, settled, counted, enter, give_to, leave_to, leave, enter_procedure, token_given, take_token, give_token, get_word, put_word, add_word, word_count, load_entry, store_entry, append_entry, erase_entry, drop_slot, restrict_slot, look, make_template, create_object, merge_cap, copy_object}
 use Rattle.hk_model.proofs.TestLemmas.{then_is, and_is}
 use Rattle.hk_model.proofs.Steps.{EachStep, given_to}
@@ -213,8 +214,12 @@ pub record GoesOn (s : State) (line : Line) (t : State) : Type 0 where
 goes_on : (s : State) (line : Line) (u : State) → Kept s u → GoesOn s line (counted (s.events + 1) u)
 goes_on s line u h = record { events = refl; limit = h.limit; placed = λ e p. h.placed p }
 
+-- what vanishes is no process
+goes_restricted : (s : State) (line : Line) (u : State) → Kept s u → GoesOn s line (counted (s.events + 1) (restricted u))
+goes_restricted s line u h = record { events = refl; limit = h.limit; placed = λ e p. h.placed p }
+
 call_goes : (s : State) (line : Line) (o : Outcome) → IsKept s o → GoesOn s line (settled s o).1
-call_goes s line (Ok f) h = goes_on s line f.1 h
+call_goes s line (Ok f) h = goes_restricted s line f.1 h
 call_goes s line (Err r) h = goes_on s line s (kept_self s)
 
 dispatch_goes : (s : State) (line : Line) (cpu : Cpu) (first : Proc) (rest : List Proc) → line.cpu ≡ cpu → s.ready ≡ first ∷ rest → GoesOn s line (given_to s cpu first rest)
@@ -227,7 +232,7 @@ dispatch_goes s line cpu first rest c r = record {
 pub each_goes : EachStep GoesOn
 each_goes = record {
   calls = λ s cpu proc c r. call_goes s _ (outcome s proc (process s proc).current c) (outcome_kept s proc (process s proc).current c);
-  halts = λ s cpu proc r. goes_on s _ (put_process (record s { incarnations = filter (λ e. not (e.1.proc.0 == proc.0)) s.incarnations }) proc (record (process s proc) { run = Ended })) (kept_stops s (record s { incarnations = filter (λ e. not (e.1.proc.0 == proc.0)) s.incarnations }) proc (record (process s proc) { run = Ended }) (λ ready n. tt) (kept_incarnations s (filter (λ e. not (e.1.proc.0 == proc.0)) s.incarnations)));
+  halts = λ s cpu proc r. goes_restricted s _ (put_process (record s { incarnations = filter (λ e. not (e.1.proc.0 == proc.0)) s.incarnations }) proc (record (process s proc) { run = Ended })) (kept_stops s (record s { incarnations = filter (λ e. not (e.1.proc.0 == proc.0)) s.incarnations }) proc (record (process s proc) { run = Ended }) (λ ready n. tt) (kept_incarnations s (filter (λ e. not (e.1.proc.0 == proc.0)) s.incarnations)));
   dispatches = λ s cpu first rest r. dispatch_goes s _ cpu first rest refl r;
 }
 
