@@ -1,5 +1,5 @@
 -- The tests of a call, over entries whose rights are rights: what they pass on is in range, and so is each refusal.
-use Rattle.std.proofs.Common.{◌≡◌, ℕ, zero, suc, List, [], ◌∷◌, Bool, true, false, Option, Some, None, Result, Ok, Err, refl, sym, ◌∙◌, arith, cond, bit_and, find}
+use Rattle.std.proofs.Common.{◌≡◌, ◌+◌, ℕ, zero, suc, List, [], ◌∷◌, Bool, true, false, Option, Some, None, Result, Ok, Err, refl, sym, ◌∙◌, arith, cond, bit_and, find}
 use Rattle.std.specs.Prelude.{IsTrue, nat_lt, ◌==◌, ◌&&◌, not}
 use Rattle.std.specs.List.{AllByRecursion, list_any}
 use Rattle.hk_model.specs.declared.names.Name.{Name}
@@ -14,13 +14,13 @@ use Rattle.hk_model.specs.declared.calls.Refusal.TheVariants as refused
 use Rattle.std.proofs.lemmas.Bool.{or_right}
 use Rattle.std.proofs.lemmas.Bool.Decides.{nat_tests}
 use Rattle.std.proofs.lemmas.Option.{same_Some}
-use Rattle.hk_rights.specs.Rights.{ENV, first_missing, has, IsRightsWord, is_right, right_numbers, special_rights}
+use Rattle.hk_rights.specs.Rights.{MODIFY, ENV, UNCONF, all_but, first_missing, has, IsRightsWord, is_right, right_numbers, special_rights, env_right, unconf_right}
 use Rattle.hk_rights.proofs.Words.{IsRightsWord-bit_and, IsRightsWord-bit_or}
 use Rattle.hk_rights.proofs.Table.{right_numbers-is_right}
 use Rattle.hk_model.specs.Limits.{slot_limit}
 use Rattle.hk_model.specs.LineRanges.{IsStep, IsRefusal}
 use Rattle.hk_model.specs.Refusing.{◌>>=◌, ◌>>◌, unless, allowed, item_at}
-use Rattle.hk_model.specs.Walking.{held, obtained, reduced_rights, confined_rights, local_rights, env_right, unconf_right}
+use Rattle.hk_model.specs.Walking.{held, obtained, reduced_rights, confined_rights, local_rights}
 use Rattle.hk_model.specs.Merging.{matches, merged, merged_rights}
 use Rattle.hk_model.specs.Targets.{slot_at, storable, not_empty, create_form, amplify_form}
 
@@ -126,10 +126,10 @@ amplify_form_fine (Form (template.Create of give)) step h low = low
 -- reduction, merging and inheritance keep rights among the rights
 
 pub confined_in : (rights : ℕ) → IsRightsWord rights → IsRightsWord (confined_rights rights)
-confined_in rights h = IsRightsWord-bit_and rights 0xff02ff h
+confined_in rights h = IsRightsWord-bit_and rights (all_but (MODIFY + UNCONF)) h
 
 local_in : (rights : ℕ) → IsRightsWord rights → IsRightsWord (local_rights rights)
-local_in rights h = IsRightsWord-bit_and rights 0xff05ff h
+local_in rights h = IsRightsWord-bit_and rights (all_but ENV) h
 
 either_in : (b : Bool) (x y : ℕ) → IsRightsWord x → IsRightsWord y → IsRightsWord (cond b x y)
 either_in true x y h g = h
@@ -144,7 +144,7 @@ reduced_in by rights h =
 merged_in : (rights : ℕ) (of : Option Name) (give : ℕ) → IsRightsWord give → IsRightsWord (merged_rights rights of give)
 merged_in rights None give h = IsRightsWord-bit_and give rights h
 merged_in rights (Some wanted) give h =
-    IsRightsWord-bit_or (bit_and give 0xff00ff) (bit_and (bit_and give special_rights) rights) (IsRightsWord-bit_and give 0xff00ff h) (IsRightsWord-bit_and (bit_and give special_rights) rights (IsRightsWord-bit_and give special_rights h))
+    IsRightsWord-bit_or (bit_and give (all_but special_rights)) (bit_and (bit_and give special_rights) rights) (IsRightsWord-bit_and give (all_but special_rights) h) (IsRightsWord-bit_and (bit_and give special_rights) rights (IsRightsWord-bit_and give special_rights h))
 
 pub obtained_fine : (by : ℕ) (entry : Entry) (step : ℕ) → EntryIn entry → IsStep step → Fine EntryIn (obtained by entry step)
 obtained_fine by Empty step h low = tt

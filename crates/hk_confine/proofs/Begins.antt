@@ -17,10 +17,10 @@ use Rattle.hk_model.specs.declared.calls.Call.{Call}
 use Rattle.hk_model.specs.declared.calls.Call.TheVariants as call
 use Rattle.hk_model.specs.declared.lines.Line.{Line}
 use Rattle.hk_model.specs.declared.objects.Incarnation.{Incarnation}
-use Rattle.hk_rights.specs.Rights.{has}
+use Rattle.hk_rights.specs.Rights.{has, modify_right, unconf_right}
 use Rattle.hk_model.specs.Setup.{Setup, IsWorld}
 use Rattle.hk_model.specs.State.{State, object, incarnation, same_inc, no_incarnation}
-use Rattle.hk_model.specs.Walking.{confined_rights, modify_right, unconf_right}
+use Rattle.hk_model.specs.Walking.{confined_rights}
 use Rattle.hk_model.specs.Merging.{inherited}
 use Rattle.hk_model.specs.Places.{Place, SlotOf, EntryOf, standing, is_empty, rights_of, found, named_by, entry_given}
 use Rattle.hk_model.specs.Lines.{done_call, enters_call, param_count, line_before}

@@ -11,9 +11,8 @@ use Rattle.hk_model.specs.declared.calls.Call.{Call}
 use Rattle.hk_model.specs.declared.calls.Call.TheVariants as call
 use Rattle.hk_model.specs.declared.lines.Line.{Line}
 use Rattle.hk_model.specs.declared.objects.Incarnation.{Incarnation}
-use Rattle.hk_rights.specs.Rights.{has}
+use Rattle.hk_rights.specs.Rights.{has, unconf_right}
 use Rattle.hk_model.specs.State.{State, object, incarnation, same_inc, no_incarnation}
-use Rattle.hk_model.specs.Walking.{unconf_right}
 use Rattle.hk_model.specs.Places.{Place, SlotOf, EntryOf, rights_of, found, named_by}
 use Rattle.hk_model.specs.Lines.{done_call, enters_call, leaves_call}
 use Rattle.hk_model.specs.Ways.{Way, Inherited, call_way, way, line_way}

@@ -10,10 +10,9 @@ use Rattle.hk_model.specs.declared.names.Inc.{Inc}
 use Rattle.hk_model.specs.declared.entries.Cap.{Cap}
 use Rattle.hk_model.specs.declared.entries.Entry.TheVariants.{Held}
 use Rattle.hk_model.specs.declared.lines.Line.{Line}
-use Rattle.hk_rights.specs.Rights.{MODIFY}
+use Rattle.hk_rights.specs.Rights.{MODIFY, modify_right}
 use Rattle.hk_model.specs.Setup.{Setup, IsWorld}
 use Rattle.hk_model.specs.State.{State, object, incarnation}
-use Rattle.hk_model.specs.Walking.{modify_right}
 use Rattle.hk_model.specs.Places.{EntryOf, standing, cap_of}
 use Rattle.hk_model.specs.Lines.{done_call, makes_object, enters_call, changed}
 use Rattle.hk_model.specs.Running.{Machine, opened, moved, after_lines, machine_at, state_at, AreSteps, AreStepsOf}

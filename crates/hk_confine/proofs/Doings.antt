@@ -16,9 +16,8 @@ use Rattle.hk_model.specs.declared.calls.Call.{Call}
 use Rattle.hk_model.specs.declared.calls.Call.TheVariants as call
 use Rattle.hk_model.specs.declared.lines.What.TheVariants as what
 use Rattle.hk_model.specs.declared.objects.Incarnation.{Incarnation}
-use Rattle.hk_rights.specs.Rights.{A0, has}
+use Rattle.hk_rights.specs.Rights.{A0, has, unconf_right}
 use Rattle.hk_model.specs.State.{State, incarnation, process, same_inc, inc_cmp, no_incarnation}
-use Rattle.hk_model.specs.Walking.{unconf_right}
 use Rattle.hk_model.specs.Targets.{PROCEDURE, is_type, target}
 use Rattle.hk_model.specs.Rule.{Outcome, outcome, settled, called_incarnation, enter_procedure, leave}
 use Rattle.hk_model.specs.Places.{rights_of, found, entry_given, named_by}

@@ -1,5 +1,5 @@
 -- What an incarnation can get: what its slots hold, what is walked to from there, and what has no special right more.
-use Rattle.std.proofs.Common.{◌≡◌, ℕ, List, [], ◌∷◌, Bool, true, false, Option, Ok, refl, sym, ◌∙◌, cond, bit_and, subst}
+use Rattle.std.proofs.Common.{◌≡◌, ◌+◌, ℕ, List, [], ◌∷◌, Bool, true, false, Option, Ok, refl, sym, ◌∙◌, cond, bit_and, subst}
 use Rattle.std.specs.Prelude.{IfOk, not}
 use Rattle.std.proofs.lemmas.Bool.{true≢false, not-false}
 use Rattle.hk_model.specs.declared.names.Name.{Name}
@@ -9,10 +9,10 @@ use Rattle.hk_model.specs.declared.entries.Param.{Param}
 use Rattle.hk_model.specs.declared.entries.Entry.{Entry}
 use Rattle.hk_model.specs.declared.entries.Entry.TheVariants.{Empty, Held, Form}
 use Rattle.hk_model.specs.declared.calls.Call.{Call}
-use Rattle.hk_rights.specs.Rights.{ENV, has}
+use Rattle.hk_rights.specs.Rights.{MODIFY, ENV, UNCONF, has, all_but, modify_right, env_right, unconf_right}
 use Rattle.hk_model.specs.State.{State, object}
 use Rattle.hk_model.specs.Refusing.{allowed}
-use Rattle.hk_model.specs.Walking.{walk, obtained, reduced_rights, confined_rights, modify_right, env_right, unconf_right}
+use Rattle.hk_model.specs.Walking.{walk, obtained, reduced_rights, confined_rights}
 use Rattle.hk_model.specs.Merging.{inherited}
 use Rattle.hk_model.specs.Rule.{copied}
 use Rattle.hk_model.specs.Places.{Place, SlotOf, EntryOf, standing}
@@ -56,8 +56,8 @@ less_and : (rights keep : ℕ) → Less (bit_and rights keep) rights
 less_and rights keep = (λ h. has-bit_and_left rights keep modify_right h, λ h. has-bit_and_left rights keep unconf_right h)
 
 -- confinement takes both
-pub confined_lacks : (rights right : ℕ) → has 0xff02ff right ≡ false → has (confined_rights rights) right ≡ true → ⊥
-confined_lacks rights right off h = true≢false (sym h ∙ masked_off rights 0xff02ff right off)
+pub confined_lacks : (rights right : ℕ) → has (all_but (MODIFY + UNCONF)) right ≡ false → has (confined_rights rights) right ≡ true → ⊥
+confined_lacks rights right off h = true≢false (sym h ∙ masked_off rights (all_but (MODIFY + UNCONF)) right off)
 
 -- the path of the incarnation leads to the capability for a procedure, which confines or not
 pub record IsCalled (s : State) (inc : Inc) (procedure : Name) (confined : Bool) : Type 0 where

@@ -10,9 +10,8 @@ use Rattle.hk_model.specs.declared.entries.Cap.{Cap}
 use Rattle.hk_model.specs.declared.entries.Entry.{Entry}
 use Rattle.hk_model.specs.declared.entries.Entry.TheVariants.{Empty, Held, Form}
 use Rattle.hk_model.specs.declared.lines.Line.{Line}
-use Rattle.hk_rights.specs.Rights.{MODIFY, has}
+use Rattle.hk_rights.specs.Rights.{MODIFY, has, modify_right, unconf_right}
 use Rattle.hk_model.specs.State.{State, incarnation}
-use Rattle.hk_model.specs.Walking.{modify_right, unconf_right}
 use Rattle.hk_model.specs.Places.{Place, SlotOf, EntryOf, standing}
 use Rattle.hk_model.specs.Lines.{done_call, makes_object, enters_call, leaves_call}
 use Rattle.hk_model.specs.Ways.{Way, line_way, Wrote, IsWritable}

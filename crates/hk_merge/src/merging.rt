@@ -1,6 +1,7 @@
 //! Merging a capability with a template.
 
-ghost use Rattle.std.specs.Prelude.{◌≡◌, bit_and};
+ghost use Rattle.std.specs.Prelude.{◌≡◌};
+ghost use Rattle.hk_rights.specs.Rights.{minus, special_rights};
 ghost use Rattle.hk_model.specs.declared.entries.Entry.TheVariants.{Form};
 ghost use Rattle.hk_model.specs.Merging.{merged, merged_rights};
 ghost use Rattle.hk_model.specs.Targets.{amplify_form};
@@ -74,7 +75,7 @@ fn merged_rights(rights: Rights, of: Option<Name>, give: Rights) -> Rights
 
 // The rights of a set that are not special.
 fn ordinary_rights(rights: Rights) -> Rights
-    ensures { result ≡ bit_and rights 0xff00ff }
+    ensures { result ≡ minus rights special_rights }
 {
-    rights.intersection(Rights::all().without(Rights::SPECIAL))
+    rights.without(Rights::SPECIAL)
 }

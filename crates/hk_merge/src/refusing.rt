@@ -36,6 +36,5 @@ pub fn held(entry: Entry, step: u8) -> Result<Cap, Refusal>
 pub fn confined_rights(rights: Rights) -> Rights
     ensures { result ≡ confined_rights rights }
 {
-    let taken = Rights::MODIFY.union(Rights::UNCONF);
-    rights.intersection(Rights::all().without(taken))
+    rights.without(Rights::MODIFY.union(Rights::UNCONF))
 }

@@ -13,9 +13,8 @@ use Rattle.hk_model.specs.declared.calls.Call.{Call}
 use Rattle.hk_model.specs.declared.calls.Call.TheVariants as call
 use Rattle.hk_model.specs.declared.calls.Answer.TheVariants.{Done, Waits}
 use Rattle.hk_model.specs.declared.objects.ProcessState.TheVariants.{Waiting}
-use Rattle.hk_rights.specs.Rights.{MODIFY, has, IsRightsWord}
+use Rattle.hk_rights.specs.Rights.{MODIFY, has, IsRightsWord, unconf_right}
 use Rattle.hk_model.specs.State.{State, object, incarnation, process, put_object, put_process, same_name, same_inc}
-use Rattle.hk_model.specs.Walking.{unconf_right}
 use Rattle.hk_model.specs.Targets.{SEMAPHORE, is_general, is_listed, is_type, PUTDATA+MODIFY, ADDDATA+MODIFY, STORE+MODIFY, APPEND+MODIFY, KILL+MODIFY, MODIFY+A0, MODIFY+A1, target}
 use Rattle.hk_model.specs.Rule.{outcome, token_given, put_word, add_word, store_entry, append_entry, erase_entry, take_token, give_token}
 use Rattle.hk_model.specs.Places.{Place, SlotOf, EntryOf, same_place, standing, rights_of, form_of, end_of, named_by, found}

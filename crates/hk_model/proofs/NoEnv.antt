@@ -8,10 +8,10 @@ use Rattle.hk_model.specs.declared.entries.Cap.{Cap}
 use Rattle.hk_model.specs.declared.entries.Param.{Param}
 use Rattle.hk_model.specs.declared.entries.Entry.{Entry}
 use Rattle.hk_model.specs.declared.entries.Entry.TheVariants.{Empty, Held, Form}
-use Rattle.hk_rights.specs.Rights.{ENV, has}
+use Rattle.hk_rights.specs.Rights.{ENV, has, env_right}
 use Rattle.hk_model.specs.State.{State}
 use Rattle.hk_model.specs.Refusing.{allowed}
-use Rattle.hk_model.specs.Walking.{walk, obtained, env_right}
+use Rattle.hk_model.specs.Walking.{walk, obtained}
 use Rattle.hk_model.specs.Merging.{merged}
 use Rattle.hk_model.specs.Rule.{copied}
 use Rattle.hk_model.specs.Places.{SlotOf, EntryOf, standing}

@@ -7,10 +7,10 @@ use Rattle.hk_model.specs.declared.entries.Cap.{Cap}
 use Rattle.hk_model.specs.declared.entries.Entry.{Entry}
 use Rattle.hk_model.specs.declared.entries.Entry.TheVariants.{Empty, Held, Form}
 use Rattle.hk_model.specs.declared.calls.Refusal.TheVariants as refused
-use Rattle.hk_rights.specs.Rights.{LOAD, ENV, has}
+use Rattle.hk_rights.specs.Rights.{LOAD, MODIFY, ENV, UNCONF, has, all_but, env_right}
 use Rattle.hk_model.specs.State.{State, object, incarnation}
 use Rattle.hk_model.specs.Refusing.{◌>>=◌, ◌>>◌, unless, allowed, item_at}
-use Rattle.hk_model.specs.Walking.{walk, walk_on, hop, held, obtained, reduced_rights, env_right}
+use Rattle.hk_model.specs.Walking.{walk, walk_on, hop, held, obtained, reduced_rights}
 use Rattle.hk_model.specs.Merging.{inherited}
 use Rattle.hk_model.specs.Targets.{last_step, target}
 use Rattle.hk_model.specs.Rule.{copied}
@@ -113,6 +113,6 @@ copied_reduces by (Held c) = on_cond (Reduces (Held c)) (has (reduced_rights by 
 
 pub inherited_reduces : (confined : Bool) (e : Entry) → Reduces e (inherited confined e)
 inherited_reduces true Empty = tt
-inherited_reduces true (Held c) = (refl, Within-and c.rights 0xff02ff)
+inherited_reduces true (Held c) = (refl, Within-and c.rights (all_but (MODIFY + UNCONF)))
 inherited_reduces true (Form t) = refl
 inherited_reduces false e = Reduces-self e

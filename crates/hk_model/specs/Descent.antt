@@ -8,7 +8,7 @@ use Rattle.hk_model.specs.declared.entries.Template.TheVariants as template
 use Rattle.hk_model.specs.declared.entries.Entry.{Entry}
 use Rattle.hk_model.specs.declared.entries.Entry.TheVariants.{Empty, Held, Form}
 use Rattle.hk_model.specs.declared.lines.Line.{Line}
-use Rattle.hk_rights.specs.Rights.{special_rights}
+use Rattle.hk_rights.specs.Rights.{special_rights, minus}
 use Rattle.hk_model.specs.Setup.{Setup}
 use Rattle.hk_model.specs.State.{State, object}
 use Rattle.hk_model.specs.Targets.{ENV+A0}
@@ -47,10 +47,6 @@ extend s line t chains p = extended s chains (line_origin s line p) p
 abbrev pub chains : Setup → List Line → Place → Chain
 chains w lines = told extend w (opened w) lines Opened
 
--- the rights but MODIFY, ENV and UNCONF
-abbrev pub other_rights : ℕ
-other_rights = 0xff00ff
-
 -- the same object with no right more, or the same template
 abbrev pub Reduces : Entry → Entry → Type 0
 Reduces from Empty = Unit {0}
@@ -65,7 +61,7 @@ Reduces (Form a) (Held b) = ⊥
 -- those that it gives; else they are no more than before
 abbrev pub Others : Option Name → Name → ℕ → ℕ → ℕ → Type 0
 Others None of before give after = Within after before
-Others (Some wanted) of before give after = (wanted ≡ of) × (bit_and after other_rights ≡ bit_and give other_rights)
+Others (Some wanted) of before give after = (wanted ≡ of) × (minus after special_rights ≡ minus give special_rights)
 
 -- the capability `a` for an object of type `of` has become `b` through a template: for the same object, with no special
 -- right more; the template's `check` was there

@@ -1,7 +1,7 @@
 -- The generated worlds. docs/FORMATS.md, "Generated worlds".
 use Rattle.std.specs.Prelude.{ℕ, zero, suc, ◌+◌, List, [], ◌∷◌, Some, codes}
 use Rattle.std.specs.Fmt.{decimal}
-use Rattle.hk_rights.specs.Rights.{A0}
+use Rattle.hk_rights.specs.Rights.{GETDATA, PUTDATA, MODIFY, A0, A1}
 use Rattle.hk_model.specs.declared.names.Name.{Name}
 use Rattle.hk_model.specs.declared.names.Slot.{Slot}
 use Rattle.hk_model.specs.declared.entries.Entry.{Entry}
@@ -25,15 +25,15 @@ use Rattle.hk_model.specs.Setup.{Setup, setup}
 
 -- to read and write words, without the right to change
 abbrev pub GETDATA+PUTDATA : ℕ
-GETDATA+PUTDATA = 0x3
+GETDATA+PUTDATA = GETDATA + PUTDATA
 
 -- to read and write words
 abbrev pub GETDATA+PUTDATA+MODIFY : ℕ
-GETDATA+PUTDATA+MODIFY = 0x103
+GETDATA+PUTDATA+MODIFY = GETDATA + PUTDATA + MODIFY
 
 -- to take and give the tokens of a semaphore
 abbrev pub MODIFY+A0+A1 : ℕ
-MODIFY+A0+A1 = 0x30100
+MODIFY+A0+A1 = MODIFY + A0 + A1
 
 -- parts of worlds
 

@@ -5,10 +5,9 @@ use Rattle.hk_model.specs.declared.names.Inc.{Inc}
 use Rattle.hk_model.specs.declared.entries.Cap.{Cap}
 use Rattle.hk_model.specs.declared.entries.Entry.TheVariants.{Held}
 use Rattle.hk_model.specs.declared.lines.Line.{Line}
-use Rattle.hk_rights.specs.Rights.{has}
+use Rattle.hk_rights.specs.Rights.{has, env_right}
 use Rattle.hk_model.specs.Setup.{Setup}
 use Rattle.hk_model.specs.State.{State}
-use Rattle.hk_model.specs.Walking.{env_right}
 use Rattle.hk_model.specs.Running.{machine_at, state_at}
 use Rattle.hk_model.specs.Places.{Place, SlotOf, EntryOf, same_place, standing, is_empty, passed, named_by}
 use Rattle.hk_model.specs.Lines.{told}

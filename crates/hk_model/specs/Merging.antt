@@ -7,7 +7,7 @@ use Rattle.hk_model.specs.declared.entries.Entry.{Entry}
 use Rattle.hk_model.specs.declared.entries.Entry.TheVariants.{Empty, Held, Form}
 use Rattle.hk_model.specs.declared.calls.Refusal.{Refusal}
 use Rattle.hk_model.specs.declared.calls.Refusal.TheVariants as refused
-use Rattle.hk_rights.specs.Rights.{special_rights}
+use Rattle.hk_rights.specs.Rights.{special_rights, minus}
 use Rattle.hk_model.specs.Limits.{slot_limit}
 use Rattle.hk_model.specs.State.{same_name}
 use Rattle.hk_model.specs.Refusing.{◌>>◌, unless, allowed}
@@ -21,7 +21,7 @@ matches (Some wanted) of = same_name wanted of
 -- what a template gives: a type's own template adds rights, but MODIFY, ENV and UNCONF never come from it
 abbrev pub merged_rights : ℕ → Option Name → ℕ → ℕ
 merged_rights rights None give = bit_and give rights
-merged_rights rights (Some _) give = bit_or (bit_and give 0xff00ff) (bit_and (bit_and give special_rights) rights)
+merged_rights rights (Some _) give = bit_or (minus give special_rights) (bit_and (bit_and give special_rights) rights)
 
 -- a capability for an object of type `of`, merged with a template
 abbrev pub merged : Cap → Name → Param → ℕ → Result Cap Refusal

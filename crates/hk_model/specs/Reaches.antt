@@ -7,10 +7,9 @@ use Rattle.hk_model.specs.declared.entries.Cap.{Cap}
 use Rattle.hk_model.specs.declared.entries.Entry.{Entry}
 use Rattle.hk_model.specs.declared.entries.Entry.TheVariants.{Held}
 use Rattle.hk_model.specs.declared.lines.Line.{Line}
-use Rattle.hk_rights.specs.Rights.{has}
+use Rattle.hk_rights.specs.Rights.{has, modify_right, unconf_right}
 use Rattle.hk_model.specs.Setup.{Setup}
 use Rattle.hk_model.specs.State.{State, object}
-use Rattle.hk_model.specs.Walking.{modify_right, unconf_right}
 use Rattle.hk_model.specs.Running.{state_at}
 use Rattle.hk_model.specs.Places.{cap_of}
 use Rattle.hk_model.specs.Under.{is_made_under, parameters}

@@ -1,5 +1,5 @@
 -- The tests that the kernel calls share. docs/RULES.md, "The order of refusals" and "The table of the calls".
-use Rattle.std.specs.Prelude.{ℕ, ◌-◌, ◌==◌, Bool, ◌||◌, List, length, Result, Ok, Err, nat_lt, if◌then◌else◌}
+use Rattle.std.specs.Prelude.{ℕ, ◌+◌, ◌-◌, ◌==◌, Bool, ◌||◌, List, length, Result, Ok, Err, nat_lt, if◌then◌else◌}
 use Rattle.hk_model.specs.declared.names.Name.{Name}
 use Rattle.hk_model.specs.declared.names.Inc.{Inc}
 use Rattle.hk_model.specs.declared.names.Slot.{Slot}
@@ -10,7 +10,7 @@ use Rattle.hk_model.specs.declared.entries.Entry.{Entry}
 use Rattle.hk_model.specs.declared.entries.Entry.TheVariants.{Empty, Held, Form}
 use Rattle.hk_model.specs.declared.calls.Refusal.{Refusal}
 use Rattle.hk_model.specs.declared.calls.Refusal.TheVariants as refused
-use Rattle.hk_rights.specs.Rights.{ENV}
+use Rattle.hk_rights.specs.Rights.{PUTDATA, ADDDATA, STORE, APPEND, KILL, MODIFY, ENV, A0, A1}
 use Rattle.hk_model.specs.Limits.{slot_limit}
 use Rattle.hk_model.specs.State.{State, object}
 use Rattle.hk_model.specs.Refusing.{◌>>=◌, ◌>>◌, unless, allowed}
@@ -54,28 +54,28 @@ is_type n of = of.0 == n
 
 -- every change of an object asks for MODIFY besides the particular right
 abbrev pub PUTDATA+MODIFY : ℕ
-PUTDATA+MODIFY = 0x102
+PUTDATA+MODIFY = PUTDATA + MODIFY
 
 abbrev pub ADDDATA+MODIFY : ℕ
-ADDDATA+MODIFY = 0x104
+ADDDATA+MODIFY = ADDDATA + MODIFY
 
 abbrev pub STORE+MODIFY : ℕ
-STORE+MODIFY = 0x110
+STORE+MODIFY = STORE + MODIFY
 
 abbrev pub APPEND+MODIFY : ℕ
-APPEND+MODIFY = 0x120
+APPEND+MODIFY = APPEND + MODIFY
 
 abbrev pub KILL+MODIFY : ℕ
-KILL+MODIFY = 0x140
+KILL+MODIFY = KILL + MODIFY
 
 abbrev pub MODIFY+A0 : ℕ
-MODIFY+A0 = 0x10100
+MODIFY+A0 = MODIFY + A0
 
 abbrev pub MODIFY+A1 : ℕ
-MODIFY+A1 = 0x20100
+MODIFY+A1 = MODIFY + A1
 
 abbrev pub ENV+A0 : ℕ
-ENV+A0 = 0x10200
+ENV+A0 = ENV + A0
 
 -- the last step of a path
 abbrev pub last_step : List ℕ → ℕ

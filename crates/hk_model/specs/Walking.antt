@@ -1,32 +1,23 @@
 -- Reduction, and walks along a path. docs/RULES.md, "Reduction" and "Walks".
-use Rattle.std.specs.Prelude.{ℕ, ◌+◌, List, [], ◌∷◌, Result, Ok, Err, if◌then◌else◌, bit_and}
+use Rattle.std.specs.Prelude.{ℕ, ◌+◌, List, [], ◌∷◌, Result, Ok, Err, if◌then◌else◌}
 use Rattle.hk_model.specs.declared.names.Inc.{Inc}
 use Rattle.hk_model.specs.declared.entries.Cap.{Cap}
 use Rattle.hk_model.specs.declared.entries.Entry.{Entry}
 use Rattle.hk_model.specs.declared.entries.Entry.TheVariants.{Empty, Held, Form}
 use Rattle.hk_model.specs.declared.calls.Refusal.{Refusal}
 use Rattle.hk_model.specs.declared.calls.Refusal.TheVariants as refused
-use Rattle.hk_rights.specs.Rights.{LOAD, ENV, has}
+use Rattle.hk_rights.specs.Rights.{LOAD, MODIFY, ENV, UNCONF, has, minus}
+pub use Rattle.hk_rights.specs.Rights.{modify_right, env_right, unconf_right}
 use Rattle.hk_model.specs.State.{State, object, incarnation}
 use Rattle.hk_model.specs.Refusing.{◌>>=◌, ◌>>◌, allowed, item_at}
 
--- the numbers of the three special rights
-abbrev pub modify_right : ℕ
-modify_right = 8
-
-abbrev pub env_right : ℕ
-env_right = 9
-
-abbrev pub unconf_right : ℕ
-unconf_right = 10
-
 -- the rights but MODIFY and UNCONF
 abbrev pub confined_rights : ℕ → ℕ
-confined_rights rights = bit_and rights 0xff02ff
+confined_rights rights = minus rights (MODIFY + UNCONF)
 
 -- the rights but ENV
 abbrev pub local_rights : ℕ → ℕ
-local_rights rights = bit_and rights 0xff05ff
+local_rights rights = minus rights ENV
 
 -- rights that were obtained through a capability with the rights `by`
 abbrev pub reduced_rights : ℕ → ℕ → ℕ

@@ -13,9 +13,9 @@ use Rattle.hk_model.specs.declared.entries.Entry.TheVariants.{Empty, Held, Form}
 use Rattle.hk_model.specs.declared.calls.Call.{Call}
 use Rattle.hk_model.specs.declared.calls.Call.TheVariants as call
 use Rattle.hk_model.specs.declared.lines.Line.{Line}
-use Rattle.hk_rights.specs.Rights.{ENV, MODIFY, has, first_missing}
+use Rattle.hk_rights.specs.Rights.{ENV, MODIFY, has, first_missing, unconf_right}
 use Rattle.hk_model.specs.State.{State, object, incarnation, same_name, same_inc}
-use Rattle.hk_model.specs.Walking.{walk, unconf_right}
+use Rattle.hk_model.specs.Walking.{walk}
 use Rattle.hk_model.specs.Merging.{merged, inherited}
 use Rattle.hk_model.specs.Targets.{ENV+A0}
 use Rattle.hk_model.specs.Rule.{copied, made_form}

@@ -20,6 +20,7 @@ pub mod snapshot;
 pub mod syntax;
 #[cfg(test)]
 mod tests;
+pub mod vanishing;
 pub mod world;
 
 pub use calls::{Answer, Call, Refusal, Reply, What8};
@@ -35,4 +36,5 @@ pub use objects::{Incarnation, Object, Process, ProcessState};
 pub use paths::{Args, Path};
 pub use snapshot::{Live, Seen, Snapshot};
 pub use syntax::{Body, Head, Item, MakingText, Part, Verb, Written};
+pub use vanishing::{kept_are_greatest_supported, rooted_are_least_closed};
 pub use world::{Born, Code, Kind, Task, World};

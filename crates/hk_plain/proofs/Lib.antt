@@ -3,3 +3,5 @@ pub mod Entering
 pub mod Numbered
 pub mod StackLemmas
 pub mod RunnerLemmas
+pub mod Naming
+pub mod KeepingLemmas

@@ -12,6 +12,7 @@
 mod activations;
 mod calls;
 mod incarnations;
+mod keeping;
 mod lists;
 mod objects;
 mod opening;

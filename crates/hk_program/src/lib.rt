@@ -14,6 +14,7 @@ mod running;
 mod stepping;
 #[cfg(test)]
 mod tests;
+mod vanishing;
 
 pub use answering::after;
 pub use context::Context;
@@ -21,3 +22,4 @@ pub use ending::end_word;
 pub use hk_model::{Frame, Todo};
 pub use machine::Machine;
 pub use running::next;
+pub use vanishing::kept_law;

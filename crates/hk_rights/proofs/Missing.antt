@@ -4,8 +4,8 @@ use Rattle.std.proofs.lemmas.Bool.Decides.{nat_tests}
 use Rattle.std.proofs.lemmas.Option.{none-some}
 use Rattle.std.proofs.lemmas.Bool.{cases_order, true≢false, false≢true}
 use Rattle.std.specs.List.{list_any}
-use Rattle.hk_rights.specs.Rights.{has, right_numbers, right_table, all_rights, IsRightsWord, HasAll, minus, first_missing}
-use Rattle.hk_rights.proofs.Sets.{left_of, right_of, has-minus, has-zero, has-pow}
+use Rattle.hk_rights.specs.Rights.{has, right_numbers, right_table, all_rights, IsRightsWord, HasAll, first_missing}
+use Rattle.hk_rights.proofs.Sets.{left_of, right_of, lacking, has-lacking, has-zero, has-pow}
 use Rattle.hk_rights.proofs.Words.{HasAll-all_rights}
 use Rattle.hk_rights.proofs.Table.{has-all_rights, right_numbers-is_right}
 
@@ -83,8 +83,8 @@ unfolding first_missing
 first_missing-none have need h = find-none (λ n. has need n && not (has have n)) right_numbers (λ n. implied (has need n) (has have n) (h n))
 
 -- where nothing is left without what is there, all that is needed is there
-pub HasAll-from_minus : (have need : ℕ) → minus need have ≡ 0 → HasAll have need
-HasAll-from_minus have need e = λ n. implies (has need n) (has have n) (sym (has-minus need have n) ∙ (ap (λ w. has w n) e ∙ has-zero n))
+pub HasAll-from_lacking : (have need : ℕ) → lacking need have ≡ 0 → HasAll have need
+HasAll-from_lacking have need e = λ n. implies (has need n) (has have n) (sym (has-lacking need have n) ∙ (ap (λ w. has w n) e ∙ has-zero n))
 
 -- where none is missing each right that is needed is there
 pub has-from_first_missing : (have need n : ℕ) → first_missing have need ≡ None → IsTrue (has all_rights n) → IsTrue (has need n) → IsTrue (has have n)
@@ -96,16 +96,16 @@ pub HasAll-from_first_missing : (have need : ℕ) → IsRightsWord need → firs
 HasAll-from_first_missing have need word none = λ n needed. has-from_first_missing have need n none (HasAll-all_rights need word n needed) needed
 
 -- the least right that is needed and not there is missing first
-pub first_missing-some : (have need n : ℕ) → IsTrue (has all_rights n) → IsTrue (has (minus need have) n) → ((k : ℕ) → k < n → has (minus need have) k ≡ false) → first_missing have need ≡ Some n
+pub first_missing-some : (have need n : ℕ) → IsTrue (has all_rights n) → IsTrue (has (lacking need have) n) → ((k : ℕ) → k < n → has (lacking need have) k ≡ false) → first_missing have need ≡ Some n
 unfolding first_missing rising
 first_missing-some have need n right missing least =
-    find-least (λ n. has need n && not (has have n)) n 0 right_numbers numbers_rise (listed n right) (sym (has-minus need have n) ∙ missing) (λ k less. sym (has-minus need have k) ∙ least k less)
+    find-least (λ n. has need n && not (has have n)) n 0 right_numbers numbers_rise (listed n right) (sym (has-lacking need have n) ∙ missing) (λ k less. sym (has-lacking need have k) ∙ least k less)
 
 -- of one right
 pub first_missing-pow : (have n : ℕ) → IsTrue (has all_rights n) → has have n ≡ false → first_missing have (2 ^ n) ≡ Some n
 first_missing-pow have n right lacks = first_missing-some have (2 ^ n) n right
-    (has-minus (2 ^ n) have n ∙ here)
-    (λ k less. has-minus (2 ^ n) have k ∙ before k less)
+    (has-lacking (2 ^ n) have n ∙ here)
+    (λ k less. has-lacking (2 ^ n) have k ∙ before k less)
   where
     here : (has (2 ^ n) n && not (has have n)) ≡ true
     here = let same : (n == n) ≡ true = grind (arith, nat_tests) in rw (has-pow n n, same, lacks) refl

@@ -1,12 +1,12 @@
 -- Sets of rights: what each word of a set has.
-use Rattle.std.proofs.Common.{◌≡◌, ◌==◌, ◌&&◌, ◌||◌, not, ◌+◌, ◌-◌, ◌*◌, ◌%◌, ◌^◌, ◌<◌, ◌≤◌, min, max, ℕ, Bool, true, false, refl, sym, ap, ◌∙◌, arith, inl, inr, ◌⊎◌, IsTrue, bit_and, bit_or}
+use Rattle.std.proofs.Common.{◌≡◌, ◌==◌, ◌&&◌, ◌||◌, not, ◌+◌, ◌-◌, ◌*◌, ◌%◌, ◌^◌, ◌<◌, ◌≤◌, min, max, ℕ, Bool, true, false, refl, sym, ap, ◌∙◌, arith, inl, inr, ◌⊎◌, IsTrue, bit_and, bit_or, bit_xor}
 use Rattle.std.proofs.lemmas.Bool.Decides.{nat_tests}
 use Rattle.std.proofs.lemmas.Bool.{cases_lt, cases_eq, or_cases}
 use Rattle.std.proofs.lemmas.Nat.{pow_pos}
 use Rattle.std.proofs.lemmas.Nat.Bits.{bit_at_and, bit_at_or, bit_at_xor, bit_at_not, bit_at_above, bit_at-lt, bit_at-zero, bit_at-pow_same, bit_at-pow_other, same_from_bits, and_pow}
 use Rattle.std.specs.Int.{bit_at, w32}
 use Rattle.bitflags.specs.Sets.{without}
-use Rattle.hk_rights.specs.Rights.{has, minus, HasAll}
+use Rattle.hk_rights.specs.Rights.{has, HasAll}
 
 -- ---- on one bit of each word
 
@@ -36,8 +36,12 @@ has-bit_or a b n = rw (bit_at_or a b n) (or_of (bit_at a n) (bit_at b n) (bit_at
 pub has-bit_and : (a b n : ℕ) → has (bit_and a b) n ≡ (has a n && has b n)
 has-bit_and a b n = rw (bit_at_and a b n) (and_of (bit_at a n) (bit_at b n) (bit_at-lt a n) (bit_at-lt b n))
 
-pub has-minus : (a b n : ℕ) → has (minus a b) n ≡ (has a n && not (has b n))
-has-minus a b n = rw (bit_at_xor a (bit_and a b) n, bit_at_and a b n) (minus_of (bit_at a n) (bit_at b n) (bit_at-lt a n) (bit_at-lt b n))
+-- what one word has and another lacks
+abbrev pub lacking : ℕ → ℕ → ℕ
+lacking a b = bit_xor a (bit_and a b)
+
+pub has-lacking : (a b n : ℕ) → has (lacking a b) n ≡ (has a n && not (has b n))
+has-lacking a b n = rw (bit_at_xor a (bit_and a b) n, bit_at_and a b n) (minus_of (bit_at a n) (bit_at b n) (bit_at-lt a n) (bit_at-lt b n))
 
 -- the set of one right
 pub has-pow : (one n : ℕ) → has (2 ^ one) n ≡ (n == one)
@@ -55,7 +59,7 @@ has-above k a n fits above = rw (bit_at_above a k n fits above) refl
 pub same_rights : (a b : ℕ) → ((n : ℕ) → has a n ≡ has b n) → a ≡ b
 same_rights a b h = same_from_bits a b (λ n. same_of (bit_at a n) (bit_at b n) (bit_at-lt a n) (bit_at-lt b n) (h n))
 
--- `without` of 32 bits is `minus`
+-- `without` of 32 bits is that
 has-without : (a b n : ℕ) → a < 2 ^ 32 → b < 2 ^ 32 → has (without 32 a b) n ≡ (has a n && not (has b n))
 has-without a b n fits fits_b =
     elim (cases_lt n 32) [
@@ -63,8 +67,8 @@ has-without a b n fits fits_b =
       | inr high ↦ rw (has-bit_and a (2 ^ 32 - 1 - b) n, has-above 32 a n fits high) refl
     ]
 
-pub without-minus : (a b : ℕ) → a < 2 ^ 32 → b < 2 ^ 32 → without 32 a b ≡ minus a b
-without-minus a b fits fits_b = same_rights (without 32 a b) (minus a b) (λ n. has-without a b n fits fits_b ∙ sym (has-minus a b n))
+pub without-lacking : (a b : ℕ) → a < 2 ^ 32 → b < 2 ^ 32 → without 32 a b ≡ lacking a b
+without-lacking a b fits fits_b = same_rights (without 32 a b) (lacking a b) (λ n. has-without a b n fits fits_b ∙ sym (has-lacking a b n))
 
 -- ---- one set within another
 
@@ -95,8 +99,8 @@ has-bit_and_right a b n h = right_of (has a n) (has b n) (sym (has-bit_and a b n
 pub has-bit_or_cases : (a b n : ℕ) → IsTrue (has (bit_or a b) n) → IsTrue (has a n) ⊎ IsTrue (has b n)
 has-bit_or_cases a b n h = or_cases (has a n) (has b n) (sym (has-bit_or a b n) ∙ h)
 
-pub has-minus_left : (a b n : ℕ) → IsTrue (has (minus a b) n) → IsTrue (has a n)
-has-minus_left a b n h = left_of (has a n) (not (has b n)) (sym (has-minus a b n) ∙ h)
+pub has-lacking_left : (a b n : ℕ) → IsTrue (has (lacking a b) n) → IsTrue (has a n)
+has-lacking_left a b n h = left_of (has a n) (not (has b n)) (sym (has-lacking a b n) ∙ h)
 
 pub HasAll-self : (a : ℕ) → HasAll a a
 HasAll-self a = λ n h. h
@@ -110,8 +114,8 @@ HasAll-bit_and_left a b = λ n there. has-bit_and_left a b n there
 pub HasAll-bit_and_right : (a b : ℕ) → HasAll b (bit_and a b)
 HasAll-bit_and_right a b = λ n there. has-bit_and_right a b n there
 
-pub HasAll-minus : (a b : ℕ) → HasAll a (minus a b)
-HasAll-minus a b = λ n there. has-minus_left a b n there
+pub HasAll-lacking : (a b : ℕ) → HasAll a (lacking a b)
+HasAll-lacking a b = λ n there. has-lacking_left a b n there
 
 pub HasAll-bit_or : (a b c : ℕ) → HasAll c a → HasAll c b → HasAll c (bit_or a b)
 HasAll-bit_or a b c h g = λ n there.

@@ -1,19 +1,78 @@
 -- Rights and sets of rights (`docs/RULES.md`, 'Rights'). A right is the number of its bit, and a set of rights is the
 -- word in which exactly the bits of its rights are set.
-use Rattle.std.specs.Prelude.{◌≡◌, ◌==◌, ◌&&◌, ◌||◌, not, nat_le, Bool, ℕ, ◌/◌, ◌%◌, ◌^◌, List, [], ◌∷◌, Option, map, option_map, unwrap_or, codes, IsTrue, nat_eq, find, bit_and, bit_xor}
+use Rattle.std.specs.Prelude.{◌≡◌, ◌==◌, ◌&&◌, ◌||◌, not, nat_le, Bool, ℕ, ◌+◌, ◌/◌, ◌%◌, ◌^◌, List, [], ◌∷◌, Option, map, option_map, unwrap_or, codes, IsTrue, nat_eq, find, bit_and, bit_xor}
 use Rattle.std.specs.Cmp.Lexicographic.{pointwise}
 
 -- a right: its name and the number of its bit
 abbrev pub Row : Type 0
 Row = List ℕ × ℕ
 
--- the 19 rights, by rising number; the last eight are the auxiliary ones, which each type uses in its own way
+-- the number of each right. The auxiliary rights, A0 to A7, each type uses in its own way
+abbrev pub getdata_right : ℕ
+getdata_right = 0
+
+abbrev pub putdata_right : ℕ
+putdata_right = 1
+
+abbrev pub adddata_right : ℕ
+adddata_right = 2
+
+abbrev pub load_right : ℕ
+load_right = 3
+
+abbrev pub store_right : ℕ
+store_right = 4
+
+abbrev pub append_right : ℕ
+append_right = 5
+
+abbrev pub kill_right : ℕ
+kill_right = 6
+
+abbrev pub copy_right : ℕ
+copy_right = 7
+
+abbrev pub modify_right : ℕ
+modify_right = 8
+
+abbrev pub env_right : ℕ
+env_right = 9
+
+abbrev pub unconf_right : ℕ
+unconf_right = 10
+
+abbrev pub a0_right : ℕ
+a0_right = 16
+
+abbrev pub a1_right : ℕ
+a1_right = 17
+
+abbrev pub a2_right : ℕ
+a2_right = 18
+
+abbrev pub a3_right : ℕ
+a3_right = 19
+
+abbrev pub a4_right : ℕ
+a4_right = 20
+
+abbrev pub a5_right : ℕ
+a5_right = 21
+
+abbrev pub a6_right : ℕ
+a6_right = 22
+
+abbrev pub a7_right : ℕ
+a7_right = 23
+
+-- the 19 rights, by rising number
 unfoldable pub right_table : List Row
 right_table =
-    (codes "GETDATA", 0) ∷ (codes "PUTDATA", 1) ∷ (codes "ADDDATA", 2) ∷ (codes "LOAD", 3) ∷ (codes "STORE", 4)
-    ∷ (codes "APPEND", 5) ∷ (codes "KILL", 6) ∷ (codes "COPY", 7) ∷ (codes "MODIFY", 8) ∷ (codes "ENV", 9)
-    ∷ (codes "UNCONF", 10) ∷ (codes "A0", 16) ∷ (codes "A1", 17) ∷ (codes "A2", 18) ∷ (codes "A3", 19)
-    ∷ (codes "A4", 20) ∷ (codes "A5", 21) ∷ (codes "A6", 22) ∷ (codes "A7", 23) ∷ []
+    (codes "GETDATA", getdata_right) ∷ (codes "PUTDATA", putdata_right) ∷ (codes "ADDDATA", adddata_right) ∷ (codes "LOAD", load_right)
+    ∷ (codes "STORE", store_right) ∷ (codes "APPEND", append_right) ∷ (codes "KILL", kill_right) ∷ (codes "COPY", copy_right)
+    ∷ (codes "MODIFY", modify_right) ∷ (codes "ENV", env_right) ∷ (codes "UNCONF", unconf_right) ∷ (codes "A0", a0_right)
+    ∷ (codes "A1", a1_right) ∷ (codes "A2", a2_right) ∷ (codes "A3", a3_right) ∷ (codes "A4", a4_right)
+    ∷ (codes "A5", a5_right) ∷ (codes "A6", a6_right) ∷ (codes "A7", a7_right) ∷ []
 
 -- the numbers of the rights, rising
 unfoldable pub right_numbers : List ℕ
@@ -47,13 +106,13 @@ all_rights = 0xff07ff
 abbrev pub IsRightsWord : ℕ → Type 0
 IsRightsWord word = bit_and word all_rights ≡ word
 
--- the special rights: MODIFY, ENV and UNCONF
-abbrev pub special_rights : ℕ
-special_rights = 0x700
+-- the rights but these
+abbrev pub all_but : ℕ → ℕ
+all_but gone = bit_xor all_rights (bit_and all_rights gone)
 
--- the rights that the first set has and the second lacks: what both have is taken out
+-- the rights of the first set but those of the second
 abbrev pub minus : ℕ → ℕ → ℕ
-minus rights gone = bit_xor rights (bit_and rights gone)
+minus rights gone = bit_and rights (all_but gone)
 
 -- the first set has every right of the second
 abbrev pub HasAll : ℕ → ℕ → Type 0
@@ -63,60 +122,64 @@ HasAll have need = (number : ℕ) → IsTrue (has need number) → IsTrue (has h
 unfoldable pub first_missing : ℕ → ℕ → Option ℕ
 first_missing have need = find (λ number. has need number && not (has have number)) right_numbers
 
--- the sets of one right each
+-- the sets of one right each; a sum of several is the set of these
 abbrev pub GETDATA : ℕ
-GETDATA = 0x1
+GETDATA = 2 ^ getdata_right
 
 abbrev pub PUTDATA : ℕ
-PUTDATA = 0x2
+PUTDATA = 2 ^ putdata_right
 
 abbrev pub ADDDATA : ℕ
-ADDDATA = 0x4
+ADDDATA = 2 ^ adddata_right
 
 abbrev pub LOAD : ℕ
-LOAD = 0x8
+LOAD = 2 ^ load_right
 
 abbrev pub STORE : ℕ
-STORE = 0x10
+STORE = 2 ^ store_right
 
 abbrev pub APPEND : ℕ
-APPEND = 0x20
+APPEND = 2 ^ append_right
 
 abbrev pub KILL : ℕ
-KILL = 0x40
+KILL = 2 ^ kill_right
 
 abbrev pub COPY : ℕ
-COPY = 0x80
+COPY = 2 ^ copy_right
 
 abbrev pub MODIFY : ℕ
-MODIFY = 0x100
+MODIFY = 2 ^ modify_right
 
 abbrev pub ENV : ℕ
-ENV = 0x200
+ENV = 2 ^ env_right
 
 abbrev pub UNCONF : ℕ
-UNCONF = 0x400
+UNCONF = 2 ^ unconf_right
 
 abbrev pub A0 : ℕ
-A0 = 0x10000
+A0 = 2 ^ a0_right
 
 abbrev pub A1 : ℕ
-A1 = 0x20000
+A1 = 2 ^ a1_right
 
 abbrev pub A2 : ℕ
-A2 = 0x40000
+A2 = 2 ^ a2_right
 
 abbrev pub A3 : ℕ
-A3 = 0x80000
+A3 = 2 ^ a3_right
 
 abbrev pub A4 : ℕ
-A4 = 0x100000
+A4 = 2 ^ a4_right
 
 abbrev pub A5 : ℕ
-A5 = 0x200000
+A5 = 2 ^ a5_right
 
 abbrev pub A6 : ℕ
-A6 = 0x400000
+A6 = 2 ^ a6_right
 
 abbrev pub A7 : ℕ
-A7 = 0x800000
+A7 = 2 ^ a7_right
+
+-- the special rights
+abbrev pub special_rights : ℕ
+special_rights = MODIFY + ENV + UNCONF

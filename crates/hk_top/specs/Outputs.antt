@@ -19,6 +19,7 @@ use Rattle.hk_model.specs.Verdicts.{IsVerdict}
 use Rattle.hk_model.specs.Descent.{DescentLaw}
 use Rattle.hk_model.specs.Marks.{EnvironmentLaw}
 use Rattle.hk_model.specs.Confinement.{ConfinementLaw, ClosedCallLaw}
+use Rattle.hk_model.specs.Kept.{KeptLaw}
 use Rattle.hk_model.specs.Worlds.{world}
 use Rattle.hk_model.specs.Canonical.{canon}
 use Rattle.hk_model.specs.Records.{record_text}
@@ -49,12 +50,13 @@ pub data IsRunOf (words : List (List ℕ)) (w : Setup) (lines : List Line) (end 
   alone : IsRun words → IsWholeRun w lines end → IsRunOf words w lines end
   shared : (cpus : ℕ) → IsRunOn words cpus → IsRunBy w cpus lines end → IsRunOf words w lines end
 
--- the laws of protection over these lines
+-- the laws of protection over these lines, and that of kept objects
 pub record IsLawful (w : Setup) (lines : List Line) : Type 0 where
   pub descent : DescentLaw w lines
   pub environment : EnvironmentLaw w lines
   pub confinement : ConfinementLaw w lines
   pub closed_call : ClosedCallLaw w lines
+  pub kept : KeptLaw w lines
 
 -- the status of a run that ended so
 abbrev pub status_of : End → ℕ

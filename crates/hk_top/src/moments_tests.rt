@@ -24,6 +24,18 @@ const KEPT: &'static [u8; 173] =
 const HANDED: &'static [u8; 411] =
     b"hydra 1\nobject hub UNIVERSAL\nempty\nend\nobject y DATA\nwords 1\nend\nprocedure p cp\nparam UNIVERSAL STORE STORE+MODIFY\ncreate UNIVERSAL LOAD+STORE+APPEND+MODIFY+ENV+UNCONF\nend\ncode cp\ncreate 1 2\nstore 0 0 2\nyield\nputdata 2.0 0 5\nend\ncode main\ncall 1 0 2\nend\ncode other\nappend 0.0 1\nend\nprocess a main\ncap hub STORE+MODIFY+ENV\ncap p A0\nend\nprocess b other\ncap hub LOAD+ENV+UNCONF\ncap y PUTDATA+MODIFY+ENV+UNCONF\nend\n";
 
+// A process makes an object of a type of the script, and drops its capability for it.
+const DROPPED: &'static [u8; 263] =
+    b"hydra 1\ntype stack\ncode main\ntemplate 0 create GETDATA+ADDDATA+MODIFY+ENV 1\ncreate 1 2\nadddata 2 8\ngetdata 2 0 r0\nrestrict 2 GETDATA\nadddata 2 9\ndrop 2\ngetdata 2 0 r0\ntemplate 3 amplify - GETDATA 4\nend\nprocess a main\ncap stack ENV+A0\nempty\nempty\ncap stack A0\nend\n";
+
+// A process makes objects until the table is full, each in the list of the one before, and returns.
+const CHAINED: &'static [u8; 170] =
+    b"hydra 1\nlimit 200000\ncode main\nlabel l0\ncreate 0 1\nifdenied l5\nappend 1 2\nload 1 2\ngoto l0\nlabel l5\nend\nprocess a main\ncreate UNIVERSAL LOAD+APPEND+MODIFY+ENV+UNCONF\nend\n";
+
+// A process fills the table with objects that name themselves, and goes on.
+const RINGS: &'static [u8; 146] =
+    b"hydra 1\nlimit 200000\ncode main\nlabel l0\ncreate 0 1\nappend 1 1\nadd r0 1\niflt r0 65530 l0\nend\nprocess a main\ncreate UNIVERSAL APPEND+MODIFY+ENV\nend\n";
+
 // The world of a script.
 fn world(alloc: Global, script: &[u8]) -> Result<World, Fail>
     requires { length script.now ≤ script_bytes }
@@ -119,5 +131,41 @@ fn a_confined_call_writes_what_was_handed_over(rt: HostRuntime) -> Result<(), Fa
     assert_eq!(rt; end.events, 12);
     assert_eq!(rt; first_word(&end, Name(8)), Some(5));
     assert_eq!(rt; has_in_list(&end, Name(7), Name(10)), true);
+    Ok(())
+}
+
+#[test]
+fn a_dropped_object_vanishes(rt: HostRuntime) -> Result<(), Fail> {
+    let alloc = rt.alloc();
+    let world = world(alloc, DROPPED)?;
+    let held = moment(alloc, &world, 7).map_err(|_error: NoMemory| "memory")?;
+    assert_eq!(rt; first_word(&held, Name(8)), Some(8));
+    let dropped = moment(alloc, &world, 8).map_err(|_error: NoMemory| "memory")?;
+    assert_eq!(rt; object(&dropped, Name(8)).is_none(), true);
+    assert_eq!(rt; dropped.objects.len(), 8);
+    Ok(())
+}
+
+#[test]
+fn a_chain_goes_in_one_event(rt: HostRuntime) -> Result<(), Fail> {
+    let alloc = rt.alloc();
+    let world = world(alloc, CHAINED)?;
+    let full = moment(alloc, &world, 196_589).map_err(|_error: NoMemory| "memory")?;
+    assert_eq!(rt; full.objects.len(), 65_536);
+    let end = moment(alloc, &world, 196_590).map_err(|_error: NoMemory| "memory")?;
+    assert_eq!(rt; end.objects.len(), 7);
+    Ok(())
+}
+
+#[test]
+fn rings_stand_until_the_table_is_full(rt: HostRuntime) -> Result<(), Fail> {
+    let alloc = rt.alloc();
+    let world = world(alloc, RINGS)?;
+    let full = moment(alloc, &world, 131_059).map_err(|_error: NoMemory| "memory")?;
+    assert_eq!(rt; full.objects.len(), 65_536);
+    let end = moment(alloc, &world, 131_062).map_err(|_error: NoMemory| "memory")?;
+    assert_eq!(rt; end.objects.len(), 9);
+    assert_eq!(rt; object(&end, Name(65_535)).is_some(), true);
+    assert_eq!(rt; object(&end, Name(65_536)).is_some(), true);
     Ok(())
 }

@@ -8,7 +8,7 @@ ghost use Rattle.hk_top.specs.Outputs.{IsWholeRun, IsLawful};
 use hk_confine::{closed_call_law, confinement_law};
 use hk_descent::{descent_law, environment_law};
 use hk_model::{Cpu, End, Items, Kernel, Line, NoMemory, World};
-use hk_program::{Machine, end_word};
+use hk_program::{Machine, end_word, kept_law};
 use std::alloc::Global;
 
 /// The processor that runs a script alone.
@@ -48,7 +48,7 @@ pub(crate) fn run_alone<K: Kernel>(
     })
 }
 
-/// The laws of protection over the lines of a history. The function does nothing: its contract is
+/// The laws of protection, and that of kept objects, over the lines of a history. The function does nothing: its contract is
 /// what it is for.
 pub(crate) fn laws(world: &World, lines: &[Line])
     requires { AreStepsOf world.now lines.now }
@@ -58,4 +58,5 @@ pub(crate) fn laws(world: &World, lines: &[Line])
     environment_law(world, lines);
     confinement_law(world, lines);
     closed_call_law(world, lines);
+    kept_law(world, lines);
 }
