@@ -271,7 +271,8 @@ class World:
         return Cap(cap.name, gives | template.give & cap.rights)
 
     def room(self):
-        """Room for one object more: where the table is full, what nothing reaches goes first."""
+        """Room for one object more: where the table is full, what is not rooted goes first. (Objects that nothing names stand
+        here until then, and by the rules they are gone before. No reply shows the difference: they are not rooted.)"""
         if len(self.objects) < OBJECTS:
             return
         named = [e for i in self.incarnations.values() for e in i.slots] + [Cap(p.on, 0) for p in self.processes if p.state == "waiting"]
