@@ -48,7 +48,7 @@ abbrev pub dispatch_event : Machine → Cpu → Option (Proc × State) → Optio
 dispatch_event m cpu None = None
 dispatch_event m cpu (Some (proc, s)) =
     Some (
-      record { cpu = cpu; proc = proc; inc = (process s proc).current; what = what.Dispatch; reply = Done },
+      record { cpu = cpu; proc = proc; inc = (process m.state proc).current; what = what.Dispatch; reply = Done },
       record m { state = s },
     )
 

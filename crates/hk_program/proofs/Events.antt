@@ -25,7 +25,7 @@ use Rattle.hk_model.specs.State.{State, process}
 use Rattle.hk_model.specs.Processors.{is_on, is_ready, runner, runner_from, running_on, may_step, dispatched, dispatched_from, acted_on, entered_on}
 use Rattle.hk_model.specs.Control.{Context, new_frame, next}
 use Rattle.hk_model.specs.Running.{Machine, opened, context_of, event, dispatch_event, step}
-use Rattle.hk_model.proofs.Steps.{given_to}
+use Rattle.hk_model.proofs.Steps.{given_to, current_stays}
 use Rattle.hk_program.specs.Contexts.{AreFrames}
 use Rattle.hk_program.specs.Machines.{IsSound, turn}
 use Rattle.hk_program.proofs.Queues.{run_at, runs_on, IsQueue}
@@ -154,9 +154,19 @@ idle_steps w m cpu low may idle = step_is w m cpu may (is_low cpu.0 low) ∙ (rw
     is_low : (n : ℕ) → n < 16 → nat_lt n cpu_limit ≡ true
     is_low n h = grind (arith, nat_tests, h)
 
+-- the process that is dispatched has the current incarnation that it had
+pub current_before : (s : State) (cpu : Cpu) (proc : Proc) (t : State) → dispatched s cpu ≡ Some (proc, t) → (process t proc).current ≡ (process s proc).current
+current_before s cpu proc t h = by s.ready h
+  where
+    by : (ready : List Proc) → dispatched_from s cpu ready ≡ Some (proc, t) → (process t proc).current ≡ (process s proc).current
+    by [] e = absurd (cc)
+    by (first ∷ rest) e =
+        let same : ◌≡◌ {A = Proc × State} (first, given_to s cpu first rest) (proc, t) = cc in
+        subst (λ (x : Proc × State). (process x.1 x.0).current ≡ (process s x.0).current) same (current_stays s cpu first rest)
+
 pub dispatch_steps : (w : Setup) (m : Machine) (cpu : Cpu) (proc : Proc) (inc : Inc) (t : State) → cpu.0 < 16 → may_step m.state ≡ true → running_on m.state cpu ≡ None → dispatched m.state cpu ≡ Some (proc, t) → inc ≡ (process t proc).current
     → step w m cpu ≡ Some (record { cpu = cpu; proc = proc; inc = inc; what = what.Dispatch; reply = Done }, record m { state = t })
-dispatch_steps w m cpu proc inc t low may idle h e = idle_steps w m cpu low may idle ∙ (rw (h, e) refl)
+dispatch_steps w m cpu proc inc t low may idle h e = idle_steps w m cpu low may idle ∙ (let same = current_before m.state cpu proc t h in rw (h, e, same) refl)
 
 pub nothing_steps : (w : Setup) (m : Machine) (cpu : Cpu) → cpu.0 < 16 → may_step m.state ≡ true → running_on m.state cpu ≡ None → dispatched m.state cpu ≡ None → step w m cpu ≡ None
 nothing_steps w m cpu low may idle h = idle_steps w m cpu low may idle ∙ (rw h refl)

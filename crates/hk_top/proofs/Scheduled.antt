@@ -184,13 +184,13 @@ leave_kept s proc inc give = search (then_is, left_kept)
 outcome_kept : (s : State) (proc : Proc) (inc : Inc) (c : Call) → IsKept s (outcome s proc inc c)
 unfolding get_word put_word add_word word_count load_entry store_entry append_entry erase_entry drop_slot restrict_slot look make_template create_object merge_cap copy_object give_token
 outcome_kept s proc inc (call.Get of at) = search (then_is, kept_self)
-outcome_kept s proc inc (call.Put of at word) = search (then_is, kept_self, kept_object)
+outcome_kept s proc inc (call.Put of at word) = search (then_is, and_is, kept_self, kept_object)
 outcome_kept s proc inc (call.Add of word) = search (then_is, and_is, kept_self, kept_object)
 outcome_kept s proc inc (call.Length of) = search (then_is, kept_self)
 outcome_kept s proc inc (call.Load from into) = search (then_is, kept_self, kept_slot)
-outcome_kept s proc inc (call.Store list at from) = search (then_is, kept_self, kept_object) depth 8
+outcome_kept s proc inc (call.Store list at from) = search (then_is, and_is, kept_self, kept_object) depth 8
 outcome_kept s proc inc (call.Append list from) = search (then_is, and_is, kept_self, kept_object) depth 8
-outcome_kept s proc inc (call.Erase list at) = search (then_is, kept_self, kept_object)
+outcome_kept s proc inc (call.Erase list at) = search (then_is, and_is, kept_self, kept_object)
 outcome_kept s proc inc (call.Drop slot) = search (then_is, kept_self, kept_slot)
 outcome_kept s proc inc (call.Restrict slot keep) = search (then_is, kept_self, kept_slot)
 outcome_kept s proc inc (call.Look of) = search (then_is, kept_self)
