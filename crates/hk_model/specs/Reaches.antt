@@ -38,7 +38,7 @@ reached_by moment cap =
 abbrev pub handed_over : ℕ → Cap → Reached
 handed_over moment cap = record { name = cap.name; modify = true; unconf = true; moment = moment }
 
--- the capability at an index of an object's list
+-- the capability at an index of an object's list; an object that does not stand at that moment has no list there
 abbrev pub listed_cap : State → Name → ℕ → Option Cap
 listed_cap s name index = option_and_then cap_of (slice_get (object s name).entries index)
 
