@@ -5,3 +5,4 @@ pub mod StackLemmas
 pub mod RunnerLemmas
 pub mod Naming
 pub mod KeepingLemmas
+pub mod MarkLemmas

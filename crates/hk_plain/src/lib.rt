@@ -11,9 +11,11 @@
 
 mod activations;
 mod calls;
+mod collecting;
 mod incarnations;
 mod keeping;
 mod lists;
+mod marks;
 mod objects;
 mod opening;
 mod plain;

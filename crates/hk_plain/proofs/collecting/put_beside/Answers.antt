@@ -1,0 +1,22 @@
+-- Of those that stood only the ones that stay are left.
+use Rattle.std.proofs.Common.{rules, ◌≡◌, ◌∙◌, ap, sym, length, List}
+use Rattle.std.proofs.lemmas.Map.Made.{filter_same_pairs}
+use Rattle.std.specs.BTreeMap.{insert_entry}
+use Rattle.hk_model.specs.declared.names.Name.{Name}
+use Rattle.hk_model.specs.declared.objects.Object.{Object}
+use Rattle.hk_model.specs.State.{name_cmp}
+use Rattle.hk_model.proofs.Keeping.{of_set}
+use Rattle.hk_plain.specs.Marking.{all_but}
+use Rattle.hk_plain.proofs.KeepingLemmas.{passing, put_beside, all_but_none}
+use Rattle.hk_plain.proofs.collecting.put_beside.Goals as goal
+
+pub returns-then-not-is_empty-clause-ok : goal.returns-then-not-is_empty-clause-ok
+returns-then-not-is_empty-clause-ok c =
+    let spare : List Name = c.args.spare.now.keys in
+    filter_same_pairs _ (λ (e : Name × Object). passing c.args.name (all_but spare) e.0) _ (λ k v b w f' t. search rules) _ _ c.retain.ensures.filtered
+    ∙ (ap (of_set (passing c.args.name (all_but spare))) c.in_ok-insert.ensures.entries ∙ put_beside c.args.name c.args.object (all_but spare) c.args.objects.now.entries c.in_ok-insert.ensures.was_ordered)
+
+pub returns-else-not-is_empty-clause-ok : goal.returns-else-not-is_empty-clause-ok
+returns-else-not-is_empty-clause-ok c =
+    let none : length c.args.spare.now.keys ≡ 0 = search rules in
+    c.in_ok-insert.ensures.entries ∙ ap (λ (es : List (Name × Object)). insert_entry name_cmp es c.args.name c.args.object) (sym (all_but_none c.args.spare.now.keys c.args.objects.now.entries none))
