@@ -12,6 +12,7 @@ mod tests;
 
 ghost use Rattle.hk_model.specs.Running.{AreStepsOf};
 ghost use Rattle.hk_model.specs.Confinement.{ConfinementLaw, ClosedCallLaw};
+ghost use Rattle.hk_model.specs.Effects.{LeavesOthers};
 
 use hk_model::{Line, World};
 
@@ -44,3 +45,13 @@ pub fn closed_call_law(world: &World, lines: &[Line])
 {
     let _ = world.limit();
 }
+
+/// What a line changes (`docs/RULES.md`, "Under a call"): each object that stands before a line or
+/// after it stands as it was, but for the one that the line is told to change, which keeps its type,
+/// its code and its parameters, for the one that the line makes, and for those that go.
+///
+/// `lines` are steps of `world` from its opening on, in the order of the history.
+pub fn changes_law(world: &World, lines: &[Line])
+    requires { AreStepsOf world.now lines.now }
+    ensures { LeavesOthers world.now lines.now }
+{}
