@@ -13,6 +13,7 @@ mod tests;
 ghost use Rattle.hk_model.specs.Running.{AreStepsOf};
 ghost use Rattle.hk_model.specs.Confinement.{ConfinementLaw, ClosedCallLaw};
 ghost use Rattle.hk_model.specs.Effects.{LeavesOthers};
+ghost use Rattle.hk_model.specs.Changes.{ListsChanges};
 
 use hk_model::{Line, World};
 
@@ -54,4 +55,14 @@ pub fn closed_call_law(world: &World, lines: &[Line])
 pub fn changes_law(world: &World, lines: &[Line])
     requires { AreStepsOf world.now lines.now }
     ensures { LeavesOthers world.now lines.now }
+{}
+
+/// What the list of changes has (`docs/RULES.md`, "Changes and their reasons"): an item for a
+/// confined call, a line and an object exactly where the line is by an incarnation under that call
+/// and changes that object, so where the confinement law speaks of them.
+///
+/// `lines` are steps of `world` from its opening on, in the order of the history.
+pub fn listed_changes_law(world: &World, lines: &[Line])
+    requires { AreStepsOf world.now lines.now }
+    ensures { ListsChanges world.now lines.now }
 {}
