@@ -3,3 +3,4 @@ pub mod Entering
 pub mod Numbered
 pub mod StackLemmas
 pub mod RunnerLemmas
+pub mod CountLemmas

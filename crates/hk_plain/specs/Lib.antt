@@ -6,3 +6,4 @@ pub mod Entering
 pub mod Opening
 pub mod Runners
 pub mod Stacks
+pub mod Counts

@@ -11,6 +11,7 @@
 
 mod activations;
 mod calls;
+mod counts;
 mod incarnations;
 mod lists;
 mod objects;
