@@ -1,18 +1,20 @@
 -- How the numbers of made objects move as names come and go.
 use Rattle.std.proofs.Common.{◌≡◌, ℕ, zero, suc, ◌+◌, ◌-◌, ◌<◌, ◌≤◌, ◌==◌, ◌||◌, List, [], ◌∷◌, ◌++◌, length, Bool, true, false, Option, Some, None, refl, sym, ◌∙◌, ap, arith, cond, get_or, set, take, append_assoc, subst}
-use Rattle.std.specs.Prelude.{count_by, is_some, is_ok, is_err, Result, Ok, Err, if◌then◌else◌}
+use Rattle.std.specs.Prelude.{count_by, nat_lt, is_some, is_ok, is_err, Result, Ok, Err, if◌then◌else◌}
 use Rattle.std.specs.List.{flat_map, list_any, sum_by}
 use Rattle.std.specs.Map.{lookup}
 use Rattle.std.proofs.lemmas.List.{get_or-set_same, get_or-set_other, take_more, append-nil}
 use Rattle.std.proofs.lemmas.List.Sums.{sum_by-append, sum_by-cons}
 use Rattle.std.proofs.lemmas.List.Folds.{list_any-append}
 use Rattle.std.proofs.lemmas.Grind.{flat_map-append, get_or_default_zero}
+use Rattle.std.proofs.lemmas.Bool.Decides.{nat_tests}
 use Rattle.std.proofs.lemmas.Bool.{true≢false, false≢true, or_left, or_right, false_from_ne_true}
 use Rattle.hk_model.specs.declared.names.Name.{Name}
+use Rattle.hk_model.specs.declared.objects.Object.{Object}
 use Rattle.hk_model.specs.State.{same_name}
 use Rattle.hk_model.specs.Keeping.{is_among}
 use Rattle.hk_model.proofs.Standing.{name_same, name_laws}
-use Rattle.hk_plain.specs.Counts.{Tally, made, number, times, IsFound, Moved}
+use Rattle.hk_plain.specs.Counts.{Tally, made, number, times, IsFound, Moved, has_made, is_unnamed}
 
 -- ---- how many times a name is among others
 
@@ -210,3 +212,34 @@ more_go names xs i x d a b c there is f g =
 pub push_ok : {A E : Type 0} (r : Result A E) (lost list : List Name) (name : Name) → is_err r ≡ false → list ≡ (if is_ok r then lost ++ name ∷ [] else lost) → list ≡ lost ++ name ∷ []
 push_ok (Ok x) lost list name e h = h
 push_ok (Err x) lost list name e h = absurd (cc)
+
+-- where one that does not stand, or is named, goes from the list, the others are found
+pub found_without : (t : Tally) (objects : List (Name × Object)) (name : Name) (rest : List Name) (k : ℕ) → t.lost ≡ rest ++ name ∷ [] → (is_some (lookup (same_name name) objects) ≡ true → is_unnamed t name ≡ true → ⊥) → has_made t k objects ≡ true → IsFound t k → number t k ≡ 0 → is_among (made t k) rest ≡ true
+found_without t objects name rest k list not_lost stands found none = by (is_among (made t k) rest) (same_name (made t k) name) refl refl (sym (list_any-append (same_name (made t k)) rest (name ∷ [])) ∙ (ap (is_among (made t k)) (sym list) ∙ found none))
+  where
+    again : nat_lt (made t k).0 t.first_new.0 ≡ false
+    again = grind (arith, nat_tests)
+
+    zero_is : (number t k == 0) ≡ true
+    zero_is = grind (arith, nat_tests, none)
+
+    unnamed : is_unnamed t (made t k) ≡ true
+    unnamed = rw again (let same : t.first_new.0 + k - t.first_new.0 ≡ k = omega arith in rw same zero_is)
+
+    by : (a b : Bool) → is_among (made t k) rest ≡ a → same_name (made t k) name ≡ b → (a || (b || false)) ≡ true → a ≡ true
+    by true b e f h = refl
+    by false true e f h =
+        let same : made t k ≡ name = name_same (made t k) name f in
+        absurd (not_lost (subst (λ (n : Name). is_some (lookup (same_name n) objects) ≡ true) same stands) (subst (λ (n : Name). is_unnamed t n ≡ true) same unnamed))
+    by false false e f h = absurd (false≢true h)
+
+pub found_dropped : (start t new : Tally) (objects : List (Name × Object)) (name : Name) → t ≡ record start { lost = t.lost } → t.lost ≡ take (length t.lost - 1) t.lost ++ name ∷ [] → new ≡ record t { lost = take (length t.lost - 1) t.lost }
+    → (is_some (lookup (same_name name) objects) ≡ true → is_unnamed t name ≡ true → ⊥) → ((k : ℕ) → has_made start k objects ≡ true → IsFound start k → IsFound t k) → (k : ℕ) → has_made start k objects ≡ true → IsFound start k → IsFound new k
+found_dropped start t new objects name same list is not_lost found k stands f none =
+    let first : start.first_new ≡ t.first_new = sym (ap (λ (u : Tally). u.first_new) same) in
+    let there : has_made t k objects ≡ true = subst (λ (n : Name). is_some (lookup (same_name (record { 0 = n.0 + k })) objects) ≡ true) first stands in
+    let zero_there : number t k ≡ 0 = sym (ap (λ (u : Tally). number u k) is) ∙ none in
+    subst (λ (u : Tally). is_among (made u k) u.lost ≡ true) (sym is) (found_without t objects name (take (length t.lost - 1) t.lost) k list not_lost there (found k stands f) zero_there)
+
+pub only_list : (start t new : Tally) (rest : List Name) → t ≡ record start { lost = t.lost } → new ≡ record t { lost = rest } → new ≡ record start { lost = new.lost }
+only_list start t new rest same is = subst (λ (u : Tally). u ≡ record start { lost = u.lost }) (sym is) (ap (λ (u : Tally). let v : Tally = record u { lost = rest } in v) same)

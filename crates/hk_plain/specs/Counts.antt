@@ -1,5 +1,5 @@
 -- How many times each made object is named. docs/RULES.md, "Objects that vanish".
-use Rattle.std.specs.Prelude.{◌≡◌, ℕ, ◌+◌, Bool, true, List, ◌++◌, count_by, is_some, slice_index_or}
+use Rattle.std.specs.Prelude.{◌≡◌, ℕ, ◌+◌, ◌-◌, ◌==◌, Bool, true, false, nat_lt, if◌then◌else◌, List, ◌++◌, count_by, is_some, slice_index_or}
 use Rattle.std.specs.List.{flat_map}
 use Rattle.std.specs.Map.{lookup}
 use Rattle.hk_model.specs.declared.names.Name.{Name}
@@ -33,6 +33,14 @@ times name names = count_by (same_name name) names
 abbrev pub IsFound : Tally → ℕ → Type 0
 IsFound t k = number t k ≡ 0 → is_among (made t k) t.lost ≡ true
 
+-- the object is made, and its number is 0
+abbrev pub is_unnamed : Tally → Name → Bool
+is_unnamed t name = if nat_lt name.0 t.first_new.0 then false else number t (name.0 - t.first_new.0) == 0
+
+-- the k-th made object is among these
+abbrev pub has_made : Tally → ℕ → List (Name × Object) → Bool
+has_made t k objects = is_some (lookup (same_name (made t k)) objects)
+
 -- some names came, and others went
 pub record Moved (old new : Tally) (came went : List Name) : Type 0 where
   pub first : new.first_new ≡ old.first_new
@@ -49,4 +57,4 @@ names_in live processes objects =
 -- the numbers are right, and each object that stands and is named nowhere is on the list
 pub record AreCounted (live : List (Inc × Incarnation)) (processes : List Process) (objects : List (Name × Object)) (t : Tally) : Type 0 where
   pub counted : t.exact ≡ true → (k : ℕ) → number t k ≡ times (made t k) (names_in live processes objects)
-  pub found : t.exact ≡ true → (k : ℕ) → is_some (lookup (same_name (made t k)) objects) ≡ true → IsFound t k
+  pub found : t.exact ≡ true → (k : ℕ) → has_made t k objects ≡ true → IsFound t k

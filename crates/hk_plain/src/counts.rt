@@ -5,13 +5,16 @@
 //! a call lets go is found without a look at the others. Want of memory for that list, which
 //! `reserve` keeps off, is no failure: the numbers then say that they are not to be relied on.
 
-ghost use Rattle.std.specs.Prelude.{◌≡◌, ◌≤◌, ◌++◌, ◌∷◌, [], true, false, length, OnOk, OnErr, option_to_list};
+ghost use Rattle.std.specs.Prelude.{◌≡◌, ℕ, ◌-◌, ◌++◌, ◌∷◌, [], true, length, take, is_some, OnOk, IfSome, IfNone, option_to_list};
 ghost use Rattle.std.specs.List.{flat_map};
-ghost use Rattle.hk_model.specs.Keeping.{entry_names, object_names, run_names};
-ghost use Rattle.hk_plain.specs.Counts.{Tally, Moved};
+ghost use Rattle.std.specs.Map.{lookup};
+ghost use Rattle.hk_model.specs.State.{same_name};
+ghost use Rattle.hk_model.specs.Keeping.{entry_names, object_names, run_names, is_among};
+ghost use Rattle.hk_plain.specs.Counts.{Tally, Moved, IsFound, has_made, is_unnamed};
 
 use hk_model::{Entry, Name, NoMemory, Object, ProcessState, Template};
 use std::alloc::Global;
+use std::collections::BTreeMap;
 use std::marker::Model;
 
 /// The numbers of the made objects, and those whose number fell to 0.
@@ -174,4 +177,70 @@ impl Counts {
             self.release(name);
         }
     }
+
+    // A new object is named by nothing yet; `objects` stand.
+    pub(crate) fn add(&mut self, name: Name, objects: usize) -> Result<(), NoMemory>
+        ensures moved { Moved self.old self.new [] [] }
+        ensures listed { OnOk result (is_among name self.new.lost ≡ true) }
+    {
+        let at = name.0.saturating_sub(self.first_new.0) as usize;
+        if self.numbers.len() <= at {
+            self.numbers.push(0)?;
+        }
+        self.lost.reserve(objects.saturating_add(8))?;
+        self.lost.push(name)?;
+        Ok(())
+    }
+
+    // Whether the numbers are right.
+    pub(crate) fn is_exact(&self) -> bool
+        ensures { result ≡ self.now.exact }
+    {
+        self.exact
+    }
+
+    // Whether an object is made and its number is 0.
+    fn is_unnamed(&self, name: Name) -> bool
+        ensures { result ≡ is_unnamed self.now name }
+    {
+        if name.0 < self.first_new.0 {
+            return false;
+        }
+        match self.numbers.get((name.0 - self.first_new.0) as usize) {
+            Some(number) => *number == 0,
+            None => true,
+        }
+    }
+
+    // The last of those that may be named no more.
+    fn last_lost(&self) -> Option<Name>
+        ensures some { IfSome result (λ name. self.now.lost ≡ take (length self.now.lost - 1) self.now.lost ++ name ∷ []) }
+        ensures none { IfNone result (self.now.lost ≡ []) }
+    {
+        self.lost.last().copied()
+    }
+
+    // That one goes from the list.
+    fn pop_lost(&mut self)
+        ensures { self.new ≡ record self.old { lost = take (length self.old.lost - 1) self.old.lost } }
+    {
+        let _last = self.lost.pop();
+    }
+}
+
+// The last object that stands and is named no more. Others go from the list on the way there.
+pub(crate) fn last_unnamed(counts: &mut Counts, objects: &BTreeMap<Name, Object>) -> Option<Name>
+    ensures same { counts.new ≡ record counts.old { lost = counts.new.lost } }
+    ensures found { (k : ℕ) → has_made counts.old k objects.now.entries ≡ true → IsFound counts.old k → IsFound counts.new k }
+    ensures stands { IfSome result (λ name. is_some (lookup (same_name name) objects.now.entries) ≡ true) }
+    ensures lost { IfSome result (λ name. is_unnamed counts.old name ≡ true) }
+    ensures none { IfNone result (counts.new.lost ≡ []) }
+{
+    while let Some(name) = counts.last_lost() {
+        if objects.contains_key(&name) && counts.is_unnamed(name) {
+            return Some(name);
+        }
+        counts.pop_lost();
+    }
+    None
 }
