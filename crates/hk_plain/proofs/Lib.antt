@@ -4,3 +4,5 @@ pub mod Numbered
 pub mod StackLemmas
 pub mod RunnerLemmas
 pub mod CountLemmas
+pub mod Naming
+pub mod KeepingLemmas

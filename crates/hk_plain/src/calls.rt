@@ -4,10 +4,10 @@ ghost use Rattle.std.specs.Prelude.{◌≡◌, IsTrue, IfOk, OnOk, OnErr, Some, 
 ghost use Rattle.hk_model.specs.declared.calls.Reply.TheVariants.{Done};
 ghost use Rattle.hk_model.specs.State.{process};
 ghost use Rattle.hk_model.specs.Walking.{walk};
-ghost use Rattle.hk_model.specs.Rule.{outcome, rule, answered};
+ghost use Rattle.hk_model.specs.Rule.{outcome, rule, answered, settled, counted};
 ghost use Rattle.hk_model.specs.Processors.{may_step, code_found, entered, is_running};
 ghost use Rattle.hk_plain.specs.Giving.{Gives};
-ghost use Rattle.hk_plain.specs.Numbers.{HasNumbers, FewNumbers};
+ghost use Rattle.hk_plain.specs.Numbers.{HasNumbers, FewNumbers, TakesOne};
 
 use crate::stop::Stop;
 use crate::tables::Tables;
@@ -59,6 +59,29 @@ impl Tables {
         }
     }
 
+    // Makes a call: what nothing names then vanishes, where it is answered.
+    fn settle(
+        &mut self,
+        alloc: Global,
+        proc: Proc,
+        inc: Inc,
+        call: &Call,
+    ) -> Result<Reply, NoMemory>
+        requires { HasNumbers self.old }
+        ensures reply { IfOk result (λ reply. settled self.old (outcome self.old proc inc call.now) ≡ (reply, counted (self.old.events + 1) self.new)) }
+        ensures numbers { OnOk result (TakesOne self.old self.new) }
+        ensures err { OnErr result (self.new ≡ self.old) }
+    {
+        match self.serve(alloc, proc, inc, call) {
+            Ok(answer) => {
+                self.remove_lost();
+                Ok(answered(answer))
+            }
+            Err(Stop::Refused(refusal)) => Ok(Reply::No(refusal)),
+            Err(Stop::OutOfMemory) => Err(NoMemory),
+        }
+    }
+
     // The code of the procedure that a path leads to.
     fn code_at(&self, inc: Inc, path: &Path) -> Option<u16>
         ensures { result ≡ code_found self.now (walk self.now inc path.now) }
@@ -95,11 +118,7 @@ impl Tables {
         let inc = self.current_of(proc);
         let events = self.next_event();
         let code = self.code_entered(inc, call);
-        let reply = match self.serve(alloc, proc, inc, call) {
-            Ok(answer) => answered(answer),
-            Err(Stop::Refused(refusal)) => Reply::No(refusal),
-            Err(Stop::OutOfMemory) => return Err(NoMemory),
-        };
+        let reply = self.settle(alloc, proc, inc, call)?;
         self.set_events(events);
         Ok(Acted {
             reply,

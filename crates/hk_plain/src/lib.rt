@@ -13,6 +13,7 @@ mod activations;
 mod calls;
 mod counts;
 mod incarnations;
+mod keeping;
 mod lists;
 mod objects;
 mod opening;

@@ -104,7 +104,7 @@ fn copied_entries(alloc: Global, by: Rights, entries: &[Entry]) -> Result<Entrie
 impl Tables {
     // Whether there is room for one more object.
     fn room_for_object(&self) -> Result<(), Refusal>
-        ensures { result ≡ unless (has_room self.now) (Full Objects) }
+        ensures { result ≡ unless (has_room self.now.objects) (Full Objects) }
     {
         if self.objects.len() < 65536 {
             Ok(())

@@ -186,6 +186,7 @@ impl Tables {
             processes: Processes::new(processes),
             ready,
             next_name: Name(7 + born.len() as u64),
+            first_new: Name(7 + born.len() as u64),
             events: 0,
             limit: world.limit(),
         })

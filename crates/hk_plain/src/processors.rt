@@ -95,7 +95,7 @@ impl Tables {
         self.incarnations.remove_process(proc);
     }
 
-    /// Ends a process, with all its incarnations.
+    /// Ends a process, with all its incarnations. What nothing names then vanishes.
     pub(crate) fn halt(&mut self, proc: Proc)
         requires { IsTrue (may_step self.old) }
         ensures { self.new ≡ halted self.old proc }
@@ -103,6 +103,7 @@ impl Tables {
         let events = self.next_event();
         self.set_run(proc, ProcessState::Ended);
         self.remove_incarnations(proc);
+        self.remove_lost();
         self.set_events(events);
     }
 

@@ -21,6 +21,8 @@ pub struct Tables {
     pub(crate) processes: Processes,
     pub(crate) ready: VecDeque<Proc>,
     pub(crate) next_name: Name,
+    // The first name that was not given at the opening.
+    pub(crate) first_new: Name,
     pub(crate) events: u32,
     pub(crate) limit: u32,
 }
@@ -37,6 +39,7 @@ impl Model for Tables {
       ready = t.ready.items;
       next_name = t.next_name;
       next_inc = t.incarnations.next;
+      first_new = t.first_new;
       events = t.events;
       limit = t.limit;
     } };

@@ -1,0 +1,10 @@
+use Rattle.std.proofs.Common.{◌≡◌, length}
+use Rattle.hk_model.specs.Keeping.{restricted}
+use Rattle.hk_plain.proofs.tables.Tables.remove_lost.Given as goal
+
+-- what is left is what was to be left
+abbrev pub invariant-loop-lost : goal.invariant-loop-lost
+invariant-loop-lost l = restricted l.self ≡ restricted l.initial.self
+
+abbrev pub decreases-loop-lost : goal.decreases-loop-lost
+decreases-loop-lost l = length l.self.objects
