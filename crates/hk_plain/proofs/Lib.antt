@@ -4,5 +4,6 @@ pub mod Numbered
 pub mod StackLemmas
 pub mod RunnerLemmas
 pub mod CountLemmas
+pub mod CountedParts
 pub mod Naming
 pub mod KeepingLemmas

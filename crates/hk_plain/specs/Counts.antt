@@ -1,13 +1,14 @@
 -- How many times each made object is named. docs/RULES.md, "Objects that vanish".
 use Rattle.std.specs.Prelude.{◌≡◌, ℕ, ◌+◌, ◌-◌, ◌==◌, Bool, true, false, nat_lt, if◌then◌else◌, List, ◌++◌, count_by, is_some, slice_index_or}
 use Rattle.std.specs.List.{flat_map}
+use Rattle.std.specs.Option.{unwrap_or}
 use Rattle.std.specs.Map.{lookup}
 use Rattle.hk_model.specs.declared.names.Name.{Name}
 use Rattle.hk_model.specs.declared.names.Inc.{Inc}
 use Rattle.hk_model.specs.declared.objects.Object.{Object}
 use Rattle.hk_model.specs.declared.objects.Incarnation.{Incarnation}
 use Rattle.hk_model.specs.declared.objects.Process.{Process}
-use Rattle.hk_model.specs.State.{same_name}
+use Rattle.hk_model.specs.State.{same_name, no_object}
 use Rattle.hk_model.specs.Keeping.{entry_names, object_names, run_names, is_among}
 
 -- the numbers of the made objects by their names, from the first made one on; those that may be named no more; and whether
@@ -48,11 +49,22 @@ pub record Moved (old new : Tally) (came went : List Name) : Type 0 where
   pub counted : new.exact ≡ true → (k : ℕ) → number new k + times (made old k) went ≡ number old k + times (made old k) came
   pub found : new.exact ≡ true → (k : ℕ) → IsFound old k → IsFound new k
 
--- what slots, waiting processes and objects name
+-- what the slots of incarnations name, the waiting processes, and the objects
+abbrev pub slot_names : List (Inc × Incarnation) → List Name
+slot_names live = flat_map (λ (e : Inc × Incarnation). flat_map entry_names e.1.slots) live
+
+abbrev pub waiting_names : List Process → List Name
+waiting_names processes = flat_map (λ (p : Process). run_names p.run) processes
+
+abbrev pub inner_names : List (Name × Object) → List Name
+inner_names objects = flat_map (λ (e : Name × Object). object_names e.1) objects
+
 abbrev pub names_in : List (Inc × Incarnation) → List Process → List (Name × Object) → List Name
-names_in live processes objects =
-    (flat_map (λ (e : Inc × Incarnation). flat_map entry_names e.1.slots) live ++ flat_map (λ (p : Process). run_names p.run) processes)
-    ++ flat_map (λ (e : Name × Object). object_names e.1) objects
+names_in live processes objects = (slot_names live ++ waiting_names processes) ++ inner_names objects
+
+-- the object of a name among these
+abbrev pub object_in : List (Name × Object) → Name → Object
+object_in objects name = unwrap_or (lookup (same_name name) objects) no_object
 
 -- the numbers are right, and each object that stands and is named nowhere is on the list
 pub record AreCounted (live : List (Inc × Incarnation)) (processes : List Process) (objects : List (Name × Object)) (t : Tally) : Type 0 where

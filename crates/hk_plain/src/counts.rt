@@ -5,14 +5,14 @@
 //! a call lets go is found without a look at the others. Want of memory for that list, which
 //! `reserve` keeps off, is no failure: the numbers then say that they are not to be relied on.
 
-ghost use Rattle.std.specs.Prelude.{◌≡◌, ℕ, ◌-◌, ◌++◌, ◌∷◌, [], true, length, take, is_some, OnOk, IfSome, IfNone, option_to_list};
+ghost use Rattle.std.specs.Prelude.{◌≡◌, ℕ, ◌-◌, ◌++◌, ◌∷◌, [], true, length, take, slice_set, is_some, OnOk, IfSome, IfNone, option_to_list};
 ghost use Rattle.std.specs.List.{flat_map};
 ghost use Rattle.std.specs.Map.{lookup};
 ghost use Rattle.hk_model.specs.State.{same_name};
 ghost use Rattle.hk_model.specs.Keeping.{entry_names, object_names, run_names, is_among};
 ghost use Rattle.hk_plain.specs.Counts.{Tally, Moved, IsFound, has_made, is_unnamed};
 
-use hk_model::{Entry, Name, NoMemory, Object, ProcessState, Template};
+use hk_model::{Entries, Entry, Name, NoMemory, Object, ProcessState, Template};
 use std::alloc::Global;
 use std::collections::BTreeMap;
 use std::marker::Model;
@@ -38,14 +38,14 @@ impl Model for Counts {
 }
 
 // What an entry names, if it names anything.
-fn named_by(entry: Entry) -> Option<Name>
-    ensures { option_to_list result ≡ entry_names entry }
+fn named_by(entry: &Entry) -> Option<Name>
+    ensures { option_to_list result ≡ entry_names entry.now }
 {
     match entry {
         Entry::Empty => None,
         Entry::Held(cap) => Some(cap.name),
-        Entry::Form(Template::Amplify { of, .. }) => of,
-        Entry::Form(Template::Create { of, .. }) => Some(of),
+        Entry::Form(Template::Amplify { of, .. }) => *of,
+        Entry::Form(Template::Create { of, .. }) => Some(*of),
     }
 }
 
@@ -107,8 +107,8 @@ impl Counts {
     }
 
     // What an entry names is named once more.
-    pub(crate) fn hold_entry(&mut self, entry: Entry)
-        ensures { Moved self.old self.new (entry_names entry) [] }
+    pub(crate) fn hold_entry(&mut self, entry: &Entry)
+        ensures { Moved self.old self.new (entry_names entry.now) [] }
     {
         if let Some(name) = named_by(entry) {
             self.hold(name);
@@ -116,8 +116,8 @@ impl Counts {
     }
 
     // What an entry names is named once less.
-    pub(crate) fn release_entry(&mut self, entry: Entry)
-        ensures { Moved self.old self.new [] (entry_names entry) }
+    pub(crate) fn release_entry(&mut self, entry: &Entry)
+        ensures { Moved self.old self.new [] (entry_names entry.now) }
     {
         if let Some(name) = named_by(entry) {
             self.release(name);
@@ -130,7 +130,7 @@ impl Counts {
         ensures { Moved self.old self.new (flat_map entry_names entries.now) [] }
     {
         for entry in entries {
-            self.hold_entry(*entry);
+            self.hold_entry(entry);
         }
     }
 
@@ -140,8 +140,21 @@ impl Counts {
         ensures { Moved self.old self.new [] (flat_map entry_names entries.now) }
     {
         for entry in entries {
-            self.release_entry(*entry);
+            self.release_entry(entry);
         }
+    }
+
+    // Writes an entry of a list over another, if there is one.
+    pub(crate) fn replace(&mut self, entries: &mut Entries, at: usize, entry: Entry)
+        ensures entries { entries.new ≡ slice_set entries.old at entry }
+        ensures counted { Moved self.old self.new (flat_map entry_names entries.new) (flat_map entry_names entries.old) }
+    {
+        if at >= entries.len() {
+            return;
+        }
+        self.hold_entry(&entry);
+        self.release_entry(&entries.as_slice()[at]);
+        entries.set(at, entry);
     }
 
     // What an object names is named once more.

@@ -11,6 +11,7 @@
 
 mod activations;
 mod calls;
+mod counted;
 mod counts;
 mod incarnations;
 mod keeping;
