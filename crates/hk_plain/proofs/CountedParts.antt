@@ -1,7 +1,7 @@
 -- How the numbers follow the parts of the state, of which each names something.
-use Rattle.std.proofs.Common.{◌≡◌, ℕ, zero, suc, ◌+◌, ◌<◌, List, [], ◌∷◌, ◌++◌, length, Bool, true, false, Option, Some, None, refl, sym, ◌∙◌, ap, arith, cond, get_or, set, subst}
+use Rattle.std.proofs.Common.{◌≡◌, ℕ, zero, suc, ◌+◌, ◌-◌, ◌<◌, ◌≤◌, ◌==◌, nat_lt, List, [], ◌∷◌, ◌++◌, length, Bool, true, false, Option, Some, None, refl, sym, ◌∙◌, ap, arith, cond, get_or, set, subst}
 use mathlib.Core.Logic.{inl, inr}
-use Rattle.std.specs.Prelude.{◌⊎◌, is_some}
+use Rattle.std.specs.Prelude.{◌⊎◌, is_some, IfSome, IfNone}
 use Rattle.std.specs.Option.{unwrap_or, option_map, option_to_list}
 use Rattle.std.specs.List.{flat_map, sum_by}
 use Rattle.std.specs.List.Sorted.{IsStrictlySortedBy}
@@ -18,16 +18,20 @@ use Rattle.std.proofs.lemmas.Map.Entries.{sum_by-set_value, sum_by-remove_entry,
 use Rattle.hk_model.specs.declared.names.Name.{Name}
 use Rattle.hk_model.specs.declared.names.Inc.{Inc}
 use Rattle.hk_model.specs.declared.entries.Entry.{Entry}
-use Rattle.hk_model.specs.Keeping.{entry_names, object_names, run_names, is_among}
+use Rattle.hk_model.specs.Keeping.{entry_names, object_names, run_names, is_among, names_with, are_supporting, stands, kept_objects}
 use Rattle.hk_model.specs.declared.objects.Object.{Object}
 use Rattle.hk_model.specs.declared.objects.Incarnation.{Incarnation}
 use Rattle.hk_model.specs.declared.objects.Process.{Process}
 use Rattle.std.proofs.lemmas.Cmp.{nat_cmp_total}
-use Rattle.hk_model.specs.State.{same_name, name_cmp, inc_cmp}
+use Rattle.hk_model.specs.State.{State, same_name, name_cmp, inc_cmp}
+use Rattle.hk_model.proofs.Keeping.{of_all}
+use Rattle.hk_model.proofs.KeepingLemmas.{all_kept}
+use Rattle.std.proofs.lemmas.Bool.Decides.{nat_tests}
+use Rattle.std.proofs.lemmas.Bool.{false≢true}
 use Rattle.hk_model.proofs.Standing.{on_cond, name_same}
 use Rattle.hk_plain.specs.Runners.{process_at}
-use Rattle.hk_plain.specs.Counts.{Tally, made, number, times, IsFound, Moved, has_made, AreCounted, names_in, slot_names, waiting_names, inner_names}
-use Rattle.hk_plain.proofs.CountLemmas.{still, times_none, times_cons, times_both, both, alike}
+use Rattle.hk_plain.specs.Counts.{Tally, made, number, times, is_unnamed, IsFound, Moved, has_made, AreCounted, names_in, slot_names, waiting_names, inner_names}
+use Rattle.hk_plain.proofs.CountLemmas.{still, times_none, times_cons, times_both, none_among, among_times, both, alike}
 
 -- ---- lists of things that name something
 
@@ -252,3 +256,45 @@ counted_added live ps objects objects' t u t' name o h f listed is g =
     by : t'.exact ≡ true → (k : ℕ) (b : Bool) → same_name (made u k) name ≡ b → has_made u k (insert_entry name_cmp objects name o) ≡ true → (has_made u k objects ≡ true) ⊎ IsFound t' k
     by e k true same there = inr (g.found e k (λ none. subst (λ (n : Name). is_among n u.lost ≡ true) (sym (name_same (made u k) name same)) listed))
     by e k false apart there = inl (inserted_stands (made u k) name objects o apart there)
+
+-- ---- what the numbers show
+
+module _ (s : State) (t : Tally) (h : AreCounted s.incarnations s.processes s.objects t) (first : s.first_new ≡ t.first_new) (exact : t.exact ≡ true) where
+  named_as : (n : Name) → nat_lt n.0 t.first_new.0 ≡ false → made t (n.0 - t.first_new.0) ≡ n
+  named_as n up =
+      let high : t.first_new.0 ≤ n.0 = grind (arith, nat_tests) in
+      let e : t.first_new.0 + (n.0 - t.first_new.0) ≡ n.0 = omega (arith, high) in
+      ap (λ (m : ℕ). let x : Name = record { 0 = m } in x) e
+
+  times_are : (n : Name) → nat_lt n.0 t.first_new.0 ≡ false → number t (n.0 - t.first_new.0) ≡ times n (names_with s s.objects)
+  times_are n up = h.counted exact (n.0 - t.first_new.0) ∙ ap (λ (m : Name). times m (names_with s s.objects)) (named_as n up)
+
+  -- an object whose number is 0 is lost
+  unnamed_lost : (n : Name) → is_unnamed t n ≡ true → are_supporting s s.objects n ≡ false
+  unnamed_lost n u = by (nat_lt n.0 t.first_new.0) refl u
+    where
+      by : (b : Bool) → nat_lt n.0 t.first_new.0 ≡ b → cond b false (number t (n.0 - t.first_new.0) == 0) ≡ true → are_supporting s s.objects n ≡ false
+      by true e g = absurd (false≢true g)
+      by false e g =
+          let zero_is : number t (n.0 - t.first_new.0) ≡ 0 = grind (arith, nat_tests) in
+          let made_late : nat_lt n.0 s.first_new.0 ≡ false = ap (λ (f : Name). nat_lt n.0 f.0) first ∙ e in
+          rw made_late (none_among n (names_with s s.objects) (sym (times_are n e) ∙ zero_is))
+
+  pub some_lost : (r : Option Name) → IfSome r (λ n. is_unnamed t n ≡ true) → IfSome r (λ n. are_supporting s s.objects n ≡ false)
+  some_lost None f = f
+  some_lost (Some n) f = unnamed_lost n f
+
+  -- where none is on the list, all stay
+  pub none_lost : (r : Option Name) (new : Tally) → new ≡ record t { lost = new.lost } → ((k : ℕ) → has_made t k s.objects ≡ true → IsFound t k → IsFound new k) → IfNone r (new.lost ≡ []) → IfNone r (kept_objects s ≡ s.objects)
+  none_lost (Some n) new same found empty = empty
+  none_lost None new same found empty = all_kept s (λ n there g. subst (λ (es : List (Name × Object)). are_supporting s es n ≡ true) (sym (of_all s.objects)) (by n there (nat_lt n.0 t.first_new.0) refl))
+    where
+      by : (n : Name) → stands s n ≡ true → (b : Bool) → nat_lt n.0 t.first_new.0 ≡ b → are_supporting s s.objects n ≡ true
+      by n there true e = let opening : nat_lt n.0 s.first_new.0 ≡ true = ap (λ (f : Name). nat_lt n.0 f.0) first ∙ e in rw opening refl
+      by n there false e =
+          let made_late : nat_lt n.0 s.first_new.0 ≡ false = ap (λ (f : Name). nat_lt n.0 f.0) first ∙ e in
+          let k : ℕ = n.0 - t.first_new.0 in
+          let stood : has_made t k s.objects ≡ true = subst (λ (m : Name). is_some (lookup (same_name m) s.objects) ≡ true) (sym (named_as n e)) there in
+          rw made_late (among_times n (names_with s s.objects) (λ none.
+          let listed : is_among (made new k) new.lost ≡ true = found k stood (h.found exact k stood) (ap (λ (u : Tally). number u k) same ∙ (times_are n e ∙ none)) in
+          false≢true (subst (λ (xs : List Name). is_among (made new k) xs ≡ true) empty listed)))
