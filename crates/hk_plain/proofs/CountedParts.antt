@@ -27,11 +27,13 @@ use Rattle.hk_model.specs.State.{State, same_name, name_cmp, inc_cmp}
 use Rattle.hk_model.proofs.Keeping.{of_all}
 use Rattle.hk_model.proofs.KeepingLemmas.{all_kept}
 use Rattle.std.proofs.lemmas.Bool.Decides.{nat_tests}
-use Rattle.std.proofs.lemmas.Bool.{false≢true}
+use Rattle.std.proofs.lemmas.Bool.{false≢true, false_from_ne_true}
 use Rattle.hk_model.proofs.Standing.{on_cond, name_same}
+use Rattle.hk_model.specs.declared.world.Task.{Task}
+use Rattle.hk_model.specs.Opening.{numbered, all_ready}
 use Rattle.hk_plain.specs.Runners.{process_at}
 use Rattle.hk_plain.specs.Counts.{Tally, made, number, times, is_unnamed, IsFound, Moved, has_made, AreCounted, names_in, slot_names, waiting_names, inner_names}
-use Rattle.hk_plain.proofs.CountLemmas.{still, times_none, times_cons, times_both, none_among, among_times, both, alike}
+use Rattle.hk_plain.proofs.CountLemmas.{tally, still, times_none, times_cons, times_both, none_among, among_times, both, alike}
 
 -- ---- lists of things that name something
 
@@ -298,3 +300,28 @@ module _ (s : State) (t : Tally) (h : AreCounted s.incarnations s.processes s.ob
           rw made_late (among_times n (names_with s s.objects) (λ none.
           let listed : is_among (made new k) new.lost ≡ true = found k stood (h.found exact k stood) (ap (λ (u : Tally). number u k) same ∙ (times_are n e ∙ none)) in
           false≢true (subst (λ (xs : List Name). is_among (made new k) xs ≡ true) empty listed)))
+
+-- ---- the opening
+
+pub waiting_ready : (n : ℕ) (tasks : List Task) → waiting_names (all_ready n tasks) ≡ []
+waiting_ready n [] = refl
+waiting_ready n (t ∷ ts) = waiting_ready (n + 1) ts
+
+-- none is made where all have lower names
+pub none_made : (n : ℕ) (xs : List Object) (m : Name) → n + length xs ≤ m.0 → is_some (lookup (same_name m) (numbered (λ k. let x : Name = record { 0 = k } in x) n xs)) ≡ false
+none_made n [] m low = refl
+none_made n (o ∷ xs) m low =
+    let apart : same_name m (record { 0 = n }) ≡ false = false_from_ne_true (same_name m (record { 0 = n })) (λ e. let same : m.0 ≡ n = ap (λ (x : Name). x.0) (name_same m (record { 0 = n }) e) in absurd (omega (arith, low, same))) in
+    rw apart (none_made (n + 1) xs m (omega arith))
+
+pub counted_opening : (live : List (Inc × Incarnation)) (ps : List Process) (objects : List (Name × Object)) (first : Name) (t t' t'' : Tally) → t ≡ tally first [] [] true → Moved t t' (inner_names objects) [] → Moved t' t'' (slot_names live) [] → waiting_names ps ≡ []
+    → ((k : ℕ) → is_some (lookup (same_name (record { 0 = first.0 + k })) objects) ≡ false) → AreCounted live ps objects t''
+counted_opening live ps objects first t t' t'' is f g rest none =
+    kept [] live [] ps [] objects t t'' (subst (λ (u : Tally). AreCounted [] [] [] u) (sym is) (record { counted = λ e k. sym (times_none (record { 0 = first.0 + k })); found = λ e k there. absurd (false≢true there) }))
+    (alike t t'' (inner_names objects ++ slot_names live) [] (names_in live ps objects) [] (λ n.
+    let a = times_both n (inner_names objects) (slot_names live) in
+    let b = times_both n (slot_names live ++ waiting_names ps) (inner_names objects) in
+    let d = times_both n (slot_names live) (waiting_names ps) in
+    let e : times n (waiting_names ps) ≡ 0 = ap (times n) rest ∙ times_none n in
+    omega (arith, a, b, d, e)) (both t t' t'' (inner_names objects) [] (slot_names live) [] f g))
+    (λ e k there. absurd (false≢true (sym (none k) ∙ subst (λ (u : Tally). has_made u k objects ≡ true) is there)))
