@@ -1,7 +1,7 @@
 -- How the numbers follow the parts of the state, of which each names something.
 use Rattle.std.proofs.Common.{◌≡◌, ℕ, zero, suc, ◌+◌, ◌-◌, ◌<◌, ◌≤◌, ◌==◌, nat_lt, List, [], ◌∷◌, ◌++◌, length, Bool, true, false, Option, Some, None, refl, sym, ◌∙◌, ap, arith, cond, get_or, set, subst}
 use mathlib.Core.Logic.{inl, inr}
-use Rattle.std.specs.Prelude.{◌⊎◌, is_some, IfSome, IfNone}
+use Rattle.std.specs.Prelude.{◌⊎◌, is_some, IfSome, IfNone, filter, not}
 use Rattle.std.specs.Option.{unwrap_or, option_map, option_to_list}
 use Rattle.std.specs.List.{flat_map, sum_by}
 use Rattle.std.specs.List.Sorted.{IsStrictlySortedBy}
@@ -27,7 +27,7 @@ use Rattle.hk_model.specs.State.{State, same_name, name_cmp, inc_cmp}
 use Rattle.hk_model.proofs.Keeping.{of_all}
 use Rattle.hk_model.proofs.KeepingLemmas.{all_kept}
 use Rattle.std.proofs.lemmas.Bool.Decides.{nat_tests}
-use Rattle.std.proofs.lemmas.Bool.{false≢true, false_from_ne_true}
+use Rattle.std.proofs.lemmas.Bool.{true≢false, false≢true, false_from_ne_true}
 use Rattle.hk_model.proofs.Standing.{on_cond, name_same}
 use Rattle.hk_model.specs.declared.world.Task.{Task}
 use Rattle.hk_model.specs.Opening.{numbered, all_ready}
@@ -251,13 +251,63 @@ inserted_stands m name (e ∷ es) o apart h = by (name_cmp name e.0) (inserted_s
         first true k = refl
         first false k = rest k
 
-pub counted_added : (live : List (Inc × Incarnation)) (ps : List Process) (objects objects' : List (Name × Object)) (t u t' : Tally) (name : Name) (o : Object) → AreCounted live ps objects t → Moved t u [] [] → is_among name u.lost ≡ true → objects' ≡ insert_entry name_cmp objects name o → Moved u t' (inner_names objects') (inner_names objects) → AreCounted live ps objects' t'
-counted_added live ps objects objects' t u t' name o h f listed is g =
+-- an object that stands in a part of the table stands
+part_stands : (p : Name → Bool) (m : Name) (es : List (Name × Object)) → is_some (lookup (same_name m) (filter (λ (e : Name × Object). p e.0) es)) ≡ true → is_some (lookup (same_name m) es) ≡ true
+part_stands p m [] h = h
+part_stands p m (e ∷ es) h = by (p e.0) (same_name m e.0) refl (part_stands p m es) h
+  where
+    by : (a b : Bool) → same_name m e.0 ≡ b → (is_some (lookup (same_name m) (filter (λ (e : Name × Object). p e.0) es)) ≡ true → is_some (lookup (same_name m) es) ≡ true) → is_some (lookup (same_name m) (cond a (e ∷ filter (λ (e : Name × Object). p e.0) es) (filter (λ (e : Name × Object). p e.0) es))) ≡ true → is_some (cond b (Some e.1) (lookup (same_name m) es)) ≡ true
+    by a true k rest g = refl
+    by true false k rest g = rest (rw k at g)
+    by false false k rest g = rest g
+
+-- one more object stands beside some of them, and is on the list
+pub counted_beside : (live : List (Inc × Incarnation)) (ps : List Process) (objects objects' : List (Name × Object)) (t u t' : Tally) (name : Name) (o : Object) (p : Name → Bool) → AreCounted live ps objects t → Moved t u [] [] → is_among name u.lost ≡ true → objects' ≡ insert_entry name_cmp (filter (λ (e : Name × Object). p e.0) objects) name o → Moved u t' (inner_names objects') (inner_names objects) → AreCounted live ps objects' t'
+counted_beside live ps objects objects' t u t' name o p h f listed is g =
     objects_kept live ps objects objects' u t' (kept live live ps ps objects objects t u h (unmoved t u (names_in live ps objects) f) (λ e k there. inl there)) g (λ e k there. by e k (same_name (made u k) name) refl (subst (λ (es : List (Name × Object)). has_made u k es ≡ true) is there))
   where
-    by : t'.exact ≡ true → (k : ℕ) (b : Bool) → same_name (made u k) name ≡ b → has_made u k (insert_entry name_cmp objects name o) ≡ true → (has_made u k objects ≡ true) ⊎ IsFound t' k
+    by : t'.exact ≡ true → (k : ℕ) (b : Bool) → same_name (made u k) name ≡ b → has_made u k (insert_entry name_cmp (filter (λ (e : Name × Object). p e.0) objects) name o) ≡ true → (has_made u k objects ≡ true) ⊎ IsFound t' k
     by e k true same there = inr (g.found e k (λ none. subst (λ (n : Name). is_among n u.lost ≡ true) (sym (name_same (made u k) name same)) listed))
-    by e k false apart there = inl (inserted_stands (made u k) name objects o apart there)
+    by e k false apart there = inl (part_stands p (made u k) objects (inserted_stands (made u k) name (filter (λ (e : Name × Object). p e.0) objects) o apart there))
+
+-- ---- some objects go
+
+-- what a table names is what the one part names and the other
+parted : (n : Name) (p q : Name → Bool) (es : List (Name × Object)) → ((m : Name) → q m ≡ not (p m)) → times n (inner_names (filter (λ (e : Name × Object). p e.0) es)) + times n (inner_names (filter (λ (e : Name × Object). q e.0) es)) ≡ times n (inner_names es)
+parted n p q [] other = let a = times_none n in omega (arith, a)
+parted n p q (e ∷ es) other = by (p e.0) (q e.0) (other e.0) (parted n p q es other)
+  where
+    ps : List (Name × Object)
+    ps = filter (λ (e : Name × Object). p e.0) es
+
+    qs : List (Name × Object)
+    qs = filter (λ (e : Name × Object). q e.0) es
+
+    by : (a b : Bool) → b ≡ not a → times n (inner_names ps) + times n (inner_names qs) ≡ times n (inner_names es) → times n (inner_names (cond a (e ∷ ps) ps)) + times n (inner_names (cond b (e ∷ qs) qs)) ≡ times n (object_names e.1 ++ inner_names es)
+    by true true k h = absurd (true≢false k)
+    by true false k h =
+        let x = times_both n (object_names e.1) (inner_names ps) in
+        let y = times_both n (object_names e.1) (inner_names es) in
+        omega (arith, x, y, h)
+    by false true k h =
+        let x = times_both n (object_names e.1) (inner_names qs) in
+        let y = times_both n (object_names e.1) (inner_names es) in
+        omega (arith, x, y, h)
+    by false false k h = absurd (false≢true k)
+
+pub parted_moved : (a b : Tally) (p q : Name → Bool) (es : List (Name × Object)) → ((m : Name) → q m ≡ not (p m)) → Moved a b [] (inner_names (filter (λ (e : Name × Object). q e.0) es)) → Moved a b (inner_names (filter (λ (e : Name × Object). p e.0) es)) (inner_names es)
+parted_moved a b p q es other f = alike a b [] (inner_names (filter (λ (e : Name × Object). q e.0) es)) (inner_names (filter (λ (e : Name × Object). p e.0) es)) (inner_names es) (λ n.
+    let x = parted n p q es other in
+    let y = times_none n in
+    omega (arith, x, y)) f
+
+-- one object more that goes, or that stays
+pub gone_more : (q : Name → Bool) (e : Name × Object) (rest : List (Name × Object)) (all : List Name) (a b c : Tally) → ((final : Tally) → Moved b final [] (inner_names (filter (λ (x : Name × Object). q x.0) (e ∷ rest))) → Moved a final [] all) → q e.0 ≡ true → Moved b c [] (object_names e.1) → (final : Tally) → Moved c final [] (inner_names (filter (λ (x : Name × Object). q x.0) rest)) → Moved a final [] all
+gone_more q e rest all a b c f it g final h =
+    f final (rw it (both b c final [] (object_names e.1) [] (inner_names (filter (λ (x : Name × Object). q x.0) rest)) g h))
+
+pub gone_same : (q : Name → Bool) (e : Name × Object) (rest : List (Name × Object)) (all : List Name) (a b : Tally) → ((final : Tally) → Moved b final [] (inner_names (filter (λ (x : Name × Object). q x.0) (e ∷ rest))) → Moved a final [] all) → q e.0 ≡ false → (final : Tally) → Moved b final [] (inner_names (filter (λ (x : Name × Object). q x.0) rest)) → Moved a final [] all
+gone_same q e rest all a b f it final h = f final (rw it h)
 
 -- ---- what the numbers show
 

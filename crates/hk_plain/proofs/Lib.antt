@@ -7,3 +7,4 @@ pub mod CountLemmas
 pub mod CountedParts
 pub mod Naming
 pub mod KeepingLemmas
+pub mod MarkLemmas

@@ -7,3 +7,4 @@ pub mod Opening
 pub mod Runners
 pub mod Stacks
 pub mod Counts
+pub mod Marking

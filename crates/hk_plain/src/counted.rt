@@ -2,7 +2,7 @@
 
 ghost use Rattle.std.specs.Prelude.{◌≡◌, ◌<◌, length, slice_set, ◌++◌, ◌∷◌, [], OnOk, OnErr, is_some};
 ghost use Rattle.std.specs.Map.{lookup, set_value, remove_entry};
-ghost use Rattle.std.specs.BTreeMap.{insert_entry};
+ghost use Rattle.std.specs.BTreeMap.{IsOrdered, insert_entry};
 ghost use Rattle.hk_model.specs.State.{same_name, name_cmp};
 ghost use Rattle.hk_plain.specs.Counts.{Moved, inner_names, object_in};
 
@@ -19,6 +19,7 @@ pub(crate) fn insert(
     counts: &mut Counts,
 ) -> Result<(), NoMemory>
     ensures ok { OnOk result (objects.new.entries ≡ insert_entry name_cmp objects.old.entries name new) }
+    ensures was_ordered { IsOrdered name_cmp objects.old }
     ensures err { OnErr result (objects.new.entries ≡ objects.old.entries) }
     ensures counted { Moved counts.old counts.new (inner_names objects.new.entries) (inner_names objects.old.entries) }
 {

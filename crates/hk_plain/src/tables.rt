@@ -2,12 +2,10 @@
 
 ghost use Rattle.std.specs.Prelude.{◌≡◌, ◌<◌, false, None, OnOk, OnErr, option_copied, ◌++◌, ◌∷◌, []};
 ghost use Rattle.std.specs.Map.{lookup};
-ghost use Rattle.hk_model.specs.State.{object, process, same_name, put_slot, put_process, add_object};
+ghost use Rattle.hk_model.specs.State.{object, process, same_name, put_slot, put_process};
 ghost use Rattle.hk_model.specs.declared.objects.ProcessState.TheVariants.{Running};
 ghost use Rattle.hk_model.specs.Processors.{is_running, runner};
-ghost use Rattle.hk_plain.specs.Numbers.{HasNumbers};
 
-use crate::counted::insert;
 use crate::counts::Counts;
 use crate::incarnations::Incarnations;
 use crate::processes::Processes;
@@ -88,19 +86,6 @@ impl Tables {
         ensures { self.new ≡ put_process self.old proc (record (process self.old proc) { current = inc }) }
     {
         self.processes.set_current(proc, inc);
-    }
-
-    // One more object, which takes the next name.
-    pub(crate) fn add_object(&mut self, object: Object) -> Result<(), NoMemory>
-        requires { HasNumbers self.old }
-        ensures ok { OnOk result (self.new ≡ add_object self.old object) }
-        ensures err { OnErr result (self.new ≡ self.old) }
-    {
-        let name = self.next_name;
-        self.counts.add(name, self.objects.len())?;
-        insert(&mut self.objects, name, object, &mut self.counts)?;
-        self.next_name = Name(name.0 + 1);
-        Ok(())
     }
 
     // A process at the end of the ready list.
