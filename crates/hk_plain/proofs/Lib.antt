@@ -3,6 +3,8 @@ pub mod Entering
 pub mod Numbered
 pub mod StackLemmas
 pub mod RunnerLemmas
+pub mod CountLemmas
+pub mod CountedParts
 pub mod Naming
 pub mod KeepingLemmas
 pub mod MarkLemmas

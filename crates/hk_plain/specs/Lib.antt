@@ -6,4 +6,5 @@ pub mod Entering
 pub mod Opening
 pub mod Runners
 pub mod Stacks
+pub mod Counts
 pub mod Marking

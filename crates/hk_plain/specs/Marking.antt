@@ -1,6 +1,6 @@
 -- Marks on the objects that names lead to, and the objects that go where a full table gets one more.
 -- docs/RULES.md, "Objects that vanish".
-use Rattle.std.specs.Prelude.{◌≡◌, ◌⊎◌, ◌+◌, ◌≤◌, Bool, true, false, not, List, length, ⊤, Result, Ok, Err, nat_lt, is_some}
+use Rattle.std.specs.Prelude.{◌≡◌, ◌⊎◌, ◌==◌, ◌||◌, ◌+◌, ◌≤◌, Bool, true, false, not, List, length, ⊤, Result, Ok, Err, nat_lt, is_some}
 use Rattle.std.specs.Map.{lookup}
 use Rattle.std.specs.BTreeSet.{BTreeSet}
 use Rattle.hk_model.specs.declared.names.Name.{Name}
@@ -45,6 +45,10 @@ pub record AreUnderway (s : State) (m : Marking) : Type 0 where
 -- all names but these
 abbrev pub all_but : List Name → Name → Bool
 all_but names name = not (is_among name names)
+
+-- an object of these names goes, unless it is the one that is made
+abbrev pub goes : Name → List Name → Name → Bool
+goes name names other = not (other.0 == name.0 || all_but names other)
 
 -- the objects that go where one more is made, or the refusal, or want of memory
 abbrev pub Spares : State → Result (BTreeSet Name) Stop → Type 0

@@ -7,9 +7,12 @@ ghost use Rattle.hk_model.specs.declared.objects.Object.{Object};
 ghost use Rattle.hk_model.specs.State.{name_cmp};
 ghost use Rattle.hk_model.specs.Keeping.{AreRooted, members};
 ghost use Rattle.hk_model.specs.Rule.{add_beside};
-ghost use Rattle.hk_plain.specs.Marking.{AreUnderway, Spares, all_but};
+ghost use Rattle.hk_plain.specs.Marking.{AreUnderway, Spares, all_but, goes};
+ghost use Rattle.hk_plain.specs.Counts.{Moved, inner_names};
 ghost use Rattle.hk_plain.specs.Numbers.{HasNumbers};
 
+use crate::counted::insert;
+use crate::counts::Counts;
 use crate::marks::Marks;
 use crate::stop::Stop;
 use crate::tables::Tables;
@@ -31,18 +34,45 @@ fn count_but(objects: &BTreeMap<Name, Object>, spare: &BTreeSet<Name>) -> usize
     count
 }
 
+// Whether an object goes, where one of this name is made.
+fn goes(name: Name, spare: &BTreeSet<Name>, other: Name) -> bool
+    ensures { result ≡ goes name spare.now.keys other }
+{
+    other.0 != name.0 && spare.contains(&other)
+}
+
+// What the objects that go name is named no more by them.
+fn release_spare(
+    objects: &BTreeMap<Name, Object>,
+    name: Name,
+    spare: &BTreeSet<Name>,
+    counts: &mut Counts,
+)
+    ensures { Moved counts.old counts.new [] (inner_names (filter (λ (e : Name × Object). goes name spare.now.keys e.0) objects.now.entries)) }
+{
+    for (other, object) in objects {
+        if !goes(name, spare, *other) {
+            continue;
+        }
+        counts.release_object(object);
+    }
+}
+
 // Puts an object beside those that stay. It comes first: it may want memory.
 fn put_beside(
     objects: &mut BTreeMap<Name, Object>,
     name: Name,
     object: Object,
     spare: &BTreeSet<Name>,
+    counts: &mut Counts,
 ) -> Result<(), NoMemory>
+    ensures counted { Moved counts.old counts.new (inner_names objects.new.entries) (inner_names objects.old.entries) }
     ensures ok { OnOk result (objects.new.entries ≡ insert_entry name_cmp (filter (λ (e : Name × Object). all_but spare.now.keys e.0) objects.old.entries) name object) }
     ensures err { OnErr result (objects.new.entries ≡ objects.old.entries) }
 {
-    objects.insert(name, object)?;
+    insert(objects, name, object, counts)?;
     if !spare.is_empty() {
+        release_spare(objects, name, spare, counts);
         objects.retain(|other, _| other.0 == name.0 || !spare.contains(other));
     }
     Ok(())
@@ -66,7 +96,7 @@ impl Tables {
     fn unrooted(&self, alloc: Global) -> Result<BTreeSet<Name>, NoMemory>
         ensures { IfOk result (λ spare. AreRooted self.now (all_but spare.keys)) }
     {
-        let mut marks = Marks::begin(alloc, &self.objects, self.first_new)?;
+        let mut marks = Marks::begin(alloc, &self.objects, self.counts.first_new())?;
         marks.mark_slots(self.incarnations.all())?;
         marks.mark_runs(self.processes.as_slice())?;
         self.mark_onward(&mut marks)?;
@@ -99,8 +129,10 @@ impl Tables {
         ensures ok { OnOk result (self.new ≡ add_beside self.old (members self.old (all_but spare.now.keys)) object) }
         ensures err { OnErr result (self.new ≡ self.old) }
     {
-        put_beside(&mut self.objects, self.next_name, object, spare)?;
-        self.next_name = Name(self.next_name.0 + 1);
+        let name = self.next_name;
+        self.counts.add(name, self.objects.len())?;
+        put_beside(&mut self.objects, name, object, spare, &mut self.counts)?;
+        self.next_name = Name(name.0 + 1);
         Ok(())
     }
 }

@@ -12,6 +12,8 @@
 mod activations;
 mod calls;
 mod collecting;
+mod counted;
+mod counts;
 mod incarnations;
 mod keeping;
 mod lists;

@@ -6,6 +6,7 @@ ghost use Rattle.hk_model.specs.State.{object, process, same_name, put_slot, put
 ghost use Rattle.hk_model.specs.declared.objects.ProcessState.TheVariants.{Running};
 ghost use Rattle.hk_model.specs.Processors.{is_running, runner};
 
+use crate::counts::Counts;
 use crate::incarnations::Incarnations;
 use crate::processes::Processes;
 use hk_model::{Cpu, Entry, Inc, Name, NoMemory, Object, Proc, ProcessState};
@@ -20,14 +21,15 @@ pub struct Tables {
     pub(crate) processes: Processes,
     pub(crate) ready: VecDeque<Proc>,
     pub(crate) next_name: Name,
-    // The first name that was not given at the opening.
-    pub(crate) first_new: Name,
+    // How many times each made object is named.
+    pub(crate) counts: Counts,
     pub(crate) events: u32,
     pub(crate) limit: u32,
 }
 
 impl Model for Tables {
     ghost use Rattle.hk_model.specs.State.{State};
+    ghost use Rattle.hk_plain.specs.Counts.{AreCounted};
 
     ghost Value = { State };
 
@@ -38,10 +40,12 @@ impl Model for Tables {
       ready = t.ready.items;
       next_name = t.next_name;
       next_inc = t.incarnations.next;
-      first_new = t.first_new;
+      first_new = t.counts.first_new;
       events = t.events;
       limit = t.limit;
     } };
+
+    ghost invariant = { λ t. AreCounted t.incarnations.live t.processes t.objects.entries t.counts };
 }
 
 impl Tables {
@@ -56,7 +60,8 @@ impl Tables {
     pub(crate) fn set_slot(&mut self, inc: Inc, slot: usize, entry: Entry)
         ensures { self.new ≡ put_slot self.old inc slot entry }
     {
-        self.incarnations.set_slot(inc, slot, entry);
+        self.incarnations
+            .set_slot(inc, slot, entry, &mut self.counts);
     }
 
     // Changes what a process does: it does not run then.
@@ -64,7 +69,7 @@ impl Tables {
         requires { is_running run ≡ false }
         ensures { self.new ≡ put_process self.old proc (record (process self.old proc) { run = run }) }
     {
-        self.processes.set_run(proc, run);
+        self.processes.set_run(proc, run, &mut self.counts);
     }
 
     // The process runs on a processor that runs nothing.
@@ -73,7 +78,7 @@ impl Tables {
         requires idle { runner self.old cpu ≡ None }
         ensures { self.new ≡ put_process self.old proc (record (process self.old proc) { run = Running cpu }) }
     {
-        self.processes.start(proc, cpu);
+        self.processes.start(proc, cpu, &mut self.counts);
     }
 
     // Changes the current incarnation of a process.
