@@ -1,5 +1,4 @@
 pub mod Maps
-pub mod Entering
 pub mod Numbered
 pub mod StackLemmas
 pub mod RunnerLemmas
