@@ -14,6 +14,7 @@ ghost use Rattle.hk_model.specs.Running.{AreStepsOf};
 ghost use Rattle.hk_model.specs.Confinement.{ConfinementLaw, ClosedCallLaw};
 ghost use Rattle.hk_model.specs.Effects.{LeavesOthers};
 ghost use Rattle.hk_model.specs.Changes.{ListsChanges};
+ghost use Rattle.hk_model.specs.Reaches.{ReachLaw};
 
 use hk_model::{Line, World};
 
@@ -65,4 +66,11 @@ pub fn changes_law(world: &World, lines: &[Line])
 pub fn listed_changes_law(world: &World, lines: &[Line])
     requires { AreStepsOf world.now lines.now }
     ensures { ListsChanges world.now lines.now }
+{}
+
+/// What the reaches of a call are (`docs/RULES.md`, "Reaches"): the least sets that hold the objects
+/// of its parameters and all that the rules of the reaches add to them, at each moment from the call
+/// on. So what a parameter and hops lead to is in every other pair of sets that keeps these rules.
+pub fn reach_law(world: &World, lines: &[Line])
+    ensures { ReachLaw world.now lines.now }
 {}

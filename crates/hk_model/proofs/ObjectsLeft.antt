@@ -1,7 +1,8 @@
 -- What each call, halt and dispatch does to each object.
-use Rattle.std.proofs.Common.{◌≡◌, ℕ, suc, ◌+◌, ◌-◌, List, [], ◌∷◌, ◌++◌, Bool, true, false, Option, Some, None, Ok, Err, refl, sym, ap, ◌∙◌, subst, cond, option_map}
-use Rattle.std.specs.Prelude.{IfOk, nat_lt, take, ◌⊎◌}
+use Rattle.std.proofs.Common.{◌≡◌, ℕ, suc, ◌+◌, ◌-◌, List, [], ◌∷◌, ◌++◌, length, Bool, true, false, Option, Some, None, Ok, Err, refl, sym, ap, ◌∙◌, subst, cond, option_map, arith}
+use Rattle.std.specs.Prelude.{IfOk, nat_lt, take, not, ◌||◌, ◌==◌, ◌⊎◌}
 use mathlib.Core.Logic.{inl, inr}
+use Rattle.std.proofs.lemmas.Bool.Decides.{nat_tests}
 use Rattle.std.specs.Option.{unwrap_or, option_and_then}
 use Rattle.std.specs.Ordering.{is_eq}
 use Rattle.std.specs.Map.{lookup, set_value, remove_entry}
@@ -11,8 +12,10 @@ use Rattle.hk_model.specs.declared.names.Inc.{Inc}
 use Rattle.hk_model.specs.declared.names.Proc.{Proc}
 use Rattle.hk_model.specs.declared.names.Slot.{Slot}
 use Rattle.hk_model.specs.declared.entries.Cap.{Cap}
+use Rattle.hk_model.specs.declared.entries.Entry.{Entry}
 use Rattle.hk_model.specs.declared.calls.Call.{Call}
 use Rattle.hk_model.specs.declared.calls.Call.TheVariants as call
+use Rattle.hk_model.specs.declared.calls.Refusal.{Refusal}
 use Rattle.hk_model.specs.declared.calls.Refusal.TheVariants as refused
 use Rattle.hk_model.specs.declared.calls.What8.TheVariants as full
 use Rattle.hk_model.specs.declared.calls.Answer.{Answer}
@@ -21,20 +24,22 @@ use Rattle.hk_model.specs.declared.lines.What.TheVariants as what
 use Rattle.hk_model.specs.declared.lines.Line.{Line}
 use Rattle.hk_model.specs.declared.objects.Object.{Object}
 use Rattle.hk_model.specs.declared.objects.ProcessState.TheVariants.{Ready, Waiting}
+use Rattle.hk_rights.specs.Rights.{COPY}
 use Rattle.hk_model.specs.Limits.{token_limit}
 use Rattle.hk_model.specs.Setup.{Setup}
 use Rattle.hk_model.specs.State.{State, object, process, put_object, put_process, same_name, same_inc, name_cmp, no_object}
 use Rattle.hk_model.specs.Keeping.{kept_objects}
 use Rattle.hk_model.specs.Refusing.{unless}
-use Rattle.hk_model.specs.Targets.{SEMAPHORE, is_type, MODIFY+A0, MODIFY+A1, target}
-use Rattle.hk_model.specs.Rule.{Outcome, outcome, settled, counted, answered, room_made, leave_to, token_given, get_word, put_word, add_word, word_count, load_entry, store_entry, append_entry, erase_entry, drop_slot, restrict_slot, look, make_template, create_object, merge_cap, copy_object, enter_procedure, leave, take_token, give_token}
+use Rattle.hk_model.specs.Walking.{walk}
+use Rattle.hk_model.specs.Targets.{SEMAPHORE, PROCEDURE, PROCESS, LNS, is_general, is_type, slot_at, last_step, create_form, MODIFY+A0, MODIFY+A1, target}
+use Rattle.hk_model.specs.Rule.{Outcome, outcome, settled, counted, answered, can_be_created, plain_object, room_made, leave_to, token_given, get_word, put_word, add_word, word_count, load_entry, store_entry, append_entry, erase_entry, drop_slot, restrict_slot, look, make_template, create_object, merge_cap, copy_object, enter_procedure, leave, take_token, give_token}
 use Rattle.hk_model.specs.Processors.{ended}
 use Rattle.hk_model.specs.Places.{cap_of, cap_found, entry_given}
 use Rattle.hk_model.specs.Running.{Machine, opened, after_lines, AreStepsOf}
 use Rattle.hk_model.specs.Lines.{done_by, done_call, changed_by, changes_path, makes_object}
-use Rattle.hk_model.specs.Effects.{there, IsSameKind, Becomes, Stays, Goes, Changes, IsNew, LeavesOthers}
-use Rattle.hk_model.proofs.TestLemmas.{then_is, and_is}
-use Rattle.hk_model.proofs.Standing.{on_ordering, name_same}
+use Rattle.hk_model.specs.Effects.{there, IsSameKind, IsNoProcedure, Becomes, Stays, Goes, Changes, IsNew, LeavesOthers}
+use Rattle.hk_model.proofs.TestLemmas.{then_is, and_is, unless_is}
+use Rattle.hk_model.proofs.Standing.{on_ordering, name_same, name_laws}
 use Rattle.hk_model.proofs.Keeping.{Vanish, IsLost, kept_vanish, stays_or_lost}
 use Rattle.hk_model.proofs.WalkLemmas.{target_is}
 use Rattle.hk_model.proofs.CallWays.{room_vanish}
@@ -71,6 +76,27 @@ insert_other a k (e ∷ es) o h = by (insert_other a k es o h)
         (λ g. let apart : same_name a e.0 ≡ false = ap (same_name a) (sym (name_same k e.0 (ap is_eq g))) ∙ h in rw apart refl)
         (λ g. ap (λ (o : Option Object). cond (same_name a e.0) (Some e.1) o) later)
 
+insert_found : (k : Name) (es : List (Name × Object)) (o : Object) → there (insert_entry name_cmp es k o) k ≡ Some o
+insert_found k [] o = let same = name_laws.refl k in rw same refl
+insert_found k (e ∷ es) o = by (insert_found k es o)
+  where
+    by : there (insert_entry name_cmp es k o) k ≡ Some o → there (insert_entry name_cmp (e ∷ es) k o) k ≡ Some o
+    by later = on_ordering (λ l. there l k ≡ Some o) (name_cmp k e.0) ((k, o) ∷ e ∷ es) ((e.0, o) ∷ es) (e ∷ insert_entry name_cmp es k o)
+        (λ g. let same = name_laws.refl k in rw same refl)
+        (λ g. let same : same_name k e.0 ≡ true = ap is_eq g in rw same refl)
+        (λ g. let apart : same_name k e.0 ≡ false = ap is_eq g in rw apart later)
+
+-- what is made is no procedure
+created_of : (of : Name) → can_be_created of ≡ true → (of.0 == PROCEDURE) ≡ false
+created_of of h = by (of.0 == PROCEDURE) (of.0 == PROCESS) (of.0 == LNS) h
+  where
+    by : (a b c : Bool) → not (a || b || c) ≡ true → a ≡ false
+    by true b c g = absurd (cc)
+    by false b c g = refl
+
+general_of : (n : ℕ) → is_general (record { 0 = n }) ≡ true → (n == PROCEDURE) ≡ false
+general_of n h = grind (arith, nat_tests, h)
+
 -- ---- what each call does
 
 module _ (s : State) (inc : Inc) (name : Name) where
@@ -103,13 +129,32 @@ module _ (s : State) (inc : Inc) (name : Name) where
       by true e = subst (λ (a : Name). Becomes s inc (Some c) (set_value (same_name cap.name) s.objects o) a) (sym (name_same name cap.name e)) (found (there s.objects cap.name) refl)
       by false e = Stays (set_other name cap.name s.objects o e)
 
-  left_new : (c : Call) (room : List (Name × Object)) (o : Object) → room_made s ≡ Ok room → makes_object (Some c) ≡ true → Becomes s inc (Some c) (insert_entry name_cmp room s.next_name o) name
-  left_new c room o r m = by (same_name name s.next_name) refl (stays_or_lost s room (room_vanish s room r) name)
+  left_new : (c : Call) (room : List (Name × Object)) (o : Object) → room_made s ≡ Ok room → makes_object (Some c) ≡ true → IsNoProcedure o → Becomes s inc (Some c) (insert_entry name_cmp room s.next_name o) name
+  left_new c room o r m kind = by (same_name name s.next_name) refl (stays_or_lost s room (room_vanish s room r) name)
     where
       by : (b : Bool) → same_name name s.next_name ≡ b → (there room name ≡ there s.objects name) ⊎ IsLost s room name → Becomes s inc (Some c) (insert_entry name_cmp room s.next_name o) name
-      by true e g = IsNew m (name_same name s.next_name e)
+      by true e g = let same = name_same name s.next_name e in IsNew o m same (ap (there (insert_entry name_cmp room s.next_name o)) same ∙ insert_found s.next_name room o) kind
       by false e (inl g) = Stays (insert_other name s.next_name room o e ∙ g)
       by false e (inr g) = Goes (insert_other name s.next_name room o e ∙ g.gone)
+
+  left_created : (path : List ℕ) (into : Slot) (step : ℕ) (form : Name × ℕ) (u : Unit {0}) (room : List (Name × Object)) → unless (can_be_created form.0) (refused.WrongType step) ≡ Ok u → room_made s ≡ Ok room
+      → Becomes s inc (Some (call.Create path into)) (insert_entry name_cmp room s.next_name (plain_object form.0 [] [])) name
+  left_created path into step form u room h r =
+      left_new (call.Create path into) room (plain_object form.0 [] []) r refl (record { of = created_of form.0 (unless_is (can_be_created form.0) (refused.WrongType step) u h); code = refl; params = refl })
+
+  create_leaves : (path : List ℕ) (into : Slot) → LeavesBy (call.Create path into) (create_object s inc path into)
+  unfolding create_object
+  create_leaves path into =
+      then_is {A = ℕ} (λ f. Becomes s inc (Some (call.Create path into)) f.1.objects name) (slot_at into (length path)) _ (λ slot a.
+      then_is (λ f. Becomes s inc (Some (call.Create path into)) f.1.objects name) (walk s inc path) _ (λ entry b.
+      then_is (λ f. Becomes s inc (Some (call.Create path into)) f.1.objects name) (create_form entry (last_step path)) _ (λ form d.
+      and_is (λ f. Becomes s inc (Some (call.Create path into)) f.1.objects name) (unless (can_be_created form.0) (refused.WrongType (last_step path))) _ (λ u e.
+      then_is (λ f. Becomes s inc (Some (call.Create path into)) f.1.objects name) (room_made s) _ (λ room r. left_created path into (last_step path) form u room e r)))))
+
+  left_copied : (path : List ℕ) (into : Slot) (room : List (Name × Object)) (cap : Cap) (words : List ℕ) (entries : List Entry) → target s inc path is_general COPY ≡ Ok cap → room_made s ≡ Ok room
+      → Becomes s inc (Some (call.Copy path into)) (insert_entry name_cmp room s.next_name (plain_object (object s cap.name).of words entries)) name
+  left_copied path into room cap words entries t r = left_new (call.Copy path into) room (plain_object (object s cap.name).of words entries) r refl
+      (record { of = general_of (object s cap.name).of.0 (target_is s inc path is_general COPY cap t).typed; code = refl; params = refl })
 
   leaves_same : (c : Call) (give : Option Slot) (proc : Proc) (gone : State) (caller : Option Inc) (into : ℕ) (cap : Option Cap) → gone.objects ≡ s.objects → Becomes s inc (Some c) (leave_to gone proc caller into cap).objects name
   leaves_same c give proc gone None into cap h = left_same c gone h
@@ -152,9 +197,9 @@ module _ (s : State) (inc : Inc) (name : Name) where
   outcome_leaves proc (call.Restrict slot keep) = search (then_is, left_same)
   outcome_leaves proc (call.Look of) = search (then_is, left_same)
   outcome_leaves proc (call.MakeTemplate of kind into) = search (then_is, left_same)
-  outcome_leaves proc (call.Create by into) = search (then_is, and_is, left_new) depth 9
+  outcome_leaves proc (call.Create by into) = create_leaves by into
   outcome_leaves proc (call.Merge with c into) = search (then_is, left_same) depth 10
-  outcome_leaves proc (call.Copy of into) = search (then_is, left_new) depth 8
+  outcome_leaves proc (call.Copy of into) = search (then_is, left_copied) depth 8
   outcome_leaves proc (call.Enter path args into) = search (then_is, and_is, left_same) depth 12
   outcome_leaves proc (call.Leave give) = search (then_is, leaves_same)
   outcome_leaves proc (call.P of) = take_leaves proc of
@@ -169,7 +214,7 @@ becomes_after : (s : State) (inc : Inc) (c : Option Call) (objects left : List (
 becomes_after s inc c objects left name (Stays e) (inl g) = Stays (g ∙ e)
 becomes_after s inc c objects left name (Goes e) (inl g) = Goes (g ∙ e)
 becomes_after s inc c objects left name (Changes before after told e f kind) (inl g) = Changes before after told e (g ∙ f) kind
-becomes_after s inc c objects left name (IsNew made is) (inl g) = IsNew made is
+becomes_after s inc c objects left name (IsNew new made is e kind) (inl g) = IsNew new made is (g ∙ e) kind
 becomes_after s inc c objects left name h (inr g) = Goes g
 
 kept_left : (t : State) (name : Name) → (there (kept_objects t) name ≡ there t.objects name) ⊎ (there (kept_objects t) name ≡ None)
