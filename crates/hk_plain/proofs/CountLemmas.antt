@@ -1,7 +1,7 @@
 -- How the numbers of made objects move as names come and go.
-use Rattle.std.proofs.Common.{◌≡◌, ℕ, zero, suc, ◌+◌, ◌-◌, ◌<◌, ◌≤◌, ◌==◌, ◌||◌, List, [], ◌∷◌, ◌++◌, length, Bool, true, false, Option, Some, None, refl, sym, ◌∙◌, ap, arith, cond, get_or, set, take, append_assoc, subst}
-use Rattle.std.specs.Prelude.{count_by, nat_lt, is_some, is_ok, is_err, Result, Ok, Err, if◌then◌else◌}
-use Rattle.std.specs.List.{flat_map, list_any, sum_by}
+use Rattle.std.proofs.Common.{◌≡◌, ℕ, ◌+◌, ◌-◌, ◌<◌, ◌==◌, ◌||◌, List, [], ◌∷◌, ◌++◌, length, Bool, true, false, refl, sym, ◌∙◌, ap, arith, cond, get_or, set, take, subst}
+use Rattle.std.specs.Prelude.{nat_lt, is_some, is_ok, is_err, Result, Ok, Err, if◌then◌else◌}
+use Rattle.std.specs.List.{flat_map}
 use Rattle.std.specs.Map.{lookup}
 use Rattle.std.proofs.lemmas.List.{get_or-set_same, get_or-set_other, take_more, append-nil}
 use Rattle.std.proofs.lemmas.List.Sums.{sum_by-append, sum_by-cons}
@@ -123,15 +123,15 @@ module _ (first : Name) (numbers : List ℕ) (lost : List Name) (exact : Bool) (
     first = refl;
     exact = λ e. e;
     counted = λ e k. at_or_not (get_or (set numbers at (was + 1)) k 0 + times (made before k) [] ≡ number before k + times (made before k) (name ∷ [])) k at (λ s.
-    let a : get_or (set numbers at (was + 1)) k 0 ≡ was + 1 = new_number (was + 1) k s in
-    let b = was_number k s in
-    let d = one_here k s in
-    let f = times_none (made before k) in
-    omega (arith, a, b, d, f)) (λ s.
-    let a : get_or (set numbers at (was + 1)) k 0 ≡ number before k = get_or-set_other numbers at k (was + 1) 0 s in
-    let d = none_there k s in
-    let f = times_none (made before k) in
-    omega (arith, a, d, f));
+        let a : get_or (set numbers at (was + 1)) k 0 ≡ was + 1 = new_number (was + 1) k s in
+        let b = was_number k s in
+        let d = one_here k s in
+        let f = times_none (made before k) in
+        omega (arith, a, b, d, f)) (λ s.
+        let a : get_or (set numbers at (was + 1)) k 0 ≡ number before k = get_or-set_other numbers at k (was + 1) 0 s in
+        let d = none_there k s in
+        let f = times_none (made before k) in
+        omega (arith, a, d, f));
     found = λ e k f none. at_or_not (is_among (made before k) lost ≡ true) k at (λ s. let a : get_or (set numbers at (was + 1)) k 0 ≡ was + 1 = new_number (was + 1) k s in absurd (omega (arith, a, none))) (λ s. f (sym (get_or-set_other numbers at k (was + 1) 0 s) ∙ none));
   }
 
@@ -144,18 +144,18 @@ module _ (first : Name) (numbers : List ℕ) (lost : List Name) (exact : Bool) (
     first = refl;
     exact = λ e. e;
     counted = λ e k. at_or_not (get_or (set numbers at left) k 0 + times (made before k) (name ∷ []) ≡ number before k + times (made before k) []) k at (λ s.
-    let a : get_or (set numbers at left) k 0 ≡ left = new_number left k s in
-    let b = was_number k s in
-    let d = one_here k s in
-    let f = times_none (made before k) in
-    omega (arith, a, b, d, f, less)) (λ s.
-    let a : get_or (set numbers at left) k 0 ≡ number before k = get_or-set_other numbers at k left 0 s in
-    let d = none_there k s in
-    let f = times_none (made before k) in
-    omega (arith, a, d, f));
+        let a : get_or (set numbers at left) k 0 ≡ left = new_number left k s in
+        let b = was_number k s in
+        let d = one_here k s in
+        let f = times_none (made before k) in
+        omega (arith, a, b, d, f, less)) (λ s.
+        let a : get_or (set numbers at left) k 0 ≡ number before k = get_or-set_other numbers at k left 0 s in
+        let d = none_there k s in
+        let f = times_none (made before k) in
+        omega (arith, a, d, f));
     found = λ e k f none. at_or_not (is_among (made before k) list ≡ true) k at (λ s.
-    let same : made before k ≡ name = same_made first name k (omega (arith, s, place)) in
-    subst (λ (n : Name). is_among n list ≡ true) (sym same) (last (sym (new_number left k s) ∙ none))) (λ s. more (made before k) (f (sym (get_or-set_other numbers at k left 0 s) ∙ none)));
+        let same : made before k ≡ name = same_made first name k (omega (arith, s, place)) in
+        subst (λ (n : Name). is_among n list ≡ true) (sym same) (last (sym (new_number left k s) ∙ none))) (λ s. more (made before k) (f (sym (get_or-set_other numbers at k left 0 s) ∙ none)));
   }
 
   pub released_in : (left : ℕ) (list : List Name) (t : Tally) → before ≡ t → left + 1 ≡ was → ((n : Name) → is_among n lost ≡ true → is_among n list ≡ true) → (left ≡ 0 → is_among name list ≡ true) → Moved t (tally first (set numbers at left) list exact) [] (name ∷ [])

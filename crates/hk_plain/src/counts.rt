@@ -152,8 +152,9 @@ impl Counts {
         if at >= entries.len() {
             return;
         }
+        let old = entries.as_slice()[at];
         self.hold_entry(&entry);
-        self.release_entry(&entries.as_slice()[at]);
+        self.release_entry(&old);
         entries.set(at, entry);
     }
 

@@ -63,10 +63,7 @@ fn object_of(alloc: Global, kind: &Kind) -> Result<Object, AllocError>
 }
 
 // The kernel types, which have the names 0 to 6.
-fn kernel_types(
-    alloc: Global,
-    counts: &mut Counts,
-) -> Result<BTreeMap<Name, Object>, NoMemory>
+fn kernel_types(alloc: Global, counts: &mut Counts) -> Result<BTreeMap<Name, Object>, NoMemory>
     ensures objects { IfOk result (λ objects. objects.entries ≡ named (replicate 7 no_object)) }
     ensures counted { IfOk result (λ objects. Moved counts.old counts.new (inner_names objects.entries) []) }
 {

@@ -1,11 +1,8 @@
 -- What the object names is held, and what another of its name names is released.
-use Rattle.std.proofs.Common.{◌∙◌, sym, subst, List, [], Option, Some, None}
-use Rattle.std.specs.BTreeMap.{insert_entry}
-use Rattle.std.specs.Ordering.{nat_cmp}
+use Rattle.std.proofs.Common.{◌∙◌, sym, subst, List, Some, None}
 use Rattle.std.proofs.lemmas.List.{append-nil}
 use Rattle.hk_model.specs.declared.names.Name.{Name}
 use Rattle.hk_model.specs.declared.objects.Object.{Object}
-use Rattle.hk_model.specs.State.{name_cmp}
 use Rattle.hk_model.specs.Keeping.{object_names}
 use Rattle.hk_plain.specs.Counts.{Moved, inner_names}
 use Rattle.hk_plain.proofs.CountedParts.{inserted_moved, replaced, name_order}

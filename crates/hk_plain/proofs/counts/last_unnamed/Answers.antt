@@ -4,7 +4,7 @@ use Rattle.std.specs.Prelude.{is_some}
 use Rattle.std.specs.Map.{lookup}
 use Rattle.std.proofs.lemmas.Bool.{true≢false}
 use Rattle.hk_model.specs.State.{same_name}
-use Rattle.hk_plain.specs.Counts.{Tally, is_unnamed}
+use Rattle.hk_plain.specs.Counts.{is_unnamed}
 use Rattle.hk_plain.proofs.CountLemmas.{found_dropped, only_list}
 use Rattle.hk_plain.proofs.counts.last_unnamed.Goals as goal
 use Rattle.hk_plain.proofs.counts.last_unnamed.Goals.{else-contains_key-via-then-contains_key+else-is_unnamed, else-contains_key-via-else-contains_key}

@@ -1,5 +1,5 @@
 -- What the slots name is held, and what another of its number names is released.
-use Rattle.std.proofs.Common.{◌∙◌, sym, subst, List, [], Option, Some, None}
+use Rattle.std.proofs.Common.{◌∙◌, sym, subst, List, [], Some, None}
 use Rattle.std.proofs.lemmas.List.{append-nil}
 use Rattle.hk_model.specs.declared.names.Name.{Name}
 use Rattle.hk_model.specs.declared.names.Inc.{Inc}

@@ -1,9 +1,5 @@
 -- One more goes.
-use Rattle.std.proofs.Common.{◌≡◌, ◌∙◌, ◌+◌, ap, drop, List, get_or, refl}
-use Rattle.std.specs.Map.{remove_entry}
-use Rattle.hk_model.specs.declared.names.Inc.{Inc}
-use Rattle.hk_model.specs.declared.objects.Incarnation.{Incarnation}
-use Rattle.hk_model.specs.State.{same_inc}
+use Rattle.std.proofs.Common.{◌∙◌, ◌+◌, ap, drop, refl}
 use Rattle.hk_plain.specs.Stacks.{remove_all}
 use Rattle.hk_plain.specs.Counts.{slot_names}
 use Rattle.hk_plain.proofs.StackLemmas.{next_removed}

@@ -1,7 +1,5 @@
 -- What the slots name is released.
 use Rattle.std.proofs.Common.{sym, subst, List, []}
-use Rattle.std.specs.List.{flat_map}
-use Rattle.hk_model.specs.declared.entries.Entry.{Entry}
 use Rattle.hk_model.specs.declared.names.Inc.{Inc}
 use Rattle.hk_model.specs.declared.objects.Incarnation.{Incarnation}
 use Rattle.hk_model.specs.State.{same_inc}

@@ -1,7 +1,5 @@
 -- One more base incarnation stands at the end.
-use Rattle.std.proofs.Common.{◌<◌, ◌≡◌, length, arith, [], ap, sym, subst, List, refl}
-use Rattle.hk_model.specs.declared.names.Inc.{Inc}
-use Rattle.hk_model.specs.declared.objects.Incarnation.{Incarnation}
+use Rattle.std.proofs.Common.{◌<◌, length, arith, [], ap, sym, subst}
 use Rattle.hk_plain.specs.Stacks.{LiveOnes}
 use Rattle.hk_plain.specs.Counts.{Moved, slot_names}
 use Rattle.hk_plain.proofs.CountLemmas.{still}

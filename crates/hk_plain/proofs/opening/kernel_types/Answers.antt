@@ -1,5 +1,5 @@
 -- One more kernel type stands at the end.
-use Rattle.std.proofs.Common.{refl, sym, subst, List, []}
+use Rattle.std.proofs.Common.{sym, subst, List, []}
 use Rattle.hk_model.specs.declared.names.Name.{Name}
 use Rattle.hk_model.specs.declared.objects.Object.{Object}
 use Rattle.hk_plain.specs.Counts.{Moved, inner_names}

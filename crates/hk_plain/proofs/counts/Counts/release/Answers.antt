@@ -1,8 +1,7 @@
 -- Another number is as before.
-use Rattle.std.proofs.Common.{◌-◌, ◌<◌, ◌∙◌, ℕ, length, ◌≡◌, ◌++◌, ◌∷◌, [], ap, arith, refl, sym, subst, List}
+use Rattle.std.proofs.Common.{◌-◌, ◌<◌, ◌∙◌, ℕ, length, ◌≡◌, ◌++◌, ◌∷◌, [], ap, arith, sym}
 use Rattle.std.proofs.lemmas.Grind.{get_or_default_zero}
-use Rattle.hk_model.specs.declared.names.Name.{Name}
-use Rattle.hk_plain.specs.Counts.{Tally, Moved}
+use Rattle.hk_plain.specs.Counts.{Tally}
 use Rattle.hk_plain.proofs.CountLemmas.{released_opening, released_in, pushed, pushed_more, push_ok}
 use Rattle.hk_plain.proofs.counts.Counts.release.Goals as goal
 

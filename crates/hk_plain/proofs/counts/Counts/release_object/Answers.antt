@@ -1,5 +1,5 @@
 -- Its type, and then its entries.
-use Rattle.std.proofs.Common.{List, [], ◌∷◌, ap, subst}
+use Rattle.std.proofs.Common.{List, [], ◌∷◌, subst}
 use Rattle.std.specs.List.{flat_map}
 use Rattle.hk_model.specs.declared.entries.Entry.{Entry}
 use Rattle.hk_model.specs.Keeping.{entry_names}

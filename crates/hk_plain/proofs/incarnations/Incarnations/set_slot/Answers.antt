@@ -1,5 +1,5 @@
 -- The incarnation keeps its process.
-use Rattle.std.proofs.Common.{refl, subst, List}
+use Rattle.std.proofs.Common.{refl, subst}
 use Rattle.hk_plain.specs.Counts.{Moved, slot_names}
 use Rattle.hk_plain.specs.Stacks.{LiveOnes}
 use Rattle.hk_plain.specs.Stacks.{with_slot}

@@ -5,7 +5,7 @@ use Rattle.hk_model.specs.declared.objects.ProcessState.TheVariants.{Running}
 use Rattle.hk_model.specs.Processors.{runner_from}
 use Rattle.hk_model.specs.Keeping.{run_names}
 use Rattle.hk_plain.specs.Counts.{Moved, waiting_names}
-use Rattle.hk_plain.proofs.CountedParts.{set_moved, replaced}
+use Rattle.hk_plain.proofs.CountedParts.{set_moved}
 use Rattle.hk_plain.specs.Runners.{with_run}
 use Rattle.hk_plain.proofs.RunnerLemmas.{placed_started, run_written}
 use Rattle.hk_plain.proofs.processes.Processes.start.Goals as goal
