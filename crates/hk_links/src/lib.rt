@@ -1,0 +1,12 @@
+//! Lists by index: a number of lists over one array of cells, each cell in at most one of them.
+#![tactic(auto)]
+
+mod arrays;
+mod chains;
+mod memory;
+
+pub use chains::Chains;
+pub use memory::NoMemory;
+
+#[cfg(test)]
+mod tests;

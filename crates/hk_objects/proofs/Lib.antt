@@ -1,0 +1,5 @@
+pub mod Standing
+pub mod Shelves
+mod Indexing
+mod Tables
+mod Frees

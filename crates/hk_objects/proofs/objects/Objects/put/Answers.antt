@@ -1,0 +1,5 @@
+use Rattle.hk_objects.proofs.Tables.{table_change}
+use Rattle.hk_objects.proofs.objects.Objects.put.Goals as goal
+
+pub invariant_of-self : goal.invariant_of-self
+invariant_of-self c = rw c.put_word.ensures (table_change _ _ _ _ c.self.invariant _ _)

@@ -1,0 +1,5 @@
+use Rattle.hk_objects.proofs.Tables.{table_change}
+use Rattle.hk_objects.proofs.objects.Objects.set_procedure.Goals as goal
+
+pub invariant_of-self : goal.invariant_of-self
+invariant_of-self c = rw c.put_procedure.ensures (table_change _ _ _ _ c.self.invariant _ _)

@@ -1,0 +1,36 @@
+-- How the names and the free slots of a table stand in lists of cells.
+use Rattle.std.specs.Prelude.{◌≡◌, ℕ, ◌<◌, ◌%◌, ◌==◌, ◌↔◌, Bool, true, List, length, Option, Some, None, IsSome, slice_index_or}
+use Rattle.std.specs.List.{list_any}
+use Rattle.hk_model.specs.declared.names.Name.{Name}
+use Rattle.hk_objects.specs.declared.body.Body.{Body}
+use Rattle.hk_objects.specs.Slots.{name_at}
+use Rattle.hk_objects.specs.Shelf.{IsShelf}
+use Rattle.hk_links.specs.Chained.{Chained, in_list}
+
+-- a slot is in a list of slots
+abbrev pub has : List ℕ → ℕ → Bool
+has slots slot = list_any (λ x. slot == x) slots
+
+-- the name of a slot, by the names of all
+abbrev pub named_at : List (Option Name) → ℕ → Option Name
+named_at names slot = slice_index_or names slot None
+
+-- each slot with a name is in the list of the name's remainder, and each cell of a list is a slot with a name
+pub record IsIndexed (names : List (Option Name)) (c : Chained) : Type 0 where
+  pub room : length names ≡ 65536
+  pub cells : c.cells ≡ 65536
+  pub size : length c.lists ≡ 65536
+  pub there : (slot : ℕ) (name : Name) → named_at names slot ≡ Some name → in_list c.lists (name.0 % 65536) slot ≡ true
+  pub named : (l slot : ℕ) → l < 65536 → in_list c.lists l slot ≡ true → IsSome (named_at names slot)
+
+-- one list over as many cells as there are slots
+pub record IsOneList (c : Chained) : Type 0 where
+  pub cells : c.cells ≡ 65536
+  pub one : length c.lists ≡ 1
+
+-- the index has the name of each slot, and just the slots in which nothing stands are free
+pub record IsTable (slots : List (Option (Name × Body))) (index : List (Option Name)) (idle : List ℕ) (next : Name) : Type 0 where
+  pub shelf : IsShelf slots next
+  pub size : length index ≡ 65536
+  pub names : (slot : ℕ) → named_at index slot ≡ name_at slots slot
+  pub free : (slot : ℕ) → slot < 65536 → has idle slot ≡ true ↔ name_at slots slot ≡ None

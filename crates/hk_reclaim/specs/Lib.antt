@@ -1,0 +1,5 @@
+pub mod Naming
+pub mod Kept
+pub mod Tally
+pub mod Marks
+pub mod Reach
