@@ -187,7 +187,7 @@ bases_below w n (t ∷ ts) h inc slot = by (same_inc inc (record { 0 = n })) (ba
     by true later = padded_below w (slot_limit - length t.slots) t.slots h.0.2 slot
     by false later = later
 
-born_count : (bs : List Born) → length (map (λ (b : Born). object_of b.kind) bs) ≡ length bs
+pub born_count : (bs : List Born) → length (map (λ (b : Born). object_of b.kind) bs) ≡ length bs
 born_count [] = refl
 born_count (b ∷ bs) = ap suc (born_count bs)
 
