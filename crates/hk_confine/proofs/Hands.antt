@@ -82,7 +82,7 @@ module _ (s : State) (inc : Inc) (G : Name → ℕ → Type 0) (g : Gets s inc G
   pub walk_gets : (path : List ℕ) (x : Entry) → walk s inc path ≡ Ok x → Holds G x
   walk_gets [] x e = absurd (cc)
   walk_gets (at ∷ rest) x e =
-      (walk_keeps s (λ place y. Holds G y) (λ place cap index step got. hop_gets cap index step (standing s (EntryOf cap.name index)) refl got) inc at rest x (g.own at) e).1
+      (walk_keeps s (λ place y. Holds G y) (λ place cap index step load got. hop_gets cap index step (standing s (EntryOf cap.name index)) refl got) inc at rest x (g.own at) e).1
 
   copied_gets : (by : Cap) (index : ℕ) (e : Entry) → standing s (EntryOf by.name index) ≡ e → G by.name by.rights → Holds G (copied by.rights e)
   copied_gets by index Empty h got = tt

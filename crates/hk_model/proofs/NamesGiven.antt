@@ -161,7 +161,7 @@ types_below w zero os h = h
 types_below w (suc n) os h = (λ i. tt, types_below w n os h)
 
 -- what holds of each numbered object holds of the one of this name, and of none
-numbered_holds : (P : Object → Type 0) → P no_object → (n : ℕ) (os : List Object) → AllByRecursion P os → (name : Name) → P (unwrap_or (lookup (same_name name) (numbered {A = Object} {B = Name} (λ k. record { 0 = k }) n os)) no_object)
+pub numbered_holds : (P : Object → Type 0) → P no_object → (n : ℕ) (os : List Object) → AllByRecursion P os → (name : Name) → P (unwrap_or (lookup (same_name name) (numbered {A = Object} {B = Name} (λ k. record { 0 = k }) n os)) no_object)
 numbered_holds P none n [] h name = none
 numbered_holds P none n (o ∷ os) h name = by (same_name name (record { 0 = n })) (numbered_holds P none (n + 1) os h.1 name)
   where
@@ -187,7 +187,7 @@ bases_below w n (t ∷ ts) h inc slot = by (same_inc inc (record { 0 = n })) (ba
     by true later = padded_below w (slot_limit - length t.slots) t.slots h.0.2 slot
     by false later = later
 
-born_count : (bs : List Born) → length (map (λ (b : Born). object_of b.kind) bs) ≡ length bs
+pub born_count : (bs : List Born) → length (map (λ (b : Born). object_of b.kind) bs) ≡ length bs
 born_count [] = refl
 born_count (b ∷ bs) = ap suc (born_count bs)
 

@@ -56,7 +56,7 @@ obtained_no_env by (Form t) step h = and_is NoEnv (allowed by ENV step) (Ok (For
 -- a walk from a slot without ENV gives nothing with ENV
 pub walk_no_env : (s : State) (inc : Inc) (at : ℕ) (rest : List ℕ) (x : Entry) → NoEnv (standing s (SlotOf inc at)) → walk s inc (at ∷ rest) ≡ Ok x → NoEnv x
 walk_no_env s inc at rest x h e =
-    (walk_keeps s (λ place y. NoEnv y) (λ place c i step k. obtained_no_env c.rights (standing s (EntryOf c.name i)) step k) inc at rest x h e).1
+    (walk_keeps s (λ place y. NoEnv y) (λ place c i step load k. obtained_no_env c.rights (standing s (EntryOf c.name i)) step k) inc at rest x h e).1
 
 -- nothing is left in a copy
 pub copied_no_env : (cap : Cap) (e : Entry) → NoEnv (Held cap) → copied cap.rights e ≡ Empty

@@ -38,9 +38,9 @@ named_is (Held a) cap h = h.0
 named_is Empty cap h = absurd h
 named_is (Form a) cap h = absurd h
 
--- a law of each hop
+-- a law of each hop, which is through LOAD
 abbrev pub HopLaw : State → (Place → Entry → Type 0) → Type 0
-HopLaw s P = (place : Place) (cap : Cap) (at step : ℕ) → P place (Held cap) → IfOk (obtained cap.rights (standing s (EntryOf cap.name at)) step) (P (EntryOf cap.name at))
+HopLaw s P = (place : Place) (cap : Cap) (at step : ℕ) → Within LOAD cap.rights → P place (Held cap) → IfOk (obtained cap.rights (standing s (EntryOf cap.name at)) step) (P (EntryOf cap.name at))
 
 module _ (s : State) (P : Place → Entry → Type 0) (hops : HopLaw s P) where
   abbrev pub Arrives : Place → Entry → Type 0
@@ -51,7 +51,7 @@ module _ (s : State) (P : Place → Entry → Type 0) (hops : HopLaw s P) where
       and_is (Arrives (EntryOf cap.name at)) (allowed cap.rights LOAD step) (item_at (object s cap.name).entries at (step + 1) >>= (λ next. obtained cap.rights next step)) (λ u h.
       then_is (Arrives (EntryOf cap.name at)) (item_at (object s cap.name).entries at (step + 1)) (λ next. obtained cap.rights next step) (λ next g.
       let same = item_is (object s cap.name).entries at (step + 1) next g in
-      rw same (ok_both (Reduces (standing s (EntryOf cap.name at))) (P (EntryOf cap.name at)) (obtained cap.rights (standing s (EntryOf cap.name at)) step) (obtained_reduces cap.rights (standing s (EntryOf cap.name at)) step) (hops place cap at step p))))
+      rw same (ok_both (Reduces (standing s (EntryOf cap.name at))) (P (EntryOf cap.name at)) (obtained cap.rights (standing s (EntryOf cap.name at)) step) (obtained_reduces cap.rights (standing s (EntryOf cap.name at)) step) (hops place cap at step (allowed_is cap.rights LOAD step u h) p))))
 
   walk_on_keeps : (place : Place) (entry : Entry) (path : List ℕ) (step : ℕ) → Arrives place entry → IfOk (walk_on s entry path step) (Arrives (end_from s place path))
   walk_on_keeps place entry [] step h = h
@@ -74,7 +74,7 @@ module _ (s : State) (P : Place → Entry → Type 0) (hops : HopLaw s P) where
 pub walk_reduces : (s : State) (inc : Inc) (path : List ℕ) (x : Entry) → walk s inc path ≡ Ok x → Reduces (standing s (end_of s inc path)) x
 walk_reduces s inc [] x e = absurd (cc)
 walk_reduces s inc (at ∷ rest) x e =
-    (walk_keeps s (λ p y. Unit {0}) (λ place cap at step u. ok_each (λ y. Unit {0}) (obtained cap.rights (standing s (EntryOf cap.name at)) step) (λ y. tt)) inc at rest x tt e).0
+    (walk_keeps s (λ p y. Unit {0}) (λ place cap at step load u. ok_each (λ y. Unit {0}) (obtained cap.rights (standing s (EntryOf cap.name at)) step) (λ y. tt)) inc at rest x tt e).0
 
 -- the capability that a path leads to names the object that the path names
 pub leads_named : (s : State) (inc : Inc) (path : List ℕ) (cap : Cap) → LeadsTo s inc path cap → named_by s inc path ≡ cap.name
