@@ -6,8 +6,8 @@ mod merging;
 mod name_space;
 mod refusing;
 
-pub use merging::{amplify_form, merge};
 pub use hk_model::Arg;
+pub use merging::{amplify_form, merge};
 pub use name_space::build_space;
 pub use refusing::{allowed, confined_rights, held};
 

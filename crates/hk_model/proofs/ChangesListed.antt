@@ -177,9 +177,10 @@ listed_is w lines steps k moment call name h = by (told_has (bare_changes_by w l
     by (inr a) =
         let s : State = state_at w lines a.moment in
         let n = change_is w lines (confined_calls w lines) s a.line (moved w (after_lines w (opened w) (take a.moment lines)) a.line.cpu).state (bare_change k call moment name) a.has in
-        let here : a.moment ≡ moment = sym (events_before w lines a.moment a.line steps a.is) ∙ n.moment in
-        (listed_call w lines (record { call = call; moment = k }) steps n.call,
-        record { line = a.line; is = ap (slice_get lines) (sym here) ∙ a.is; under = n.under; changes = ap (λ (m : ℕ). changed (state_at w lines m) a.line) (sym here) ∙ n.changes })
+        let here : a.moment ≡ moment = sym (events_before w lines a.moment a.line steps a.is) ∙ n.moment in (
+          listed_call w lines (record { call = call; moment = k }) steps n.call,
+          record { line = a.line; is = ap (slice_get lines) (sym here) ∙ a.is; under = n.under; changes = ap (λ (m : ℕ). changed (state_at w lines m) a.line) (sym here) ∙ n.changes },
+        )
 
 -- and each such change is listed
 is_listed : (w : Setup) (lines : List Line) → AreStepsOf w lines → (k moment : ℕ) (call : Inc) (name : Name) → IsConfinedCall w lines k call × IsChange w lines k call moment name → Has (bare_changes w lines) (bare_change k call moment name)
@@ -193,6 +194,7 @@ is_listed w lines steps k moment call name (c, h) =
 
 -- in every history
 pub lists_changes : (w : Setup) (lines : List Line) → AreStepsOf w lines → ListsChanges w lines
-lists_changes w lines steps k moment call name =
-    ((λ h. listed_is w lines steps k moment call name (has_from (bare_changes w lines) (bare_change k call moment name) h)),
-    (λ h. contains_from (bare_changes w lines) (bare_change k call moment name) (is_listed w lines steps k moment call name h)))
+lists_changes w lines steps k moment call name = (
+  (λ h. listed_is w lines steps k moment call name (has_from (bare_changes w lines) (bare_change k call moment name) h)),
+  (λ h. contains_from (bare_changes w lines) (bare_change k call moment name) (is_listed w lines steps k moment call name h)),
+)

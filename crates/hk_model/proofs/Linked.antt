@@ -170,7 +170,7 @@ module _ (s : State) (line : Line) (t : State) (n : NumbersRise s) (stacked : Is
   halted_linked i x h =
       let found = halted_found fs p i x (activations_apart s n) h in
       by found.1 (linked i x found.0)
-        (λ c. stacked.kin c.callee i c.called x c.lives c.by found.0)
+      (λ c. stacked.kin c.callee i c.called x c.lives c.by found.0)
     where
       by : (x.proc.0 == p) ≡ false → (slice_get cur x.proc.0 ≡ Some i) ⊎ CalledBy fs i → ((c : CalledBy fs i) → x.proc.0 ≡ c.called.proc.0)
           → (slice_get cur x.proc.0 ≡ Some i) ⊎ CalledBy (filter (λ (e : Inc × Activation). not (e.1.proc.0 == p)) fs) i
