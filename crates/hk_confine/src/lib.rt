@@ -12,6 +12,9 @@ mod tests;
 
 ghost use Rattle.hk_model.specs.Running.{AreStepsOf};
 ghost use Rattle.hk_model.specs.Confinement.{ConfinementLaw, ClosedCallLaw};
+ghost use Rattle.hk_model.specs.Effects.{LeavesOthers};
+ghost use Rattle.hk_model.specs.Changes.{ListsChanges};
+ghost use Rattle.hk_model.specs.Reaches.{ReachLaw};
 
 use hk_model::{Line, World};
 
@@ -44,3 +47,30 @@ pub fn closed_call_law(world: &World, lines: &[Line])
 {
     let _ = world.limit();
 }
+
+/// What a line changes (`docs/RULES.md`, "Under a call"): each object that stands before a line or
+/// after it stands as it was, but for the one that the line is told to change, which keeps its type,
+/// its code and its parameters, for the one that the line makes, and for those that go.
+///
+/// `lines` are steps of `world` from its opening on, in the order of the history.
+pub fn changes_law(world: &World, lines: &[Line])
+    requires { AreStepsOf world.now lines.now }
+    ensures { LeavesOthers world.now lines.now }
+{}
+
+/// What the list of changes has (`docs/RULES.md`, "Changes and their reasons"): an item for a
+/// confined call, a line and an object exactly where the line is by an incarnation under that call
+/// and changes that object, so where the confinement law speaks of them.
+///
+/// `lines` are steps of `world` from its opening on, in the order of the history.
+pub fn listed_changes_law(world: &World, lines: &[Line])
+    requires { AreStepsOf world.now lines.now }
+    ensures { ListsChanges world.now lines.now }
+{}
+
+/// What the reaches of a call are (`docs/RULES.md`, "Reaches"): the least sets that hold the objects
+/// of its parameters and all that the rules of the reaches add to them, at each moment from the call
+/// on. So what a parameter and hops lead to is in every other pair of sets that keeps these rules.
+pub fn reach_law(world: &World, lines: &[Line])
+    ensures { ReachLaw world.now lines.now }
+{}

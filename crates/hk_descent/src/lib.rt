@@ -10,7 +10,7 @@
 mod tests;
 
 ghost use Rattle.hk_model.specs.Running.{AreStepsOf};
-ghost use Rattle.hk_model.specs.Descent.{DescentLaw};
+ghost use Rattle.hk_model.specs.Descent.{DescentLaw, ChainsFall};
 ghost use Rattle.hk_model.specs.Marks.{EnvironmentLaw};
 
 use hk_model::{Line, World};
@@ -38,4 +38,13 @@ pub fn descent_law(world: &World, lines: &[Line])
 pub fn environment_law(world: &World, lines: &[Line])
     requires { AreStepsOf world.now lines.now }
     ensures { EnvironmentLaw world.now lines.now }
+{}
+
+/// The lines of a chain (`docs/RULES.md`, "Descent"): at every moment of a history, the numbers of the
+/// lines of each place's chain fall from its first link on, and none is greater than the moment.
+///
+/// `lines` are steps of `world` from its opening on, in the order of the history.
+pub fn chain_lines_law(world: &World, lines: &[Line])
+    requires { AreStepsOf world.now lines.now }
+    ensures { ChainsFall world.now lines.now }
 {}

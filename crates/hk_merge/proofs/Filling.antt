@@ -2,6 +2,7 @@
 use Rattle.std.proofs.Common.{◌≡◌, ◌≤◌, ◌<◌, ◌+◌, ◌-◌, ◌==◌, ℕ, Bool, true, false, List, [], ◌∷◌, ◌++◌, length, map, drop, replicate, Result, Ok, Err, refl, sym, ap, ◌∙◌, append_assoc, arith, nat_le, eq-eqb, suc}
 use Rattle.std.proofs.lemmas.List.{set_at, drop-replicate, length-append, length-map, length-replicate}
 use Rattle.std.proofs.lemmas.Bool.{le-leb, lt-leb}
+use Rattle.hk_model.specs.declared.entries.Arg.{Arg}
 use Rattle.hk_model.specs.declared.entries.Cap.{Cap}
 use Rattle.hk_model.specs.declared.entries.Param.{Param}
 use Rattle.hk_model.specs.declared.entries.Entry.{Entry}
@@ -10,10 +11,9 @@ use Rattle.hk_model.specs.declared.calls.Refusal.{Refusal}
 use Rattle.hk_model.specs.declared.calls.Refusal.TheVariants as refused
 use Rattle.hk_model.specs.declared.calls.What8.TheVariants as full
 use Rattle.hk_model.specs.Refusing.{◌>>=◌, ◌>>◌, unless}
-use Rattle.hk_model.specs.Merging.{inherited, call_slots}
+use Rattle.hk_model.specs.Merging.{inherited, call_slots, merged_arg, merged_all, name_space}
 use Rattle.hk_spaces.specs.Slots.{empty_slots}
-use Rattle.hk_merge.specs.declared.name_space.Arg.{Arg}
-use Rattle.hk_merge.specs.NameSpaces.{overwritten, with_caps, merged_arg, merged_all, name_space}
+use Rattle.hk_merge.specs.NameSpaces.{overwritten, with_caps}
 
 -- entries written over others that stand behind some
 pub overwritten-at : (before after es : List Entry) → length es ≤ length after → overwritten (before ++ after) (length before) es ≡ before ++ (es ++ drop (length es) after)

@@ -7,7 +7,8 @@ mod name_space;
 mod refusing;
 
 pub use merging::{amplify_form, merge};
-pub use name_space::{Arg, build_space};
+pub use hk_model::Arg;
+pub use name_space::build_space;
 pub use refusing::{allowed, confined_rights, held};
 
 #[cfg(test)]

@@ -1,21 +1,13 @@
 //! The name space of a call.
 
 ghost use Rattle.std.specs.Prelude.{◌≡◌, ◌≤◌, ◌<◌, ◌+◌, length, map, IfOk, IfErr, Ok, Err};
-ghost use Rattle.hk_model.specs.Merging.{inherited};
-ghost use Rattle.hk_merge.specs.NameSpaces.{merged_arg, merged_all, name_space, overwritten, with_caps};
+ghost use Rattle.hk_model.specs.Merging.{inherited, merged_arg, merged_all, name_space};
+ghost use Rattle.hk_merge.specs.NameSpaces.{overwritten, with_caps};
 
 use crate::merging::merged;
 use crate::refusing::{confined_rights, held};
-use hk_model::{Cap, Entry, Name, Param, Refusal, Slot, What8};
+use hk_model::{Arg, Cap, Entry, Param, Refusal, Slot, What8};
 use hk_spaces::Space;
-
-/// An argument of a call: what stands in its slot, and for a capability the type of its object.
-#[derive(Clone, Copy, PartialEq, Eq, Debug)]
-pub struct Arg {
-    pub entry: Entry,
-    /// Read only where the entry is a capability.
-    pub of: Name,
-}
 
 /// The name space that a call gives (`docs/RULES.md`, "Calls of procedures"): the merged
 /// arguments, then what the procedure holds, for a confined call without MODIFY and UNCONF, then

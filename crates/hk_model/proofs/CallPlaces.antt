@@ -59,11 +59,11 @@ erases s inc path at cap t = modified s inc (call.Erase path at) path is_listed 
 -- every call
 pub outcome_modifies : (s : State) (proc : Proc) (inc : Inc) (c : Call) → IfOk (outcome s proc inc c) (λ f. Modifies s inc c)
 unfolding put_word add_word store_entry append_entry erase_entry take_token give_token
-outcome_modifies s proc inc (call.Put of at word) = search (then_is, puts)
+outcome_modifies s proc inc (call.Put of at word) = search (then_is, and_is, puts)
 outcome_modifies s proc inc (call.Add of word) = search (then_is, and_is, adds)
-outcome_modifies s proc inc (call.Store list at from) = search (then_is, stores)
+outcome_modifies s proc inc (call.Store list at from) = search (then_is, and_is, stores)
 outcome_modifies s proc inc (call.Append list from) = search (then_is, and_is, appends)
-outcome_modifies s proc inc (call.Erase list at) = search (then_is, erases)
+outcome_modifies s proc inc (call.Erase list at) = search (then_is, and_is, erases)
 outcome_modifies s proc inc (call.P of) =
     then_is (λ f. Modifies s inc (call.P of)) (target s inc of (is_type SEMAPHORE) MODIFY+A0) (λ cap. Ok (elim (nat_lt 0 (object s cap.name).count) [
       | true ↦ (Done, put_object s cap.name (record (object s cap.name) { count = (object s cap.name).count - 1 }))

@@ -90,7 +90,7 @@ known_each = each_more Laws (λ s line t. Sound s → LineKnown s line t)
     })
     laws_each
 
-opening_sound : (w : Setup) → Sound (opening w)
+pub opening_sound : (w : Setup) → Sound (opening w)
 opening_sound w = record { rises = opening_rises w; stacked = opening_stacked w }
 
 -- every state of a history is sound

@@ -23,7 +23,7 @@ below zero = []
 below (suc n) = n ∷ below n
 
 -- what holds of all of them holds of each
-all_below : (P : ℕ → Bool) (n i : ℕ) → i < n → list_all P (below n) ≡ true → P i ≡ true
+pub all_below : (P : ℕ → Bool) (n i : ℕ) → i < n → list_all P (below n) ≡ true → P i ≡ true
 all_below P zero i l h = absurd (omega (arith, l))
 all_below P (suc n) i l h = by (λ f. all_below P n i f (second_so (P n) (list_all P (below n)) h)) (nat_cmp i n) (ranked i n (nat_cmp i n) refl)
   where

@@ -6,8 +6,12 @@ use Rattle.hk_model.specs.declared.entries.Cap.{Cap}
 use Rattle.hk_model.specs.declared.entries.Entry.{Entry}
 use Rattle.hk_model.specs.declared.entries.Entry.TheVariants.{Empty, Held, Form}
 use Rattle.hk_model.specs.State.{State}
+use Rattle.hk_model.specs.declared.lines.Line.{Line}
+use Rattle.hk_model.specs.Setup.{Setup}
+use Rattle.hk_model.specs.Running.{state_at}
 use Rattle.hk_model.specs.Places.{cap_of}
-use Rattle.hk_model.specs.Reaches.{Hop, Reached, reached_by, handed_over, listed_cap, onward, hop_to, follow, param_reached, reach, IsReached, AreReaches}
+use Rattle.hk_model.specs.Under.{is_made_under, parameters}
+use Rattle.hk_model.specs.Reaches.{Hop, Reached, reached_by, handed_over, listed_cap, onward, hop_to, follow, param_reached, reach, IsReached, AreReaches, ReachLaw}
 
 module _ (at : ℕ → State) (made : Name → Bool) where
   -- hops and then one more
@@ -156,3 +160,17 @@ module _ (at : ℕ → State) (made : Name → Bool) where
       unconfined_is_least moment x r =
           let g = reach_is_in r.param r.hops r.is.there r.is.leads in
           rw (← r.is.same) (rules.later_unconf r.is.there.moment moment r.is.there.name g.begun r.is.by_then (g.unconf r.is.good))
+
+-- so they are the least sets that keep the rules
+pub reaches_are_least : (w : Setup) (lines : List Line) → ReachLaw w lines
+reaches_are_least w lines k call =
+    let at = state_at w lines in
+    let made = is_made_under w lines k call in
+    let params = parameters w lines k call in
+    record {
+      keep = reaches_keep_the_rules at made params k;
+      least = λ m u rules moment x. (
+        modifiable_is_least at made params k (λ t y. m t y ≡ true) (λ t y. u t y ≡ true) rules moment x,
+        unconfined_is_least at made params k (λ t y. m t y ≡ true) (λ t y. u t y ≡ true) rules moment x,
+      );
+    }

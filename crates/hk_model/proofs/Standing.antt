@@ -119,7 +119,7 @@ module _ (P : Bool → Entry → Type 0) where
       by true h = rw (same_true m n h) (item_here xs n e new gone)
       by false h = item_there xs n m e (same_false m n h) old
 
-on_ordering : {A : Type 0} (P : A → Type 0) (o : Ordering) (x y z : A) → (o ≡ Less → P x) → (o ≡ Equal → P y) → (o ≡ Greater → P z) → P (match_ordering o x y z)
+pub on_ordering : {A : Type 0} (P : A → Type 0) (o : Ordering) (x y z : A) → (o ≡ Less → P x) → (o ≡ Equal → P y) → (o ≡ Greater → P z) → P (match_ordering o x y z)
 on_ordering P Less x y z f g h = f refl
 on_ordering P Equal x y z f g h = g refl
 on_ordering P Greater x y z f g h = h refl

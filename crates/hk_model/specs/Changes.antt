@@ -1,6 +1,6 @@
 -- The changes under confined calls, each with its reason. docs/RULES.md, "Changes and their reasons".
-use Rattle.std.specs.Prelude.{◌≡◌, ℕ, ◌+◌, Bool, true, false, IsTrue, List, [], ◌∷◌, ◌++◌, length, Some, None, map, filter}
-use Rattle.std.specs.List.{flat_map}
+use Rattle.std.specs.Prelude.{◌≡◌, ◌↔◌, ℕ, ◌+◌, Bool, true, false, IsTrue, List, [], ◌∷◌, ◌++◌, length, Some, None, map, filter}
+use Rattle.std.specs.List.{flat_map, Contains}
 use Rattle.std.specs.Ordering.{nat_cmp, is_le}
 use Rattle.std.specs.Cmp.Lexicographic.{slice_cmp}
 use Rattle.hk_model.specs.declared.names.Name.{Name}
@@ -13,6 +13,7 @@ use Rattle.hk_model.specs.Running.{opened, state_at}
 use Rattle.hk_model.specs.Lines.{done_call, enters_call, changed, told}
 use Rattle.hk_model.specs.Under.{is_under, is_made_under, parameters}
 use Rattle.hk_model.specs.Reaches.{Hop, IsReach}
+use Rattle.hk_model.specs.Confinement.{IsConfinedCall, IsChange}
 
 -- what the order of reaches looks at, hop by hop: the moment, the index, and an entry before what is handed
 abbrev pub hop_key : Hop → List ℕ
@@ -109,3 +110,14 @@ AreExplained w lines (bare ∷ bares) [] = ⊥
 -- these are the changes of a history under confined calls, in order, each with its reason
 abbrev pub AreChanges : Setup → List Line → List Change → Type 0
 AreChanges w lines changes = AreExplained w lines (bare_changes w lines) changes
+
+-- the change of an object by the line at a moment, under the call that begins at moment k
+abbrev pub bare_change : ℕ → Inc → ℕ → Name → BareChange
+bare_change k call moment name = record { moment = moment; under = record { call = call; moment = k }; object = name }
+
+-- the list has an item for a confined call, a line and an object exactly where the line is by an incarnation under the call and
+-- changes the object
+abbrev pub ListsChanges : Setup → List Line → Type 0
+ListsChanges w lines =
+    (k moment : ℕ) (call : Inc) (name : Name)
+    → Contains (bare_changes w lines) (bare_change k call moment name) ↔ (IsConfinedCall w lines k call × IsChange w lines k call moment name)

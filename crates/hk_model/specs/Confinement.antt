@@ -1,4 +1,5 @@
--- The confinement law and the closed-call law. docs/RULES.md, "Reaches".
+-- The confinement law and the closed-call law. An object that does not stand at a moment has no list there.
+-- docs/RULES.md, "Reaches".
 use Rattle.std.specs.Prelude.{◌≡◌, ◌⊎◌, ℕ, true, false, List, Some, slice_get}
 use Rattle.hk_model.specs.declared.names.Name.{Name}
 use Rattle.hk_model.specs.declared.names.Inc.{Inc}

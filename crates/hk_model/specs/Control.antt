@@ -1,5 +1,5 @@
 -- The control of a process: what it does next, and how a reply changes that. docs/RULES.md, "Control of a process".
-use Rattle.std.specs.Prelude.{ℕ, zero, suc, ◌+◌, ◌%◌, ◌^◌, ◌==◌, Bool, true, false, List, [], ◌∷◌, length, Option, Some, None, nat_lt, if◌then◌else◌, slice_index, slice_get, slice_set, map, min}
+use Rattle.std.specs.Prelude.{ℕ, zero, suc, ◌+◌, ◌-◌, ◌%◌, ◌^◌, ◌==◌, Bool, true, false, List, [], ◌∷◌, length, Option, Some, None, nat_lt, if◌then◌else◌, slice_index, slice_get, slice_set, map, min, replicate}
 use Rattle.hk_model.specs.declared.calls.Call.{Call}
 use Rattle.hk_model.specs.declared.calls.Call.TheVariants as call
 use Rattle.hk_model.specs.declared.calls.Reply.{Reply}
@@ -14,12 +14,12 @@ use Rattle.hk_model.specs.declared.instructions.Route.{Route}
 use Rattle.hk_model.specs.declared.frames.Frame.{Frame}
 use Rattle.hk_model.specs.declared.frames.Todo.{Todo}
 use Rattle.hk_model.specs.declared.frames.Todo.TheVariants.{Do, Halt}
-use Rattle.hk_model.specs.Limits.{local_limit}
+use Rattle.hk_model.specs.Limits.{index_bound, local_limit, register_limit}
 use Rattle.hk_model.specs.Setup.{Setup}
 
 -- a frame at the beginning of a code
 abbrev pub new_frame : ℕ → Frame
-new_frame code = record { code = code; at = 0; registers = 0 ∷ 0 ∷ 0 ∷ 0 ∷ 0 ∷ 0 ∷ 0 ∷ 0 ∷ []; refused = false }
+new_frame code = record { code = code; at = 0; registers = replicate register_limit 0; refused = false }
 
 -- the frames of a process, the current one first
 abbrev pub Context : Type 0
@@ -33,7 +33,7 @@ operand f (Reg r) = slice_index f.registers r
 -- what an index of a path is worth: of a register at most 65,535
 abbrev pub index_of : Frame → Index → ℕ
 index_of f (Fixed n) = n
-index_of f (ByReg r) = min (slice_index f.registers r) 65535
+index_of f (ByReg r) = min (slice_index f.registers r) (index_bound - 1)
 
 abbrev pub path_of : Frame → Route → List ℕ
 path_of f route = map (index_of f) route.at

@@ -1,5 +1,5 @@
 -- The chain of origins of each entry, and the descent law. docs/RULES.md, "Descent".
-use Rattle.std.specs.Prelude.{◌≡◌, ℕ, ◌+◌, List, take, Option, Some, None, bit_and}
+use Rattle.std.specs.Prelude.{◌≡◌, ◌≤◌, ℕ, ◌+◌, ◌-◌, List, take, Option, Some, None, bit_and}
 use Rattle.hk_model.specs.declared.names.Name.{Name}
 use Rattle.hk_model.specs.declared.entries.Cap.{Cap}
 use Rattle.hk_model.specs.declared.entries.Param.{Param}
@@ -115,3 +115,13 @@ Descends w x (Link line place entry gate rest) = IfThere x (IsLink entry gate x 
 -- the descent law: at every moment, what stands at a place descends by the chain of that place
 abbrev pub DescentLaw : Setup → List Line → Type 0
 DescentLaw w lines = (moment : ℕ) (p : Place) → Descends w (standing (state_at w lines moment) p) (chains w (take moment lines) p)
+
+-- the numbers of a chain's lines fall from its first link on; the first is no greater than this
+abbrev pub LinesFall : ℕ → Chain → Type 0
+LinesFall most (Opened p) = Unit {0}
+LinesFall most (MadeAt line by target) = (1 ≤ line) × (line ≤ most)
+LinesFall most (Link line place entry gate rest) = (1 ≤ line) × (line ≤ most) × LinesFall (line - 1) rest
+
+-- at every moment the numbers of each chain's lines fall, and none is greater than the moment
+abbrev pub ChainsFall : Setup → List Line → Type 0
+ChainsFall w lines = (moment : ℕ) (p : Place) → LinesFall moment (chains w (take moment lines) p)

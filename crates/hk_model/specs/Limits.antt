@@ -36,6 +36,14 @@ index_bound = 65536
 abbrev pub slot_bound : ℕ
 slot_bound = 256
 
+-- what each step that a refusal tells is below
+abbrev pub step_bound : ℕ
+step_bound = 256
+
+-- registers of a frame
+abbrev pub register_limit : ℕ
+register_limit = 8
+
 -- incarnations of a process, the base counted
 abbrev pub depth_limit : ℕ
 depth_limit = 64

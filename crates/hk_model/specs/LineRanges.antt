@@ -12,7 +12,7 @@ use Rattle.hk_model.specs.declared.calls.Reply.TheVariants as reply
 use Rattle.hk_model.specs.declared.lines.What.{What}
 use Rattle.hk_model.specs.declared.lines.What.TheVariants as what
 use Rattle.hk_model.specs.declared.lines.Line.{Line}
-use Rattle.hk_model.specs.Limits.{argument_limit, path_limit, index_bound, slot_bound, cpu_limit, process_limit}
+use Rattle.hk_model.specs.Limits.{argument_limit, path_limit, index_bound, slot_bound, step_bound, cpu_limit, process_limit}
 use Rattle.hk_model.specs.Setup.{IsWord32, IsMaking}
 
 -- one to eight indices
@@ -63,7 +63,7 @@ IsWhat what.Halt = Unit {0}
 
 -- the step of a refusal
 abbrev pub IsStep : ℕ → Type 0
-IsStep step = step < 256
+IsStep step = step < step_bound
 
 -- a refusal: its step, and a right that there is
 abbrev pub IsRefusal : Refusal → Type 0

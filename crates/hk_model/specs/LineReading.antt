@@ -25,7 +25,7 @@ use Rattle.hk_model.specs.declared.causes.TextCause.TheVariants.{NotAscii, LongL
 use Rattle.hk_model.specs.declared.causes.ParseCause.{ParseCause}
 use Rattle.hk_model.specs.declared.causes.ParseCause.TheVariants.{UnknownWord, OutOfRange}
 use Rattle.hk_model.specs.Labels.{same_text}
-use Rattle.hk_model.specs.Limits.{argument_limit, index_bound, slot_bound, cpu_limit, process_limit}
+use Rattle.hk_model.specs.Limits.{argument_limit, index_bound, slot_bound, step_bound, cpu_limit, process_limit}
 use Rattle.hk_model.specs.RightsTexts.{rights_of}
 use Rattle.hk_model.specs.Pieces.{largest_number, Piece, Word, Upper, Dash, Number, Path, piece_of, is_number, value}
 use Rattle.hk_model.specs.Texts.{piece_onto}
@@ -198,13 +198,13 @@ what_of word =
 -- a refusal that has a step alone
 abbrev pub stepped : (ℕ → Refusal) → Reads Reply
 stepped refusal = do
-  step ← wanted (as_number_below 256)
+  step ← wanted (as_number_below step_bound)
   end (reply.No (refusal step))
 
 -- a refusal that names a right besides its step
 abbrev pub denied : Reads Reply
 denied = do
-  step ← wanted (as_number_below 256)
+  step ← wanted (as_number_below step_bound)
   right ← wanted as_right
   end (reply.No (refused.Denied step right))
 

@@ -2,6 +2,7 @@
 use Rattle.std.specs.Prelude.{ℕ, zero, suc, Bool, true, false, List, [], ◌∷◌, length, slice_get, Option, Some, None, option_map, if◌then◌else◌}
 use Rattle.std.specs.Option.{option_and_then}
 use Rattle.hk_model.specs.declared.names.Name.{Name}
+use Rattle.hk_model.specs.declared.names.Inc.{Inc}
 use Rattle.hk_model.specs.declared.entries.Cap.{Cap}
 use Rattle.hk_model.specs.declared.calls.Call.{Call}
 use Rattle.hk_model.specs.declared.calls.Call.TheVariants as call
@@ -57,9 +58,13 @@ changes_path (Some (call.P of)) = Some of
 changes_path (Some (call.V of)) = Some of
 changes_path _ = None
 
+-- the object that a call of an incarnation changes where it is done, from the state before it
+abbrev pub changed_by : State → Inc → Option Call → Option Name
+changed_by s inc c = option_map (λ (cap : Cap). cap.name) (option_and_then (cap_found s inc) (changes_path c))
+
 -- the object that a line changes, from the state before it
 abbrev pub changed : State → Line → Option Name
-changed s line = option_map (λ (cap : Cap). cap.name) (option_and_then (cap_found s line.inc) (changes_path (done_call line)))
+changed s line = changed_by s line.inc (done_call line)
 
 -- the line that leads to a moment, which is after so many lines
 abbrev pub line_before : List Line → ℕ → Option Line

@@ -7,7 +7,7 @@ use Rattle.hk_model.specs.declared.instructions.Index.{Index}
 use Rattle.hk_model.specs.declared.instructions.Index.TheVariants.{Fixed, ByReg}
 use Rattle.hk_model.specs.declared.causes.TextCause.{TextCause}
 use Rattle.hk_model.specs.declared.causes.TextCause.TheVariants.{BadToken, NumberTooLarge}
-use Rattle.hk_model.specs.Limits.{path_limit}
+use Rattle.hk_model.specs.Limits.{path_limit, register_limit}
 use Rattle.hk_model.specs.Labels.{between, is_digit, is_lower, is_capital, is_word, is_register, first}
 
 -- a piece: a word, names in capital letters, a dash, a number, or a path of two to eight indices, each any number or a register
@@ -121,7 +121,7 @@ spell (Path steps) = join_with_byte 46 (map spell_index steps)
 -- an index that some text spells
 abbrev pub is_index : Index → Bool
 is_index (Fixed n) = nat_le n largest_number
-is_index (ByReg reg) = nat_lt reg 8
+is_index (ByReg reg) = nat_lt reg register_limit
 
 -- a piece that some text spells
 abbrev pub is_piece : Piece → Bool

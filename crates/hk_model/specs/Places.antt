@@ -24,7 +24,7 @@ same_place (EntryOf a m) (EntryOf b n) = same_name a b && m == n
 same_place (SlotOf a m) (EntryOf b n) = false
 same_place (EntryOf a m) (SlotOf b n) = false
 
--- what stands at a place: nothing where the incarnation or the object is not there
+-- what stands at a place: nothing where the incarnation is not live, or where the object does not stand, which then has no list
 abbrev pub standing : State → Place → Entry
 standing s (SlotOf inc slot) = slice_index_or (incarnation s inc).slots slot Empty
 standing s (EntryOf name index) = slice_index_or (object s name).entries index Empty

@@ -38,7 +38,7 @@ reached_by moment cap =
 abbrev pub handed_over : ℕ → Cap → Reached
 handed_over moment cap = record { name = cap.name; modify = true; unconf = true; moment = moment }
 
--- the capability at an index of an object's list
+-- the capability at an index of an object's list; an object that does not stand at that moment has no list there
 abbrev pub listed_cap : State → Name → ℕ → Option Cap
 listed_cap s name index = option_and_then cap_of (slice_get (object s name).entries index)
 
@@ -104,3 +104,14 @@ pub record AreReaches (at : ℕ → State) (made : Name → Bool) (params : List
   pub entry_modify : (moment index : ℕ) (x : Name) (cap : Cap) → k ≤ moment → U moment x → listed_cap (at moment) x index ≡ Some cap → has cap.rights modify_right ≡ true → M moment cap.name
   pub entry_unconf : (moment index : ℕ) (x : Name) (cap : Cap) → k ≤ moment → U moment x → listed_cap (at moment) x index ≡ Some cap → has cap.rights unconf_right ≡ true → U moment cap.name
   pub handed : (moment index : ℕ) (x : Name) (cap : Cap) → k ≤ moment → M moment x → listed_cap (at moment) x index ≡ Some cap → made cap.name ≡ true → M moment cap.name × U moment cap.name
+
+-- the sets keep the rules, and all tests of names that keep them pass what is in the sets: so the sets are the least
+pub record AreLeastReaches (at : ℕ → State) (made : Name → Bool) (params : List Entry) (k : ℕ) (M U : ℕ → Name → Type 0) : Type 0 where
+  pub keep : AreReaches at made params k M U
+  pub least : (m u : ℕ → Name → Bool) → AreReaches at made params k (λ moment x. m moment x ≡ true) (λ moment x. u moment x ≡ true) → (moment : ℕ) (x : Name) → (M moment x → m moment x ≡ true) × (U moment x → u moment x ≡ true)
+
+-- the law of the reaches: those of each call are the least sets that keep their rules
+abbrev pub ReachLaw : Setup → List Line → Type 0
+ReachLaw w lines =
+    (k : ℕ) (call : Inc)
+    → AreLeastReaches (state_at w lines) (is_made_under w lines k call) (parameters w lines k call) k (IsModifiable w lines k call) (IsUnconfined w lines k call)

@@ -3,7 +3,9 @@ use Rattle.std.specs.Prelude.{◌≡◌, ℕ, List, [], ◌∷◌, Option, Some,
 use Rattle.std.specs.Option.{unwrap_or}
 use Rattle.hk_model.specs.declared.names.Proc.{Proc}
 use Rattle.hk_model.specs.declared.names.Cpu.{Cpu}
+use Rattle.hk_model.specs.declared.calls.Reply.{Reply}
 use Rattle.hk_model.specs.declared.calls.Reply.TheVariants.{Done}
+use Rattle.hk_model.specs.declared.lines.What.{What}
 use Rattle.hk_model.specs.declared.lines.What.TheVariants as what
 use Rattle.hk_model.specs.declared.lines.Line.{Line}
 use Rattle.hk_model.specs.declared.frames.Todo.{Todo}
@@ -30,25 +32,27 @@ opened w = record { state = opening w; contexts = map (λ (t : Task). new_frame 
 abbrev pub context_of : Machine → Proc → Context
 context_of m proc = unwrap_or (slice_get m.contexts proc.0) []
 
+-- what a process does by what is next of it: the event, its reply, and the state and the frames after it
+abbrev pub turn : Setup → State → Proc → Todo × Context → What × Reply × State × Context
+turn w s proc (Do c, context) =
+    let found = rule s proc c in
+    (what.Call c, found.0, found.1, after w context c found.0 (entered s (process s proc).current c found.0))
+turn w s proc (Halt, context) = (what.Halt, Done, halted s proc, [])
+
 -- the event of a process, whose local instructions have led to this
 abbrev pub event : Setup → Machine → Cpu → Proc → Todo × Context → Line × Machine
-event w m cpu proc (Do c, context) =
-    let inc = (process m.state proc).current in
-    let found = rule m.state proc c in (
-      record { cpu = cpu; proc = proc; inc = inc; what = what.Call c; reply = found.0 },
-      record { state = found.1; contexts = slice_set m.contexts proc.0 (after w context c found.0 (entered m.state inc c found.0)) },
+event w m cpu proc todo =
+    let made = turn w m.state proc todo in (
+      record { cpu = cpu; proc = proc; inc = (process m.state proc).current; what = made.0; reply = made.1 },
+      record { state = made.2; contexts = slice_set m.contexts proc.0 made.3 },
     )
-event w m cpu proc (Halt, context) = (
-  record { cpu = cpu; proc = proc; inc = (process m.state proc).current; what = what.Halt; reply = Done },
-  record { state = halted m.state proc; contexts = slice_set m.contexts proc.0 [] },
-)
 
 -- the dispatch of the first ready process
 abbrev pub dispatch_event : Machine → Cpu → Option (Proc × State) → Option (Line × Machine)
 dispatch_event m cpu None = None
 dispatch_event m cpu (Some (proc, s)) =
     Some (
-      record { cpu = cpu; proc = proc; inc = (process s proc).current; what = what.Dispatch; reply = Done },
+      record { cpu = cpu; proc = proc; inc = (process m.state proc).current; what = what.Dispatch; reply = Done },
       record m { state = s },
     )
 

@@ -23,7 +23,7 @@ use Rattle.hk_model.specs.declared.world.Kind.TheVariants as kind
 use Rattle.hk_model.specs.declared.world.Task.{Task}
 use Rattle.hk_rights.specs.Rights.{IsRightsWord}
 use Rattle.hk_model.specs.Labels.{is_name, are_apart}
-use Rattle.hk_model.specs.Limits.{object_limit, word_limit, entry_limit, slot_limit, param_limit, argument_limit, path_limit, index_bound, token_limit, code_limit, process_limit, event_limit}
+use Rattle.hk_model.specs.Limits.{object_limit, word_limit, entry_limit, slot_limit, param_limit, argument_limit, path_limit, index_bound, register_limit, token_limit, code_limit, process_limit, event_limit}
 use Rattle.hk_model.specs.Targets.{DATA, UNIVERSAL, kernel_types}
 
 pub record Setup : Type 0 where
@@ -95,7 +95,7 @@ abbrev pub IsSlot : Slot → Type 0
 IsSlot slot = slot.0 < slot_limit
 
 abbrev pub IsReg : ℕ → Type 0
-IsReg reg = reg < 8
+IsReg reg = reg < register_limit
 
 abbrev pub IsOperand : Operand → Type 0
 IsOperand (Number n) = IsWord32 n

@@ -39,7 +39,7 @@ abbrev pub LNS : ℕ
 LNS = 6
 
 abbrev pub kernel_types : ℕ
-kernel_types = 7
+kernel_types = LNS + 1
 
 -- general: DATA, UNIVERSAL and every type that is no kernel type
 abbrev pub is_general : Name → Bool

@@ -37,6 +37,14 @@ pub struct Param {
     pub give: Rights,
 }
 
+/// An argument of a call: what stands in its slot, and for a capability the type of its object.
+#[derive(Clone, Copy, PartialEq, Eq, Debug)]
+pub struct Arg {
+    pub entry: Entry,
+    /// Read only where the entry is a capability.
+    pub of: Name,
+}
+
 /// What stands in a slot of an incarnation, or at an index of an object's list.
 #[derive(Clone, Copy, PartialEq, Eq, Debug)]
 pub enum Entry {

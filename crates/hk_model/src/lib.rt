@@ -25,7 +25,7 @@ pub mod world;
 
 pub use calls::{Answer, Call, Refusal, Reply, What8};
 pub use causes::{Cause, LoadCause, Misstep, ParseCause, TextCause, Verdict};
-pub use entries::{Cap, Entry, Making, Param, Template};
+pub use entries::{Arg, Cap, Entry, Making, Param, Template};
 pub use frames::{Frame, Todo};
 pub use instructions::{Index, Instr, Operand, Route};
 pub use kernel::{Acted, Kernel, NoMemory};

@@ -1,7 +1,9 @@
 pub mod Maps
-pub mod Entering
 pub mod Numbered
 pub mod StackLemmas
 pub mod RunnerLemmas
+pub mod CountLemmas
+pub mod CountedParts
 pub mod Naming
 pub mod KeepingLemmas
+pub mod MarkLemmas

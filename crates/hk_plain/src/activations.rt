@@ -30,7 +30,7 @@ impl Tables {
     {
         let proc = new.proc;
         let inc = self.incarnations.next();
-        self.incarnations.add(alloc, new)?;
+        self.incarnations.add(alloc, new, &mut self.counts)?;
         self.set_current(proc, inc);
         Ok(())
     }
@@ -39,7 +39,7 @@ impl Tables {
     pub(crate) fn remove_incarnation(&mut self, inc: Inc)
         ensures { self.new ≡ record self.old { incarnations = remove_entry (same_inc inc) self.old.incarnations } }
     {
-        self.incarnations.remove(inc);
+        self.incarnations.remove(inc, &mut self.counts);
     }
 
     // Who called the incarnation, and the slot there that takes what it returns.

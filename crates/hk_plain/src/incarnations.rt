@@ -8,8 +8,12 @@
 ghost use Rattle.std.specs.Prelude.{◌≡◌, ◌==◌, ◌<◌, ◌^◌, not, filter, OnOk, OnErr, count_by, [], option_copied};
 ghost use Rattle.std.specs.Map.{lookup, set_value, remove_entry};
 ghost use Rattle.hk_model.specs.State.{same_inc};
+ghost use Rattle.std.specs.BTreeMap.{insert_entry};
+ghost use Rattle.hk_model.specs.State.{inc_cmp};
 ghost use Rattle.hk_plain.specs.Stacks.{added, with_slot, remove_all};
+ghost use Rattle.hk_plain.specs.Counts.{Moved, slot_names};
 
+use crate::counts::Counts;
 use crate::stacks::Stacks;
 use hk_model::{Entry, Inc, Incarnation, NoMemory, Proc};
 use std::alloc::Global;
@@ -34,30 +38,66 @@ impl Model for Incarnations {
     ghost invariant = { λ i. IsStacked i.live.entries i.stacks i.next };
 }
 
-// The incarnation of a number goes.
-fn remove_one(live: &mut BTreeMap<Inc, Incarnation>, inc: Inc)
-    ensures { live.new.entries ≡ remove_entry (same_inc inc) live.old.entries }
+// The incarnation of a number goes, with what its slots name.
+
+fn remove_one(live: &mut BTreeMap<Inc, Incarnation>, inc: Inc, counts: &mut Counts)
+    ensures live { live.new.entries ≡ remove_entry (same_inc inc) live.old.entries }
+    ensures counted { Moved counts.old counts.new (slot_names live.new.entries) (slot_names live.old.entries) }
 {
-    let _gone = live.remove(&inc);
+    if let Some(gone) = live.remove(&inc) {
+        counts.release_entries(gone.slots.as_slice());
+    }
 }
 
 // The incarnations of these numbers go.
-#[tactic(auto, using(crate::proofs::StackLemmas::next_removed))]
-fn remove_all(live: &mut BTreeMap<Inc, Incarnation>, numbers: &[Inc])
-    ensures { live.new.entries ≡ remove_all numbers.now live.old.entries }
+fn remove_all(live: &mut BTreeMap<Inc, Incarnation>, numbers: &[Inc], counts: &mut Counts)
+    ensures live { live.new.entries ≡ remove_all numbers.now live.old.entries }
+    ensures counted { Moved counts.old counts.new (slot_names live.new.entries) (slot_names live.old.entries) }
 {
     for number in numbers {
-        remove_one(live, *number);
+        remove_one(live, *number, counts);
+    }
+}
+
+// One more incarnation, with what its slots name.
+fn insert(
+    live: &mut BTreeMap<Inc, Incarnation>,
+    inc: Inc,
+    new: Incarnation,
+    counts: &mut Counts,
+) -> Result<(), NoMemory>
+    ensures ok { OnOk result (live.new.entries ≡ insert_entry inc_cmp live.old.entries inc new) }
+    ensures err { OnErr result (live.new.entries ≡ live.old.entries) }
+    ensures counted { Moved counts.old counts.new (slot_names live.new.entries) (slot_names live.old.entries) }
+{
+    counts.hold_entries(new.slots.as_slice());
+    match live.insert(inc, new) {
+        Ok(None) => Ok(()),
+        Ok(Some(old)) => {
+            counts.release_entries(old.slots.as_slice());
+            Ok(())
+        }
+        Err(failed) => {
+            counts.release_entries(failed.value.1.slots.as_slice());
+            Err(NoMemory)
+        }
     }
 }
 
 // Writes an entry into a slot of an incarnation.
 #[tactic(auto, using(crate::proofs::Maps::set_value_absent))]
-fn write(live: &mut BTreeMap<Inc, Incarnation>, inc: Inc, slot: usize, entry: Entry)
-    ensures { live.new.entries ≡ set_value (same_inc inc) live.old.entries (with_slot live.old.entries inc slot entry) }
+fn write(
+    live: &mut BTreeMap<Inc, Incarnation>,
+    inc: Inc,
+    slot: usize,
+    entry: Entry,
+    counts: &mut Counts,
+)
+    ensures live { live.new.entries ≡ set_value (same_inc inc) live.old.entries (with_slot live.old.entries inc slot entry) }
+    ensures counted { Moved counts.old counts.new (slot_names live.new.entries) (slot_names live.old.entries) }
 {
     if let Some(incarnation) = live.get_mut(&inc) {
-        incarnation.slots.set(slot, entry);
+        counts.replace(&mut incarnation.slots, slot, entry);
     }
 }
 
@@ -102,22 +142,29 @@ impl Incarnations {
     }
 
     // Writes an entry into a slot of an incarnation.
-    pub(crate) fn set_slot(&mut self, inc: Inc, slot: usize, entry: Entry)
-        ensures { self.new ≡ record self.old { live = set_value (same_inc inc) self.old.live (with_slot self.old.live inc slot entry) } }
+    pub(crate) fn set_slot(&mut self, inc: Inc, slot: usize, entry: Entry, counts: &mut Counts)
+        ensures value { self.new ≡ record self.old { live = set_value (same_inc inc) self.old.live (with_slot self.old.live inc slot entry) } }
+        ensures counted { Moved counts.old counts.new (slot_names self.new.live) (slot_names self.old.live) }
     {
-        write(&mut self.live, inc, slot, entry);
+        write(&mut self.live, inc, slot, entry, counts);
     }
 
     // One more incarnation, which takes the next number.
-    pub(crate) fn add(&mut self, alloc: Global, new: Incarnation) -> Result<(), NoMemory>
+    pub(crate) fn add(
+        &mut self,
+        alloc: Global,
+        new: Incarnation,
+        counts: &mut Counts,
+    ) -> Result<(), NoMemory>
         requires { self.old.next.0 < 2 ^ 63 }
         ensures ok { OnOk result (self.new ≡ added self.old new) }
         ensures err { OnErr result (self.new ≡ self.old) }
+        ensures counted { Moved counts.old counts.new (slot_names self.new.live) (slot_names self.old.live) }
     {
         let proc = new.proc;
         let inc = self.next;
         self.stacks.push(alloc, proc, inc)?;
-        if self.live.insert(inc, new).is_err() {
+        if insert(&mut self.live, inc, new, counts).is_err() {
             self.stacks.pop(proc);
             return Err(NoMemory);
         }
@@ -126,22 +173,25 @@ impl Incarnations {
     }
 
     // The incarnation goes.
-    pub(crate) fn remove(&mut self, inc: Inc)
-        ensures { self.new ≡ record self.old { live = remove_entry (same_inc inc) self.old.live } }
+    pub(crate) fn remove(&mut self, inc: Inc, counts: &mut Counts)
+        ensures value { self.new ≡ record self.old { live = remove_entry (same_inc inc) self.old.live } }
+        ensures counted { Moved counts.old counts.new (slot_names self.new.live) (slot_names self.old.live) }
     {
         let Some(gone) = self.live.remove(&inc) else {
             return;
         };
+        counts.release_entries(gone.slots.as_slice());
         self.stacks.forget(gone.proc, inc);
     }
 
     // All incarnations of a process go.
-    pub(crate) fn remove_process(&mut self, proc: Proc)
-        ensures { self.new ≡ record self.old { live = filter (λ e. not (e.1.proc.0 == proc.0)) self.old.live } }
+    pub(crate) fn remove_process(&mut self, proc: Proc, counts: &mut Counts)
+        ensures value { self.new ≡ record self.old { live = filter (λ e. not (e.1.proc.0 == proc.0)) self.old.live } }
+        ensures counted { Moved counts.old counts.new (slot_names self.new.live) (slot_names self.old.live) }
     {
         let Some(stack) = self.stacks.take(proc) else {
             return;
         };
-        remove_all(&mut self.live, stack.as_slice());
+        remove_all(&mut self.live, stack.as_slice(), counts);
     }
 }

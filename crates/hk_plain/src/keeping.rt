@@ -2,6 +2,8 @@
 
 ghost use Rattle.std.specs.Prelude.{◌≡◌, ◌||◌, true, false, List, IfSome, IfNone};
 ghost use Rattle.std.specs.List.{flat_map};
+ghost use Rattle.std.specs.Map.{remove_entry};
+ghost use Rattle.hk_model.specs.State.{same_name};
 ghost use Rattle.hk_model.specs.declared.names.Name.{Name};
 ghost use Rattle.hk_model.specs.declared.names.Inc.{Inc};
 ghost use Rattle.hk_model.specs.declared.objects.Object.{Object};
@@ -9,6 +11,8 @@ ghost use Rattle.hk_model.specs.declared.objects.Incarnation.{Incarnation};
 ghost use Rattle.hk_model.specs.declared.objects.Process.{Process};
 ghost use Rattle.hk_model.specs.Keeping.{entry_names, object_names, run_names, is_among, are_supporting, stands, kept_objects, restricted};
 
+use crate::counted::remove;
+use crate::counts::last_unnamed;
 use crate::tables::Tables;
 use hk_model::{Entry, Inc, Incarnation, Name, Object, Process, ProcessState, Template};
 use std::collections::BTreeMap;
@@ -93,7 +97,7 @@ impl Tables {
     fn stays(&self, name: Name) -> bool
         ensures { result ≡ are_supporting self.now self.now.objects name }
     {
-        name.0 < self.first_new.0
+        name.0 < self.counts.first_new().0
             || some_slot_names(self.incarnations.all(), name)
             || some_process_names(self.processes.as_slice(), name)
             || some_object_names(&self.objects, name)
@@ -106,7 +110,7 @@ impl Tables {
         ensures lost { IfSome result (λ name. are_supporting self.now self.now.objects name ≡ false) }
         ensures none { IfNone result (kept_objects self.now ≡ self.now.objects) }
     {
-        for (name, _object) in self.objects.range(self.first_new..) {
+        for (name, _object) in self.objects.range(self.counts.first_new()..) {
             if !self.stays(*name) {
                 return Some(*name);
             }
@@ -114,13 +118,33 @@ impl Tables {
         None
     }
 
+    // An object that does not stay, if there is one. The numbers show it without a look at the others.
+    fn next_lost(&mut self) -> Option<Name>
+        ensures same { self.new ≡ self.old }
+        ensures stands { IfSome result (λ name. stands self.old name ≡ true) }
+        ensures lost { IfSome result (λ name. are_supporting self.old self.old.objects name ≡ false) }
+        ensures none { IfNone result (kept_objects self.old ≡ self.old.objects) }
+    {
+        if !self.counts.is_exact() {
+            return self.first_lost();
+        }
+        last_unnamed(&mut self.counts, &self.objects)
+    }
+
+    // An object goes, with what it names.
+    fn remove_object(&mut self, name: Name)
+        ensures { self.new ≡ record self.old { objects = remove_entry (same_name name) self.old.objects } }
+    {
+        remove(&mut self.objects, name, &mut self.counts);
+    }
+
     /// The objects that are not kept vanish.
     #[tactic(auto, using(crate::proofs::KeepingLemmas::restricted_same))]
     pub(crate) fn remove_lost(&mut self)
         ensures { self.new ≡ restricted self.old }
     {
-        while let Some(lost) = self.first_lost() {
-            self.objects.remove(&lost);
+        while let Some(lost) = self.next_lost() {
+            self.remove_object(lost);
         }
     }
 }

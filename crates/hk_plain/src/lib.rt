@@ -11,9 +11,13 @@
 
 mod activations;
 mod calls;
+mod collecting;
+mod counted;
+mod counts;
 mod incarnations;
 mod keeping;
 mod lists;
+mod marks;
 mod objects;
 mod opening;
 mod plain;

@@ -6,6 +6,7 @@ ghost use Rattle.hk_model.specs.Rule.{store_entry, append_entry, erase_entry};
 ghost use Rattle.hk_plain.specs.Giving.{Gives};
 ghost use Rattle.hk_plain.specs.Additions.{entry_added};
 
+use crate::counted::{push_entry, set_entry};
 use crate::stop::Stop;
 use crate::tables::Tables;
 use crate::targets::{Wanted, slot_at, storable};
@@ -15,27 +16,37 @@ use std::marker::PhantomData;
 
 impl Tables {
     // Writes an entry of an object's list, over another.
-    #[tactic(auto, using(crate::proofs::Maps::set_value_absent))]
     fn set_entry(&mut self, name: Name, at: u32, entry: Entry)
         ensures { self.new ≡ put_object self.old name (record (object self.old name) { entries = slice_set (object self.old name).entries at entry }) }
     {
-        if let Some(object) = self.objects.get_mut(&name) {
-            object.entries.set(at as usize, entry);
+        set_entry(
+            &mut self.objects,
+            name,
+            at as usize,
+            entry,
+            &mut self.counts,
+        );
+    }
+
+    // How many entries an object has.
+    fn entries_of(&self, name: Name) -> usize
+        ensures { result ≡ length (object self.now name).entries }
+    {
+        match self.object(name) {
+            Some(object) => object.entries.len(),
+            None => 0,
         }
     }
 
     // Adds an entry after the last of an object, if there is room.
-    #[tactic(auto, using(crate::proofs::Maps::set_value_absent, crate::proofs::Maps::set_value_same))]
     fn push_entry(&mut self, name: Name, entry: Entry) -> Result<Answer, Stop>
         ensures { Gives self.old (entry_added self.old name entry) result self.new }
     {
-        if let Some(object) = self.objects.get_mut(&name) {
-            if object.entries.len() >= 256 {
-                let what = What8::Entries;
-                return Err(Stop::Refused(Refusal::Full { what }));
-            }
-            object.entries.push(entry)?;
+        if self.entries_of(name) >= 256 {
+            let what = What8::Entries;
+            return Err(Stop::Refused(Refusal::Full { what }));
         }
+        push_entry(&mut self.objects, name, entry, &mut self.counts)?;
         Ok(Answer::Done)
     }
 

@@ -1,15 +1,14 @@
 //! The calls that make objects: Create and Copy.
 
 ghost use Rattle.std.specs.Prelude.{◌≡◌, ◌≤◌, length, map, IfOk};
-ghost use Rattle.hk_model.specs.declared.calls.Refusal.TheVariants.{Full};
-ghost use Rattle.hk_model.specs.declared.calls.What8.TheVariants.{Objects};
 ghost use Rattle.hk_model.specs.State.{object};
-ghost use Rattle.hk_model.specs.Refusing.{unless};
+ghost use Rattle.hk_model.specs.Keeping.{members};
 ghost use Rattle.hk_model.specs.Targets.{create_form};
-ghost use Rattle.hk_model.specs.Rule.{has_room, can_be_created, plain_object, copied, create_object, copy_object};
+ghost use Rattle.hk_model.specs.Rule.{can_be_created, plain_object, copied, create_object, copy_object};
 ghost use Rattle.hk_plain.specs.Giving.{Gives};
 ghost use Rattle.hk_plain.specs.Numbers.{HasNumbers};
 ghost use Rattle.hk_plain.specs.Additions.{object_made};
+ghost use Rattle.hk_plain.specs.Marking.{all_but};
 
 use crate::stop::Stop;
 use crate::tables::Tables;
@@ -17,10 +16,11 @@ use crate::targets::{Wanted, slot_at};
 use crate::walks::reduced_rights;
 use hk_model::{
     Answer, Cap, Entries, Entry, Inc, Items, Name, Object, Params, Path, Refusal, Slot, Template,
-    What8, Words,
+    Words,
 };
 use hk_rights::{Right, Rights};
 use std::alloc::{AllocError, Global};
+use std::collections::BTreeSet;
 use std::marker::PhantomData;
 
 // An object without tokens, waiters and code.
@@ -102,31 +102,20 @@ fn copied_entries(alloc: Global, by: Rights, entries: &[Entry]) -> Result<Entrie
 }
 
 impl Tables {
-    // Whether there is room for one more object.
-    fn room_for_object(&self) -> Result<(), Refusal>
-        ensures { result ≡ unless (has_room self.now.objects) (Full Objects) }
-    {
-        if self.objects.len() < 65536 {
-            Ok(())
-        } else {
-            let what = What8::Objects;
-            Err(Refusal::Full { what })
-        }
-    }
-
-    // A new object, and a capability for it in a slot.
+    // A new object beside those that stay, and a capability for it in a slot.
     fn make_object(
         &mut self,
+        spare: &BTreeSet<Name>,
         inc: Inc,
         slot: usize,
         new: Object,
         rights: Rights,
     ) -> Result<Answer, Stop>
         requires { HasNumbers self.old }
-        ensures { Gives self.old (object_made self.old inc slot new rights) result self.new }
+        ensures { Gives self.old (object_made self.old (members self.old (all_but spare.now.keys)) inc slot new rights) result self.new }
     {
         let name = self.next_name;
-        self.add_object(new)?;
+        self.add_beside(new, spare)?;
         self.set_slot(inc, slot, Entry::Held(Cap { name, rights }));
         Ok(Answer::Done)
     }
@@ -168,9 +157,9 @@ impl Tables {
         if !can_be_created(of) {
             return Err(Stop::Refused(Refusal::WrongType { step: step - 1 }));
         }
-        self.room_for_object()?;
+        let spare = self.spare_objects(alloc)?;
         let new = plain_object(alloc, of, Words::new(alloc), Entries::new(alloc));
-        self.make_object(inc, slot, new, give)
+        self.make_object(&spare, inc, slot, new, give)
     }
 
     /// Copy: a new object with the words and entries of another.
@@ -187,8 +176,8 @@ impl Tables {
     {
         let slot = slot_at(into, path.len() as u8)?;
         let cap = self.target(inc, path, Wanted::General, Rights::COPY)?;
-        self.room_for_object()?;
+        let spare = self.spare_objects(alloc)?;
         let new = self.copy_of(alloc, &cap)?;
-        self.make_object(inc, slot, new, cap.rights)
+        self.make_object(&spare, inc, slot, new, cap.rights)
     }
 }

@@ -1,6 +1,6 @@
 //! The state in which a world opens.
 
-ghost use Rattle.std.specs.Prelude.{◌≡◌, ◌≤◌, ◌+◌, ◌-◌, ◌++◌, false, IfOk, length, map, replicate};
+ghost use Rattle.std.specs.Prelude.{◌≡◌, ◌≤◌, ◌+◌, ◌-◌, ◌++◌, [], false, IfOk, length, map, replicate};
 ghost use Rattle.std.specs.List.{list_any};
 ghost use Rattle.hk_model.specs.declared.entries.Entry.TheVariants.{Empty};
 ghost use Rattle.hk_model.specs.declared.objects.Process.{Process};
@@ -10,7 +10,10 @@ ghost use Rattle.hk_model.specs.Processors.{is_running};
 ghost use Rattle.hk_model.specs.Opening.{object_of, base_of, bases, all_ready, proc_numbers, opening};
 ghost use Rattle.hk_plain.specs.Opening.{named};
 ghost use Rattle.hk_plain.specs.Numbers.{FewNumbers};
+ghost use Rattle.hk_plain.specs.Counts.{Moved, inner_names, slot_names};
 
+use crate::counted::insert;
+use crate::counts::Counts;
 use crate::incarnations::Incarnations;
 use crate::objects::plain_object;
 use crate::processes::Processes;
@@ -60,23 +63,30 @@ fn object_of(alloc: Global, kind: &Kind) -> Result<Object, AllocError>
 }
 
 // The kernel types, which have the names 0 to 6.
-fn kernel_types(alloc: Global) -> Result<BTreeMap<Name, Object>, NoMemory>
-    ensures { IfOk result (λ objects. objects.entries ≡ named (replicate 7 no_object)) }
+fn kernel_types(alloc: Global, counts: &mut Counts) -> Result<BTreeMap<Name, Object>, NoMemory>
+    ensures objects { IfOk result (λ objects. objects.entries ≡ named (replicate 7 no_object)) }
+    ensures counted { IfOk result (λ objects. Moved counts.old counts.new (inner_names objects.entries) []) }
 {
     let mut objects = BTreeMap::new(alloc);
     for n in 0..7u64 {
-        objects.insert(Name(n), type_object(alloc))?;
+        insert(&mut objects, Name(n), type_object(alloc), counts)?;
     }
     Ok(objects)
 }
 
 // All objects, those of the script behind the kernel types.
-fn objects_of(alloc: Global, born: &[Born]) -> Result<BTreeMap<Name, Object>, NoMemory>
-    ensures { IfOk result (λ objects. objects.entries ≡ named (replicate 7 no_object ++ map (λ (b : Born). object_of b.kind) born.now)) }
+fn objects_of(
+    alloc: Global,
+    born: &[Born],
+    counts: &mut Counts,
+) -> Result<BTreeMap<Name, Object>, NoMemory>
+    ensures counted { IfOk result (λ objects. Moved counts.old counts.new (inner_names objects.entries) []) }
+    ensures objects { IfOk result (λ objects. objects.entries ≡ named (replicate 7 no_object ++ map (λ (b : Born). object_of b.kind) born.now)) }
 {
-    let mut objects = kernel_types(alloc)?;
+    let mut objects = kernel_types(alloc, counts)?;
     for (i, object) in born.iter().enumerate() {
-        objects.insert(Name(7 + i as u64), object_of(alloc, &object.kind)?)?;
+        let object = object_of(alloc, &object.kind)?;
+        insert(&mut objects, Name(7 + i as u64), object, counts)?;
     }
     Ok(objects)
 }
@@ -109,14 +119,15 @@ fn base_of(alloc: Global, proc: Proc, task: &Task) -> Result<Incarnation, AllocE
 }
 
 // The base incarnations of all processes.
-fn bases(alloc: Global, tasks: &[Task]) -> Result<Incarnations, NoMemory>
+fn bases(alloc: Global, tasks: &[Task], counts: &mut Counts) -> Result<Incarnations, NoMemory>
     requires { length tasks.now ≤ 256 }
-    ensures { IfOk result (λ all. all ≡ record { live = bases 0 tasks.now; next = record { 0 = length tasks.now } }) }
+    ensures counted { IfOk result (λ all. Moved counts.old counts.new (slot_names all.live) []) }
+    ensures incarnations { IfOk result (λ all. all ≡ record { live = bases 0 tasks.now; next = record { 0 = length tasks.now } }) }
 {
     let mut all = Incarnations::new(alloc);
     for (n, task) in tasks.iter().enumerate() {
         let base = base_of(alloc, Proc(n as u16), task)?;
-        all.add(alloc, base)?;
+        all.add(alloc, base, counts)?;
     }
     Ok(all)
 }
@@ -176,8 +187,9 @@ impl Tables {
     {
         let born = born_of(world);
         let tasks = tasks_of(world);
-        let objects = objects_of(alloc, born)?;
-        let incarnations = bases(alloc, tasks)?;
+        let mut counts = Counts::new(alloc, Name(7 + born.len() as u64));
+        let objects = objects_of(alloc, born, &mut counts)?;
+        let incarnations = bases(alloc, tasks, &mut counts)?;
         let processes = all_ready(alloc, tasks)?;
         let ready = proc_numbers(alloc, tasks)?;
         Ok(Tables {
@@ -186,7 +198,7 @@ impl Tables {
             processes: Processes::new(processes),
             ready,
             next_name: Name(7 + born.len() as u64),
-            first_new: Name(7 + born.len() as u64),
+            counts,
             events: 0,
             limit: world.limit(),
         })

@@ -2,11 +2,10 @@
 
 ghost use Rattle.std.specs.Prelude.{◌≡◌, ◌<◌, ◌≤◌, ◌+◌, length, map, IfOk};
 ghost use Rattle.hk_model.specs.State.{object, incarnation};
-ghost use Rattle.hk_model.specs.Rule.{enter_procedure, leave, given};
-ghost use Rattle.hk_merge.specs.NameSpaces.{name_space};
+ghost use Rattle.hk_model.specs.Rule.{slots_at, type_held, argument, enter_procedure, leave, given};
+ghost use Rattle.hk_model.specs.Merging.{name_space};
 ghost use Rattle.hk_plain.specs.Giving.{Gives};
 ghost use Rattle.hk_plain.specs.Numbers.{HasNumbers};
-ghost use Rattle.hk_plain.specs.Entering.{in_range, type_held, arg_of};
 
 use crate::stop::Stop;
 use crate::tables::Tables;
@@ -22,9 +21,9 @@ use std::alloc::{AllocError, Global};
 use std::marker::PhantomData;
 
 // The slots are to be below 64; they have the steps from `first` on.
-fn in_range(slots: &[u8], first: u8) -> Result<(), Refusal>
+fn slots_at(slots: &[u8], first: u8) -> Result<(), Refusal>
     requires { first + length slots.now < 256 }
-    ensures { result ≡ in_range slots.now first }
+    ensures { result ≡ slots_at slots.now first }
 {
     for (i, slot) in slots.iter().enumerate() {
         if *slot >= 64 {
@@ -56,7 +55,7 @@ impl Tables {
 
     // The argument in a slot.
     fn arg(&self, inc: Inc, slot: u8) -> Arg
-        ensures { result ≡ arg_of self.now inc slot }
+        ensures { result ≡ argument self.now inc slot }
     {
         let entry = self.slot(inc, slot as usize);
         let of = self.type_held(&entry);
@@ -65,7 +64,7 @@ impl Tables {
 
     // The arguments in these slots.
     fn args(&self, alloc: Global, inc: Inc, slots: &[u8]) -> Result<Vec<Arg>, AllocError>
-        ensures { IfOk result (λ args. args.items ≡ map (arg_of self.now inc) slots.now) }
+        ensures { IfOk result (λ args. args.items ≡ map (argument self.now inc) slots.now) }
     {
         let _ = PhantomData::<(Entry, Template)>; // Rattle is to know what an Arg holds
         let mut args = Vec::new(alloc);
@@ -103,7 +102,7 @@ impl Tables {
     }
 
     /// Enter: a new incarnation, with the merged parameters and what the procedure holds.
-    #[tactic(auto, using(crate::proofs::Entering::enter_is))]
+    #[tactic(auto, unfolding(hk_model::specs::Rule::enter_procedure))]
     pub(crate) fn enter(
         &mut self,
         alloc: Global,
@@ -118,7 +117,7 @@ impl Tables {
     {
         let step = path.len() as u8;
         let into_step = step + args.len() as u8;
-        in_range(args.as_slice(), step)?;
+        slots_at(args.as_slice(), step)?;
         slot_at(into, into_step)?;
         let cap = self.target(inc, path, Wanted::Procedures, Rights::A0)?;
         let confined = !cap.rights.has(Right::UNCONF);

@@ -9,7 +9,9 @@ ghost use Rattle.hk_model.specs.declared.objects.Process.{Process};
 ghost use Rattle.hk_model.specs.declared.objects.ProcessState.TheVariants.{Running};
 ghost use Rattle.hk_model.specs.Processors.{runner_from, is_running};
 ghost use Rattle.hk_plain.specs.Runners.{with_run, with_current, is_live, freed, place_of, weight};
+ghost use Rattle.hk_plain.specs.Counts.{Moved, waiting_names};
 
+use crate::counts::Counts;
 use hk_model::{Cpu, Inc, Proc, Process, ProcessState};
 use std::marker::Model;
 
@@ -132,13 +134,16 @@ impl Processes {
     }
 
     // Changes what a process does: it does not run then.
-    pub(crate) fn set_run(&mut self, proc: Proc, run: ProcessState)
+    pub(crate) fn set_run(&mut self, proc: Proc, run: ProcessState, counts: &mut Counts)
         requires { is_running run ≡ false }
-        ensures { self.new ≡ with_run self.old proc run }
+        ensures value { self.new ≡ with_run self.old proc run }
+        ensures counted { Moved counts.old counts.new (waiting_names self.new) (waiting_names self.old) }
     {
         let at = proc.0 as usize;
         if at < self.all.len() {
             let before = self.all[at].run;
+            counts.hold_run(run);
+            counts.release_run(before);
             free(&mut self.places, before);
             self.live = recounted(self.live, before, run);
             self.all[at].run = run;
@@ -146,15 +151,17 @@ impl Processes {
     }
 
     // The process runs on a processor that runs nothing.
-    pub(crate) fn start(&mut self, proc: Proc, cpu: Cpu)
+    pub(crate) fn start(&mut self, proc: Proc, cpu: Cpu, counts: &mut Counts)
         requires cpu { cpu.0 < 16 }
         requires idle { runner_from self.old cpu 0 ≡ None }
-        ensures { self.new ≡ with_run self.old proc (Running cpu) }
+        ensures value { self.new ≡ with_run self.old proc (Running cpu) }
+        ensures counted { Moved counts.old counts.new (waiting_names self.new) (waiting_names self.old) }
     {
         let at = proc.0 as usize;
         if at < self.all.len() {
             let before = self.all[at].run;
             let run = ProcessState::Running(cpu);
+            counts.release_run(before);
             free(&mut self.places, before);
             self.places[cpu.0 as usize] = Some(proc);
             self.live = recounted(self.live, before, run);

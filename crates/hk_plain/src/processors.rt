@@ -92,7 +92,7 @@ impl Tables {
     fn remove_incarnations(&mut self, proc: Proc)
         ensures { self.new ≡ record self.old { incarnations = filter (λ e. not (e.1.proc.0 == proc.0)) self.old.incarnations } }
     {
-        self.incarnations.remove_process(proc);
+        self.incarnations.remove_process(proc, &mut self.counts);
     }
 
     /// Ends a process, with all its incarnations. What nothing names then vanishes.

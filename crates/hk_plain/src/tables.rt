@@ -2,11 +2,11 @@
 
 ghost use Rattle.std.specs.Prelude.{◌≡◌, ◌<◌, false, None, OnOk, OnErr, option_copied, ◌++◌, ◌∷◌, []};
 ghost use Rattle.std.specs.Map.{lookup};
-ghost use Rattle.hk_model.specs.State.{object, process, same_name, put_slot, put_process, add_object};
+ghost use Rattle.hk_model.specs.State.{object, process, same_name, put_slot, put_process};
 ghost use Rattle.hk_model.specs.declared.objects.ProcessState.TheVariants.{Running};
 ghost use Rattle.hk_model.specs.Processors.{is_running, runner};
-ghost use Rattle.hk_plain.specs.Numbers.{HasNumbers};
 
+use crate::counts::Counts;
 use crate::incarnations::Incarnations;
 use crate::processes::Processes;
 use hk_model::{Cpu, Entry, Inc, Name, NoMemory, Object, Proc, ProcessState};
@@ -21,14 +21,15 @@ pub struct Tables {
     pub(crate) processes: Processes,
     pub(crate) ready: VecDeque<Proc>,
     pub(crate) next_name: Name,
-    // The first name that was not given at the opening.
-    pub(crate) first_new: Name,
+    // How many times each made object is named.
+    pub(crate) counts: Counts,
     pub(crate) events: u32,
     pub(crate) limit: u32,
 }
 
 impl Model for Tables {
     ghost use Rattle.hk_model.specs.State.{State};
+    ghost use Rattle.hk_plain.specs.Counts.{AreCounted};
 
     ghost Value = { State };
 
@@ -39,10 +40,12 @@ impl Model for Tables {
       ready = t.ready.items;
       next_name = t.next_name;
       next_inc = t.incarnations.next;
-      first_new = t.first_new;
+      first_new = t.counts.first_new;
       events = t.events;
       limit = t.limit;
     } };
+
+    ghost invariant = { λ t. AreCounted t.incarnations.live t.processes t.objects.entries t.counts };
 }
 
 impl Tables {
@@ -57,7 +60,8 @@ impl Tables {
     pub(crate) fn set_slot(&mut self, inc: Inc, slot: usize, entry: Entry)
         ensures { self.new ≡ put_slot self.old inc slot entry }
     {
-        self.incarnations.set_slot(inc, slot, entry);
+        self.incarnations
+            .set_slot(inc, slot, entry, &mut self.counts);
     }
 
     // Changes what a process does: it does not run then.
@@ -65,7 +69,7 @@ impl Tables {
         requires { is_running run ≡ false }
         ensures { self.new ≡ put_process self.old proc (record (process self.old proc) { run = run }) }
     {
-        self.processes.set_run(proc, run);
+        self.processes.set_run(proc, run, &mut self.counts);
     }
 
     // The process runs on a processor that runs nothing.
@@ -74,7 +78,7 @@ impl Tables {
         requires idle { runner self.old cpu ≡ None }
         ensures { self.new ≡ put_process self.old proc (record (process self.old proc) { run = Running cpu }) }
     {
-        self.processes.start(proc, cpu);
+        self.processes.start(proc, cpu, &mut self.counts);
     }
 
     // Changes the current incarnation of a process.
@@ -82,17 +86,6 @@ impl Tables {
         ensures { self.new ≡ put_process self.old proc (record (process self.old proc) { current = inc }) }
     {
         self.processes.set_current(proc, inc);
-    }
-
-    // One more object, which takes the next name.
-    pub(crate) fn add_object(&mut self, object: Object) -> Result<(), NoMemory>
-        requires { HasNumbers self.old }
-        ensures ok { OnOk result (self.new ≡ add_object self.old object) }
-        ensures err { OnErr result (self.new ≡ self.old) }
-    {
-        self.objects.insert(self.next_name, object)?;
-        self.next_name = Name(self.next_name.0 + 1);
-        Ok(())
     }
 
     // A process at the end of the ready list.

@@ -22,12 +22,12 @@ use Rattle.hk_model.specs.declared.world.Task.{Task}
 use Rattle.hk_model.specs.Setup.{Setup}
 use Rattle.hk_model.specs.Opening.{opening}
 use Rattle.hk_model.specs.State.{State, process}
-use Rattle.hk_model.specs.Processors.{is_on, is_ready, runner, runner_from, running_on, may_step, dispatched, dispatched_from, acted_on, entered_on}
+use Rattle.hk_model.specs.Processors.{is_on, is_ready, runner, runner_from, running_on, may_step, dispatched, dispatched_from, process_on, acted_on, entered_on}
 use Rattle.hk_model.specs.Control.{Context, new_frame, next}
-use Rattle.hk_model.specs.Running.{Machine, opened, context_of, event, dispatch_event, step}
-use Rattle.hk_model.proofs.Steps.{given_to}
+use Rattle.hk_model.specs.Running.{Machine, opened, context_of, event, dispatch_event, step, turn}
+use Rattle.hk_model.proofs.Steps.{given_to, current_stays}
 use Rattle.hk_program.specs.Contexts.{AreFrames}
-use Rattle.hk_program.specs.Machines.{IsSound, turn}
+use Rattle.hk_program.specs.Machines.{IsSound}
 use Rattle.hk_program.proofs.Queues.{run_at, runs_on, IsQueue}
 use Rattle.hk_program.proofs.Machines.{sound_kept, sound_frames, sound_code, sound_room, step_sound}
 use Rattle.hk_program.proofs.StepCases.{step_is}
@@ -91,18 +91,17 @@ module _ (w : Setup) (m : Machine) (cpu : Cpu) (proc : Proc) (inc : Inc) (sound 
   abbrev pub of_turn : What × Reply × State × Context → Line × Machine
   of_turn made = (record { cpu = cpu; proc = proc; inc = inc; what = made.0; reply = made.1 }, record { state = made.2; contexts = slice_set m.contexts proc.0 made.3 })
 
-  event_is : (todo : Todo × Context) → event w m cpu proc todo ≡ of_turn (turn w m.state cpu todo)
-  event_is (Do c, frames) = rw (here, inc_is m.state cpu proc inc runs) refl
-  event_is (Halt, frames) = rw (here, inc_is m.state cpu proc inc runs) refl
+  event_is : (todo : Todo × Context) → event w m cpu proc todo ≡ of_turn (turn w m.state (process_on m.state cpu) todo)
+  event_is todo = rw (here, inc_is m.state cpu proc inc runs) refl
 
   -- what is made of a turn is the event
-  event_turn : (frames : Context) (made : What × Reply × State × Context) → frames ≡ get_or m.contexts proc.0 frames → turn w m.state cpu (next w frames) ≡ made
+  event_turn : (frames : Context) (made : What × Reply × State × Context) → frames ≡ get_or m.contexts proc.0 frames → turn w m.state (process_on m.state cpu) (next w frames) ≡ made
       → of_turn made ≡ event w m cpu proc (next w (context_of m proc))
   event_turn frames made h e =
-      sym (ap of_turn e) ∙ (ap (λ (f : Context). of_turn (turn w m.state cpu (next w f))) (sym (context_read frames h)) ∙ sym (event_is (next w (context_of m proc))))
+      sym (ap of_turn e) ∙ (ap (λ (f : Context). of_turn (turn w m.state (process_on m.state cpu) (next w f))) (sym (context_read frames h)) ∙ sym (event_is (next w (context_of m proc))))
 
   -- and the step of the processor
-  pub turn_steps : (frames : Context) (made : What × Reply × State × Context) → frames ≡ get_or m.contexts proc.0 frames → cpu.0 < 16 → may_step m.state ≡ true → turn w m.state cpu (next w frames) ≡ made
+  pub turn_steps : (frames : Context) (made : What × Reply × State × Context) → frames ≡ get_or m.contexts proc.0 frames → cpu.0 < 16 → may_step m.state ≡ true → turn w m.state (process_on m.state cpu) (next w frames) ≡ made
       → step w m cpu ≡ Some (of_turn made)
   turn_steps frames made h low may e = step_is w m cpu may (is_low cpu.0 low) ∙ (rw here (ap Some (sym (event_turn frames made h e))))
     where
@@ -154,9 +153,19 @@ idle_steps w m cpu low may idle = step_is w m cpu may (is_low cpu.0 low) ∙ (rw
     is_low : (n : ℕ) → n < 16 → nat_lt n cpu_limit ≡ true
     is_low n h = grind (arith, nat_tests, h)
 
+-- the process that is dispatched has the current incarnation that it had
+pub current_before : (s : State) (cpu : Cpu) (proc : Proc) (t : State) → dispatched s cpu ≡ Some (proc, t) → (process t proc).current ≡ (process s proc).current
+current_before s cpu proc t h = by s.ready h
+  where
+    by : (ready : List Proc) → dispatched_from s cpu ready ≡ Some (proc, t) → (process t proc).current ≡ (process s proc).current
+    by [] e = absurd (cc)
+    by (first ∷ rest) e =
+        let same : ◌≡◌ {A = Proc × State} (first, given_to s cpu first rest) (proc, t) = cc in
+        subst (λ (x : Proc × State). (process x.1 x.0).current ≡ (process s x.0).current) same (current_stays s cpu first rest)
+
 pub dispatch_steps : (w : Setup) (m : Machine) (cpu : Cpu) (proc : Proc) (inc : Inc) (t : State) → cpu.0 < 16 → may_step m.state ≡ true → running_on m.state cpu ≡ None → dispatched m.state cpu ≡ Some (proc, t) → inc ≡ (process t proc).current
     → step w m cpu ≡ Some (record { cpu = cpu; proc = proc; inc = inc; what = what.Dispatch; reply = Done }, record m { state = t })
-dispatch_steps w m cpu proc inc t low may idle h e = idle_steps w m cpu low may idle ∙ (rw (h, e) refl)
+dispatch_steps w m cpu proc inc t low may idle h e = idle_steps w m cpu low may idle ∙ (let same = current_before m.state cpu proc t h in rw (h, e, same) refl)
 
 pub nothing_steps : (w : Setup) (m : Machine) (cpu : Cpu) → cpu.0 < 16 → may_step m.state ≡ true → running_on m.state cpu ≡ None → dispatched m.state cpu ≡ None → step w m cpu ≡ None
 nothing_steps w m cpu low may idle h = idle_steps w m cpu low may idle ∙ (rw h refl)

@@ -17,7 +17,8 @@ use Rattle.hk_model.specs.Processors.{is_on, runner, may_step, halted, entered}
 use Rattle.hk_model.specs.Control.{Context}
 use Rattle.hk_model.specs.Opening.{opening}
 use Rattle.hk_model.specs.Running.{Machine, context_of, step, line_of, moved, after_lines, opened, AreSteps, AreStepsOf, state_after}
-use Rattle.hk_model.proofs.Steps.{EachStep, moved_holds, given_to}
+use Rattle.hk_model.proofs.Steps.{given_to}
+use Rattle.hk_model.proofs.EventCounts.{events_each, opened_events, events_are}
 use Rattle.hk_program.specs.Contexts.{AreFrames}
 use Rattle.hk_program.specs.Machines.{IsSound}
 use Rattle.hk_program.proofs.Queues.{run_at, runs_on, on_one}
@@ -112,32 +113,6 @@ sound_room w m proc c h = by (entered m.state (process m.state proc).current c (
 
 -- ---- events
 
-counted_each : EachStep (λ s line t. t.events ≡ s.events + 1)
-counted_each = record {
-  calls = λ s cpu proc c r. by s (outcome s proc (process s proc).current c);
-  halts = λ s cpu proc r. refl;
-  dispatches = λ s cpu first rest r. refl;
-}
-  where
-    by : (s : State) (o : Outcome) → (settled s o).1.events ≡ s.events + 1
-    by s (Ok f) = refl
-    by s (Err e) = refl
-
-events_from : (w : Setup) (m : Machine) (lines : List Line) → AreSteps w m lines → (after_lines w m lines).state.events ≡ m.state.events + length lines
-events_from w m [] h = omega arith
-events_from w m (line ∷ lines) h =
-    let one = moved_holds (λ s l t. t.events ≡ s.events + 1) counted_each w m line h.0 in
-    let rest = events_from w (moved w m line.cpu) lines h.1 in
-    omega (arith, one, rest)
-
-opened_events : (w : Setup) → (opened w).state.events ≡ 0
-unfolding opened opening
-opened_events w = refl
-
--- the events number the lines
-pub events_are : (w : Setup) (lines : List Line) → AreStepsOf w lines → (state_after w lines).events ≡ length lines
-events_are w lines h = let a = events_from w (opened w) lines h in let b = opened_events w in omega (arith, a, b)
-
 -- where a step is made the lines before it are fewer than the limit, which is the world's
 pub lines_few : (w : Setup) (lines : List Line) → IsWorld w → AreStepsOf w lines → may_step (state_after w lines) ≡ true → length lines < w.limit
 lines_few w lines world h may =
@@ -150,9 +125,9 @@ lines_few w lines world h may =
 events_kept : (w : Setup) (m : Machine) (cpu : Cpu) → Kept w m → m.state.events ≤ w.limit → (moved w m cpu).state.events ≤ w.limit
 events_kept w m cpu h few = moved_by w m cpu (λ k. k.state.events ≤ w.limit) few (record {
   none = tt;
-  calls = λ proc c frames may r e. more (rule m.state proc c).1 may (counted_each.calls m.state cpu proc c r);
-  halts = λ proc frames may r e. more (halted m.state proc) may (counted_each.halts m.state cpu proc r);
-  dispatches = λ first rest may e. more (given_to m.state cpu first rest) may (counted_each.dispatches m.state cpu first rest e);
+  calls = λ proc c frames may r e. more (rule m.state proc c).1 may (events_each.calls m.state cpu proc c r);
+  halts = λ proc frames may r e. more (halted m.state proc) may (events_each.halts m.state cpu proc r);
+  dispatches = λ first rest may e. more (given_to m.state cpu first rest) may (events_each.dispatches m.state cpu first rest e);
 })
   where
     more : (t : State) → may_step m.state ≡ true → t.events ≡ m.state.events + 1 → t.events ≤ w.limit

@@ -7,10 +7,10 @@ ghost use Rattle.hk_model.specs.declared.world.Task.{Task};
 ghost use Rattle.hk_model.specs.Opening.{opening};
 ghost use Rattle.hk_model.specs.Control as control;
 ghost use Rattle.hk_model.specs.Control.{new_frame};
-ghost use Rattle.hk_model.specs.Processors.{runner, running_on, may_step, acted_on, entered_on};
-ghost use Rattle.hk_model.specs.Running.{opened, step};
+ghost use Rattle.hk_model.specs.Processors.{runner, running_on, may_step, process_on, acted_on, entered_on};
+ghost use Rattle.hk_model.specs.Running.{opened, step, turn};
 ghost use Rattle.hk_program.specs.Contexts.{AreFrames};
-ghost use Rattle.hk_program.specs.Machines.{IsSound, turn};
+ghost use Rattle.hk_program.specs.Machines.{IsSound};
 
 use crate::answering::after;
 use crate::context::Context;
@@ -166,7 +166,7 @@ fn turn<K: Kernel>(
     requires below { IsTrue (may_step (K.state kernel.old)) }
     requires code { (call : Call) → (reply : Reply) → IfSome (entered_on (K.state kernel.old) cpu call reply) (λ code. code < length world.now.codes) }
     requires room { (call : Call) → IfSome (entered_on (K.state kernel.old) cpu call (acted_on (K.state kernel.old) cpu call).0) (λ _. length context.old < 64) }
-    ensures made { IfOk result (λ made. turn world.now (K.state kernel.old) cpu (control.next world.now context.old) ≡ (made.0, made.1, K.state kernel.new, context.new)) }
+    ensures made { IfOk result (λ made. turn world.now (K.state kernel.old) (process_on (K.state kernel.old) cpu) (control.next world.now context.old) ≡ (made.0, made.1, K.state kernel.new, context.new)) }
     ensures err { OnErr result ((K.state kernel.new ≡ K.state kernel.old) × (context.new ≡ context.old)) }
 {
     let frame = context.top();

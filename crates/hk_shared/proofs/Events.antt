@@ -21,9 +21,9 @@ use Rattle.hk_model.specs.Setup.{Setup, IsWorld}
 use Rattle.hk_model.specs.State.{State, process}
 use Rattle.hk_model.specs.Control.{Context, next, after}
 use Rattle.hk_model.specs.Rule.{rule}
-use Rattle.hk_model.specs.Processors.{is_on, is_running, runner, running_on, may_step, acted_on, acted_by, entered, entered_on, entered_by, halted, halted_on, halted_by, dispatched, dispatched_from}
+use Rattle.hk_model.specs.Processors.{is_on, is_running, runner, running_on, may_step, acted_on, entered, entered_on, halted, halted_on, dispatched, dispatched_from}
 use Rattle.hk_model.specs.Running.{Machine, context_of, event, event_of, dispatch_event, step, AreStepsOf, state_after}
-use Rattle.hk_model.proofs.Steps.{given_to}
+use Rattle.hk_model.proofs.Steps.{given_to, current_stays}
 use Rattle.hk_program.proofs.Queues.{run_at, runs_on}
 use Rattle.hk_program.proofs.Kept.{Kept}
 use Rattle.hk_program.proofs.StepCases.{step_is}
@@ -148,7 +148,7 @@ module _ (w : Setup) (lines : List Line) (held : List (Option Context)) (world :
       r = runs proc inc on
 
       rule_is : rule m.state proc c ≡ (reply, t)
-      rule_is = sym (ap (λ (o : Option Proc). acted_by m.state o c) r.0) ∙ acted
+      rule_is = sym (ap (λ (o : Option Proc). rule m.state (unwrap_or o (record { 0 = 0 })) c) r.0) ∙ acted
 
       reply_is : (rule m.state proc c).0 ≡ reply
       reply_is = ap (λ (f : Reply × State). f.0) rule_is
@@ -157,7 +157,7 @@ module _ (w : Setup) (lines : List Line) (held : List (Option Context)) (world :
       state_is = ap (λ (f : Reply × State). f.1) rule_is
 
       entered_is : entered m.state (process m.state proc).current c reply ≡ code
-      entered_is = sym (ap (λ (o : Option Proc). entered_by m.state o c reply) r.0) ∙ sym code_is
+      entered_is = sym (ap (λ (o : Option Proc). entered m.state (process m.state (unwrap_or o (record { 0 = 0 }))).current c reply) r.0) ∙ sym code_is
 
       whole : event w m cpu proc (todo.Do c, frames) ≡ (record { cpu = cpu; proc = proc; inc = inc; what = what.Call c; reply = reply }, record { state = t; contexts = slice_set m.contexts proc.0 new })
       whole = rw (r.1, new_is, ← entered_is, ← state_is, ← reply_is) refl
@@ -174,7 +174,7 @@ module _ (w : Setup) (lines : List Line) (held : List (Option Context)) (world :
       r = runs proc inc on
 
       state_is : halted m.state proc ≡ t
-      state_is = sym (ap (λ (o : Option Proc). halted_by m.state o) r.0) ∙ sym t_is
+      state_is = sym (ap (λ (o : Option Proc). halted m.state (unwrap_or o (record { 0 = 0 }))) r.0) ∙ sym t_is
 
       whole : event w m cpu proc (todo.Halt, frames) ≡ (record { cpu = cpu; proc = proc; inc = inc; what = what.Halt; reply = Done }, record { state = t; contexts = slice_set m.contexts proc.0 [] })
       whole = rw (r.1, ← state_is) refl
@@ -204,7 +204,7 @@ pub record Gets (w : Setup) (lines : List Line) (held : List (Option Context)) (
 module _ (w : Setup) (lines : List Line) (held : List (Option Context)) (world : IsWorld w) (steps : AreStepsOf w lines) (keeps : KeepsContexts (machine_after w lines) held)
     (cpu : Cpu) (low : cpu.0 < 16) (may : may_step (state_after w lines) ≡ true) (idle : runner (state_after w lines) cpu ≡ None) where
   dispatch_is : (proc : Proc) (t : State) → dispatched (state_after w lines) cpu ≡ Some (proc, t)
-      → step w (machine_after w lines) cpu ≡ Some (record { cpu = cpu; proc = proc; inc = (process t proc).current; what = what.Dispatch; reply = Done }, record (machine_after w lines) { state = t })
+      → step w (machine_after w lines) cpu ≡ Some (record { cpu = cpu; proc = proc; inc = (process (state_after w lines) proc).current; what = what.Dispatch; reply = Done }, record (machine_after w lines) { state = t })
   dispatch_is proc t e =
       let low_is : nat_lt cpu.0 cpu_limit ≡ true = grind (arith, nat_tests, low) in
       step_is w (machine_after w lines) cpu may low_is ∙ (ap (event_of w (machine_after w lines) cpu) idle ∙ ap (dispatch_event (machine_after w lines) cpu) e)
@@ -229,7 +229,11 @@ module _ (w : Setup) (lines : List Line) (held : List (Option Context)) (world :
       found = dispatched_is (state_after w lines) cpu proc t e
 
       longer : IsLonger w lines line (record (machine_after w lines) { state = t })
-      longer = steps_snoc w lines (machine_after w lines) cpu line (record (machine_after w lines) { state = t }) steps refl (rw inc_is (dispatch_is proc t e))
+      longer = steps_snoc w lines (machine_after w lines) cpu line (record (machine_after w lines) { state = t }) steps refl (rw (inc_is ∙ same_inc) (dispatch_is proc t e))
+
+      -- the dispatch leaves the current incarnation
+      same_inc : (process t proc).current ≡ (process (state_after w lines) proc).current
+      same_inc = ap (λ (k : State). (process k proc).current) found.2 ∙ current_stays (state_after w lines) cpu proc found.0
 
       ready : run_at (state_after w lines).processes proc.0 ≡ Ready
       ready = first_ready w (state_after w lines) proc found.0 (sound_kept w (machine_after w lines) (sound_after w lines steps world)).regular found.1

@@ -4,27 +4,12 @@ use Rattle.std.proofs.Common.{arith, ap, sym, ◌∙◌}
 use Rattle.std.proofs.lemmas.Bool.Decides.{nat_tests}
 use Rattle.hk_model.specs.declared.lines.Line.{Line}
 use Rattle.hk_model.specs.Setup.{Setup, IsWorld}
-use Rattle.hk_model.specs.State.{State, process}
-use Rattle.hk_model.specs.Opening.{opening}
-use Rattle.hk_model.specs.Rule.{Outcome, outcome, settled}
-use Rattle.std.specs.Prelude.{Ok, Err}
 use Rattle.hk_model.specs.Processors.{may_step}
 use Rattle.hk_model.specs.Running.{Machine, line_of, moved, opened, AreSteps, AreStepsOf}
-use Rattle.hk_model.proofs.Steps.{EachStep, moved_holds}
+use Rattle.hk_model.proofs.EventCounts.{events_next, opened_events}
 use Rattle.hk_program.specs.Machines.{IsSound}
 use Rattle.hk_program.proofs.Machines.{sound_kept, moved_sound, opened_sound}
 use Rattle.hk_program.proofs.StepCases.{no_step}
-
-one_each : EachStep (λ s line t. t.events ≡ s.events + 1)
-one_each = record {
-  calls = λ s cpu proc c r. by s (outcome s proc (process s proc).current c);
-  halts = λ s cpu proc r. refl;
-  dispatches = λ s cpu first rest r. refl;
-}
-  where
-    by : (s : State) (o : Outcome) → (settled s o).1.events ≡ s.events + 1
-    by s (Ok f) = refl
-    by s (Err e) = refl
 
 may_of : (w : Setup) (m : Machine) (line : Line) (b : Bool) → may_step m.state ≡ b → line_of w m line.cpu ≡ Some line → may_step m.state ≡ true
 may_of w m line true e h = e
@@ -38,17 +23,13 @@ most_from w m [] sound few h = omega (arith, few)
 most_from w m (line ∷ lines) sound few h =
     let may = may_of w m line (may_step m.state) refl h.0 in
     let limit = (sound_kept w m sound).regular.limit in
-    let one = moved_holds (λ s l t. t.events ≡ s.events + 1) one_each w m line h.0 in
+    let one = events_next w m line lines h in
     let less : m.state.events < w.limit = grind (arith, nat_tests, may, limit) in
     let rest = most_from w (moved w m line.cpu) lines (moved_sound w m line.cpu sound) (omega (arith, one, less)) h.1 in
     omega (arith, one, rest)
 
-opened_none : (w : Setup) → (opened w).state.events ≡ 0
-unfolding opened opening
-opened_none w = refl
-
 pub lines_most : (w : Setup) (lines : List Line) → IsWorld w → AreStepsOf w lines → length lines ≤ w.limit
 lines_most w lines world h =
-    let none = opened_none w in
+    let none = opened_events w in
     let most = most_from w (opened w) lines (opened_sound w world) (omega (arith, none)) h in
     omega (arith, none, most)

@@ -22,7 +22,7 @@ use Rattle.hk_model.specs.Setup.{Setup}
 use Rattle.hk_model.specs.State.{State, process}
 use Rattle.hk_model.specs.Control.{Context, next, after}
 use Rattle.hk_model.specs.Rule.{rule}
-use Rattle.hk_model.specs.Processors.{is_ready, is_running, is_over, runner, running_on, may_step, acted_on, acted_by, entered, entered_by, entered_on, halted_on, halted_by, has_left, left_by, dispatched, dispatched_from}
+use Rattle.hk_model.specs.Processors.{is_ready, is_running, is_over, runner, running_on, may_step, acted_on, entered, entered_on, halted, halted_on, has_left, dispatched, dispatched_from}
 use Rattle.hk_model.specs.Running.{context_of, AreStepsOf, state_after}
 use Rattle.hk_program.specs.Contexts.{AreFrames}
 use Rattle.hk_program.proofs.Queues.{run_at}
@@ -137,7 +137,7 @@ module _ {K J : Type 0} (state : K → State) (w : Setup) (cpu : Cpu) (b : Book 
 
   -- whether the process has left the processor
   pub left_is : (proc : Proc) (inc : Inc) (t : State) (gone : Bool) → running_on (state b.kernel) cpu ≡ Some (proc, inc) → gone ≡ has_left (state b.kernel) cpu t → gone ≡ not (is_running (process t proc).run)
-  left_is proc inc t gone on e = e ∙ ap (λ (o : Option Proc). left_by o t) (runner_of (state b.kernel) proc inc on)
+  left_is proc inc t gone on e = e ∙ ap (λ (o : Option Proc). not (is_running (process t (unwrap_or o (record { 0 = 0 }))).run)) (runner_of (state b.kernel) proc inc on)
 
   -- the context that is next has frames of the world
   pub frames_next : (proc : Proc) (todo : Todo) (frames : Context) → (todo, frames) ≡ next w (context_of (machine_after w b.lines.items) proc) → AreFrames w frames
@@ -149,8 +149,8 @@ module _ {K J : Type 0} (state : K → State) (w : Setup) (cpu : Cpu) (b : Book 
       → code ≡ entered_on (state b.kernel) cpu c reply → code ≡ entered (state_after w b.lines.items) (process (state_after w b.lines.items) proc).current c (rule (state_after w b.lines.items) proc c).0
   reply_of proc inc c reply t code on acted e =
       let r = runner_of (state b.kernel) proc inc on in
-      let is_reply : (rule (state b.kernel) proc c).0 ≡ reply = sym (ap (λ (o : Option Proc). (acted_by (state b.kernel) o c).0) r) ∙ ap (λ (f : Reply × State). f.0) acted in
-      e ∙ (ap (λ (o : Option Proc). entered_by (state b.kernel) o c reply) r
+      let is_reply : (rule (state b.kernel) proc c).0 ≡ reply = sym (ap (λ (o : Option Proc). (rule (state b.kernel) (unwrap_or o (record { 0 = 0 })) c).0) r) ∙ ap (λ (f : Reply × State). f.0) acted in
+      e ∙ (ap (λ (o : Option Proc). entered (state b.kernel) (process (state b.kernel) (unwrap_or o (record { 0 = 0 }))).current c reply) r
       ∙ (ap (λ (x : Reply). entered (state b.kernel) (process (state b.kernel) proc).current c x) (sym is_reply)
       ∙ ap (λ (s : State). entered s (process s proc).current c (rule s proc c).0) h.kernel))
 
@@ -349,7 +349,7 @@ not_false a false h e = absurd (true≢false (sym e ∙ h))
 pub halted_ends : (s : State) (cpu : Cpu) (proc : Proc) (inc : Inc) (t : State) → running_on s cpu ≡ Some (proc, inc) → t ≡ halted_on s cpu → (process t proc).run ≡ Ended
 halted_ends s cpu proc inc t on e =
     let r : runner s cpu ≡ Some proc = by (runner s cpu) on in
-    ap (λ (k : State). (process k proc).run) (e ∙ ap (λ (o : Option Proc). halted_by s o) r) ∙ there s.processes proc.0 (record (process s proc) { run = Ended }) refl
+    ap (λ (k : State). (process k proc).run) (e ∙ ap (λ (o : Option Proc). halted s (unwrap_or o (record { 0 = 0 }))) r) ∙ there s.processes proc.0 (record (process s proc) { run = Ended }) refl
   where
     by : (o : Option Proc) → option_map {U = Proc × Inc} (λ (p : Proc). (p, (process s p).current)) o ≡ Some (proc, inc) → o ≡ Some proc
     by None e = absurd (cc)

@@ -1,5 +1,5 @@
 -- A history grows by the step of processor 0.
-use Rattle.std.proofs.Common.{◌≡◌, ◌≢◌, ◌-◌, ◌<◌, List, [], ◌∷◌, ◌++◌, Bool, true, false, Option, Some, None, refl, sym, ◌∙◌, ap, subst, arith, cond}
+use Rattle.std.proofs.Common.{◌≡◌, ◌≢◌, ◌+◌, ◌-◌, ◌<◌, List, [], ◌∷◌, ◌++◌, Bool, true, false, Option, Some, None, refl, sym, ◌∙◌, ap, subst, arith, cond}
 use Rattle.std.specs.Prelude.{All, IfNone, IfSome, nat_lt, option_map}
 use Rattle.std.specs.Option.{unwrap_or}
 use Rattle.std.proofs.lemmas.Bool.{ltb-true}
@@ -17,6 +17,7 @@ use Rattle.hk_model.specs.Processors.{runner, may_step, dispatched_from}
 use Rattle.hk_model.specs.Control.{Context, next}
 use Rattle.hk_model.specs.Running.{Machine, AreSteps, AreStepsOf, after_lines, context_of, dispatch_event, event, event_of, line_of, moved, opened, state_after, step}
 use Rattle.hk_model.proofs.Steps.{moved_holds}
+use Rattle.hk_model.proofs.EventCounts.{events_each}
 use Rattle.hk_top.specs.Outputs.{first_processor, IsWholeRun}
 use Rattle.hk_top.proofs.Ends.{ends}
 use Rattle.hk_top.proofs.Scheduled.{GoesOn, Placed, each_goes, opening_placed}
@@ -88,6 +89,7 @@ grows w lines m line after h e =
     let tells : line_of w m line.cpu ≡ Some line = ap (λ (found : Option (Line × Machine)). option_map (λ f. f.0) found) there in
     let moves : moved w m line.cpu ≡ after = ap (λ (found : Option (Line × Machine)). unwrap_or (option_map (λ f. f.1) found) m) there in
     let goes : GoesOn m.state line after.state = subst (λ (x : Machine). GoesOn m.state line x.state) moves (moved_holds GoesOn each_goes w m line tells) in
+    let event : after.state.events ≡ m.state.events + 1 = ap (λ (x : Machine). x.state.events) (sym moves) ∙ moved_holds (λ s l t. t.events ≡ s.events + 1) events_each w m line tells in
     let below : m.state.events < m.state.limit = ltb-true m.state.events m.state.limit i.may in
     record {
       history = record {
@@ -96,7 +98,7 @@ grows w lines m line after h e =
         alone = All-push (λ (l : Line). l.cpu ≡ first_processor) lines line h.alone i.cpu_is;
         placed = goes.placed (ap (λ (c : Cpu). c.0) i.cpu_is) h.placed;
       };
-      fewer = omega (arith, below, goes.events, goes.limit);
+      fewer = omega (arith, below, event, goes.limit);
     }
 
 -- the same, of the step that was found

@@ -185,13 +185,13 @@ leave_kept s proc inc give = search (then_is, left_kept)
 outcome_kept : (s : State) (proc : Proc) (inc : Inc) (c : Call) → IsKept s (outcome s proc inc c)
 unfolding get_word put_word add_word word_count load_entry store_entry append_entry erase_entry drop_slot restrict_slot look make_template create_object merge_cap copy_object give_token
 outcome_kept s proc inc (call.Get of at) = search (then_is, kept_self)
-outcome_kept s proc inc (call.Put of at word) = search (then_is, kept_self, kept_object)
+outcome_kept s proc inc (call.Put of at word) = search (then_is, and_is, kept_self, kept_object)
 outcome_kept s proc inc (call.Add of word) = search (then_is, and_is, kept_self, kept_object)
 outcome_kept s proc inc (call.Length of) = search (then_is, kept_self)
 outcome_kept s proc inc (call.Load from into) = search (then_is, kept_self, kept_slot)
-outcome_kept s proc inc (call.Store list at from) = search (then_is, kept_self, kept_object) depth 8
+outcome_kept s proc inc (call.Store list at from) = search (then_is, and_is, kept_self, kept_object) depth 8
 outcome_kept s proc inc (call.Append list from) = search (then_is, and_is, kept_self, kept_object) depth 8
-outcome_kept s proc inc (call.Erase list at) = search (then_is, kept_self, kept_object)
+outcome_kept s proc inc (call.Erase list at) = search (then_is, and_is, kept_self, kept_object)
 outcome_kept s proc inc (call.Drop slot) = search (then_is, kept_self, kept_slot)
 outcome_kept s proc inc (call.Restrict slot keep) = search (then_is, kept_self, kept_slot)
 outcome_kept s proc inc (call.Look of) = search (then_is, kept_self)
@@ -205,14 +205,13 @@ outcome_kept s proc inc (call.P of) = take_kept s proc inc of
 outcome_kept s proc inc (call.V of) = search (then_is, token_kept)
 outcome_kept s proc inc call.Yield = kept_ready s s proc (process s proc).current (kept_self s)
 
--- a line is one event more; it keeps the limit, and where it is of processor 0 the places
+-- a line keeps the limit, and where it is of processor 0 the places
 pub record GoesOn (s : State) (line : Line) (t : State) : Type 0 where
-  pub events : t.events ≡ s.events + 1
   pub limit : t.limit ≡ s.limit
   pub placed : line.cpu.0 ≡ 0 → Placed s → Placed t
 
 goes_on : (s : State) (line : Line) (u : State) → Kept s u → GoesOn s line (counted (s.events + 1) u)
-goes_on s line u h = record { events = refl; limit = h.limit; placed = λ e p. h.placed p }
+goes_on s line u h = record { limit = h.limit; placed = λ e p. h.placed p }
 
 -- what vanishes is no process
 goes_restricted : (s : State) (line : Line) (u : State) → Kept s u → GoesOn s line (counted (s.events + 1) (restricted u))
@@ -224,7 +223,6 @@ call_goes s line (Err r) h = goes_on s line s (kept_self s)
 
 dispatch_goes : (s : State) (line : Line) (cpu : Cpu) (first : Proc) (rest : List Proc) → line.cpu ≡ cpu → s.ready ≡ first ∷ rest → GoesOn s line (given_to s cpu first rest)
 dispatch_goes s line cpu first rest c r = record {
-  events = refl;
   limit = refl;
   placed = λ e p. placed_set first.0 s.ready rest 0 s.processes first.0 (record (process s first) { run = Running cpu }) (omega arith) (λ n apart h. has_rest first rest n apart (subst (λ ready. Has ready n) r h)) (ap (λ (x : Cpu). x.0) (sym c) ∙ e) p;
 }

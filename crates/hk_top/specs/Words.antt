@@ -1,7 +1,7 @@
 -- The words that are commands, and how much each may read. docs/FORMATS.md, "Statuses and outputs".
 use Rattle.std.specs.Prelude.{◌≡◌, ℕ, ◌≤◌, ◌⊎◌, List, [], ◌∷◌, Option, Some, None, codes}
 use Rattle.std.specs.Fmt.{decimal}
-use Rattle.hk_model.specs.Limits.{script_bytes, record_bytes}
+use Rattle.hk_model.specs.Limits.{cpu_limit, script_bytes, record_bytes}
 use Rattle.hk_top.specs.declared.words.Command.{Command}
 use Rattle.hk_top.specs.declared.words.Command.TheVariants as command
 
@@ -11,7 +11,7 @@ IsRun words = words ≡ codes "run" ∷ []
 
 -- so many processors may run a script
 abbrev pub MayRun : ℕ → Type 0
-MayRun cpus = (1 ≤ cpus) × (cpus ≤ 16)
+MayRun cpus = (1 ≤ cpus) × (cpus ≤ cpu_limit)
 
 -- the words `run` and this number of processors, from 1 to 16, in decimal digits without a leading zero
 abbrev pub IsRunOn : List (List ℕ) → ℕ → Type 0

@@ -7,6 +7,7 @@ use Rattle.hk_model.specs.Running.{AreStepsOf, state_after}
 use Rattle.hk_model.specs.Legal.{end_word}
 use Rattle.hk_turn.specs.declared.pass.Pass.{Pass}
 use Rattle.hk_turn.specs.declared.turns.Turns.{Turns}
+use Rattle.hk_model.specs.Limits.{cpu_limit}
 use Rattle.hk_turn.specs.Passes.{pass_number, seen_list}
 use Rattle.hk_turn.specs.Turns.{IsPassOf}
 use Rattle.hk_procs.specs.declared.notes.Noted.{Noted}
@@ -16,7 +17,7 @@ use Rattle.hk_shared.specs.declared.book.Book.{Book}
 
 -- a pass of these turns and of a processor that there is, which has seen nothing
 abbrev pub IsFresh : {T : Type 0} → Turns T Noted → Pass Noted → Type 0
-IsFresh {T} turns pass = IsPassOf turns pass × (pass_number pass < 16) × (seen_list pass ≡ [])
+IsFresh {T} turns pass = IsPassOf turns pass × (pass_number pass < cpu_limit) × (seen_list pass ≡ [])
 
 -- the work is at its end: the limit is reached, no process is ready and none runs, or a processor has stopped
 abbrev pub IsEnd : Setup → List Noted → Type 0

@@ -10,7 +10,7 @@ use Rattle.hk_plain.proofs.incarnations.Incarnations.add.Goals as goal
 
 pub invariant_of-self-then-is_err : goal.invariant_of-self-then-is_err
 invariant_of-self-then-is_err c =
-    let same : c.insert.new.self.entries ≡ c.self.inside.live.entries = on_err c.insert.result _ (sym c.if-is_err.ensures.value) c.insert.ensures.err in
+    let same : c.insert.new.live.entries ≡ c.self.inside.live.entries = on_err c.insert.result _ (sym c.if-is_err.ensures.value) c.insert.ensures.err in
     let pushed : List (Proc × List Inc) = c.push.new.self in
     let proc : Proc = c.args.new.proc in
     rw same (stacked_again c.self.inside.live.entries c.self.inside.stacks pushed c.pop.new.self c.self.inside.next proc c.self.invariant c.in_ok-push.ensures.ok (λ q.
@@ -19,5 +19,5 @@ invariant_of-self-then-is_err c =
 
 pub invariant_of-self-2 : goal.invariant_of-self-2
 invariant_of-self-2 c =
-    let more : c.insert.new.self.entries ≡ insert_entry inc_cmp c.self.inside.live.entries c.self.inside.next c.args.new = on_ok c.insert.result _ (sym c.if-is_err.ensures.value) c.insert.ensures.entries in
+    let more : c.insert.new.live.entries ≡ insert_entry inc_cmp c.self.inside.live.entries c.self.inside.next c.args.new = on_ok c.insert.result _ (sym c.if-is_err.ensures.value) c.insert.ensures.ok in
     rw more (stacked_added c.self.inside.live.entries c.self.inside.stacks c.push.new.self c.self.inside.next c.args.new c.self.invariant c.in_ok-push.ensures.ok)

@@ -12,6 +12,6 @@ loop-name-init c =
     let s : State = c.args.self.now in
     let new : List (Name × Object) = filter (λ (e : Name × Object). is_new s e.0) s.objects in
     let e : c.self.inside.objects.entries ≡ s.objects = ap (λ (u : State). u.objects) c.self.view_is in
-    let f : c.self.inside.first_new ≡ s.first_new = ap (λ (u : State). u.first_new) c.self.view_is in
+    let f : c.first_new.result ≡ s.first_new = c.first_new.ensures ∙ ap (λ (u : State). u.first_new) c.self.view_is in
     let g : c.into_iter-name-iterator.result ≡ new = c.into_iter-name-iterator.ensures.into_iter_gives ∙ (rw (← e, ← f) (c.range-name-items.ensures.between tt)) in
     record { rest = λ h. new_stay s s.objects (rw g at h); stand = rw g (new_stand s) }

@@ -4,10 +4,9 @@ use Rattle.hk_model.specs.declared.calls.Call.{Call}
 use Rattle.hk_model.specs.declared.calls.Reply.{Reply}
 use Rattle.hk_model.specs.declared.lines.Line.{Line}
 use Rattle.hk_model.specs.State.{State}
-use Rattle.hk_model.specs.Processors.{acted_on, entered_on}
+use Rattle.hk_model.specs.Processors.{process_on, acted_on, entered_on}
 use Rattle.hk_model.specs.Control.{Context, next}
-use Rattle.hk_model.specs.Running.{Machine}
-use Rattle.hk_program.specs.Machines.{turn}
+use Rattle.hk_model.specs.Running.{Machine, turn}
 use Rattle.hk_program.proofs.Events.{context_within, read_frames, read_code, read_room, turn_steps}
 use Rattle.hk_program.proofs.machine.Machine.event.Goals as goal
 
@@ -41,5 +40,5 @@ returns-clause-made g c =
     turn_steps c.args.world.now c.args.self.now c.args.cpu c.args.proc c.args.inc c.requires.sound c.requires.runs c.index_mut-context.result.now (c.in_ok-what.what, c.in_ok-what.reply, state, frames)
     (subst (λ (m : Machine). c.index_mut-context.result.now ≡ get_or m.contexts c.args.proc.0 c.index_mut-context.result.now) c.self.view_is c.index_mut-context.ensures.value)
     c.requires.cpu c.requires.below
-    (subst (λ (m : Machine). turn c.args.world.now m.state c.args.cpu (next c.args.world.now c.index_mut-context.result.now) ≡ (c.in_ok-what.what, c.in_ok-what.reply, state, frames)) c.self.view_is c.in_ok-what.ensures.made)
+    (subst (λ (m : Machine). turn c.args.world.now m.state (process_on m.state c.args.cpu) (next c.args.world.now c.index_mut-context.result.now) ≡ (c.in_ok-what.what, c.in_ok-what.reply, state, frames)) c.self.view_is c.in_ok-what.ensures.made)
     ∙ ap (λ (m : Machine). let made : Line × Machine = (line, record { state = state; contexts = slice_set m.contexts c.args.proc.0 frames }) in Some made) (sym c.self.view_is)

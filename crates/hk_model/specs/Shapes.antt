@@ -1,0 +1,41 @@
+-- What every state of a history has: codes of procedures, and a current incarnation of each process that calls none.
+-- docs/RULES.md, "Objects, incarnations, processes".
+use Rattle.std.specs.Prelude.{◌≡◌, ◌==◌, ◌⊎◌, ℕ, true, List, Some, IsSome}
+use Rattle.std.specs.Map.{lookup}
+use Rattle.hk_model.specs.declared.names.Name.{Name}
+use Rattle.hk_model.specs.declared.names.Inc.{Inc}
+use Rattle.hk_model.specs.declared.objects.Object.{Object}
+use Rattle.hk_model.specs.declared.objects.Incarnation.{Incarnation}
+use Rattle.hk_model.specs.declared.lines.Line.{Line}
+use Rattle.hk_model.specs.Setup.{Setup}
+use Rattle.hk_model.specs.State.{State, process, same_inc}
+use Rattle.hk_model.specs.Targets.{PROCEDURE}
+use Rattle.hk_model.specs.Running.{state_at}
+use Rattle.hk_model.specs.Effects.{there}
+
+-- each procedure that stands has a code
+abbrev pub ProceduresHaveCodes : State → Type 0
+ProceduresHaveCodes s = (name : Name) (o : Object) → there s.objects name ≡ Some o → (o.of.0 == PROCEDURE) ≡ true → IsSome o.code
+
+-- the incarnation of this number lives, and is this one
+abbrev pub Lives : State → Inc → Incarnation → Type 0
+Lives s i x = lookup (same_inc i) s.incarnations ≡ Some x
+
+-- it is the caller of one that lives
+pub record IsCaller (s : State) (i : Inc) : Type 0 where
+  pub callee : Inc
+  pub called : Incarnation
+  pub lives : Lives s callee called
+  pub by : called.caller ≡ Some i
+
+-- of the live incarnations of a process the current one calls none, and every other one calls one; and where one lives the
+-- current one does
+pub record CurrentsCallNone (s : State) : Type 0 where
+  pub none : (i : Inc) (x : Incarnation) → Lives s i x → (process s x.proc).current ≡ i → IsCaller s i → ⊥
+  pub others : (i : Inc) (x : Incarnation) → Lives s i x → ((process s x.proc).current ≡ i) ⊎ IsCaller s i
+  pub lives : (i : Inc) (x : Incarnation) → Lives s i x → IsSome (lookup (same_inc (process s x.proc).current) s.incarnations)
+
+-- at every moment
+pub record AreShapes (w : Setup) (lines : List Line) : Type 0 where
+  pub codes : (moment : ℕ) → ProceduresHaveCodes (state_at w lines moment)
+  pub currents : (moment : ℕ) → CurrentsCallNone (state_at w lines moment)
