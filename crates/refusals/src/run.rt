@@ -1,0 +1,65 @@
+//! The first steps of a world's run, over any kernel.
+
+ghost use Rattle.std.specs.Prelude.{◌≡◌, ◌≤◌, IfOk, length};
+ghost use Rattle.hk_model.specs.Opening.{opening};
+ghost use Rattle.hk_model.specs.Running.{AreStepsOf};
+ghost use Rattle.refusals.specs.Refusals.{is_refused, HasSteps};
+
+use hk_confine::confinement_law;
+use hk_model::{Cpu, Items, Kernel, Line, NoMemory, Reply, World};
+use hk_program::Machine;
+use std::alloc::Global;
+
+/// How many of the first steps of processor 0 are refused, on a kernel that has opened the world;
+/// `most` steps are made at most. NoMemory is want of memory.
+///
+/// The clause says that there are lines that are steps of the world, over which the confinement law
+/// holds, of which so many are refused.
+pub fn refused_steps<K: Kernel>(
+    alloc: Global,
+    world: &World,
+    kernel: K,
+    most: u32,
+) -> Result<usize, NoMemory>
+    requires { K.state kernel ≡ opening world.now }
+    ensures { IfOk result (λ count. HasSteps world.now most count) }
+{
+    let lines = first_steps(alloc, world, kernel, most)?;
+    confinement_law(world, lines.as_slice());
+    Ok(
+        lines
+            .as_slice()
+            .iter()
+            .filter(|line| is_refused(line))
+            .count(),
+    )
+}
+
+// The lines of the first steps of processor 0, `most` at most.
+fn first_steps<K: Kernel>(
+    alloc: Global,
+    world: &World,
+    kernel: K,
+    most: u32,
+) -> Result<Items<Line>, NoMemory>
+    requires { K.state kernel ≡ opening world.now }
+    ensures steps { IfOk result (λ lines. AreStepsOf world.now lines) }
+    ensures few { IfOk result (λ lines. length lines ≤ most) }
+{
+    let mut machine = Machine::open(alloc, world, kernel)?;
+    let mut lines = Items::new(alloc);
+    for _ in 0..most {
+        let Some(line) = machine.step(alloc, world, Cpu(0))? else {
+            break;
+        };
+        lines.push(line)?;
+    }
+    Ok(lines)
+}
+
+// Whether a line tells a refusal.
+fn is_refused(line: &Line) -> bool
+    ensures { result ≡ is_refused line.now }
+{
+    matches!(line.reply, Reply::No(_))
+}
