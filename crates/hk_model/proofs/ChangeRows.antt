@@ -1,28 +1,24 @@
 -- Worked rows of changes under confined calls: a call under a call under one, and the calls that change lists and tokens.
-use Rattle.std.specs.Prelude.{◌≡◌, ℕ, ◌+◌, Bool, List, [], ◌∷◌, Some, None, true, false, take, refl}
-use Rattle.std.proofs.Common.{lit≤}
+use Rattle.std.specs.Prelude.{◌≡◌, ◌+◌, List, [], ◌∷◌, Some, true, false, refl}
 use Rattle.hk_model.specs.declared.entries.Entry.TheVariants.{Empty, Form}
 use Rattle.hk_model.specs.declared.entries.Template.TheVariants as template
 use Rattle.hk_model.specs.declared.calls.Call.TheVariants as call
-use Rattle.hk_model.specs.declared.calls.Reply.TheVariants.{Done, Waits, No}
-use Rattle.hk_model.specs.declared.calls.Refusal.TheVariants as refused
+use Rattle.hk_model.specs.declared.calls.Reply.TheVariants.{Done, Waits}
 use Rattle.hk_model.specs.declared.instructions.Instr.TheVariants as instr
 use Rattle.hk_model.specs.declared.instructions.Operand.TheVariants.{Number}
 use Rattle.hk_model.specs.declared.world.Kind.TheVariants as kind
 use Rattle.hk_model.specs.declared.lines.Line.{Line}
-use Rattle.hk_rights.specs.Rights.{PUTDATA, LOAD, STORE, APPEND, KILL, MODIFY, ENV, UNCONF, A0, A1, modify_right, first_missing, right_numbers, right_table}
+use Rattle.hk_rights.specs.Rights.{PUTDATA, APPEND, KILL, MODIFY, UNCONF, A0, A1, first_missing, right_numbers, right_table}
 use Rattle.hk_model.specs.Setup.{Setup}
 use Rattle.hk_model.specs.Targets.{DATA, UNIVERSAL, SEMAPHORE}
 use Rattle.hk_model.specs.Opening.{opening}
 use Rattle.hk_model.specs.Control.{next, next_from, after}
 use Rattle.hk_model.specs.Rule.{get_word, put_word, add_word, store_entry, append_entry, erase_entry, create_object, enter_procedure, leave, take_token, give_token}
 use Rattle.hk_model.specs.Keeping.{kept_objects}
-use Rattle.hk_model.specs.Running.{AreStepsOf, opened, step, state_at}
-use Rattle.hk_model.specs.Under.{is_under, is_made_under, parameters}
-use Rattle.hk_model.specs.Reaches.{Hop, IsReach, IsModifiable, IsUnconfined, reach}
+use Rattle.hk_model.specs.Running.{AreStepsOf, opened, step}
+use Rattle.hk_model.specs.Under.{is_under}
 use Rattle.hk_model.specs.Changes.{bare_changes}
-use Rattle.hk_model.proofs.OutsideReaches.{not_modifiable, not_unconfined}
-use Rattle.hk_model.proofs.RowParts.{name, inc, slot, cap, route, plain, procedure, process, small_world, dispatch, dispatch_in, line, line_of_process, return_line}
+use Rattle.hk_model.proofs.RowParts.{name, inc, slot, cap, route, plain, procedure, process, small_world, dispatch, line, return_line}
 
 -- ---- calls within calls: each is confined, and the innermost changes the object that was passed on
 

@@ -1,8 +1,7 @@
 -- The list of changes has an item exactly where the confinement law speaks of one.
-use Rattle.std.proofs.Common.{◌≡◌, ◌↔◌, ℕ, zero, suc, List, [], ◌∷◌, ◌++◌, length, map, Bool, true, false, Option, Some, None, refl, sym, ap, ◌∙◌, subst, arith}
+use Rattle.std.proofs.Common.{◌≡◌, ℕ, zero, suc, List, [], ◌∷◌, ◌++◌, length, map, Bool, true, false, Option, Some, None, refl, sym, ap, ◌∙◌, subst}
 use Rattle.std.specs.Prelude.{◌⊎◌, take, slice_get}
 use mathlib.Core.Logic.{inl, inr}
-use Rattle.std.specs.List.{Contains}
 use Rattle.std.proofs.lemmas.List.{append-nil}
 use Rattle.hk_model.specs.declared.names.Name.{Name}
 use Rattle.hk_model.specs.declared.names.Inc.{Inc}
@@ -10,8 +9,8 @@ use Rattle.hk_model.specs.declared.lines.Line.{Line}
 use Rattle.hk_model.specs.Setup.{Setup}
 use Rattle.hk_model.specs.State.{State, incarnation}
 use Rattle.hk_model.specs.Running.{Machine, opened, moved, after_lines, state_at, AreStepsOf}
-use Rattle.hk_model.specs.Lines.{done_call, enters_call, changed, told}
-use Rattle.hk_model.specs.Under.{is_under, IsCall}
+use Rattle.hk_model.specs.Lines.{done_call, enters_call, changed}
+use Rattle.hk_model.specs.Under.{is_under}
 use Rattle.hk_model.specs.Confinement.{IsConfinedCall, IsChange}
 use Rattle.hk_model.specs.Changes.{Beginning, BareChange, confined_by, confined_calls, calls_over, bare_changes_by, bare_changes, bare_change, ListsChanges}
 use Rattle.hk_model.proofs.Members.{Has, has_from, contains_from, has_filtered, has_filter, has_mapped, has_map}

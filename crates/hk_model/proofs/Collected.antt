@@ -1,5 +1,5 @@
 -- A list that is told of a history has what its lines add.
-use Rattle.std.proofs.Common.{◌≡◌, ℕ, zero, suc, List, [], ◌∷◌, ◌++◌, Some, refl, ap, ◌∙◌}
+use Rattle.std.proofs.Common.{◌≡◌, ℕ, zero, suc, List, [], ◌∷◌, ◌++◌, Some, refl}
 use Rattle.std.specs.Prelude.{◌⊎◌, take, slice_get}
 use mathlib.Core.Logic.{inl, inr}
 use Rattle.hk_model.specs.declared.lines.Line.{Line}

@@ -1,14 +1,12 @@
 -- Each live incarnation is its process's current one, or calls one that lives.
-use Rattle.std.proofs.Common.{◌≡◌, ◌≤◌, ◌<◌, ℕ, zero, suc, ◌+◌, ◌-◌, ◌==◌, List, [], ◌∷◌, ◌++◌, Bool, true, false, Option, Some, None, refl, sym, ◌∙◌, ap, arith, cond, subst}
-use Rattle.std.specs.Prelude.{◌⊎◌, IsSome, IsTrue, is_some, not, slice_get, slice_set, filter, take}
+use Rattle.std.proofs.Common.{◌≡◌, ◌≤◌, ℕ, zero, suc, ◌+◌, ◌-◌, ◌==◌, List, [], ◌∷◌, ◌++◌, Bool, true, false, Option, Some, None, refl, sym, ◌∙◌, ap, arith, cond, subst}
+use Rattle.std.specs.Prelude.{◌⊎◌, is_some, not, slice_get, slice_set, filter, take}
 use mathlib.Core.Logic.{inl, inr}
 use Rattle.std.specs.Option.{unwrap_or}
 use Rattle.std.specs.Map.{lookup, remove_entry}
 use Rattle.std.proofs.lemmas.Bool.{cases_eq, true≢false}
-use Rattle.std.proofs.lemmas.Bool.Decides.{nat_tests}
 use Rattle.hk_model.specs.declared.names.Inc.{Inc}
 use Rattle.hk_model.specs.declared.names.Proc.{Proc}
-use Rattle.hk_model.specs.declared.entries.Entry.TheVariants.{Empty}
 use Rattle.hk_model.specs.declared.objects.Incarnation.{Incarnation}
 use Rattle.hk_model.specs.declared.objects.Process.{Process}
 use Rattle.hk_model.specs.declared.objects.ProcessState.TheVariants.{Ended}
@@ -25,7 +23,7 @@ use Rattle.hk_model.proofs.Activations.{Activation, activation, activations_in, 
 use Rattle.hk_model.proofs.ActivationLists.{activation_live, activations_apart, left_found, left_keeps, halted_found, halted_keeps}
 use Rattle.hk_model.proofs.Stacks.{Stacked, IsStacked, found_last}
 use Rattle.hk_model.proofs.Turns.{Turn, Still, Enter, Leave, Halt, CurrentAfter}
-use Rattle.hk_model.proofs.Steps.{EachStep, each_more, state_kept, first_steps}
+use Rattle.hk_model.proofs.Steps.{each_more, state_kept, first_steps}
 use Rattle.hk_model.proofs.Histories.{Sound, LineKnown, known_each, opening_sound}
 
 -- a live one has this for its caller

@@ -1,5 +1,5 @@
 -- What a list has, by recursion.
-use Rattle.std.proofs.Common.{◌≡◌, ◌<◌, ℕ, zero, suc, List, [], ◌∷◌, ◌++◌, Bool, true, false, length, map, get_or, refl, cond, arith}
+use Rattle.std.proofs.Common.{◌≡◌, zero, suc, List, [], ◌∷◌, ◌++◌, Bool, true, false, map, refl, cond, arith}
 use Rattle.std.specs.Prelude.{◌⊎◌, filter}
 use Rattle.std.specs.List.{Contains}
 use mathlib.Core.Logic.{inl, inr}

@@ -1,11 +1,11 @@
 -- What each call, halt and dispatch does to each object.
-use Rattle.std.proofs.Common.{◌≡◌, ℕ, suc, ◌+◌, ◌-◌, List, [], ◌∷◌, ◌++◌, length, Bool, true, false, Option, Some, None, Ok, Err, refl, sym, ap, ◌∙◌, subst, cond, option_map, arith}
+use Rattle.std.proofs.Common.{◌≡◌, ℕ, ◌+◌, ◌-◌, List, [], ◌∷◌, ◌++◌, length, Bool, true, false, Option, Some, None, Ok, Err, refl, sym, ap, ◌∙◌, subst, cond, option_map, arith}
 use Rattle.std.specs.Prelude.{IfOk, nat_lt, take, not, ◌||◌, ◌==◌, ◌⊎◌}
 use mathlib.Core.Logic.{inl, inr}
 use Rattle.std.proofs.lemmas.Bool.Decides.{nat_tests}
 use Rattle.std.specs.Option.{unwrap_or, option_and_then}
 use Rattle.std.specs.Ordering.{is_eq}
-use Rattle.std.specs.Map.{lookup, set_value, remove_entry}
+use Rattle.std.specs.Map.{set_value}
 use Rattle.std.specs.BTreeMap.{insert_entry}
 use Rattle.hk_model.specs.declared.names.Name.{Name}
 use Rattle.hk_model.specs.declared.names.Inc.{Inc}
@@ -15,7 +15,6 @@ use Rattle.hk_model.specs.declared.entries.Cap.{Cap}
 use Rattle.hk_model.specs.declared.entries.Entry.{Entry}
 use Rattle.hk_model.specs.declared.calls.Call.{Call}
 use Rattle.hk_model.specs.declared.calls.Call.TheVariants as call
-use Rattle.hk_model.specs.declared.calls.Refusal.{Refusal}
 use Rattle.hk_model.specs.declared.calls.Refusal.TheVariants as refused
 use Rattle.hk_model.specs.declared.calls.What8.TheVariants as full
 use Rattle.hk_model.specs.declared.calls.Answer.{Answer}
@@ -23,16 +22,16 @@ use Rattle.hk_model.specs.declared.calls.Answer.TheVariants.{Done, Word, Waits}
 use Rattle.hk_model.specs.declared.lines.What.TheVariants as what
 use Rattle.hk_model.specs.declared.lines.Line.{Line}
 use Rattle.hk_model.specs.declared.objects.Object.{Object}
-use Rattle.hk_model.specs.declared.objects.ProcessState.TheVariants.{Ready, Waiting}
+use Rattle.hk_model.specs.declared.objects.ProcessState.TheVariants.{Waiting}
 use Rattle.hk_rights.specs.Rights.{COPY}
 use Rattle.hk_model.specs.Limits.{token_limit}
 use Rattle.hk_model.specs.Setup.{Setup}
-use Rattle.hk_model.specs.State.{State, object, process, put_object, put_process, same_name, same_inc, name_cmp, no_object}
+use Rattle.hk_model.specs.State.{State, object, process, put_object, put_process, same_name, name_cmp, no_object}
 use Rattle.hk_model.specs.Keeping.{kept_objects}
 use Rattle.hk_model.specs.Refusing.{unless}
 use Rattle.hk_model.specs.Walking.{walk}
 use Rattle.hk_model.specs.Targets.{SEMAPHORE, PROCEDURE, PROCESS, LNS, is_general, is_type, slot_at, last_step, create_form, MODIFY+A0, MODIFY+A1, target}
-use Rattle.hk_model.specs.Rule.{Outcome, outcome, settled, counted, answered, can_be_created, plain_object, room_made, leave_to, token_given, get_word, put_word, add_word, word_count, load_entry, store_entry, append_entry, erase_entry, drop_slot, restrict_slot, look, make_template, create_object, merge_cap, copy_object, enter_procedure, leave, take_token, give_token}
+use Rattle.hk_model.specs.Rule.{Outcome, outcome, settled, answered, can_be_created, plain_object, room_made, leave_to, token_given, get_word, put_word, add_word, word_count, load_entry, store_entry, append_entry, erase_entry, drop_slot, restrict_slot, look, make_template, create_object, merge_cap, copy_object, enter_procedure, leave, take_token, give_token}
 use Rattle.hk_model.specs.Processors.{ended}
 use Rattle.hk_model.specs.Places.{cap_of, cap_found, entry_given}
 use Rattle.hk_model.specs.Running.{Machine, opened, after_lines, AreStepsOf}
@@ -40,7 +39,7 @@ use Rattle.hk_model.specs.Lines.{done_by, done_call, changed_by, changes_path, m
 use Rattle.hk_model.specs.Effects.{there, IsSameKind, IsNoProcedure, Becomes, Stays, Goes, Changes, IsNew, LeavesOthers}
 use Rattle.hk_model.proofs.TestLemmas.{then_is, and_is, unless_is}
 use Rattle.hk_model.proofs.Standing.{on_ordering, name_same, name_laws}
-use Rattle.hk_model.proofs.Keeping.{Vanish, IsLost, kept_vanish, stays_or_lost}
+use Rattle.hk_model.proofs.Keeping.{IsLost, kept_vanish, stays_or_lost}
 use Rattle.hk_model.proofs.WalkLemmas.{target_is}
 use Rattle.hk_model.proofs.CallWays.{room_vanish}
 use Rattle.hk_model.proofs.Steps.{EachStep, moved_holds, line_steps, after_next}

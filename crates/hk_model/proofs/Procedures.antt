@@ -1,10 +1,9 @@
 -- Each procedure that stands has a code.
-use Rattle.std.proofs.Common.{◌≡◌, ◌==◌, ℕ, zero, suc, ◌+◌, List, [], ◌∷◌, ◌++◌, Bool, true, false, Option, Some, None, refl, sym, ◌∙◌, ap, subst, arith, map, replicate, ◌≤◌}
+use Rattle.std.proofs.Common.{◌≡◌, ◌==◌, ℕ, zero, suc, List, [], ◌∷◌, ◌++◌, true, false, Option, Some, None, refl, sym, ◌∙◌, ap, subst, arith, map, replicate, ◌≤◌}
 use Rattle.std.specs.Prelude.{IsSome, ◌⊎◌, take}
 use Rattle.std.specs.List.{AllByRecursion}
 use mathlib.Core.Logic.{inl, inr}
 use Rattle.std.specs.Option.{unwrap_or}
-use Rattle.std.specs.Map.{lookup}
 use Rattle.std.proofs.lemmas.Bool.{true≢false, false≢true}
 use Rattle.std.proofs.lemmas.Bool.Decides.{nat_tests}
 use Rattle.hk_model.specs.declared.names.Name.{Name}
@@ -14,12 +13,12 @@ use Rattle.hk_model.specs.declared.world.Born.{Born}
 use Rattle.hk_model.specs.declared.world.Kind.{Kind}
 use Rattle.hk_model.specs.declared.world.Kind.TheVariants as kind
 use Rattle.hk_model.specs.Setup.{Setup, IsKind, IsWorld, IsPlainType}
-use Rattle.hk_model.specs.State.{State, same_name, no_object}
+use Rattle.hk_model.specs.State.{State, no_object}
 use Rattle.hk_model.specs.Targets.{DATA, UNIVERSAL, PROCEDURE, kernel_types}
 use Rattle.hk_model.specs.Opening.{opening, object_of, type_object}
 use Rattle.hk_model.specs.Lines.{done_call}
 use Rattle.hk_model.specs.Running.{opened, state_at, AreStepsOf}
-use Rattle.hk_model.specs.Effects.{there, Becomes, Stays, Goes, Changes, IsNew}
+use Rattle.hk_model.specs.Effects.{Becomes, Stays, Goes, Changes, IsNew}
 use Rattle.hk_model.specs.Shapes.{ProceduresHaveCodes, AreShapes}
 use Rattle.hk_model.proofs.Steps.{EachStep, each_more, state_kept, first_steps}
 use Rattle.hk_model.proofs.ObjectsLeft.{leaves_each}
