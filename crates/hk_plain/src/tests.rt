@@ -5,7 +5,7 @@ ghost use Rattle.std.specs.Prelude.{◌≡◌, IfOk};
 use crate::Plain;
 use hk_model::{
     Born, Call, Cap, Code, Cpu, Entries, Entry, Inc, Items, Kernel, Kind, Name, Path, Proc,
-    Refusal, Reply, Snapshot, Task, Text, Words, World,
+    Refusal, Reply, Slot, Snapshot, Task, Template, Text, Words, World,
 };
 use hk_rights::{Right, Rights};
 use std::alloc::{AllocError, Global};
@@ -18,7 +18,7 @@ fn text(alloc: Global, letters: &str) -> Result<Text, AllocError>
     Ok(Text::from_string(String::from_str(alloc, letters)?))
 }
 
-// The world of one DATA object with the word 7, and a process that may read it.
+// The world of one DATA object with the word 7, and a process that may read it and make lists.
 fn world(alloc: Global) -> Result<World, Fail> {
     let mut words = Words::new(alloc);
     words.push(7)?;
@@ -38,6 +38,10 @@ fn world(alloc: Global) -> Result<World, Fail> {
     slots.push(Entry::Held(Cap {
         name: Name(7),
         rights: Rights::GETDATA,
+    }))?;
+    slots.push(Entry::Form(Template::Create {
+        of: Name(2),
+        give: Rights::APPEND_MODIFY.union(Rights::ENV),
     }))?;
     let task = Task {
         label: text(alloc, "a")?,
@@ -221,5 +225,56 @@ fn a_process_reads_and_is_halted(rt: HostRuntime) -> Result<(), Fail> {
     assert!(rt; run.read);
     assert!(rt; run.kept);
     assert!(rt; run.halted);
+    Ok(())
+}
+
+// The path of a slot alone.
+fn path(slot: u16) -> Result<Path, Fail> {
+    match Path::new(&[slot]) {
+        Some(path) => Ok(path),
+        None => Err("a path".into()),
+    }
+}
+
+// How many objects stand.
+fn objects(alloc: Global, kernel: &Plain) -> Option<usize> {
+    match kernel.snapshot(alloc) {
+        Ok(shown) => Some(shown.objects.len()),
+        Err(_) => None,
+    }
+}
+
+// How many objects stand with a new list, and after its last name outside is gone.
+fn with_and_without(alloc: Global, naming_itself: bool) -> Result<[Option<usize>; 2], Fail> {
+    let mut kernel = opened(alloc)?;
+    let list = Slot(2);
+    let _given = dispatched(&mut kernel);
+    let by = path(1)?;
+    let _made = reply_to(alloc, &mut kernel, Call::Create { by, into: list });
+    if naming_itself {
+        let append = Call::Append {
+            list: path(2)?,
+            from: list,
+        };
+        let _named = reply_to(alloc, &mut kernel, append);
+    }
+    let with = objects(alloc, &kernel);
+    let _dropped = reply_to(alloc, &mut kernel, Call::Drop { slot: list });
+    Ok([with, objects(alloc, &kernel)])
+}
+
+#[test]
+fn an_object_vanishes_with_its_last_name(rt: HostRuntime) -> Result<(), Fail> {
+    let [with, without] = with_and_without(rt.alloc(), false)?;
+    assert_eq!(rt; with, Some(9));
+    assert_eq!(rt; without, Some(8));
+    Ok(())
+}
+
+#[test]
+fn an_object_that_names_itself_stays(rt: HostRuntime) -> Result<(), Fail> {
+    let [with, without] = with_and_without(rt.alloc(), true)?;
+    assert_eq!(rt; with, Some(9));
+    assert_eq!(rt; without, Some(9));
     Ok(())
 }
