@@ -2,13 +2,14 @@
 //!
 //! Each call is one small function, whose contract is its row of the table. The files are by
 //! subject: `tables` has the state, `processes`, `incarnations` and `stacks` its parts with what is
-//! kept beside them, `walks` and `targets` the tests that the calls share, `keeping` which objects
-//! stay, `marks` and `collecting` the room in a full table, `plain` the kernel over them.
+//! kept beside them, `walks` and `targets` the tests that the calls share, `counts` how many times
+//! each made object is named, `counted` the writes that it follows, `keeping` which objects stay,
+//! `marks` and `collecting` the room in a full table, `plain` the kernel over them.
 //!
 //! A step costs no more than the size of what it touches and the logarithm of the number of
-//! objects, incarnations and processes, but for two things. After an answered call, and after a
-//! halt, a name is looked for in all the state for each object that was made after the opening. A
-//! Create or a Copy in a full table looks at each object and at each slot once.
+//! objects, incarnations and processes. What it touches has the objects that vanish by it, with what
+//! they name. One thing costs more: a Create or a Copy in a full table looks at each object and at
+//! each slot once.
 #![tactic(auto)]
 
 mod activations;
