@@ -21,24 +21,12 @@ use Rattle.hk_model.proofs.NumbersRise.{NumbersRise}
 use Rattle.hk_model.proofs.CallPlaces.{GoesTo}
 use Rattle.hk_model.proofs.Activations.{look_up, Activation, activation, activations_in}
 use Rattle.hk_model.proofs.ActivationLists.{activation_live, activations_apart, left_found, halted_found}
-use Rattle.hk_model.proofs.Stacks.{remove_fewer, found_last}
+use Rattle.hk_model.proofs.Stacks.{lived_before, caller_found}
 use Rattle.hk_model.proofs.Turns.{Turn, Still, Enter, Leave, Halt}
 use Rattle.hk_model.proofs.UnderLemmas.{some_is, is_some_of}
 use Rattle.hk_confine.proofs.Hands.{Calls}
 use Rattle.hk_confine.proofs.Doings.{IsEntered, HasDoneThat, call_way_calls, entered_called}
 use Rattle.hk_confine.proofs.Settling.{HasNumber}
-
--- who lives after a line has lived before it, or was entered by it
-pub lived_before : (s : State) (line : Line) (t : State) → NumbersRise s → Turn s line t → (i : Inc) (x : Activation) → look_up i (activations_in t.incarnations) ≡ Some x
-    → (look_up i (activations_in s.incarnations) ≡ Some x) ⊎ ((enters_call (done_call line) ≡ true) × (i ≡ s.next_inc) × (x.caller ≡ Some line.inc))
-lived_before s line t n (Still q e) i x h = inl (subst (λ fs. look_up i fs ≡ Some x) q.activations h)
-lived_before s line t n (Leave e) i x h = inl (remove_fewer s line.inc n i x (subst (λ fs. look_up i fs ≡ Some x) e.activations h))
-lived_before s line t n (Halt e) i x h = inl (halted_found (activations_in s.incarnations) line.proc.0 i x (activations_apart s n) (subst (λ fs. look_up i fs ≡ Some x) e.activations h)).0
-lived_before s line t n (Enter e) i x h = by (found_last (activations_in s.incarnations) s.next_inc i (record { proc = line.proc; caller = Some line.inc }) x (subst (λ fs. look_up i fs ≡ Some x) e.activations h))
-  where
-    by : (look_up i (activations_in s.incarnations) ≡ Some x) ⊎ ((i ≡ s.next_inc) × (record { proc = line.proc; caller = Some line.inc } ≡ x)) → (look_up i (activations_in s.incarnations) ≡ Some x) ⊎ ((enters_call (done_call line) ≡ true) × (i ≡ s.next_inc) × (x.caller ≡ Some line.inc))
-    by (inl a) = inl a
-    by (inr b) = inr (e.is, b.0, ap (λ (z : Activation). z.caller) (sym b.1))
 
 -- the call lives
 abbrev pub Lives : Inc → State → Type 0
@@ -50,14 +38,6 @@ lives_before s line t n turn call numbered lives = let x = some_is (look_up call
     by : (x : Activation) → (look_up call (activations_in s.incarnations) ≡ Some x) ⊎ ((enters_call (done_call line) ≡ true) × (call ≡ s.next_inc) × (x.caller ≡ Some line.inc)) → Lives call s
     by x (inl a) = is_some_of (look_up call (activations_in s.incarnations)) x a
     by x (inr b) = let same = ap (λ (i : Inc). i.0) b.1 in absurd (omega (arith, numbered, same))
-
--- who has a caller lives
-caller_found : (s : State) (i j : Inc) → (incarnation s i).caller ≡ Some j → look_up i (activations_in s.incarnations) ≡ Some (activation (incarnation s i))
-caller_found s i j h = activation_live s.incarnations i (by (lookup (same_inc i) s.incarnations) h)
-  where
-    by : (o : Option Incarnation) → (unwrap_or o no_incarnation).caller ≡ Some j → IsTrue (is_some o)
-    by None g = absurd (cc)
-    by (Some x) g = refl
 
 -- what a Leave takes away
 left_done : (s : State) (inc : Inc) (o : Option Call) (after : List (Inc × Incarnation)) → HasDoneThat s inc o after → leaves_call o ≡ true → activations_in after ≡ remove_entry (same_inc inc) (activations_in s.incarnations)

@@ -157,7 +157,7 @@ GoesTo s inc c (Formed path kind) p = SlotIn inc p
 GoesTo s inc c Gone p = Unit {0}
 
 -- what holds of the place and the way that are written holds of each place with its way
-on_way : (P : Place → Way → Type 0) (at p : Place) (v w : Way) → P at v → written at p v ≡ Some w → P p w
+pub on_way : (P : Place → Way → Type 0) (at p : Place) (v w : Way) → P at v → written at p v ≡ Some w → P p w
 on_way P at p v w h e = by (same_place p at) refl e
   where
     by : (b : Bool) → same_place p at ≡ b → ◌≡◌ {A = Option Way} (cond b (Some v) None) (Some w) → P p w

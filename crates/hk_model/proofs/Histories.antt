@@ -24,7 +24,7 @@ use Rattle.hk_model.proofs.UnderLemmas.{UnderCall, under_begins, found_live}
 
 -- ---- the opening
 
-base_found : (n : ℕ) (ts : List Task) (i : Inc) (x : Activation) → look_up i (activations_in (bases n ts)) ≡ Some x → (x.proc.0 ≡ i.0) × (x.caller ≡ None) × (i.0 < n + length ts)
+pub base_found : (n : ℕ) (ts : List Task) (i : Inc) (x : Activation) → look_up i (activations_in (bases n ts)) ≡ Some x → (x.proc.0 ≡ i.0) × (x.caller ≡ None) × (i.0 < n + length ts)
 base_found n [] i x h = absurd (cc)
 base_found n (t ∷ ts) i x h = by (same_inc i (record { 0 = n })) refl h (λ g. base_found (n + 1) ts i x g)
   where
@@ -37,7 +37,7 @@ base_found n (t ∷ ts) i x h = by (same_inc i (record { 0 = n })) refl h (λ g.
         (sym b ∙ sym a, sym (ap (λ (z : Activation). z.caller) f), omega arith)
     by false e g rest = let r = rest g in (r.0, r.1, omega (arith, r.2))
 
-ready_found : (n : ℕ) (ts : List Task) (q : ℕ) (k : Inc) → slice_get (currents_in (all_ready n ts)) q ≡ Some k → (k.0 ≡ n + q) × (k.0 < n + length ts)
+pub ready_found : (n : ℕ) (ts : List Task) (q : ℕ) (k : Inc) → slice_get (currents_in (all_ready n ts)) q ≡ Some k → (k.0 ≡ n + q) × (k.0 < n + length ts)
 ready_found n [] q k h = absurd (cc)
 ready_found n (t ∷ ts) zero k h = let e : ◌≡◌ {A = Inc} (record { 0 = n }) k = cc in let a : n ≡ k.0 = ap (λ (z : Inc). z.0) e in (omega arith, omega arith)
 ready_found n (t ∷ ts) (suc q) k h = let r = ready_found (n + 1) ts q k h in (omega (arith, r.0), omega (arith, r.1))

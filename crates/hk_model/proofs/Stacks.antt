@@ -1,5 +1,5 @@
 -- The current incarnation of a process is the last of its incarnations, and callers come before what they call.
-use Rattle.std.proofs.Common.{◌≡◌, ℕ, zero, suc, ◌+◌, ◌<◌, ◌≤◌, List, [], ◌∷◌, ◌++◌, Bool, true, false, Option, Some, None, refl, sym, ◌∙◌, ap, arith, cond}
+use Rattle.std.proofs.Common.{◌≡◌, ℕ, zero, suc, ◌+◌, ◌<◌, ◌≤◌, List, [], ◌∷◌, ◌++◌, Bool, true, false, Option, Some, None, refl, sym, ◌∙◌, ap, subst, arith, cond}
 use Rattle.std.specs.Prelude.{IsTrue, not, slice_set, slice_get, ◌==◌, ◌⊎◌, is_some, filter}
 use mathlib.Core.Logic.{inl, inr}
 use Rattle.std.specs.Option.{unwrap_or}
@@ -11,6 +11,7 @@ use Rattle.hk_model.specs.declared.objects.Incarnation.{Incarnation}
 use Rattle.hk_model.specs.State.{State, incarnation, same_inc, no_incarnation}
 use Rattle.hk_model.proofs.Standing.{inc_same}
 use Rattle.hk_model.proofs.Activations.{Activation, look_up}
+use Rattle.hk_model.specs.Lines.{done_call, enters_call}
 use Rattle.hk_model.specs.Under.{is_live}
 use Rattle.hk_model.proofs.Standing.{inc_laws}
 use Rattle.hk_model.proofs.NumbersRise.{NumbersRise}
@@ -219,3 +220,25 @@ stack_turn s line t n (Leave e) h = rw (e.activations, ap (λ (i : Inc). i.0) e.
     by (Some k) o g = rw g (left_stacked (activations_in s.incarnations) (remove_entry (same_inc line.inc) (activations_in s.incarnations)) (currents_in s.processes) s.next_inc.0 line.proc.0 line.inc k (activation (incarnation s line.inc)) h (remove_fewer s line.inc n) gone e.now (activation_live s.incarnations line.inc (caller_live s line.inc k o)) o)
 stack_turn s line t n (Halt e) h =
     rw (e.activations, e.currents, ap (λ (i : Inc). i.0) e.next) (fewer_stacked (activations_in s.incarnations) (filter (λ (y : Inc × Activation). not (y.1.proc.0 == line.proc.0)) (activations_in s.incarnations)) (currents_in s.processes) s.next_inc.0 h (λ i x g. (halted_found (activations_in s.incarnations) line.proc.0 i x (activations_apart s n) g).0))
+
+-- ---- who lived before
+
+-- who lives after a line has lived before it, or was entered by it
+pub lived_before : (s : State) (line : Line) (t : State) → NumbersRise s → Turn s line t → (i : Inc) (x : Activation) → look_up i (activations_in t.incarnations) ≡ Some x
+    → (look_up i (activations_in s.incarnations) ≡ Some x) ⊎ ((enters_call (done_call line) ≡ true) × (i ≡ s.next_inc) × (x.caller ≡ Some line.inc))
+lived_before s line t n (Still q e) i x h = inl (subst (λ fs. look_up i fs ≡ Some x) q.activations h)
+lived_before s line t n (Leave e) i x h = inl (remove_fewer s line.inc n i x (subst (λ fs. look_up i fs ≡ Some x) e.activations h))
+lived_before s line t n (Halt e) i x h = inl (halted_found (activations_in s.incarnations) line.proc.0 i x (activations_apart s n) (subst (λ fs. look_up i fs ≡ Some x) e.activations h)).0
+lived_before s line t n (Enter e) i x h = by (found_last (activations_in s.incarnations) s.next_inc i (record { proc = line.proc; caller = Some line.inc }) x (subst (λ fs. look_up i fs ≡ Some x) e.activations h))
+  where
+    by : (look_up i (activations_in s.incarnations) ≡ Some x) ⊎ ((i ≡ s.next_inc) × (record { proc = line.proc; caller = Some line.inc } ≡ x)) → (look_up i (activations_in s.incarnations) ≡ Some x) ⊎ ((enters_call (done_call line) ≡ true) × (i ≡ s.next_inc) × (x.caller ≡ Some line.inc))
+    by (inl a) = inl a
+    by (inr b) = inr (e.is, b.0, ap (λ (z : Activation). z.caller) (sym b.1))
+
+-- of an incarnation that has a caller the activation is found
+pub caller_found : (s : State) (i j : Inc) → (incarnation s i).caller ≡ Some j → look_up i (activations_in s.incarnations) ≡ Some (activation (incarnation s i))
+caller_found s i j h = activation_live s.incarnations i (by (lookup (same_inc i) s.incarnations) h)
+  where
+    by : (o : Option Incarnation) → (unwrap_or o no_incarnation).caller ≡ Some j → IsTrue (is_some o)
+    by None g = absurd (cc)
+    by (Some x) g = refl

@@ -26,7 +26,7 @@ pub depth_is : (s : State) (p : ℕ) → amount p (activations_in s.incarnations
 depth_is s p = is_count_by (λ (es : List (Inc × Incarnation)). amount p (activations_in es)) (λ e. e.1.proc.0 == p) refl (λ x xs. refl) s.incarnations
 
 -- one more
-amount_added : (p : ℕ) (es : List (Inc × Activation)) (n : Inc) (x : Activation) → amount p (es ++ (n, x) ∷ []) ≡ cond (x.proc.0 == p) (1 + amount p es) (amount p es)
+pub amount_added : (p : ℕ) (es : List (Inc × Activation)) (n : Inc) (x : Activation) → amount p (es ++ (n, x) ∷ []) ≡ cond (x.proc.0 == p) (1 + amount p es) (amount p es)
 amount_added p [] n x = refl
 amount_added p (e ∷ es) n x = by (e.1.proc.0 == p) (x.proc.0 == p) (amount_added p es n x)
   where
