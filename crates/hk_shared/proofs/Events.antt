@@ -228,12 +228,12 @@ module _ (w : Setup) (lines : List Line) (held : List (Option Context)) (world :
       found : (rest : List Proc) × ((state_after w lines).ready ≡ proc ∷ rest) × (t ≡ given_to (state_after w lines) cpu proc rest)
       found = dispatched_is (state_after w lines) cpu proc t e
 
-      longer : IsLonger w lines line (record (machine_after w lines) { state = t })
-      longer = steps_snoc w lines (machine_after w lines) cpu line (record (machine_after w lines) { state = t }) steps refl (rw (inc_is ∙ same_inc) (dispatch_is proc t e))
-
       -- the dispatch leaves the current incarnation
-      same_inc : (process t proc).current ≡ (process (state_after w lines) proc).current
-      same_inc = ap (λ (k : State). (process k proc).current) found.2 ∙ current_stays (state_after w lines) cpu proc found.0
+      stays : (process t proc).current ≡ (process (state_after w lines) proc).current
+      stays = ap (λ (k : State). (process k proc).current) found.2 ∙ current_stays (state_after w lines) cpu proc found.0
+
+      longer : IsLonger w lines line (record (machine_after w lines) { state = t })
+      longer = steps_snoc w lines (machine_after w lines) cpu line (record (machine_after w lines) { state = t }) steps refl (rw (inc_is ∙ stays) (dispatch_is proc t e))
 
       ready : run_at (state_after w lines).processes proc.0 ≡ Ready
       ready = first_ready w (state_after w lines) proc found.0 (sound_kept w (machine_after w lines) (sound_after w lines steps world)).regular found.1
