@@ -215,7 +215,7 @@ goes_on s line u h = record { limit = h.limit; placed = λ e p. h.placed p }
 
 -- what vanishes is no process
 goes_restricted : (s : State) (line : Line) (u : State) → Kept s u → GoesOn s line (counted (s.events + 1) (restricted u))
-goes_restricted s line u h = record { events = refl; limit = h.limit; placed = λ e p. h.placed p }
+goes_restricted s line u h = record { limit = h.limit; placed = λ e p. h.placed p }
 
 call_goes : (s : State) (line : Line) (o : Outcome) → IsKept s o → GoesOn s line (settled s o).1
 call_goes s line (Ok f) h = goes_restricted s line f.1 h
