@@ -1,16 +1,15 @@
 -- How many incarnations of a process are left, and that one of them lives.
-use Rattle.std.specs.Prelude.{◌≡◌, ◌⊎◌, ℕ, zero, suc, ◌+◌, ◌≤◌, ◌==◌, List, [], ◌∷◌, ◌++◌, length, Bool, true, false, Option, Some, None, not, filter, refl}
+use Rattle.std.specs.Prelude.{◌≡◌, ℕ, ◌+◌, ◌≤◌, ◌==◌, List, [], ◌∷◌, Bool, true, false, Some, not, filter, refl}
 use Rattle.std.specs.Map.{lookup, remove_entry}
 use Rattle.std.proofs.Common.{arith, ap, sym, ◌∙◌, cond}
 use Rattle.std.proofs.lemmas.Bool.Decides.{nat_tests}
 use Rattle.std.proofs.lemmas.Bool.{true≢false}
 use Rattle.hk_model.specs.declared.names.Inc.{Inc}
 use Rattle.hk_model.specs.declared.objects.Incarnation.{Incarnation}
-use Rattle.hk_model.specs.State.{State, same_inc}
-use Rattle.hk_model.specs.Shapes.{Lives}
+use Rattle.hk_model.specs.State.{same_inc}
 use Rattle.hk_model.proofs.Activations.{Activation, activations_in, look_up}
-use Rattle.hk_model.proofs.NumbersRise.{RisesFrom, NumbersRise}
-use Rattle.hk_model.proofs.Standing.{on_cond, inc_same, inc_laws}
+use Rattle.hk_model.proofs.NumbersRise.{RisesFrom}
+use Rattle.hk_model.proofs.Standing.{inc_same, inc_laws}
 use Rattle.hk_program.proofs.Depths.{amount}
 
 counted_less : (b : Bool) (m n : ℕ) → m ≤ n → cond b (1 + m) m ≤ cond b (1 + n) n

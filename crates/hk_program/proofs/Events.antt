@@ -16,7 +16,6 @@ use Rattle.hk_model.specs.declared.lines.Line.{Line}
 use Rattle.hk_model.specs.declared.objects.Process.{Process}
 use Rattle.hk_model.specs.declared.objects.ProcessState.TheVariants.{Ready, Running}
 use Rattle.hk_model.specs.declared.frames.Todo.{Todo}
-use Rattle.hk_model.specs.declared.frames.Todo.TheVariants.{Do, Halt}
 use Rattle.hk_model.specs.Limits.{cpu_limit}
 use Rattle.hk_model.specs.declared.world.Task.{Task}
 use Rattle.hk_model.specs.Setup.{Setup}

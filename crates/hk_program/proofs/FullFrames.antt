@@ -1,5 +1,5 @@
 -- A process has one frame for each of its live incarnations.
-use Rattle.std.specs.Prelude.{◌≡◌, ◌⊎◌, ℕ, zero, suc, ◌+◌, ◌-◌, ◌≤◌, ◌<◌, ◌==◌, List, [], ◌∷◌, ◌++◌, length, Bool, true, false, Option, Some, None, Result, Ok, Err, IfOk, IfSome, IsSome, is_some, map, not, filter, slice_get, slice_set, take, refl}
+use Rattle.std.specs.Prelude.{◌≡◌, ◌⊎◌, ℕ, zero, suc, ◌+◌, ◌-◌, ◌≤◌, ◌<◌, ◌==◌, List, [], ◌∷◌, length, Bool, true, false, Option, Some, None, Ok, Err, IfOk, IsSome, map, not, slice_get, slice_set, take, refl}
 use Rattle.std.specs.Option.{unwrap_or}
 use Rattle.std.specs.Map.{lookup, remove_entry}
 use Rattle.std.proofs.Common.{arith, ap, sym, ◌∙◌, subst, cond}
@@ -7,13 +7,10 @@ use Rattle.std.proofs.lemmas.Bool.{true≢false, cases_eq}
 use Rattle.std.proofs.lemmas.Bool.Decides.{nat_tests}
 use mathlib.Core.Logic.{inl, inr}
 use Rattle.hk_model.specs.declared.names.Inc.{Inc}
-use Rattle.hk_model.specs.declared.names.Name.{Name}
 use Rattle.hk_model.specs.declared.names.Proc.{Proc}
 use Rattle.hk_model.specs.declared.names.Cpu.{Cpu}
 use Rattle.hk_model.specs.declared.names.Slot.{Slot}
 use Rattle.hk_model.specs.declared.entries.Cap.{Cap}
-use Rattle.hk_model.specs.declared.entries.Entry.{Entry}
-use Rattle.hk_model.specs.declared.entries.Entry.TheVariants.{Empty, Held, Form}
 use Rattle.hk_model.specs.declared.calls.Call.{Call}
 use Rattle.hk_model.specs.declared.calls.Call.TheVariants as call
 use Rattle.hk_model.specs.declared.calls.Answer.{Answer}
@@ -25,34 +22,32 @@ use Rattle.hk_model.specs.declared.lines.What.TheVariants as what
 use Rattle.hk_model.specs.declared.frames.Todo.{Todo}
 use Rattle.hk_model.specs.declared.frames.Todo.TheVariants.{Do, Halt}
 use Rattle.hk_model.specs.declared.objects.Object.{Object}
-use Rattle.hk_model.specs.declared.objects.Incarnation.{Incarnation}
 use Rattle.hk_model.specs.declared.world.Task.{Task}
 use Rattle.hk_model.specs.Setup.{Setup, IsWorld}
-use Rattle.hk_model.specs.State.{State, object, process, same_inc, same_name, no_object}
+use Rattle.hk_model.specs.State.{State, process, same_inc, no_object}
 use Rattle.hk_model.specs.Walking.{walk}
 use Rattle.hk_model.specs.Targets.{PROCEDURE, is_type, target}
-use Rattle.hk_model.specs.Keeping.{restricted}
-use Rattle.hk_model.specs.Rule.{Outcome, outcome, rule, settled, counted, answered, depth, enter_procedure, leave}
-use Rattle.hk_model.specs.Processors.{runner, entered, code_found, halted, ended}
+use Rattle.hk_model.specs.Rule.{Outcome, outcome, rule, settled, answered, depth, enter_procedure, leave}
+use Rattle.hk_model.specs.Processors.{runner, entered, code_found, halted}
 use Rattle.hk_model.specs.Control.{Context, next, after, frames_after, behind, new_frame}
 use Rattle.hk_model.specs.Opening.{opening, bases}
 use Rattle.hk_model.specs.Lines.{done_by, done_call, enters_call, leaves_call}
 use Rattle.hk_model.specs.Running.{Machine, opened, context_of, event, moved, after_lines, machine_at, state_at, AreStepsOf}
 use Rattle.hk_model.specs.Effects.{there}
-use Rattle.hk_model.specs.Shapes.{ProceduresHaveCodes, CurrentsCallNone, Lives}
+use Rattle.hk_model.specs.Shapes.{ProceduresHaveCodes, CurrentsCallNone}
 use Rattle.hk_model.proofs.TestLemmas.{then_is, and_is, if_ok}
 use Rattle.hk_model.proofs.WalkLemmas.{target_is}
-use Rattle.hk_model.proofs.Activations.{Activation, activation, activations_in, currents_in, look_up}
+use Rattle.hk_model.proofs.Activations.{Activation, activations_in, look_up}
 use Rattle.hk_model.proofs.ActivationLists.{activation_live, activations_filter}
 use Rattle.hk_model.proofs.Turns.{Turn, Still, Enter, Leave, turn_each, enters_by, leave_leaves, runs_current}
 use Rattle.hk_model.proofs.Turns as turns
-use Rattle.hk_model.proofs.Steps.{proc_line, given_to, first_steps, after_next}
-use Rattle.hk_model.proofs.Histories.{Sound, enters_turn, sound_at}
+use Rattle.hk_model.proofs.Steps.{proc_line, first_steps, after_next}
+use Rattle.hk_model.proofs.Histories.{enters_turn}
 use Rattle.hk_model.proofs.Linked.{currents_at}
 use Rattle.hk_model.proofs.Procedures.{codes_at}
 use Rattle.hk_program.proofs.Frames.{next_length}
 use Rattle.hk_program.proofs.Depths.{amount, depth_is, amount_added}
-use Rattle.hk_program.proofs.Amounts.{removed_most, filtered_most, filtered_own, removed_own, OfProcess, counted_lives}
+use Rattle.hk_program.proofs.Amounts.{removed_most, filtered_most, filtered_own, removed_own, counted_lives}
 use Rattle.hk_program.proofs.Kept.{Kept, context_fits, entered_none, leave_done, answered_done}
 use Rattle.hk_program.proofs.StepCases.{moved_by}
 use Rattle.hk_program.proofs.Machines.{sound_kept, sound_after}

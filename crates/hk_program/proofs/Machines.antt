@@ -1,5 +1,5 @@
 -- Laws of the machines of a world, for those who make its steps.
-use Rattle.std.specs.Prelude.{◌≡◌, ℕ, zero, suc, ◌+◌, ◌<◌, ◌≤◌, List, [], ◌∷◌, ◌++◌, length, true, Option, Some, None, IfSome, Ok, Err, slice_get, slice_set, option_map, refl}
+use Rattle.std.specs.Prelude.{◌≡◌, ℕ, zero, suc, ◌+◌, ◌<◌, ◌≤◌, List, [], ◌∷◌, ◌++◌, length, true, Option, Some, None, IfSome, slice_get, slice_set, option_map, refl}
 use Rattle.std.specs.Option.{unwrap_or}
 use Rattle.std.proofs.Common.{arith, ap, sym, ◌∙◌, subst}
 use Rattle.std.proofs.lemmas.Bool.{true≢false}
@@ -12,10 +12,9 @@ use Rattle.hk_model.specs.declared.lines.Line.{Line}
 use Rattle.hk_model.specs.Limits.{depth_limit}
 use Rattle.hk_model.specs.Setup.{Setup, IsWorld}
 use Rattle.hk_model.specs.State.{State, process}
-use Rattle.hk_model.specs.Rule.{Outcome, outcome, rule, settled, depth}
+use Rattle.hk_model.specs.Rule.{rule, depth}
 use Rattle.hk_model.specs.Processors.{is_on, runner, may_step, halted, entered}
 use Rattle.hk_model.specs.Control.{Context}
-use Rattle.hk_model.specs.Opening.{opening}
 use Rattle.hk_model.specs.Running.{Machine, context_of, step, line_of, moved, after_lines, opened, AreSteps, AreStepsOf, state_after}
 use Rattle.hk_model.proofs.Steps.{given_to}
 use Rattle.hk_model.proofs.EventCounts.{events_each, opened_events, events_are}
