@@ -7,9 +7,9 @@ ghost use Rattle.hk_model.specs.Refusing.{item_at};
 ghost use Rattle.hk_model.specs.Walking.{hop, walk_on, obtained, reduced_rights, local_rights};
 ghost use Rattle.hk_walk.specs.Walks.{seen};
 
-use hk_objects::{Objects, Steps};
 use hk_merge::{allowed, confined_rights, held};
 use hk_model::{Cap, Entry, Name, Refusal};
+use hk_objects::{Objects, Steps};
 use hk_rights::{Right, Rights};
 use std::sync::ledger::Ledger;
 

@@ -9,3 +9,6 @@ mod walker;
 pub use laws::{right_while_lists_appear, right_while_lists_stay};
 pub use trail::Trail;
 pub use walker::Walker;
+
+#[cfg(test)]
+mod tests;

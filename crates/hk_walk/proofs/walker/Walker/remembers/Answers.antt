@@ -13,6 +13,6 @@ returns c =
     let same = ap (λ k. is_some (lookup ((eq-value).it k) pairs)) c.new.ensures in (
       (λ yes. subst (λ (m : Remembered). Remembers m.pairs c.args.from c.args.rest.now) c.self.view_is (remembers-pair key pairs (sym same ∙ sym c.contains.ensures ∙ yes))),
       (λ there.
-        let was = subst (λ (m : Remembered). Remembers m.pairs c.args.from c.args.rest.now) (sym c.self.view_is) there in
-        c.contains.ensures ∙ same ∙ standing key pairs was.0 was.1),
+          let was = subst (λ (m : Remembered). Remembers m.pairs c.args.from c.args.rest.now) (sym c.self.view_is) there in
+          c.contains.ensures ∙ same ∙ standing key pairs was.0 was.1),
     )
