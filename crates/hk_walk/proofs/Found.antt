@@ -1,13 +1,12 @@
 -- What a find and a look at a slot tell of the definitions' objects.
-use Rattle.std.proofs.Common.{◌≡◌, ℕ, zero, suc, List, [], ◌∷◌, map, Option, Some, None, IfSome, refl, sym, ap, ◌∙◌, subst, option_map}
-use Rattle.std.specs.Map.{lookup}
+use Rattle.std.proofs.Common.{◌≡◌, ℕ, zero, suc, List, [], ◌∷◌, map, Option, Some, None, IfSome, refl, sym, ap, ◌∙◌, option_map}
 use Rattle.std.specs.Option.{unwrap_or}
 use Rattle.hk_model.specs.declared.names.Name.{Name}
 use Rattle.hk_model.specs.declared.entries.Entry.{Entry}
 use Rattle.hk_model.specs.declared.objects.Object.{Object}
-use Rattle.hk_model.specs.State.{same_name, object, no_object}
+use Rattle.hk_model.specs.State.{object, no_object}
 use Rattle.hk_objects.specs.declared.body.Body.{Body}
-use Rattle.hk_objects.specs.Slots.{standing, place, name_at, AreApart}
+use Rattle.hk_objects.specs.Slots.{place, name_at, AreApart}
 use Rattle.hk_objects.proofs.Standing.{lookup-place, lookup-absent}
 use Rattle.hk_walk.specs.Walks.{seen, shown, shown_at}
 

@@ -1,5 +1,5 @@
 -- Remembered pairs.
-use Rattle.std.proofs.Common.{◌≡◌, ◌⊎◌, ℕ, ◌-◌, ◌≤◌, ◌&&◌, ◌==◌, Bool, true, false, List, [], ◌∷◌, ◌++◌, length, take, Contains, Option, Some, None, is_some, Result, Ok, Err, OnOk, OnErr, refl, sym, ap, subst, ◌∙◌, inl, inr, arith, nat_eq}
+use Rattle.std.proofs.Common.{◌≡◌, ◌⊎◌, ℕ, ◌-◌, ◌&&◌, ◌==◌, Bool, true, false, List, [], ◌∷◌, length, take, Contains, Option, Some, None, is_some, Result, Ok, Err, OnOk, OnErr, refl, sym, ap, subst, ◌∙◌, inl, inr, nat_eq}
 use Rattle.std.proofs.lemmas.Bool.Decides.{Decides-eqb}
 use Rattle.std.proofs.lemmas.List.{take_at}
 use Rattle.std.proofs.lemmas.Option.{none-some, same_Some}
@@ -15,12 +15,12 @@ use Rattle.lru.proofs.CallerLemmas.{Contains-lookup, Contains-lookup_entry, Cont
 use Rattle.hk_model.specs.declared.entries.Cap.{Cap}
 use Rattle.hk_model.specs.declared.entries.Entry.{Entry}
 use Rattle.hk_model.specs.declared.entries.Entry.TheVariants.{Held}
-use Rattle.hk_model.specs.State.{State, object}
+use Rattle.hk_model.specs.State.{State}
 use Rattle.hk_model.specs.Walking.{walk_on}
 use Rattle.hk_walk.specs.declared.trail.Trail.{Trail}
 use Rattle.hk_walk.specs.contracts.trail.TrailPartialEq.TheImpl.{eq-value}
 use Rattle.hk_walk.specs.Remembered.{Remembered}
-use Rattle.hk_walk.specs.Walks.{padded, trail, AreRight, Remembers, JoinsAtMost}
+use Rattle.hk_walk.specs.Walks.{trail, AreRight, Remembers, JoinsAtMost}
 
 left_of : (x y : Bool) → (x && y) ≡ true → x ≡ true
 left_of true y h = refl

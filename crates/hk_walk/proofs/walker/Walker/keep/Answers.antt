@@ -1,4 +1,4 @@
-use Rattle.std.proofs.Common.{◌≡◌, ◌⊎◌, ap, subst, slice_get, Some}
+use Rattle.std.proofs.Common.{◌≡◌, ◌⊎◌, subst, slice_get, Some}
 use Rattle.hk_walk.specs.Remembered.{Remembered}
 use Rattle.hk_walk.specs.Walks.{JoinsAtMost}
 use Rattle.hk_walk.proofs.Pairs.{held_in, tried-joins, tried-first}

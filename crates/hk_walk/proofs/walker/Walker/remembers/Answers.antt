@@ -1,4 +1,4 @@
-use Rattle.std.proofs.Common.{◌≡◌, sym, ap, subst, ◌∙◌, is_some}
+use Rattle.std.proofs.Common.{sym, ap, subst, ◌∙◌, is_some}
 use Rattle.std.specs.Map.{lookup}
 use Rattle.hk_walk.specs.Remembered.{Remembered}
 use Rattle.hk_walk.specs.Walks.{trail, Remembers}
