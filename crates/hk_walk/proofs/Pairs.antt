@@ -8,7 +8,7 @@ use Rattle.std.specs.List.{slice_get}
 use Rattle.std.specs.Map.{lookup, lookup_entry, remove_entry}
 use Rattle.std.specs.Option.{option_map_or}
 use Rattle.lru.specs.LruCache.{LruCache, lru_cache, promoted, put_entries}
-use Rattle.lru.proofs.Splits.{Contains-cons, Contains-nil}
+use Rattle.lru.proofs.Splits.{Contains-head, Contains-tail, Contains-cons, Contains-nil}
 use Rattle.std.proofs.lemmas.Bool.{false≢true}
 use Rattle.std.proofs.lemmas.Cmp.{nat_list_eq_equiv}
 use Rattle.lru.proofs.CallerLemmas.{Contains-lookup, Contains-lookup_entry, Contains-promoted, Contains-put_entries}
@@ -20,7 +20,7 @@ use Rattle.hk_model.specs.Walking.{walk_on}
 use Rattle.hk_walk.specs.declared.trail.Trail.{Trail}
 use Rattle.hk_walk.specs.contracts.trail.TrailPartialEq.TheImpl.{eq-value}
 use Rattle.hk_walk.specs.Remembered.{Remembered}
-use Rattle.hk_walk.specs.Walks.{trail, AreRight, Remembers, JoinsAtMost}
+use Rattle.hk_walk.specs.Walks.{trail, AreRight, Remembers, JoinsAtMost, NoneGoes}
 
 left_of : (x y : Bool) → (x && y) ≡ true → x ≡ true
 left_of true y h = refl
@@ -102,6 +102,35 @@ found_entry key (e ∷ es) v h = at (λ k. found_entry key es v k) ((eq-value).i
 pub promoted-first : (key : Trail) (es : List (Trail × Entry)) (v : Entry) → lookup ((eq-value).it key) es ≡ Some v → slice_get (promoted ((eq-value).it key) es) 0 ≡ Some (key, v)
 promoted-first key es v h = rw (found_entry key es v h) refl
 
+-- a pair goes first or stays behind it
+apart_from : (test : Trail → Bool) (es : List (Trail × Entry)) (f e : Trail × Entry) → lookup_entry test es ≡ Some f → Contains es e → (f ≡ e) ⊎ Contains (remove_entry test es) e
+apart_from test [] f e h c = absurd (Contains-nil e c)
+apart_from test (g ∷ es) f e h c = at (λ k d. apart_from test es f e k d) (test g.0) refl
+  where
+    at : (lookup_entry test es ≡ Some f → Contains es e → (f ≡ e) ⊎ Contains (remove_entry test es) e) → (b : Bool) → test g.0 ≡ b → (f ≡ e) ⊎ Contains (remove_entry test (g ∷ es)) e
+    at rest true t = let first : g ≡ f = same_Some g f (rw t at h) in rw t (elim (Contains-cons g es e c) [
+      | inl same ↦ inl (sym first ∙ same)
+      | inr later ↦ inr later
+    ])
+    at rest false t = rw t (elim (Contains-cons g es e c) [
+      | inl same ↦ inr (subst (Contains (g ∷ remove_entry test es)) same (Contains-head g (remove_entry test es)))
+      | inr later ↦ elim (rest (rw t at h) later) [
+        | inl same ↦ inl same
+        | inr behind ↦ inr (Contains-tail g (remove_entry test es) e behind)
+      ]
+    ])
+
+-- so none goes
+pub promoted-keeps : (test : Trail → Bool) (es : List (Trail × Entry)) → NoneGoes es (promoted test es)
+promoted-keeps test es e c = at (lookup_entry test es) refl
+  where
+    at : (o : Option (Trail × Entry)) → lookup_entry test es ≡ o → Contains (promoted test es) e
+    at None h = rw h c
+    at (Some f) h = rw h (elim (apart_from test es f e h c) [
+      | inl same ↦ subst (Contains (f ∷ remove_entry test es)) same (Contains-head f (remove_entry test es))
+      | inr behind ↦ Contains-tail f (remove_entry test es) e behind
+    ])
+
 -- where nothing is found nothing goes first
 pub promoted-none : (key : Trail) (es : List (Trail × Entry)) → lookup ((eq-value).it key) es ≡ None → promoted ((eq-value).it key) es ≡ es
 promoted-none key es h = at (lookup_entry ((eq-value).it key) es) refl
@@ -127,6 +156,15 @@ module _ (old : LruCache Trail Entry) (key : Trail) (v : Entry) where
     ]
   ]
 
+  pub put-pushes : lookup ((eq-value).it key) old.entries ≡ None → put_entries (eq-value).it old key v ≡ (key, v) ∷ take (old.cap - 1) old.entries
+  put-pushes none = at (lookup_entry ((eq-value).it key) old.entries) refl
+    where
+      at : (o : Option (Trail × Entry)) → lookup_entry ((eq-value).it key) old.entries ≡ o → put_entries (eq-value).it old key v ≡ (key, v) ∷ take (old.cap - 1) old.entries
+      at None e = rw e refl
+      at (Some f) e = let on = Contains-lookup_entry ((eq-value).it key) old.entries f e in
+          let same : f.0 ≡ key = sym (same_trail key f.0 on.1) in
+          absurd (false≢true (ap is_some (sym none) ∙ standing key old.entries f.1 (subst (λ k. Contains old.entries (k, f.1)) same on.0)))
+
   first_of : (o : Option (Trail × Entry)) → lookup_entry ((eq-value).it key) old.entries ≡ o
       → slice_get (option_map_or (λ e. (e.0, v) ∷ remove_entry ((eq-value).it key) old.entries) o ((key, v) ∷ take (old.cap - 1) old.entries)) 0 ≡ Some (key, v)
   first_of None h = refl
@@ -144,6 +182,10 @@ module _ (old : LruCache Trail Entry) (key : Trail) (v : Entry) where
     pub tried-first : (r : Result T E) → OnOk r (new ≡ lru_cache (put_entries (eq-value).it old key v) old.cap) → OnErr r (new ≡ old) → (slice_get new.entries 0 ≡ Some (key, v)) ⊎ (held_in new ≡ held_in old)
     tried-first (Ok t) ok err = inl (ap (λ n. slice_get n.entries 0) ok ∙ put-first)
     tried-first (Err t) ok err = inr (ap held_in err)
+
+    pub tried-pushes : (r : Result T E) → OnOk r (new ≡ lru_cache (put_entries (eq-value).it old key v) old.cap) → OnErr r (new ≡ old) → lookup ((eq-value).it key) old.entries ≡ None → (new.entries ≡ (key, v) ∷ take (old.cap - 1) old.entries) ⊎ (held_in new ≡ held_in old)
+    tried-pushes (Ok t) ok err none = inl (ap (λ n. n.entries) ok ∙ put-pushes none)
+    tried-pushes (Err t) ok err none = inr (ap held_in err)
 
 -- what joins is right, so all stays right
 pub joined-right : (s : State) (from : Cap) (rest : List ℕ) (v : Entry) (old new : List (Trail × Entry)) → JoinsAtMost (trail from rest, v) old new → walk_on s (Held from) rest 0 ≡ Ok v → AreRight s old → AreRight s new
@@ -173,6 +215,9 @@ module _ (k : Trail) (from : Cap) (rest : List ℕ) (key : k ≡ trail from rest
   pub hit-value : (s : State) (es : List (Trail × Entry)) (v : Entry) → Some v ≡ lookup ((eq-value).it k) es → AreRight s es → Ok v ≡ walk_on s (Held from) rest 0
   hit-value s es v h right = sym (right from rest v (found (trail from rest) es v (hit_at es v h)))
 
+  pub hit-remembered : (es : List (Trail × Entry)) (v : Entry) → Some v ≡ lookup ((eq-value).it k) es → Remembers es from rest
+  hit-remembered es v h = (v, found (trail from rest) es v (hit_at es v h))
+
   -- where nothing was found it is not remembered
   pub miss-hit : {A : Type 0} (es : List (Trail × Entry)) → None ≡ lookup ((eq-value).it k) es → Remembers es from rest → A
   miss-hit es h there = absurd (not_remembered from rest es (ap (λ j. lookup ((eq-value).it j) es) (sym key) ∙ sym h) there)
@@ -189,6 +234,9 @@ module _ (k : Trail) (from : Cap) (rest : List ℕ) (key : k ≡ trail from rest
 
     pub hit-first : (v : Entry) → Some v ≡ lookup ((eq-value).it k) old.pairs → slice_get new.pairs 0 ≡ Some (trail from rest, v)
     hit-first v h = ap (λ n. slice_get n.pairs 0) moved ∙ promoted-first k old.pairs v (sym h) ∙ (λ i. Some (key i, v))
+
+    pub hit-stays : NoneGoes old.pairs new.pairs
+    hit-stays = λ e there. subst (λ (n : Remembered). Contains n.pairs e) (sym moved) (promoted-keeps ((eq-value).it k) old.pairs e there)
 
     -- a look-up that finds nothing changes nothing
     pub miss-same : None ≡ lookup ((eq-value).it k) old.pairs → new ≡ old
@@ -208,6 +256,12 @@ module _ (k : Trail) (from : Cap) (rest : List ℕ) (key : k ≡ trail from rest
         pub miss-first : (slice_get last.pairs 0 ≡ Some (k, v)) ⊎ (last ≡ new) → (slice_get last.pairs 0 ≡ Some (trail from rest, v)) ⊎ (last ≡ old)
         miss-first (inl h) = inl (h ∙ (λ i. Some (key i, v)))
         miss-first (inr h) = inr (h ∙ miss-same none)
+
+        pub miss-pushes : (lookup ((eq-value).it k) new.pairs ≡ None → (last.pairs ≡ (k, v) ∷ take (new.capacity - 1) new.pairs) ⊎ (last ≡ new)) → (last.pairs ≡ (trail from rest, v) ∷ take (old.capacity - 1) old.pairs) ⊎ (last ≡ old)
+        miss-pushes pushes = elim (pushes (ap (λ (n : Remembered). lookup ((eq-value).it k) n.pairs) (miss-same none) ∙ sym none)) [
+          | inl h ↦ inl (h ∙ (λ i. (key i, v) ∷ take ((miss-same none i).capacity - 1) (miss-same none i).pairs))
+          | inr h ↦ inr (h ∙ miss-same none)
+        ]
 
 -- a pair that stands first is found, and stays where it is
 pub latest-found : (key : Trail) (es : List (Trail × Entry)) (v : Entry) → slice_get es 0 ≡ Some (key, v) → lookup ((eq-value).it key) es ≡ Some v

@@ -53,3 +53,7 @@ AreRight s entries = (from : Cap) (rest : List ℕ) (v : Entry) → Contains ent
 -- no pair joined but this one
 abbrev pub JoinsAtMost : Trail × Entry → List (Trail × Entry) → List (Trail × Entry) → Type 0
 JoinsAtMost pair old new = (e : Trail × Entry) → Contains new e → Contains old e ⊎ (e ≡ pair)
+
+-- no pair went
+abbrev pub NoneGoes : List (Trail × Entry) → List (Trail × Entry) → Type 0
+NoneGoes old new = (e : Trail × Entry) → Contains old e → Contains new e

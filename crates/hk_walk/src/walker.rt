@@ -1,12 +1,12 @@
 //! Walks, the latest of them remembered.
 
-ghost use Rattle.std.specs.Prelude.{◌≡◌, ◌≤◌, ◌<◌, ◌+◌, ◌⊎◌, ◌↔◌, [], length, IfOk, IfSome, OnErr, IsTrue, Some, slice_get};
+ghost use Rattle.std.specs.Prelude.{◌≡◌, ◌≤◌, ◌<◌, ◌+◌, ◌-◌, ◌⊎◌, ◌↔◌, ◌∷◌, [], length, take, IfOk, IfSome, OnErr, IsTrue, Some, None, slice_get};
 ghost use Rattle.std.specs.Map.{lookup};
 ghost use Rattle.lru.specs.LruCache.{promoted};
 ghost use Rattle.hk_model.specs.declared.entries.Entry.TheVariants.{Held};
 ghost use Rattle.hk_model.specs.Walking.{walk_on};
 ghost use Rattle.hk_walk.specs.contracts.trail.TrailPartialEq.TheImpl.{eq-value};
-ghost use Rattle.hk_walk.specs.Walks.{seen, trail, Remembers, AreRight, JoinsAtMost};
+ghost use Rattle.hk_walk.specs.Walks.{seen, trail, Remembers, AreRight, JoinsAtMost, NoneGoes};
 
 use crate::hops::walk_on;
 use crate::trail::Trail;
@@ -62,6 +62,8 @@ impl Walker {
         ensures first { IfOk result (λ entry. 0 < length rest.now → (slice_get self.new.pairs 0 ≡ Some (trail from rest.now, entry)) ⊎ (self.new ≡ self.old)) }
         ensures first_again { IfOk result (λ entry. Remembers self.old.pairs from rest.now → 0 < length rest.now → slice_get self.new.pairs 0 ≡ Some (trail from rest.now, entry)) }
         ensures joins { IfOk result (λ entry. JoinsAtMost (trail from rest.now, entry) self.old.pairs self.new.pairs) }
+        ensures stays { Remembers self.old.pairs from rest.now → NoneGoes self.old.pairs self.new.pairs }
+        ensures pushes { IfOk result (λ entry. (Remembers self.old.pairs from rest.now → ⊥) → 0 < length rest.now → (self.new.pairs ≡ (trail from rest.now, entry) ∷ take (self.old.capacity - 1) self.old.pairs) ⊎ (self.new ≡ self.old)) }
         ensures refused { OnErr result (self.new ≡ self.old) }
     {
         if rest.is_empty() {
@@ -119,6 +121,7 @@ impl Walker {
         ensures capacity { self.new.capacity ≡ self.old.capacity }
         ensures joins { JoinsAtMost (key, entry.now) self.old.pairs self.new.pairs }
         ensures first { (slice_get self.new.pairs 0 ≡ Some (key, entry.now)) ⊎ (self.new ≡ self.old) }
+        ensures pushes { lookup ((eq-value).it key) self.old.pairs ≡ None → (self.new.pairs ≡ (key, entry.now) ∷ take (self.old.capacity - 1) self.old.pairs) ⊎ (self.new ≡ self.old) }
     {
         let _ = PhantomData::<Template>; // so that the check knows what an Entry holds
         let _ = self.cache.put(key, *entry);

@@ -1,6 +1,6 @@
 use Rattle.std.proofs.Common.{sym, inl}
 use Rattle.hk_walk.specs.Walks.{seen, trail}
-use Rattle.hk_walk.proofs.Pairs.{hit-value, hit-right, hit-first, hit-joins, miss-hit, miss-same, miss-right, miss-joins, miss-first, joined-right, on_err}
+use Rattle.hk_walk.proofs.Pairs.{hit-value, hit-right, hit-first, hit-joins, hit-stays, hit-remembered, miss-hit, miss-same, miss-right, miss-joins, miss-first, miss-pushes, joined-right, on_err}
 use Rattle.hk_walk.proofs.walker.Walker.walk.Goals as goal
 
 pub returns-in-Some-clause-value : goal.returns-in-Some-clause-value
@@ -41,3 +41,18 @@ returns-in-Some-clause-first_again g c = λ there some. hit-first c.new-key.resu
 
 pub returns-in_ok-entry-in-None-clause-first_again : goal.returns-in_ok-entry-in-None-clause-first_again
 returns-in_ok-entry-in-None-clause-first_again g c = λ there. miss-hit c.new-key.result c.args.from c.args.rest.now c.new-key.ensures c.args.self.now.pairs c.in-None.ensures.value there
+
+pub returns-in-Some-clause-stays : goal.returns-in-Some-clause-stays
+returns-in-Some-clause-stays g c = λ there. hit-stays c.new-key.result c.args.from c.args.rest.now c.new-key.ensures c.args.self.now c.recall.new.self c.recall.ensures.pairs
+
+pub returns-in-Some-clause-pushes : goal.returns-in-Some-clause-pushes
+returns-in-Some-clause-pushes g c = λ fresh some. absurd (fresh (hit-remembered c.new-key.result c.args.from c.args.rest.now c.new-key.ensures c.args.self.now.pairs c.in-Some.entry c.in-Some.ensures.value))
+
+pub returns-in_err-entry-in-None-clause-stays : goal.returns-in_err-entry-in-None-clause-stays
+returns-in_err-entry-in-None-clause-stays g c = λ there. miss-hit c.new-key.result c.args.from c.args.rest.now c.new-key.ensures c.args.self.now.pairs c.in-None.ensures.value there
+
+pub returns-in_ok-entry-in-None-clause-stays : goal.returns-in_ok-entry-in-None-clause-stays
+returns-in_ok-entry-in-None-clause-stays g c = λ there. miss-hit c.new-key.result c.args.from c.args.rest.now c.new-key.ensures c.args.self.now.pairs c.in-None.ensures.value there
+
+pub returns-in_ok-entry-in-None-clause-pushes : goal.returns-in_ok-entry-in-None-clause-pushes
+returns-in_ok-entry-in-None-clause-pushes g c = λ fresh some. miss-pushes c.new-key.result c.args.from c.args.rest.now c.new-key.ensures c.args.self.now c.recall.new.self c.recall.ensures.pairs c.in-None.ensures.value c.keep.new.self c.in_ok-entry-in-None.entry c.keep.ensures.pushes
