@@ -7,10 +7,10 @@ use Rattle.std.proofs.lemmas.Slice.Eq.{bytes_eq-Decides}
 use Rattle.hk_model.specs.declared.names.Slot.{Slot}
 use Rattle.hk_model.specs.declared.entries.Making.TheVariants as making
 use Rattle.hk_model.specs.Labels.{same_text}
-use Rattle.hk_model.specs.Pieces.{Upper, Dash, spell}
-use Rattle.hk_model.specs.Operands.{argument_pieces, rights_piece, slot_piece}
-use Rattle.hk_model.specs.AuditLines.{making_pieces}
-use Rattle.hk_model.specs.RightsTexts.{rights_text}
+use Rattle.hk_format.specs.Pieces.{Upper, Dash, spell}
+use Rattle.hk_format.specs.Operands.{argument_pieces, rights_piece, slot_piece}
+use Rattle.hk_format.specs.AuditLines.{making_pieces}
+use Rattle.hk_format.specs.RightsTexts.{rights_text}
 use Rattle.hk_audit.proofs.Joined.{slots_spelled}
 
 -- a set of rights is spelled by its text, whatever form it has

@@ -22,19 +22,19 @@ use Rattle.hk_model.specs.declared.lines.What.{What}
 use Rattle.hk_model.specs.declared.lines.What.TheVariants as what
 use Rattle.hk_model.specs.declared.lines.Line.{Line}
 use Rattle.hk_model.specs.Labels.{between, first, is_digit, is_lower, is_word, same_text}
-use Rattle.hk_model.specs.Pieces.{Piece, Word, Upper, Dash, Number, Path, piece_of, is_piece, is_index, spell, spell_index, is_number, value, is_upper}
-use Rattle.hk_model.specs.Operands.{path_piece, slot_piece, rights_piece, rights_set_piece}
-use Rattle.hk_model.specs.RightsTexts.{rights_of, rights_text}
-use Rattle.hk_model.specs.Syntax.{IsRightsText}
-use Rattle.hk_model.specs.LineReading.{inc_bound, widened, wide_pieces, halves}
-use Rattle.hk_model.specs.AuditLines.{arrow, call_pieces, what_pieces, full_word, reply_pieces, event_pieces}
-use Rattle.hk_model.specs.LineRanges.{IsPathValue, IsAnySlot, IsCall, IsWhat, IsReply, IsLine}
+use Rattle.hk_format.specs.Pieces.{Piece, Word, Upper, Dash, Number, Path, piece_of, is_piece, is_index, spell, spell_index, is_number, value, is_upper}
+use Rattle.hk_format.specs.Operands.{path_piece, slot_piece, rights_piece, rights_set_piece}
+use Rattle.hk_format.specs.RightsTexts.{rights_of, rights_text}
+use Rattle.hk_format.specs.Syntax.{IsRightsText}
+use Rattle.hk_format.specs.LineReading.{inc_bound, widened, wide_pieces, halves}
+use Rattle.hk_format.specs.AuditLines.{arrow, call_pieces, what_pieces, full_word, reply_pieces, event_pieces}
+use Rattle.hk_format.specs.LineRanges.{IsPathValue, IsAnySlot, IsCall, IsWhat, IsReply, IsLine}
 use Rattle.hk_model.specs.Setup.{IsWord32}
-use Rattle.hk_model.proofs.Cutting.{all_weaker, all_joined, none_of, split_joined}
-use Rattle.hk_model.proofs.ItemsGood.{rights_good}
-use Rattle.hk_model.proofs.LineAgain.{same_is}
-use Rattle.hk_model.proofs.PieceAgain.{is_name_byte, names_bytes, digits_number, value_decimal, number_again, number_large, piece_again}
-use Rattle.hk_model.proofs.RightsAgain.{rights_again}
+use Rattle.hk_format.proofs.Cutting.{all_weaker, all_joined, none_of, split_joined}
+use Rattle.hk_format.proofs.ItemsGood.{rights_good}
+use Rattle.hk_format.proofs.LineAgain.{same_is}
+use Rattle.hk_format.proofs.PieceAgain.{is_name_byte, names_bytes, digits_number, value_decimal, number_again, number_large, piece_again}
+use Rattle.hk_format.proofs.RightsAgain.{rights_again}
 use Rattle.hk_audit.specs.Seen.{is_numeral, numeral_of, is_index_numeral, indices_of, path_of, rights_spelled, seen}
 use Rattle.hk_audit.proofs.DigitTexts.{numeral_text}
 use Rattle.hk_audit.proofs.Spelled.{same_self}

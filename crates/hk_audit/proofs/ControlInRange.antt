@@ -21,7 +21,7 @@ use Rattle.hk_model.specs.declared.frames.Todo.TheVariants.{Do, Halt}
 use Rattle.hk_model.specs.declared.world.Code.{Code}
 use Rattle.hk_model.specs.Limits.{local_limit, slot_limit, slot_bound, index_bound}
 use Rattle.hk_model.specs.Setup.{Setup, IsWorld, IsWord32, IsIndex, IsOperand, IsRoute, IsSlotOrNone, BeginsAtSlot, IsInstr, IsCode}
-use Rattle.hk_model.specs.LineRanges.{IsPathValue, IsAnySlotOrNone, IsCall, IsReply}
+use Rattle.hk_format.specs.LineRanges.{IsPathValue, IsAnySlotOrNone, IsCall, IsReply}
 use Rattle.hk_model.specs.Control.{Context, new_frame, operand, index_of, path_of, Meaning, Calls, Local, step_over, go_to, meaning, steps_of, here, next_from, next, target_register, with_word, behind, frames_after, after}
 use Rattle.hk_audit.proofs.Every.{every_set, every_or, every_at, every_mapped}
 

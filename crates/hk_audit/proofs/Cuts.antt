@@ -4,7 +4,7 @@ use Rattle.std.specs.List.{slice_split, position_or_len}
 use Rattle.std.proofs.lemmas.Bool.{ltb-false, lt-ltb, le-ltb, ltb-true}
 use Rattle.std.proofs.lemmas.List.{take_all, drop-drop, length-drop}
 use Rattle.std.proofs.lemmas.List.Sums.{prefix_len-le-length}
-use Rattle.hk_model.specs.Texts.{is_none}
+use Rattle.hk_format.specs.Texts.{is_none}
 use Rattle.hk_text.proofs.Turns.{cut_turn}
 use Rattle.hk_audit.specs.declared.parts.Parts.{Parts}
 use Rattle.hk_audit.specs.Left.{texts}

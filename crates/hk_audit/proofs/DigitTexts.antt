@@ -8,7 +8,7 @@ use Rattle.std.proofs.lemmas.Str.Parse.{IsNumeralModel, numerals_by_value, witho
 use Rattle.std.proofs.lemmas.Bool.{and_parts, and_from, false≢true, le-ltb}
 use Rattle.std.proofs.lemmas.Bool.Decides.{nat_tests}
 use Rattle.hk_model.specs.Labels.{is_digit}
-use Rattle.hk_model.specs.Pieces.{is_number, value}
+use Rattle.hk_format.specs.Pieces.{is_number, value}
 use Rattle.hk_audit.specs.Seen.{is_numeral}
 
 own : IsNumeralModel (λ ds. list_all is_digit ds ≡ true) value

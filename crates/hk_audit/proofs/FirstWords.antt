@@ -1,8 +1,8 @@
 -- What a first word tells.
 use Rattle.std.proofs.Common.{◌≡◌, ℕ, Bool, true, false, cond, List, sym, ap, ◌∙◌}
 use Rattle.hk_model.specs.Labels.{same_text}
-use Rattle.hk_model.specs.Pieces.{Piece}
-use Rattle.hk_model.specs.Reading.{Found, Reads}
+use Rattle.hk_format.specs.Pieces.{Piece}
+use Rattle.hk_format.specs.Reading.{Found, Reads}
 
 test_is : (word literal other : List ℕ) (b c : Bool) → b ≡ same_text word literal → literal ≡ other → b ≡ c → same_text word other ≡ c
 test_is word literal other b c e same test = sym (e ∙ ap (same_text word) same) ∙ test

@@ -5,7 +5,7 @@ use Rattle.std.proofs.lemmas.Bool.Decides.{nat_tests}
 use Rattle.std.proofs.lemmas.List.{take_more_set, length-append, length-map, length-take}
 use mathlib.Core.List.{append_assoc, append-nil}
 use Rattle.hk_model.specs.Labels.{between}
-use Rattle.hk_model.specs.Pieces.{value}
+use Rattle.hk_format.specs.Pieces.{value}
 use Rattle.hk_audit.specs.Seen.{is_index_numeral, indices_of}
 
 -- what is known where the first of the texts that are left was asked for its index

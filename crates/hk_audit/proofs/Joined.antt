@@ -7,8 +7,8 @@ use Rattle.std.proofs.lemmas.List.{take_all}
 use mathlib.Core.List.{append-nil}
 use Rattle.hk_model.specs.declared.names.Slot.{Slot}
 use Rattle.hk_model.specs.declared.instructions.Index.TheVariants.{Fixed}
-use Rattle.hk_model.specs.Pieces.{spell, spell_index}
-use Rattle.hk_model.specs.Operands.{argument_pieces, path_piece}
+use Rattle.hk_format.specs.Pieces.{spell, spell_index}
+use Rattle.hk_format.specs.Operands.{argument_pieces, path_piece}
 
 -- the first, and then the byte before each of the others
 pub joined : (c : ℕ) (x : List ℕ) (xs : List (List ℕ)) → join_with_byte c (x ∷ xs) ≡ x ++ flat_map (λ t. c ∷ t) xs

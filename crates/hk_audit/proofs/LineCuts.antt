@@ -1,7 +1,7 @@
 -- The text of a line, cut at its arrow and at its spaces.
 use Rattle.std.proofs.Common.{◌≡◌, ℕ, ◌+◌, ◌-◌, ◌==◌, Bool, true, false, List, [], ◌∷◌, ◌++◌, length, map, take, drop, refl, sym, ap, subst, ◌∙◌, arith, ◌||◌, not, Option, Some, None, Ok, Err}
 use Rattle.std.specs.Prelude.{nat_eq, MatchOption, IfSome, IfNone}
-use Rattle.hk_model.specs.declared.causes.ParseCause.{ParseCause}
+use Rattle.hk_format.specs.declared.causes.ParseCause.{ParseCause}
 use Rattle.std.specs.List.{AllByRecursion, list_all, list_any, slice_split, join_with_byte}
 use Rattle.std.specs.Fmt.{decimal}
 use Rattle.std.specs.Cmp.Lexicographic.{pointwise}
@@ -13,13 +13,13 @@ use mathlib.Core.List.{append_assoc}
 use Rattle.hk_model.specs.declared.calls.Reply.{Reply}
 use Rattle.hk_model.specs.declared.lines.Line.{Line}
 use Rattle.hk_model.specs.Labels.{same_text}
-use Rattle.hk_model.specs.Pieces.{Piece, Number, spell}
-use Rattle.hk_model.specs.Texts.{is_none}
-use Rattle.hk_model.specs.LineReading.{event_line, reply_line, line_with}
-use Rattle.hk_model.specs.AuditLines.{what_pieces, event_pieces, reply_pieces, arrow, line_body, line_text}
-use Rattle.hk_model.specs.LineRanges.{IsLine}
-use Rattle.hk_model.proofs.Cutting.{all_joined, none_of, split_at, split_none, split_joined}
-use Rattle.hk_model.proofs.LineAgain.{same_is}
+use Rattle.hk_format.specs.Pieces.{Piece, Number, spell}
+use Rattle.hk_format.specs.Texts.{is_none}
+use Rattle.hk_format.specs.LineReading.{event_line, reply_line, line_with}
+use Rattle.hk_format.specs.AuditLines.{what_pieces, event_pieces, reply_pieces, arrow, line_body, line_text}
+use Rattle.hk_format.specs.LineRanges.{IsLine}
+use Rattle.hk_format.proofs.Cutting.{all_joined, none_of, split_at, split_none, split_joined}
+use Rattle.hk_format.proofs.LineAgain.{same_is}
 use Rattle.hk_text.proofs.Turns.{cut_turn}
 use Rattle.hk_audit.specs.Seen.{seen}
 use Rattle.hk_audit.specs.Halves.{halves_text, HasNoArrow}

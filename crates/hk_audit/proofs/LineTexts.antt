@@ -12,9 +12,9 @@ use Rattle.hk_model.specs.declared.calls.Reply.TheVariants as reply
 use Rattle.hk_model.specs.declared.lines.What.TheVariants as what
 use Rattle.hk_model.specs.declared.lines.What.{What}
 use Rattle.hk_model.specs.declared.lines.Line.{Line}
-use Rattle.hk_model.specs.Pieces.{spell}
-use Rattle.hk_model.specs.AuditLines.{call_pieces, what_pieces, event_pieces, refusal_pieces, reply_pieces, line_body, line_text, arrow}
-use Rattle.hk_model.specs.Texts.{spell_line}
+use Rattle.hk_format.specs.Pieces.{spell}
+use Rattle.hk_format.specs.AuditLines.{call_pieces, what_pieces, event_pieces, refusal_pieces, reply_pieces, line_body, line_text, arrow}
+use Rattle.hk_format.specs.Texts.{spell_line}
 use Rattle.hk_audit.proofs.Joined.{joined}
 
 -- texts joined, and further texts joined behind them

@@ -18,21 +18,21 @@ use Rattle.hk_model.specs.declared.calls.Reply.TheVariants as reply
 use Rattle.hk_model.specs.declared.lines.What.{What}
 use Rattle.hk_model.specs.declared.lines.What.TheVariants as what
 use Rattle.hk_model.specs.declared.lines.Line.{Line}
-use Rattle.hk_model.specs.declared.syntax.Verb.TheVariants as verb
+use Rattle.hk_format.specs.declared.syntax.Verb.TheVariants as verb
 use Rattle.hk_model.specs.Labels.{same_text}
-use Rattle.hk_model.specs.Pieces.{Piece, Word, Upper, Dash, Number}
-use Rattle.hk_model.specs.Operands.{path_piece, slot_piece, rights_set_piece}
-use Rattle.hk_model.specs.declared.causes.ParseCause.{ParseCause}
-use Rattle.hk_model.specs.Reading.{Reads, ◌>>=◌, onward, taken, wanted, at_most, end}
-use Rattle.hk_model.specs.RightsTexts.{rights_of, rights_text}
-use Rattle.hk_model.specs.Forms.{as_word, as_number_below}
-use Rattle.hk_model.specs.LineReading.{is_number_index, index_number, as_path, as_any_slot, as_rights_set, as_right, as_word32, as_full, what_of, reply_line, event_line, line_with, inc_bound}
-use Rattle.hk_model.specs.AuditLines.{what_pieces, full_word, reply_pieces, event_pieces}
-use Rattle.hk_model.specs.LineRanges.{IsPathValue, IsAnySlot, IsCall, IsWhat, IsReply, IsLine}
+use Rattle.hk_format.specs.Pieces.{Piece, Word, Upper, Dash, Number}
+use Rattle.hk_format.specs.Operands.{path_piece, slot_piece, rights_set_piece}
+use Rattle.hk_format.specs.declared.causes.ParseCause.{ParseCause}
+use Rattle.hk_format.specs.Reading.{Reads, ◌>>=◌, onward, taken, wanted, at_most, end}
+use Rattle.hk_format.specs.RightsTexts.{rights_of, rights_text}
+use Rattle.hk_format.specs.Forms.{as_word, as_number_below}
+use Rattle.hk_format.specs.LineReading.{is_number_index, index_number, as_path, as_any_slot, as_rights_set, as_right, as_word32, as_full, what_of, reply_line, event_line, line_with, inc_bound}
+use Rattle.hk_format.specs.AuditLines.{what_pieces, full_word, reply_pieces, event_pieces}
+use Rattle.hk_format.specs.LineRanges.{IsPathValue, IsAnySlot, IsCall, IsWhat, IsReply, IsLine}
 use Rattle.hk_model.specs.Setup.{IsWord32}
-use Rattle.hk_model.proofs.LineAgain.{same_is, verb_again}
-use Rattle.hk_model.proofs.RightsAgain.{rights_again}
-use Rattle.hk_model.specs.WrittenLines.{before_last, last_of}
+use Rattle.hk_format.proofs.LineAgain.{same_is, verb_again}
+use Rattle.hk_format.proofs.RightsAgain.{rights_again}
+use Rattle.hk_format.specs.WrittenLines.{before_last, last_of}
 
 -- forms
 

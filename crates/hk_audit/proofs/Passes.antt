@@ -1,17 +1,17 @@
 -- A world, or a refusal, pass by pass.
 use Rattle.std.proofs.Common.{◌≡◌, ℕ, List, Result, Ok, Err, refl, ap, ◌∙◌}
 use Rattle.std.specs.Result.{IsErrAnd}
-use Rattle.hk_model.specs.declared.causes.TextCause.{TextCause}
-use Rattle.hk_model.specs.declared.causes.ParseCause.{ParseCause}
-use Rattle.hk_model.specs.declared.causes.LoadCause.{LoadCause}
-use Rattle.hk_model.specs.declared.causes.Cause.{Cause}
-use Rattle.hk_model.specs.declared.causes.Cause.TheVariants.{OfText, OfParse, OfLoad}
-use Rattle.hk_model.specs.declared.syntax.Item.{Item}
-use Rattle.hk_model.specs.Texts.{Lines, text}
-use Rattle.hk_model.specs.Grammar.{script}
-use Rattle.hk_model.specs.Loading.{load}
+use Rattle.hk_format.specs.declared.causes.TextCause.{TextCause}
+use Rattle.hk_format.specs.declared.causes.ParseCause.{ParseCause}
+use Rattle.hk_format.specs.declared.causes.LoadCause.{LoadCause}
+use Rattle.hk_format.specs.declared.causes.Cause.{Cause}
+use Rattle.hk_format.specs.declared.causes.Cause.TheVariants.{OfText, OfParse, OfLoad}
+use Rattle.hk_format.specs.declared.syntax.Item.{Item}
+use Rattle.hk_format.specs.Texts.{Lines, text}
+use Rattle.hk_format.specs.Grammar.{script}
+use Rattle.hk_format.specs.Loading.{load}
 use Rattle.hk_model.specs.Setup.{Setup}
-use Rattle.hk_model.specs.Worlds.{world, pass, parsed, loaded}
+use Rattle.hk_format.specs.Worlds.{world, pass, parsed, loaded}
 use Rattle.hk_text.specs.declared.errors.TextError.{TextError}
 use Rattle.hk_text.specs.declared.errors.TextError.TheVariants as text_error
 use Rattle.hk_script.specs.declared.errors.ParseError.{ParseError}

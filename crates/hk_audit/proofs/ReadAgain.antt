@@ -6,27 +6,27 @@ use Rattle.std.proofs.lemmas.Bool.{and_parts, false≢true, ltb-true, leb-true}
 use Rattle.std.proofs.lemmas.List.{length-map}
 use Rattle.hk_rights.specs.Rights.{IsRightsWord, is_right, number_named}
 use Rattle.hk_rights.proofs.Table.{named-is_right}
-use Rattle.hk_model.specs.declared.causes.TextCause.{TextCause}
-use Rattle.hk_model.specs.declared.causes.TextCause.TheVariants as text_cause
-use Rattle.hk_model.specs.declared.causes.ParseCause.TheVariants.{OutOfRange}
+use Rattle.hk_format.specs.declared.causes.TextCause.{TextCause}
+use Rattle.hk_format.specs.declared.causes.TextCause.TheVariants as text_cause
+use Rattle.hk_format.specs.declared.causes.ParseCause.TheVariants.{OutOfRange}
 use Rattle.hk_model.specs.declared.instructions.Index.{Index}
 use Rattle.hk_model.specs.declared.instructions.Index.TheVariants.{Fixed, ByReg}
 use Rattle.hk_model.specs.declared.names.Slot.{Slot}
 use Rattle.hk_model.specs.declared.calls.Reply.{Reply}
 use Rattle.hk_model.specs.declared.lines.Line.{Line}
 use Rattle.hk_model.specs.Labels.{between, same_text}
-use Rattle.hk_model.specs.Pieces.{Piece, Word, Upper, Dash, Number, Path, piece_of, is_number, is_piece, is_index, value, spell}
-use Rattle.hk_model.specs.Reading.{Found, Reads}
-use Rattle.hk_model.specs.RightsTexts.{rights_of}
-use Rattle.hk_model.specs.Forms.{as_number_below, slot_numbered}
-use Rattle.hk_model.specs.LineReading.{inc_bound, is_number_index, index_number, set_found, as_path, as_any_slot, as_rights_set, as_right, as_word32, event_line, reply_line, line_with, widened, wide_pieces, Halves, halves, kept, read_by, applied, from_halves, guess, if_spelled, read_body}
-use Rattle.hk_model.specs.Texts.{piece_onto}
-use Rattle.hk_model.specs.AuditLines.{what_pieces, event_pieces, reply_pieces, arrow, line_body}
-use Rattle.hk_model.specs.LineRanges.{IsPathValue, IsAnySlot, IsLine}
+use Rattle.hk_format.specs.Pieces.{Piece, Word, Upper, Dash, Number, Path, piece_of, is_number, is_piece, is_index, value, spell}
+use Rattle.hk_format.specs.Reading.{Found, Reads}
+use Rattle.hk_format.specs.RightsTexts.{rights_of}
+use Rattle.hk_format.specs.Forms.{as_number_below, slot_numbered}
+use Rattle.hk_format.specs.LineReading.{inc_bound, is_number_index, index_number, set_found, as_path, as_any_slot, as_rights_set, as_right, as_word32, event_line, reply_line, line_with, widened, wide_pieces, Halves, halves, kept, read_by, applied, from_halves, guess, if_spelled, read_body}
+use Rattle.hk_format.specs.Texts.{piece_onto}
+use Rattle.hk_format.specs.AuditLines.{what_pieces, event_pieces, reply_pieces, arrow, line_body}
+use Rattle.hk_format.specs.LineRanges.{IsPathValue, IsAnySlot, IsLine}
 use Rattle.hk_model.specs.Setup.{IsWord32}
-use Rattle.hk_model.proofs.Cutting.{all_both, split_joined}
-use Rattle.hk_model.proofs.LineAgain.{same_is}
-use Rattle.hk_model.proofs.LoadGood.{rights_word}
+use Rattle.hk_format.proofs.Cutting.{all_both, split_joined}
+use Rattle.hk_format.proofs.LineAgain.{same_is}
+use Rattle.hk_format.proofs.LoadGood.{rights_word}
 use Rattle.hk_text.proofs.PiecesGood.{GoodPiece, piece_good}
 use Rattle.hk_audit.specs.Seen.{nothing}
 use Rattle.hk_audit.proofs.Spelled.{same_self}

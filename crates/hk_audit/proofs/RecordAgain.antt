@@ -11,24 +11,24 @@ use Rattle.hk_model.specs.declared.lines.Line.{Line}
 use Rattle.hk_model.specs.declared.lines.End.{End}
 use Rattle.hk_model.specs.declared.lines.End.TheVariants as end
 use Rattle.hk_model.specs.Labels.{same_text}
-use Rattle.hk_model.specs.Pieces.{Piece, spell, piece_of, is_piece}
+use Rattle.hk_format.specs.Pieces.{Piece, spell, piece_of, is_piece}
 use Rattle.hk_model.specs.Setup.{Setup, IsWorld}
-use Rattle.hk_model.specs.Texts.{is_line, is_none, ended_line, lines_of, spell_line, without_last_empty}
-use Rattle.hk_model.specs.Spelling.{script_lines}
-use Rattle.hk_model.specs.Canonical.{canon, syntax_of}
-use Rattle.hk_model.specs.Verbs.{all_verbs}
-use Rattle.hk_model.specs.RightsTexts.{rights_of, rights_text}
-use Rattle.hk_model.specs.AuditLines.{arrow, event_pieces, reply_pieces, line_body}
-use Rattle.hk_model.specs.LineReading.{read_body}
-use Rattle.hk_model.specs.LineRanges.{IsLine}
-use Rattle.hk_model.specs.Worlds.{Refused, world, world_of}
-use Rattle.hk_model.specs.Records.{record_word, end_text, lines_text, record_text}
-use Rattle.hk_model.specs.Audits.{Audited, audit, audit_cut, audited, cut, cut_at_record, end_of, events, events_from, is_record, line_before}
-use Rattle.hk_model.proofs.Cutting.{all_both, all_joined, all_weaker, none_of, split_at}
-use Rattle.hk_model.proofs.LineAgain.{same_is}
-use Rattle.hk_model.proofs.LinesGood.{lines_good}
-use Rattle.hk_model.proofs.TextAgain.{is_plain, piece_solid}
-use Rattle.hk_model.proofs.WorldAgain.{world_again}
+use Rattle.hk_format.specs.Texts.{is_line, is_none, ended_line, lines_of, spell_line, without_last_empty}
+use Rattle.hk_format.specs.Spelling.{script_lines}
+use Rattle.hk_format.specs.Canonical.{canon, syntax_of}
+use Rattle.hk_format.specs.Verbs.{all_verbs}
+use Rattle.hk_format.specs.RightsTexts.{rights_of, rights_text}
+use Rattle.hk_format.specs.AuditLines.{arrow, event_pieces, reply_pieces, line_body}
+use Rattle.hk_format.specs.LineReading.{read_body}
+use Rattle.hk_format.specs.LineRanges.{IsLine}
+use Rattle.hk_format.specs.Worlds.{Refused, world, world_of}
+use Rattle.hk_format.specs.Records.{record_word, end_text, lines_text, record_text}
+use Rattle.hk_format.specs.Audits.{Audited, audit, audit_cut, audited, cut, cut_at_record, end_of, events, events_from, is_record, line_before}
+use Rattle.hk_format.proofs.Cutting.{all_both, all_joined, all_weaker, none_of, split_at}
+use Rattle.hk_format.proofs.LineAgain.{same_is}
+use Rattle.hk_format.proofs.LinesGood.{lines_good}
+use Rattle.hk_format.proofs.TextAgain.{is_plain, piece_solid}
+use Rattle.hk_format.proofs.WorldAgain.{world_again}
 use Rattle.hk_audit.specs.RecordCuts.{texts_of}
 use Rattle.hk_audit.proofs.Clear.{clear_event, clear_reply, clear_texts}
 use Rattle.hk_audit.proofs.ReadAgain.{read_body_is}

@@ -1,12 +1,12 @@
 -- A record, or a refusal, by its script and what stands behind.
 use Rattle.std.proofs.Common.{◌≡◌, ℕ, ◌+◌, List, length, refl, sym, ap, ◌∙◌, take, drop, Result, Ok, Err}
 use Rattle.std.specs.Result.{IsErrAnd}
-use Rattle.hk_model.specs.declared.causes.Cause.{Cause}
+use Rattle.hk_format.specs.declared.causes.Cause.{Cause}
 use Rattle.hk_model.specs.Setup.{Setup}
-use Rattle.hk_model.specs.Texts.{lines_of}
-use Rattle.hk_model.specs.Worlds.{Refused, world, world_of}
-use Rattle.hk_model.specs.Loading.{◌>>=◌}
-use Rattle.hk_model.specs.Audits.{Events, Audited, audit, audit_cut, audited, cut, cut_at_record, events_behind}
+use Rattle.hk_format.specs.Texts.{lines_of}
+use Rattle.hk_format.specs.Worlds.{Refused, world, world_of}
+use Rattle.hk_format.specs.Loading.{◌>>=◌}
+use Rattle.hk_format.specs.Audits.{Events, Audited, audit, audit_cut, audited, cut, cut_at_record, events_behind}
 use Rattle.hk_audit.specs.declared.record_errors.RecordError.{RecordError}
 use Rattle.hk_audit.specs.declared.record_errors.RecordError.TheVariants as read_error
 use Rattle.hk_audit.specs.RecordCuts.{texts_of, behind_first}

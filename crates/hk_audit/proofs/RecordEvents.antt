@@ -7,13 +7,13 @@ use Rattle.std.proofs.lemmas.Bool.{false≢true}
 use Rattle.std.proofs.lemmas.List.Splits.{join_with_byte-slice_split}
 use Rattle.hk_model.specs.declared.lines.Line.{Line}
 use Rattle.hk_model.specs.declared.lines.End.{End}
-use Rattle.hk_model.specs.declared.causes.Cause.TheVariants.{BadLine}
-use Rattle.hk_model.specs.AuditLines.{line_body}
-use Rattle.hk_model.specs.LineRanges.{IsLine}
-use Rattle.hk_model.specs.LineReading.{read_body}
-use Rattle.hk_model.specs.Texts.{lines_of, without_last_empty}
-use Rattle.hk_model.specs.Worlds.{Refused}
-use Rattle.hk_model.specs.Audits.{Events, events, end_of, events_from, line_before, whole_line}
+use Rattle.hk_format.specs.declared.causes.Cause.TheVariants.{BadLine}
+use Rattle.hk_format.specs.AuditLines.{line_body}
+use Rattle.hk_format.specs.LineRanges.{IsLine}
+use Rattle.hk_format.specs.LineReading.{read_body}
+use Rattle.hk_format.specs.Texts.{lines_of, without_last_empty}
+use Rattle.hk_format.specs.Worlds.{Refused}
+use Rattle.hk_format.specs.Audits.{Events, events, end_of, events_from, line_before, whole_line}
 use Rattle.hk_audit.specs.RecordCuts.{texts_of}
 use Rattle.hk_audit.proofs.ReadAgain.{read_body_is}
 

@@ -4,11 +4,11 @@ use Rattle.std.specs.List.{slice_range, position_or_len, join_with_byte, list_an
 use Rattle.std.proofs.lemmas.Bool.{false≢true, le-ltb, and_parts}
 use Rattle.std.proofs.lemmas.List.{take_all, drop_all, length-drop, length-take}
 use Rattle.std.proofs.lemmas.List.Splits.{join_with_byte-slice_split}
-use Rattle.hk_model.specs.Records.{record_word}
-use Rattle.hk_model.specs.Texts.{is_none, lines_of, without_last_empty}
-use Rattle.hk_model.specs.Audits.{cut, cut_at_record, is_record, last_cut, one_more}
-use Rattle.hk_model.proofs.Cutting.{split_at, split_none, split_joined}
-use Rattle.hk_model.proofs.LineAgain.{same_is}
+use Rattle.hk_format.specs.Records.{record_word}
+use Rattle.hk_format.specs.Texts.{is_none, lines_of, without_last_empty}
+use Rattle.hk_format.specs.Audits.{cut, cut_at_record, is_record, last_cut, one_more}
+use Rattle.hk_format.proofs.Cutting.{split_at, split_none, split_joined}
+use Rattle.hk_format.proofs.LineAgain.{same_is}
 use Rattle.hk_audit.specs.RecordCuts.{texts_of, script_length, behind_first}
 use Rattle.hk_audit.proofs.Cuts.{left_next}
 

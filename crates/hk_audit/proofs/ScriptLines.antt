@@ -2,22 +2,22 @@
 use Rattle.std.proofs.Common.{◌≡◌, ℕ, Bool, true, false, cond, List, [], ◌∷◌, ◌++◌, map, refl, not, ap}
 use Rattle.std.specs.List.{list_all, flat_map}
 use Rattle.std.proofs.lemmas.Bool.{and_from}
-use Rattle.hk_model.specs.declared.syntax.Verb.{Verb}
-use Rattle.hk_model.specs.declared.syntax.Verb.TheVariants as verb
-use Rattle.hk_model.specs.declared.syntax.Written.{Written}
-use Rattle.hk_model.specs.declared.syntax.Written.TheVariants as written
-use Rattle.hk_model.specs.declared.syntax.Head.{Head}
-use Rattle.hk_model.specs.declared.syntax.Head.TheVariants.{LimitIs, TypeIs, ObjectIs, SemaphoreIs, ProcedureIs, CodeIs, ProcessIs}
-use Rattle.hk_model.specs.declared.syntax.Body.{Body}
-use Rattle.hk_model.specs.declared.syntax.Body.TheVariants.{WordsAre, EmptyEntry, CapEntry, AmplifyEntry, CreateEntry, ParamIs, LabelIs, StepIs}
-use Rattle.hk_model.specs.declared.syntax.Part.{Part}
-use Rattle.hk_model.specs.declared.syntax.Item.{Item}
-use Rattle.hk_model.specs.Pieces.{Piece}
-use Rattle.hk_model.specs.Verbs.{verb_word, verb_piece}
-use Rattle.hk_model.specs.Texts.{spell_line}
-use Rattle.hk_model.specs.Spelling.{written_pieces, body_pieces, head_pieces, has_parts, end_line, header_line, item_lines, script_lines}
-use Rattle.hk_model.specs.Audits.{is_record}
-use Rattle.hk_model.proofs.Cutting.{all_both}
+use Rattle.hk_format.specs.declared.syntax.Verb.{Verb}
+use Rattle.hk_format.specs.declared.syntax.Verb.TheVariants as verb
+use Rattle.hk_format.specs.declared.syntax.Written.{Written}
+use Rattle.hk_format.specs.declared.syntax.Written.TheVariants as written
+use Rattle.hk_format.specs.declared.syntax.Head.{Head}
+use Rattle.hk_format.specs.declared.syntax.Head.TheVariants.{LimitIs, TypeIs, ObjectIs, SemaphoreIs, ProcedureIs, CodeIs, ProcessIs}
+use Rattle.hk_format.specs.declared.syntax.Body.{Body}
+use Rattle.hk_format.specs.declared.syntax.Body.TheVariants.{WordsAre, EmptyEntry, CapEntry, AmplifyEntry, CreateEntry, ParamIs, LabelIs, StepIs}
+use Rattle.hk_format.specs.declared.syntax.Part.{Part}
+use Rattle.hk_format.specs.declared.syntax.Item.{Item}
+use Rattle.hk_format.specs.Pieces.{Piece}
+use Rattle.hk_format.specs.Verbs.{verb_word, verb_piece}
+use Rattle.hk_format.specs.Texts.{spell_line}
+use Rattle.hk_format.specs.Spelling.{written_pieces, body_pieces, head_pieces, has_parts, end_line, header_line, item_lines, script_lines}
+use Rattle.hk_format.specs.Audits.{is_record}
+use Rattle.hk_format.proofs.Cutting.{all_both}
 
 -- a line that is not `record`
 abbrev is_other : List Piece → Bool

@@ -7,22 +7,22 @@ use Rattle.std.proofs.lemmas.List.{length-map}
 use Rattle.std.proofs.lemmas.List.Splits.{join_with_byte-slice_split}
 use Rattle.hk_rights.specs.Rights.{Row, IsRightsWord, is_right, name_of, number_named, right_table}
 use Rattle.hk_rights.proofs.Table.{named-is_right}
-use Rattle.hk_model.specs.declared.causes.ParseCause.TheVariants.{UnknownWord, OutOfRange}
+use Rattle.hk_format.specs.declared.causes.ParseCause.TheVariants.{UnknownWord, OutOfRange}
 use Rattle.hk_model.specs.declared.instructions.Index.TheVariants.{Fixed}
 use Rattle.hk_model.specs.declared.names.Slot.{Slot}
 use Rattle.hk_model.specs.declared.calls.What8.{What8}
-use Rattle.hk_model.specs.declared.syntax.Verb.{Verb}
+use Rattle.hk_format.specs.declared.syntax.Verb.{Verb}
 use Rattle.hk_model.specs.Labels.{between, first, is_lower, same_text}
-use Rattle.hk_model.specs.Pieces.{Word, Upper, Number, spell, spell_index, value}
-use Rattle.hk_model.specs.Verbs.{verb_word}
-use Rattle.hk_model.specs.Operands.{path_piece, slot_piece, rights_set_piece}
-use Rattle.hk_model.specs.RightsTexts.{rights_text}
-use Rattle.hk_model.specs.Forms.{as_verb, as_word, as_number_below, slot_numbered}
-use Rattle.hk_model.specs.LineReading.{as_path, as_any_slot, as_rights_set, as_right, as_word32, as_full, all_full, full_found, inc_bound}
-use Rattle.hk_model.specs.AuditLines.{full_word}
-use Rattle.hk_model.specs.LineRanges.{IsPathValue, IsAnySlot}
+use Rattle.hk_format.specs.Pieces.{Word, Upper, Number, spell, spell_index, value}
+use Rattle.hk_format.specs.Verbs.{verb_word}
+use Rattle.hk_format.specs.Operands.{path_piece, slot_piece, rights_set_piece}
+use Rattle.hk_format.specs.RightsTexts.{rights_text}
+use Rattle.hk_format.specs.Forms.{as_verb, as_word, as_number_below, slot_numbered}
+use Rattle.hk_format.specs.LineReading.{as_path, as_any_slot, as_rights_set, as_right, as_word32, as_full, all_full, full_found, inc_bound}
+use Rattle.hk_format.specs.AuditLines.{full_word}
+use Rattle.hk_format.specs.LineRanges.{IsPathValue, IsAnySlot}
 use Rattle.hk_model.specs.Setup.{IsWord32}
-use Rattle.hk_model.proofs.LineAgain.{same_is}
+use Rattle.hk_format.proofs.LineAgain.{same_is}
 use Rattle.hk_audit.specs.Seen.{is_numeral, numeral_of, is_index_numeral, indices_of, path_of, rights_spelled, seen}
 use Rattle.hk_audit.proofs.DigitTexts.{numeral_text}
 use Rattle.hk_audit.proofs.Spelled.{named_row}

@@ -5,22 +5,22 @@ use Rattle.std.specs.List.{AllByRecursion, list_all, slice_split, onto_first}
 use Rattle.std.proofs.lemmas.Bool.{and_parts, and_from, false≢true, lt-ltb, le-ltb, le-leb, lt-leb, ltb-true}
 use Rattle.std.proofs.lemmas.Bool.Decides.{nat_tests}
 use Rattle.hk_rights.specs.Rights.{Row, IsRightsWord, number_named, right_table, right_numbers, name_of}
-use Rattle.hk_model.specs.declared.causes.ParseCause.{ParseCause}
-use Rattle.hk_model.specs.declared.causes.ParseCause.TheVariants.{UnknownWord, OutOfRange}
+use Rattle.hk_format.specs.declared.causes.ParseCause.{ParseCause}
+use Rattle.hk_format.specs.declared.causes.ParseCause.TheVariants.{UnknownWord, OutOfRange}
 use Rattle.hk_model.specs.declared.instructions.Index.{Index}
 use Rattle.hk_model.specs.declared.instructions.Index.TheVariants.{Fixed}
-use Rattle.hk_model.specs.declared.syntax.Verb.{Verb}
-use Rattle.hk_model.specs.Verbs.{verb_word, all_verbs}
+use Rattle.hk_format.specs.declared.syntax.Verb.{Verb}
+use Rattle.hk_format.specs.Verbs.{verb_word, all_verbs}
 use Rattle.hk_model.specs.Labels.{between, first, is_lower, is_capital, is_digit, same_text}
-use Rattle.hk_model.specs.Pieces.{Piece, Word, Upper, Dash, Number, Path, value, is_upper}
-use Rattle.hk_model.specs.Operands.{rights_piece}
-use Rattle.hk_model.specs.RightsTexts.{rights_of, rights_text}
-use Rattle.hk_model.specs.Syntax.{IsRightsText}
-use Rattle.hk_model.specs.Forms.{as_verb, verb_found, as_number_below, as_word, slot_numbered}
-use Rattle.hk_model.specs.LineReading.{inc_bound, as_word32, as_any_slot, is_number_index, index_number, as_path, as_rights_set, as_right, set_found}
-use Rattle.hk_model.proofs.ItemsGood.{rights_good}
-use Rattle.hk_model.proofs.LineAgain.{same_is}
-use Rattle.hk_model.proofs.LoadGood.{rights_word}
+use Rattle.hk_format.specs.Pieces.{Piece, Word, Upper, Dash, Number, Path, value, is_upper}
+use Rattle.hk_format.specs.Operands.{rights_piece}
+use Rattle.hk_format.specs.RightsTexts.{rights_of, rights_text}
+use Rattle.hk_format.specs.Syntax.{IsRightsText}
+use Rattle.hk_format.specs.Forms.{as_verb, verb_found, as_number_below, as_word, slot_numbered}
+use Rattle.hk_format.specs.LineReading.{inc_bound, as_word32, as_any_slot, is_number_index, index_number, as_path, as_rights_set, as_right, set_found}
+use Rattle.hk_format.proofs.ItemsGood.{rights_good}
+use Rattle.hk_format.proofs.LineAgain.{same_is}
+use Rattle.hk_format.proofs.LoadGood.{rights_word}
 use Rattle.hk_audit.specs.Seen.{is_numeral, numeral_of, is_index_numeral, indices_of, path_of, if_canonical, rights_spelled, nothing, seen_rights, seen_path, seen_number, seen}
 use Rattle.hk_audit.proofs.Spelled.{named_row}
 

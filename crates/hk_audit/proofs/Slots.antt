@@ -2,20 +2,20 @@
 use Rattle.std.proofs.Common.{◌≡◌, ℕ, zero, suc, ◌+◌, ◌<◌, arith, Bool, true, false, cond, ltb, List, [], ◌∷◌, ◌++◌, length, map, take, set, ◌-◌, refl, sym, ap, ◌∙◌, Ok, Err, Result}
 use Rattle.std.proofs.lemmas.List.{map-append, take_more_set}
 use mathlib.Core.List.{append_assoc, append-nil}
-use Rattle.hk_model.specs.declared.causes.ParseCause.{ParseCause}
-use Rattle.hk_model.specs.declared.causes.ParseCause.TheVariants.{OutOfRange, Missing}
+use Rattle.hk_format.specs.declared.causes.ParseCause.{ParseCause}
+use Rattle.hk_format.specs.declared.causes.ParseCause.TheVariants.{OutOfRange, Missing}
 use Rattle.hk_model.specs.declared.names.Slot.{Slot}
 use Rattle.hk_model.specs.declared.calls.Call.{Call}
 use Rattle.hk_model.specs.declared.calls.Call.TheVariants as call
-use Rattle.hk_model.specs.declared.syntax.Verb.TheVariants as verb
+use Rattle.hk_format.specs.declared.syntax.Verb.TheVariants as verb
 use Rattle.hk_model.specs.Limits.{slot_bound}
-use Rattle.hk_model.specs.Pieces.{Piece, Word, Upper, Dash, Number, Path}
-use Rattle.hk_model.specs.Texts.{is_none}
+use Rattle.hk_format.specs.Pieces.{Piece, Word, Upper, Dash, Number, Path}
+use Rattle.hk_format.specs.Texts.{is_none}
 use Rattle.std.proofs.lemmas.Bool.{false≢true}
-use Rattle.hk_model.specs.Reading.{Found, Reads, onward, taken, wanted, at_most, end}
-use Rattle.hk_model.specs.Forms.{as_number_below, slot_numbered}
-use Rattle.hk_model.specs.WrittenLines.{before_last, last_of}
-use Rattle.hk_model.specs.LineReading.{as_any_slot, as_path, call_of}
+use Rattle.hk_format.specs.Reading.{Found, Reads, onward, taken, wanted, at_most, end}
+use Rattle.hk_format.specs.Forms.{as_number_below, slot_numbered}
+use Rattle.hk_format.specs.WrittenLines.{before_last, last_of}
+use Rattle.hk_format.specs.LineReading.{as_any_slot, as_path, call_of}
 
 -- the value and the pieces that were read
 read_parts : {A : Type 0} (r : Found A) (x y : A) (left ps : List Piece) → r ≡ Ok (x, left) → r ≡ Ok (y, ps) → (x ≡ y) × (left ≡ ps)

@@ -4,8 +4,8 @@ use Rattle.std.specs.Prelude.{codes}
 use Rattle.std.specs.List.{AllByRecursion, find}
 use Rattle.std.specs.Fmt.{decimal}
 use Rattle.hk_rights.specs.Rights.{IsRightsWord, is_right, name_of}
-use Rattle.hk_model.specs.declared.causes.ParseCause.{ParseCause}
-use Rattle.hk_model.specs.declared.causes.ParseCause.TheVariants.{OutOfRange}
+use Rattle.hk_format.specs.declared.causes.ParseCause.{ParseCause}
+use Rattle.hk_format.specs.declared.causes.ParseCause.TheVariants.{OutOfRange}
 use Rattle.hk_model.specs.declared.names.Slot.{Slot}
 use Rattle.hk_model.specs.declared.entries.Making.{Making}
 use Rattle.hk_model.specs.declared.entries.Making.TheVariants as making
@@ -19,20 +19,20 @@ use Rattle.hk_model.specs.declared.calls.Reply.TheVariants as reply
 use Rattle.hk_model.specs.declared.lines.What.{What}
 use Rattle.hk_model.specs.declared.lines.What.TheVariants as what
 use Rattle.hk_model.specs.declared.lines.Line.{Line}
-use Rattle.hk_model.specs.declared.syntax.Verb.{Verb}
-use Rattle.hk_model.specs.declared.syntax.Verb.TheVariants as verb
+use Rattle.hk_format.specs.declared.syntax.Verb.{Verb}
+use Rattle.hk_format.specs.declared.syntax.Verb.TheVariants as verb
 use Rattle.hk_model.specs.Labels.{same_text}
-use Rattle.hk_model.specs.Pieces.{Piece, Word, Upper, Number, spell}
-use Rattle.hk_model.specs.Verbs.{verb_word, verb_piece, all_verbs}
-use Rattle.hk_model.specs.Operands.{path_piece, slot_piece, rights_set_piece, argument_pieces}
-use Rattle.hk_model.specs.Reading.{Found, Reads, ◌>>=◌, onward, taken, wanted, at_most, end, unknown}
-use Rattle.hk_model.specs.Forms.{as_verb, as_word, as_number_below, verb_found, slot_numbered}
-use Rattle.hk_model.specs.WrittenLines.{before_last, last_of}
-use Rattle.hk_model.specs.LineReading.{as_path, as_any_slot, as_rights_set, as_right, as_word32, as_full, call_of, template_of, template_end, some_call, call_named, what_of, stepped, refusal_of, reply_of, reply_line, event_line, line_with, inc_bound}
-use Rattle.hk_model.specs.AuditLines.{call_pieces, what_pieces, full_word, reply_pieces, event_pieces}
-use Rattle.hk_model.specs.LineRanges.{IsPathValue, IsAnySlot, IsCall, IsWhat, IsReply, IsLine}
+use Rattle.hk_format.specs.Pieces.{Piece, Word, Upper, Number, spell}
+use Rattle.hk_format.specs.Verbs.{verb_word, verb_piece, all_verbs}
+use Rattle.hk_format.specs.Operands.{path_piece, slot_piece, rights_set_piece, argument_pieces}
+use Rattle.hk_format.specs.Reading.{Found, Reads, ◌>>=◌, onward, taken, wanted, at_most, end, unknown}
+use Rattle.hk_format.specs.Forms.{as_verb, as_word, as_number_below, verb_found, slot_numbered}
+use Rattle.hk_format.specs.WrittenLines.{before_last, last_of}
+use Rattle.hk_format.specs.LineReading.{as_path, as_any_slot, as_rights_set, as_right, as_word32, as_full, call_of, template_of, template_end, some_call, call_named, what_of, stepped, refusal_of, reply_of, reply_line, event_line, line_with, inc_bound}
+use Rattle.hk_format.specs.AuditLines.{call_pieces, what_pieces, full_word, reply_pieces, event_pieces}
+use Rattle.hk_format.specs.LineRanges.{IsPathValue, IsAnySlot, IsCall, IsWhat, IsReply, IsLine}
 use Rattle.hk_model.specs.Setup.{IsWord32, IsMaking}
-use Rattle.hk_model.proofs.LineAgain.{same_is}
+use Rattle.hk_format.proofs.LineAgain.{same_is}
 
 -- the same, where that is wanted
 abbrev pub Same : {A : Type 0} → Bool → A → A → Type 0

@@ -9,17 +9,17 @@ use Rattle.std.specs.Cmp.Lexicographic.{pointwise}
 use Rattle.std.specs.Prelude.{nat_eq}
 use Rattle.std.proofs.lemmas.Bool.{and_parts, and_from, false≢true, eqb-false, eq-eqb, ltb-true}
 use Rattle.std.proofs.lemmas.List.{drop_more, drop_all}
-use Rattle.hk_model.specs.Texts.{is_none}
+use Rattle.hk_format.specs.Texts.{is_none}
 use Rattle.std.proofs.lemmas.List.Splits.{join_with_byte-slice_split}
 use Rattle.hk_rights.specs.Rights.{Row, has, is_right, IsRightsWord, right_numbers, right_table, name_of, number_named}
 use Rattle.hk_rights.proofs.Sets.{has-bit_or, same_rights}
 use Rattle.hk_rights.proofs.Words.{HasAll-all_rights}
 use Rattle.hk_rights.proofs.Table.{has-all_rights}
 use Rattle.hk_model.specs.Labels.{same_text}
-use Rattle.hk_model.specs.RightsTexts.{both, union_of}
-use Rattle.hk_model.proofs.Cutting.{split_joined}
-use Rattle.hk_model.proofs.LineAgain.{same_is}
-use Rattle.hk_model.proofs.RightsAgain.{word_of, word_again}
+use Rattle.hk_format.specs.RightsTexts.{both, union_of}
+use Rattle.hk_format.proofs.Cutting.{split_joined}
+use Rattle.hk_format.proofs.LineAgain.{same_is}
+use Rattle.hk_format.proofs.RightsAgain.{word_of, word_again}
 use Rattle.hk_audit.specs.Names.{same_texts}
 
 -- the set, name by name

@@ -18,7 +18,7 @@ use Rattle.hk_rights.specs.Rights.{MODIFY, ENV, UNCONF, all_but, first_missing, 
 use Rattle.hk_rights.proofs.Words.{IsRightsWord-bit_and, IsRightsWord-bit_or}
 use Rattle.hk_rights.proofs.Table.{right_numbers-is_right}
 use Rattle.hk_model.specs.Limits.{slot_limit}
-use Rattle.hk_model.specs.LineRanges.{IsStep, IsRefusal}
+use Rattle.hk_format.specs.LineRanges.{IsStep, IsRefusal}
 use Rattle.hk_model.specs.Refusing.{◌>>=◌, ◌>>◌, unless, allowed, item_at}
 use Rattle.hk_model.specs.Walking.{held, obtained, reduced_rights, confined_rights, local_rights}
 use Rattle.hk_model.specs.Merging.{matches, merged, merged_rights}

@@ -1,7 +1,7 @@
 -- What is left of texts that a byte separates. docs/FORMATS.md, "Audit lines and records".
 use Rattle.std.specs.Prelude.{ℕ, ◌==◌, List, [], length, drop, nat_lt, if◌then◌else◌, map}
 use Rattle.std.specs.List.{slice_split}
-use Rattle.hk_model.specs.Pieces.{Piece}
+use Rattle.hk_format.specs.Pieces.{Piece}
 use Rattle.hk_audit.specs.declared.parts.Parts.{Parts}
 use Rattle.hk_audit.specs.Seen.{seen}
 

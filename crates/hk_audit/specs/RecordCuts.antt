@@ -1,7 +1,7 @@
 -- A record, cut where its script ends. docs/FORMATS.md, "Audit lines and records".
 use Rattle.std.specs.Prelude.{ℕ, ◌+◌, ◌==◌, List, [], ◌∷◌, length, Option, Some, None, drop, if◌then◌else◌}
 use Rattle.std.specs.List.{slice_split}
-use Rattle.hk_model.specs.Audits.{is_record}
+use Rattle.hk_format.specs.Audits.{is_record}
 
 -- what line feeds cut
 abbrev pub texts_of : List ℕ → List (List ℕ)

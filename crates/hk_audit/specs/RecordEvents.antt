@@ -1,10 +1,10 @@
 -- What is found behind the script of a record. docs/FORMATS.md, "Audit lines and records".
 use Rattle.std.specs.Prelude.{◌≡◌, ℕ, ◌+◌, List, [], ◌∷◌, Bool, true, false, Result, Ok, Err}
-use Rattle.hk_model.specs.declared.causes.Cause.{Cause}
-use Rattle.hk_model.specs.Texts.{is_none}
-use Rattle.hk_model.specs.Audits.{events, events_from, line_before, nothing_behind}
-use Rattle.hk_model.specs.Audits as audits
-use Rattle.hk_model.specs.Worlds.{Refused}
+use Rattle.hk_format.specs.declared.causes.Cause.{Cause}
+use Rattle.hk_format.specs.Texts.{is_none}
+use Rattle.hk_format.specs.Audits.{events, events_from, line_before, nothing_behind}
+use Rattle.hk_format.specs.Audits as audits
+use Rattle.hk_format.specs.Worlds.{Refused}
 use Rattle.hk_audit.specs.declared.record_lines.Found.{Found}
 use Rattle.hk_audit.specs.declared.record_lines.Found.TheVariants as found
 use Rattle.hk_audit.specs.declared.record_lines.Events.{Events}

@@ -1,8 +1,8 @@
 -- Refusals of scripts and of records, and those of the passes as such. docs/FORMATS.md, "Text", "Grammar", "Loading" and
 -- "Audit lines and records".
 use Rattle.std.specs.Prelude.{◌≡◌, ℕ, Result, Err}
-use Rattle.hk_model.specs.declared.causes.Cause.{Cause}
-use Rattle.hk_model.specs.declared.causes.Cause.TheVariants.{OfText, OfParse, OfLoad}
+use Rattle.hk_format.specs.declared.causes.Cause.{Cause}
+use Rattle.hk_format.specs.declared.causes.Cause.TheVariants.{OfText, OfParse, OfLoad}
 use Rattle.hk_text.specs.declared.errors.TextError.{TextError}
 use Rattle.hk_text.specs.declared.errors.TextError.TheVariants as text_error
 use Rattle.hk_script.specs.declared.errors.ParseError.{ParseError}

@@ -4,8 +4,8 @@ use Rattle.hk_model.specs.declared.calls.Refusal.TheVariants as refused
 use Rattle.hk_model.specs.declared.calls.Reply.{Reply}
 use Rattle.hk_model.specs.declared.calls.Reply.TheVariants as reply
 use Rattle.hk_model.specs.Labels.{same_text}
-use Rattle.hk_model.specs.Reading.{Reads, end, unknown}
-use Rattle.hk_model.specs.LineReading.{full_reply}
+use Rattle.hk_format.specs.Reading.{Reads, end, unknown}
+use Rattle.hk_format.specs.LineReading.{full_reply}
 
 -- a refusal without a step, by its first word
 abbrev pub without_step : List ℕ → Reads Reply

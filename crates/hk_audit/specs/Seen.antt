@@ -5,10 +5,10 @@ use Rattle.std.specs.List.{list_all, slice_split}
 use Rattle.hk_model.specs.declared.instructions.Index.TheVariants.{Fixed}
 use Rattle.hk_model.specs.Labels.{between, first, is_lower, same_text}
 use Rattle.hk_model.specs.Limits.{index_bound, path_limit}
-use Rattle.hk_model.specs.Pieces.{Piece, Word, Upper, Number, Path, is_number, value}
-use Rattle.hk_model.specs.Operands.{rights_piece}
-use Rattle.hk_model.specs.RightsTexts.{rights_of, rights_text}
-use Rattle.hk_model.specs.LineReading.{inc_bound}
+use Rattle.hk_format.specs.Pieces.{Piece, Word, Upper, Number, Path, is_number, value}
+use Rattle.hk_format.specs.Operands.{rights_piece}
+use Rattle.hk_format.specs.RightsTexts.{rights_of, rights_text}
+use Rattle.hk_format.specs.LineReading.{inc_bound}
 
 -- a number without a leading zero
 abbrev pub is_numeral : List ℕ → Bool

@@ -2,11 +2,11 @@
 //! lines and records").
 
 ghost use Rattle.std.specs.Prelude.{◌≡◌, ◌↔◌, All, Ok, Some};
-ghost use Rattle.hk_model.specs.AuditLines.{line_body};
-ghost use Rattle.hk_model.specs.LineReading.{read_body};
-ghost use Rattle.hk_model.specs.LineRanges.{IsLine};
-ghost use Rattle.hk_model.specs.Audits.{audit, audited, events};
-ghost use Rattle.hk_model.specs.Records.{record_text};
+ghost use Rattle.hk_format.specs.AuditLines.{line_body};
+ghost use Rattle.hk_format.specs.LineReading.{read_body};
+ghost use Rattle.hk_format.specs.LineRanges.{IsLine};
+ghost use Rattle.hk_format.specs.Audits.{audit, audited, events};
+ghost use Rattle.hk_format.specs.Records.{record_text};
 
 use hk_model::{End, Line, World};
 

@@ -4,9 +4,8 @@
 ghost use Rattle.std.specs.Prelude.{◌<◌, ◌^◌, length};
 
 use crate::{Audit, RecordError, read_record, read_world};
-use hk_model::{
-    Cause, Cpu, End, Inc, Line, LoadCause, ParseCause, Proc, Reply, TextCause, What, World,
-};
+use hk_format::{Cause, LoadCause, ParseCause, TextCause};
+use hk_model::{Cpu, End, Inc, Line, Proc, Reply, What, World};
 use std::alloc::Global;
 use std::test::Fail;
 

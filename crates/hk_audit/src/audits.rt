@@ -1,9 +1,9 @@
 //! Bytes as a record (`docs/FORMATS.md`, "Audit lines and records").
 
 ghost use Rattle.std.specs.Prelude.{◌≡◌, ◌<◌, ◌-◌, ◌^◌, ℕ, Ok, Err, IfOk, length};
-ghost use Rattle.hk_model.specs.declared.causes.Cause.{Cause};
-ghost use Rattle.hk_model.specs.Texts.{lines_of};
-ghost use Rattle.hk_model.specs.Audits.{audit};
+ghost use Rattle.hk_format.specs.declared.causes.Cause.{Cause};
+ghost use Rattle.hk_format.specs.Texts.{lines_of};
+ghost use Rattle.hk_format.specs.Audits.{audit};
 ghost use Rattle.hk_audit.specs.RecordRefusals.{IsRefused};
 
 use crate::record_errors::RecordError;
@@ -22,7 +22,7 @@ pub struct Audit {
 }
 
 impl Model for Audit {
-    ghost use Rattle.hk_model.specs.Audits.{Audited};
+    ghost use Rattle.hk_format.specs.Audits.{Audited};
 
     ghost Value = { Audited };
 

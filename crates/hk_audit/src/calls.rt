@@ -4,11 +4,11 @@ ghost use Rattle.std.specs.Prelude.{◌≡◌, ◌++◌, ◌∷◌, [], OnOk, st
 ghost use Rattle.std.specs.List.{flat_map};
 ghost use Rattle.std.specs.Fmt.{decimal};
 ghost use Rattle.hk_model.specs.declared.calls.Call.TheVariants as call;
-ghost use Rattle.hk_model.specs.AuditLines.{call_pieces};
-ghost use Rattle.hk_model.specs.LineRanges.{IsCall, IsPathValue};
-ghost use Rattle.hk_model.specs.Operands.{argument_pieces, path_piece, rights_set_piece, slot_piece};
-ghost use Rattle.hk_model.specs.Pieces.{spell, Word, Number};
-ghost use Rattle.hk_model.specs.Texts.{spell_line};
+ghost use Rattle.hk_format.specs.AuditLines.{call_pieces};
+ghost use Rattle.hk_format.specs.LineRanges.{IsCall, IsPathValue};
+ghost use Rattle.hk_format.specs.Operands.{argument_pieces, path_piece, rights_set_piece, slot_piece};
+ghost use Rattle.hk_format.specs.Pieces.{spell, Word, Number};
+ghost use Rattle.hk_format.specs.Texts.{spell_line};
 
 use hk_model::{Args, Call, Making, NoMemory, Path, Slot};
 use hk_print::rights_text;

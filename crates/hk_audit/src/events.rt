@@ -1,13 +1,14 @@
 //! What an audit line tells before its arrow (`docs/FORMATS.md`, "Audit lines and records").
 
 ghost use Rattle.std.specs.Prelude.{◌≡◌, Ok, Err, IfOk, IfErr};
-ghost use Rattle.hk_model.specs.Reading.{end, taken};
-ghost use Rattle.hk_model.specs.LineReading.{call_named, event_line, what_of};
+ghost use Rattle.hk_format.specs.Reading.{end, taken};
+ghost use Rattle.hk_format.specs.LineReading.{call_named, event_line, what_of};
 ghost use Rattle.hk_audit.specs.Left.{rest};
 ghost use Rattle.hk_audit.specs.Events.{line_of};
 
 use crate::parts::Parts;
-use hk_model::{Cpu, Inc, Line, ParseCause, Proc, Reply, What};
+use hk_format::ParseCause;
+use hk_model::{Cpu, Inc, Line, Proc, Reply, What};
 use hk_script::verb_of;
 
 /// Which processor, process and incarnation an event is of, and what happened.

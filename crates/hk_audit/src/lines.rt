@@ -1,10 +1,10 @@
 //! The text of an audit line (`docs/FORMATS.md`, "Audit lines and records").
 
 ghost use Rattle.std.specs.Prelude.{◌≡◌, ◌++◌, All, IfOk, OnOk, string_bytes};
-ghost use Rattle.hk_model.specs.LineRanges.{IsLine, IsWhat};
-ghost use Rattle.hk_model.specs.AuditLines.{line_text, what_pieces};
-ghost use Rattle.hk_model.specs.Records.{lines_text};
-ghost use Rattle.hk_model.specs.Texts.{spell_line};
+ghost use Rattle.hk_format.specs.LineRanges.{IsLine, IsWhat};
+ghost use Rattle.hk_format.specs.AuditLines.{line_text, what_pieces};
+ghost use Rattle.hk_format.specs.Records.{lines_text};
+ghost use Rattle.hk_format.specs.Texts.{spell_line};
 
 use crate::calls::write_call;
 use crate::replies::write_reply;

@@ -3,8 +3,8 @@
 ghost use Rattle.std.specs.Prelude.{◌≡◌, IsTrue, Some, None, nat_lt, if◌then◌else◌};
 ghost use Rattle.std.specs.List.{list_all};
 ghost use Rattle.hk_model.specs.Labels.{is_digit};
-ghost use Rattle.hk_model.specs.Pieces.{is_number, value};
-ghost use Rattle.hk_model.specs.LineReading.{inc_bound};
+ghost use Rattle.hk_format.specs.Pieces.{is_number, value};
+ghost use Rattle.hk_format.specs.LineReading.{inc_bound};
 ghost use Rattle.hk_audit.specs.Seen.{numeral_of};
 
 /// The number that the text spells. None where it spells none, or where 64 bits do not hold it.

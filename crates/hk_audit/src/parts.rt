@@ -3,7 +3,7 @@
 ghost use Rattle.std.specs.Prelude.{◌≡◌, ◌≤◌, ◌==◌, length};
 ghost use Rattle.std.specs.List.{position_or_len};
 
-use hk_model::ParseCause;
+use hk_format::ParseCause;
 
 /// What is left of texts that a byte separates.
 #[derive(Drop)]
@@ -16,8 +16,8 @@ pub struct Parts<'a> {
 impl<'a> Parts<'a> {
     ghost use Rattle.std.specs.Prelude.{◌∷◌, [], IfOk, IfErr, OnErr};
     ghost use Rattle.std.specs.List.{slice_split};
-    ghost use Rattle.hk_model.specs.declared.causes.ParseCause.TheVariants as cause;
-    ghost use Rattle.hk_model.specs.Texts.{is_none};
+    ghost use Rattle.hk_format.specs.declared.causes.ParseCause.TheVariants as cause;
+    ghost use Rattle.hk_format.specs.Texts.{is_none};
     ghost use Rattle.hk_audit.specs.Left.{texts};
 
     /// All the texts of which such bytes make one.

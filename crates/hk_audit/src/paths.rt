@@ -1,7 +1,7 @@
 //! Paths of two to eight indices (`docs/FORMATS.md`, "Pieces").
 
 ghost use Rattle.std.specs.Prelude.{◌≡◌, Some, None, if◌then◌else◌};
-ghost use Rattle.hk_model.specs.Pieces.{value};
+ghost use Rattle.hk_format.specs.Pieces.{value};
 ghost use Rattle.hk_audit.specs.Seen.{is_index_numeral, path_of};
 
 use crate::numerals::numeral;

@@ -1,7 +1,7 @@
 //! The lines of a run have texts (`docs/FORMATS.md`, "Audit lines and records").
 
 ghost use Rattle.std.specs.Prelude.{All};
-ghost use Rattle.hk_model.specs.LineRanges.{IsLine};
+ghost use Rattle.hk_format.specs.LineRanges.{IsLine};
 ghost use Rattle.hk_model.specs.Running.{AreStepsOf};
 
 use hk_model::{Line, World};

@@ -1,13 +1,14 @@
 //! The calls of audit lines (`docs/FORMATS.md`, "Texts of calls").
 
 ghost use Rattle.std.specs.Prelude.{◌≡◌};
-ghost use Rattle.hk_model.specs.declared.syntax.Verb.TheVariants as verb;
-ghost use Rattle.hk_model.specs.Reading.{taken};
-ghost use Rattle.hk_model.specs.LineReading.{call_of, template_of, template_end};
+ghost use Rattle.hk_format.specs.declared.syntax.Verb.TheVariants as verb;
+ghost use Rattle.hk_format.specs.Reading.{taken};
+ghost use Rattle.hk_format.specs.LineReading.{call_of, template_of, template_end};
 ghost use Rattle.hk_audit.specs.Left.{rest};
 
 use crate::parts::Parts;
-use hk_model::{Args, Call, Making, ParseCause, Path, Slot, Verb};
+use hk_format::{ParseCause, Verb};
+use hk_model::{Args, Call, Making, Path, Slot};
 
 impl<'a> Parts<'a> {
     /// What is left of the call that begins with this word.

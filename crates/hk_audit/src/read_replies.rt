@@ -2,14 +2,15 @@
 
 ghost use Rattle.std.specs.Prelude.{◌≡◌};
 ghost use Rattle.hk_model.specs.declared.calls.Refusal.TheVariants as refused;
-ghost use Rattle.hk_model.specs.Reading.{end, taken, wanted};
-ghost use Rattle.hk_model.specs.Forms.{as_number_below};
-ghost use Rattle.hk_model.specs.LineReading.{denied, full_reply, refusal_of, reply_line, reply_of, stepped, word_reply};
+ghost use Rattle.hk_format.specs.Reading.{end, taken, wanted};
+ghost use Rattle.hk_format.specs.Forms.{as_number_below};
+ghost use Rattle.hk_format.specs.LineReading.{denied, full_reply, refusal_of, reply_line, reply_of, stepped, word_reply};
 ghost use Rattle.hk_audit.specs.Left.{rest};
 ghost use Rattle.hk_audit.specs.Refusals.{without_step};
 
 use crate::parts::Parts;
-use hk_model::{ParseCause, Refusal, Reply};
+use hk_format::ParseCause;
+use hk_model::{Refusal, Reply};
 
 impl<'a> Parts<'a> {
     /// What stands behind the arrow.

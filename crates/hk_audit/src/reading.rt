@@ -3,8 +3,8 @@
 ghost use Rattle.std.specs.Prelude.{◌≡◌, ◌==◌, ◌∷◌, [], ◌++◌, ℕ, List, IfSome, IfNone};
 ghost use Rattle.std.specs.List.{slice_split};
 ghost use Rattle.hk_model.specs.declared.lines.Line.{Line};
-ghost use Rattle.hk_model.specs.AuditLines.{line_body, line_text};
-ghost use Rattle.hk_model.specs.LineRanges.{IsLine};
+ghost use Rattle.hk_format.specs.AuditLines.{line_body, line_text};
+ghost use Rattle.hk_format.specs.LineRanges.{IsLine};
 ghost use Rattle.hk_audit.specs.Halves.{halves_text, HasNoArrow};
 
 use crate::parts::Parts;

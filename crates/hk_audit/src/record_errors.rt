@@ -3,8 +3,8 @@
 
 ghost use Rattle.std.specs.Prelude.{◌≡◌};
 
+use hk_format::Cause;
 use hk_load::LoadError;
-use hk_model::Cause;
 use hk_script::ParseError;
 use hk_text::TextError;
 use std::alloc::AllocError;

@@ -1,8 +1,8 @@
 //! The lines behind the script of a record (`docs/FORMATS.md`, "Audit lines and records").
 
 ghost use Rattle.std.specs.Prelude.{◌≡◌, ◌<◌, ◌+◌, ◌^◌, ◌∷◌, [], ℕ, List, Err, IfOk, length};
-ghost use Rattle.hk_model.specs.Audits.{end_of, events_behind, events_from};
-ghost use Rattle.hk_model.specs.Texts.{lines_of, without_last_empty};
+ghost use Rattle.hk_format.specs.Audits.{end_of, events_behind, events_from};
+ghost use Rattle.hk_format.specs.Texts.{lines_of, without_last_empty};
 ghost use Rattle.hk_audit.specs.Left.{texts};
 ghost use Rattle.hk_audit.specs.RecordCuts.{behind_first};
 ghost use Rattle.hk_audit.specs.RecordEvents.{Finds, GivesEvents, have_no_byte};
@@ -10,7 +10,8 @@ ghost use Rattle.hk_audit.specs.RecordEvents.{Finds, GivesEvents, have_no_byte};
 use crate::parts::Parts;
 use crate::reading::read_body;
 use crate::record_errors::RecordError;
-use hk_model::{Cause, End, Items, Line, ParseCause, Template};
+use hk_format::{Cause, ParseCause};
+use hk_model::{End, Items, Line, Template};
 use std::alloc::Global;
 use std::marker::PhantomData;
 

@@ -1,9 +1,9 @@
 //! The text of a record (`docs/FORMATS.md`, "Audit lines and records").
 
 ghost use Rattle.std.specs.Prelude.{◌≡◌, All, IfOk};
-ghost use Rattle.hk_model.specs.LineRanges.{IsLine};
-ghost use Rattle.hk_model.specs.Records.{record_text, end_text};
-ghost use Rattle.hk_model.specs.Texts.{ended_line};
+ghost use Rattle.hk_format.specs.LineRanges.{IsLine};
+ghost use Rattle.hk_format.specs.Records.{record_text, end_text};
+ghost use Rattle.hk_format.specs.Texts.{ended_line};
 
 use crate::lines::write_lines;
 use hk_model::{End, Line, NoMemory, Text, World};
@@ -12,7 +12,7 @@ use std::alloc::Global;
 
 /// The text of a record: the canonical script of the world, the line `record`, the text of each
 /// line, and the end line. The only error is want of memory.
-#[tactic(auto, unfolding(hk_model::specs::Records::record_text))]
+#[tactic(auto, unfolding(hk_format::specs::Records::record_text))]
 pub fn record_text(alloc: Global, world: &World, lines: &[Line], end: End) -> Result<Text, NoMemory>
     requires { All IsLine lines.now }
     ensures { IfOk result (λ text. text ≡ record_text world.now lines.now end) }

@@ -1,8 +1,8 @@
 //! How replies are spelled in audit lines (`docs/FORMATS.md`, "Audit lines and records").
 
 ghost use Rattle.std.specs.Prelude.{◌≡◌, ◌++◌, OnOk, string_bytes};
-ghost use Rattle.hk_model.specs.AuditLines.{full_word, refusal_pieces, reply_pieces};
-ghost use Rattle.hk_model.specs.Texts.{spell_line};
+ghost use Rattle.hk_format.specs.AuditLines.{full_word, refusal_pieces, reply_pieces};
+ghost use Rattle.hk_format.specs.Texts.{spell_line};
 
 use hk_model::{NoMemory, Refusal, Reply, What8};
 

@@ -4,7 +4,7 @@ ghost use Rattle.std.specs.Prelude.{◌≡◌, ◌==◌, false, Some, None, map,
 ghost use Rattle.std.specs.List.{filter, join_with_byte, slice_split};
 ghost use Rattle.hk_rights.specs.Rights.{has, IsRightsWord, name_of, number_named, right_numbers};
 ghost use Rattle.hk_model.specs.Labels.{same_text};
-ghost use Rattle.hk_model.specs.RightsTexts.{rights_of, rights_text, union_of};
+ghost use Rattle.hk_format.specs.RightsTexts.{rights_of, rights_text, union_of};
 ghost use Rattle.hk_audit.specs.Seen.{rights_spelled};
 ghost use Rattle.hk_audit.specs.Names.{same_texts};
 
@@ -24,7 +24,7 @@ pub fn rights_in(text: &[u8]) -> Option<Rights>
 }
 
 // The set that the text means, in any spelling.
-#[tactic(auto, unfolding(hk_model::specs::RightsTexts::rights_of))]
+#[tactic(auto, unfolding(hk_format::specs::RightsTexts::rights_of))]
 fn rights_meant(text: &[u8]) -> Option<Rights>
     ensures { result ≡ rights_of text.now }
 {
@@ -61,7 +61,7 @@ pub fn right_in(name: &[u8]) -> Option<Right>
 }
 
 // Whether the text is the canonical spelling of the set.
-#[tactic(auto, unfolding(hk_model::specs::RightsTexts::rights_text))]
+#[tactic(auto, unfolding(hk_format::specs::RightsTexts::rights_text))]
 fn is_spelling(rights: Rights, text: &[u8]) -> bool
     ensures { result ≡ same_text (rights_text rights) text.now }
 {

@@ -2,10 +2,10 @@
 //! lines and records").
 
 ghost use Rattle.std.specs.Prelude.{◌≡◌, ◌<◌, ◌≤◌, ◌-◌, ◌^◌, ◌++◌, ℕ, Ok, Err, IfOk, length, take, drop};
-ghost use Rattle.hk_model.specs.declared.causes.Cause.{Cause};
-ghost use Rattle.hk_model.specs.Audits.{cut, cut_at_record, is_record};
-ghost use Rattle.hk_model.specs.Texts.{lines_of};
-ghost use Rattle.hk_model.specs.Worlds.{world};
+ghost use Rattle.hk_format.specs.declared.causes.Cause.{Cause};
+ghost use Rattle.hk_format.specs.Audits.{cut, cut_at_record, is_record};
+ghost use Rattle.hk_format.specs.Texts.{lines_of};
+ghost use Rattle.hk_format.specs.Worlds.{world};
 ghost use Rattle.hk_audit.specs.RecordCuts.{texts_of, behind_first};
 ghost use Rattle.hk_audit.specs.RecordRefusals.{IsRefused};
 

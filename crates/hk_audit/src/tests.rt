@@ -3,7 +3,7 @@
 
 ghost use Rattle.std.specs.Prelude.{◌≡◌, ◌<◌, ◌≤◌, [], length, map};
 ghost use Rattle.hk_model.specs.Limits.{event_limit};
-ghost use Rattle.hk_model.specs.LineRanges.{IsCall, IsLine, IsReply, IsPathValue, IsWhat};
+ghost use Rattle.hk_format.specs.LineRanges.{IsCall, IsLine, IsReply, IsPathValue, IsWhat};
 ghost use Rattle.hk_model.specs.Setup.{setup};
 
 use crate::{

@@ -2,14 +2,15 @@
 //! records"): Missing where no text is left, Extra where one is left at the end.
 
 ghost use Rattle.std.specs.Prelude.{◌≡◌, ◌<◌, Ok, Err, IfOk, IfErr};
-ghost use Rattle.hk_model.specs.Reading.{end, taken, wanted};
-ghost use Rattle.hk_model.specs.Forms.{as_verb, as_word, as_number_below};
-ghost use Rattle.hk_model.specs.LineReading.{as_path, as_any_slot, as_rights_set, as_right, as_word32, as_full, inc_bound};
+ghost use Rattle.hk_format.specs.Reading.{end, taken, wanted};
+ghost use Rattle.hk_format.specs.Forms.{as_verb, as_word, as_number_below};
+ghost use Rattle.hk_format.specs.LineReading.{as_path, as_any_slot, as_rights_set, as_right, as_word32, as_full, inc_bound};
 ghost use Rattle.hk_audit.specs.Left.{rest};
 
 use crate::forms;
 use crate::parts::Parts;
-use hk_model::{ParseCause, Path, Slot, Verb, What8};
+use hk_format::{ParseCause, Verb};
+use hk_model::{Path, Slot, What8};
 use hk_rights::{Right, Rights};
 
 impl<'a> Parts<'a> {

@@ -5,10 +5,10 @@ use Rattle.std.proofs.lemmas.Bool.{cases_lt}
 use Rattle.std.proofs.lemmas.List.{take_all}
 use Rattle.hk_model.specs.declared.lines.Line.{Line}
 use Rattle.hk_model.specs.declared.lines.End.{End}
-use Rattle.hk_model.specs.declared.causes.Misstep.{Misstep}
-use Rattle.hk_model.specs.declared.causes.Misstep.TheVariants as misstep
-use Rattle.hk_model.specs.declared.causes.Verdict.{Verdict}
-use Rattle.hk_model.specs.declared.causes.Verdict.TheVariants as verdict
+use Rattle.hk_model.specs.declared.verdicts.Misstep.{Misstep}
+use Rattle.hk_model.specs.declared.verdicts.Misstep.TheVariants as misstep
+use Rattle.hk_model.specs.declared.verdicts.Verdict.{Verdict}
+use Rattle.hk_model.specs.declared.verdicts.Verdict.TheVariants as verdict
 use Rattle.hk_model.specs.Setup.{Setup}
 use Rattle.hk_model.specs.Running.{Machine, AreSteps, AreStepsOf, after_lines, line_of, machine_at, moved, opened}
 use Rattle.hk_model.specs.Legal.{IsLegal}

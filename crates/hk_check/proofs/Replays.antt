@@ -9,8 +9,8 @@ use Rattle.hk_model.specs.declared.calls.Reply.{Reply}
 use Rattle.hk_model.specs.declared.lines.What.{What}
 use Rattle.hk_model.specs.declared.lines.Line.{Line}
 use Rattle.hk_model.specs.declared.lines.End.{End}
-use Rattle.hk_model.specs.declared.causes.Misstep.{Misstep}
-use Rattle.hk_model.specs.declared.causes.Misstep.TheVariants as misstep
+use Rattle.hk_model.specs.declared.verdicts.Misstep.{Misstep}
+use Rattle.hk_model.specs.declared.verdicts.Misstep.TheVariants as misstep
 use Rattle.hk_model.specs.Setup.{Setup}
 use Rattle.hk_model.specs.Running.{Machine, AreStepsOf, after_lines, opened, step, line_of}
 use Rattle.hk_model.specs.Legal.{IsLegal, end_word}

@@ -1,7 +1,7 @@
 -- The first cause of several. docs/FORMATS.md, "Legal records".
 use Rattle.std.specs.Prelude.{Bool, true, false, Option, Some, None}
-use Rattle.hk_model.specs.declared.causes.Misstep.{Misstep}
-use Rattle.hk_model.specs.declared.causes.Misstep.TheVariants as misstep
+use Rattle.hk_model.specs.declared.verdicts.Misstep.{Misstep}
+use Rattle.hk_model.specs.declared.verdicts.Misstep.TheVariants as misstep
 
 -- whether the same process makes the line and the step, and whether the event and the reply are the same
 abbrev pub first_cause : Bool → Bool → Bool → Option Misstep

@@ -2,19 +2,19 @@
 use Rattle.std.proofs.Common.{◌≡◌, ℕ, ◌+◌, ◌<◌, ◌≤◌, ◌==◌, not, map, Bool, true, false, ltb, List, [], ◌∷◌, ◌++◌, length, drop, get_or, refl, sym, ap, ◌∙◌, Ok, Err, Result, None}
 use Rattle.std.proofs.lemmas.List.{at_drop_more, at_drop_all, length-append}
 use mathlib.Core.List.{append_assoc, append-nil}
-use Rattle.hk_model.specs.declared.causes.LoadCause.TheVariants.{TooMany}
+use Rattle.hk_format.specs.declared.causes.LoadCause.TheVariants.{TooMany}
 use Rattle.hk_model.specs.declared.entries.Entry.{Entry}
 use Rattle.hk_model.specs.declared.instructions.Instr.{Instr}
-use Rattle.hk_model.specs.declared.syntax.Head.{Head}
-use Rattle.hk_model.specs.declared.syntax.Head.TheVariants.{LimitIs, TypeIs, ObjectIs, SemaphoreIs, ProcedureIs, CodeIs, ProcessIs}
-use Rattle.hk_model.specs.declared.syntax.Item.{Item}
-use Rattle.hk_model.specs.declared.syntax.Part.{Part}
+use Rattle.hk_format.specs.declared.syntax.Head.{Head}
+use Rattle.hk_format.specs.declared.syntax.Head.TheVariants.{LimitIs, TypeIs, ObjectIs, SemaphoreIs, ProcedureIs, CodeIs, ProcessIs}
+use Rattle.hk_format.specs.declared.syntax.Item.{Item}
+use Rattle.hk_format.specs.declared.syntax.Part.{Part}
 use Rattle.hk_model.specs.declared.world.Kind.{Kind}
 use Rattle.hk_model.specs.declared.world.Kind.TheVariants as kind
 use Rattle.hk_model.specs.Setup.{Setup, setup}
 use Rattle.hk_model.specs.Targets.{DATA}
-use Rattle.hk_model.specs.Loading as loading
-use Rattle.hk_model.specs.Loading.{Refused, Names, Contents, Counts, counts, counted, object_fits, at_line, unless, limited, plain_type, code_named, name_numbered, room, used, contents_of, labels_from, instrs_of, with_object, loaded, item_of, put_item, items_of, names_of, load, ◌>>=◌, ◌>>◌}
+use Rattle.hk_format.specs.Loading as loading
+use Rattle.hk_format.specs.Loading.{Refused, Names, Contents, Counts, counts, counted, object_fits, at_line, unless, limited, plain_type, code_named, name_numbered, room, used, contents_of, labels_from, instrs_of, with_object, loaded, item_of, put_item, items_of, names_of, load, ◌>>=◌, ◌>>◌}
 use Rattle.hk_load.specs.Building.{Built, built, counts_of, with_limit, with_born, with_code, with_task, limit_or, finished, added, after}
 
 after_born : (b : Built) (name : List ℕ) (k : Kind) (rest : Result Setup Refused) → after b (put_item (Ok (with_object name k)) rest) ≡ after (with_born b name k) rest

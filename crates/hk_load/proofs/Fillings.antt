@@ -2,13 +2,13 @@
 use Rattle.std.proofs.Common.{◌≡◌, ℕ, ◌+◌, ◌<◌, Bool, true, false, ltb, leb, List, [], ◌∷◌, ◌++◌, length, drop, get_or, refl, sym, ap, ◌∙◌, Ok, Err, Result}
 use Rattle.std.proofs.lemmas.List.{at_drop_more, length-append}
 use mathlib.Core.List.{append_assoc, append-nil}
-use Rattle.hk_model.specs.declared.causes.LoadCause.{LoadCause}
+use Rattle.hk_format.specs.declared.causes.LoadCause.{LoadCause}
 use Rattle.hk_model.specs.declared.entries.Entry.{Entry}
 use Rattle.hk_model.specs.declared.entries.Param.{Param}
-use Rattle.hk_model.specs.declared.syntax.Body.{Body}
-use Rattle.hk_model.specs.declared.syntax.Body.TheVariants.{WordsAre, EmptyEntry, CapEntry, AmplifyEntry, CreateEntry, ParamIs, LabelIs, StepIs}
-use Rattle.hk_model.specs.declared.syntax.Part.{Part}
-use Rattle.hk_model.specs.Loading.{Refused, Names, Contents, Used, Room, contents, used, limited, permitted, entry_of, param_of, onto, more_words, one_param, one_entry, content_onto, contents_of, at_line, ◌>>=◌}
+use Rattle.hk_format.specs.declared.syntax.Body.{Body}
+use Rattle.hk_format.specs.declared.syntax.Body.TheVariants.{WordsAre, EmptyEntry, CapEntry, AmplifyEntry, CreateEntry, ParamIs, LabelIs, StepIs}
+use Rattle.hk_format.specs.declared.syntax.Part.{Part}
+use Rattle.hk_format.specs.Loading.{Refused, Names, Contents, Used, Room, contents, used, limited, permitted, entry_of, param_of, onto, more_words, one_param, one_entry, content_onto, contents_of, at_line, ◌>>=◌}
 use Rattle.hk_load.specs.Filling.{used_by, added, after}
 
 after_words : (c : Contents) (words : List ℕ) (line : ℕ) (rest : Result Contents Refused) → after c (onto more_words line (Ok words) rest) ≡ after (contents (c.words ++ words) c.params c.entries) rest

@@ -9,15 +9,15 @@ use Rattle.std.proofs.lemmas.List.Folds.{find_at}
 use Rattle.std.proofs.lemmas.Option.{slice_get_cases}
 use mathlib.Core.List.{append_assoc}
 use Rattle.indexmap.specs.IndexMap.{insert_entry}
-use Rattle.hk_model.specs.declared.causes.LoadCause.{LoadCause}
-use Rattle.hk_model.specs.declared.causes.LoadCause.TheVariants.{UnknownName}
+use Rattle.hk_format.specs.declared.causes.LoadCause.{LoadCause}
+use Rattle.hk_format.specs.declared.causes.LoadCause.TheVariants.{UnknownName}
 use Rattle.hk_model.specs.declared.instructions.Instr.{Instr}
-use Rattle.hk_model.specs.declared.syntax.Body.{Body}
-use Rattle.hk_model.specs.declared.syntax.Body.TheVariants.{WordsAre, EmptyEntry, CapEntry, AmplifyEntry, CreateEntry, ParamIs, LabelIs, StepIs}
-use Rattle.hk_model.specs.declared.syntax.Part.{Part}
+use Rattle.hk_format.specs.declared.syntax.Body.{Body}
+use Rattle.hk_format.specs.declared.syntax.Body.TheVariants.{WordsAre, EmptyEntry, CapEntry, AmplifyEntry, CreateEntry, ParamIs, LabelIs, StepIs}
+use Rattle.hk_format.specs.declared.syntax.Part.{Part}
 use Rattle.hk_model.specs.Labels.{same_text}
-use Rattle.hk_model.specs.Grammar.{is_among, is_new_label, noted_label}
-use Rattle.hk_model.specs.Loading.{Refused, Label, labels_from, label_onto, target, found, to_limit, limited, front, onto, instr_of, instr_onto, instrs_of, at_line, ◌>>=◌}
+use Rattle.hk_format.specs.Grammar.{is_among, is_new_label, noted_label}
+use Rattle.hk_format.specs.Loading.{Refused, Label, labels_from, label_onto, target, found, to_limit, limited, front, onto, instr_of, instr_onto, instrs_of, at_line, ◌>>=◌}
 use Rattle.hk_load.specs.Jumping.{label_at, labels_seen, label_texts, HasNewLabels, step_added, after_steps}
 use Rattle.hk_load.proofs.NameLists.{insert_new, position_map}
 

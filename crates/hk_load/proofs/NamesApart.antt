@@ -4,14 +4,14 @@ use Rattle.std.specs.List.{list_any, filter_map}
 use Rattle.std.proofs.lemmas.Bool.{and_parts}
 use Rattle.std.proofs.lemmas.List.{at_drop_more}
 use mathlib.Core.List.{append_assoc}
-use Rattle.hk_model.specs.declared.syntax.Head.{Head}
-use Rattle.hk_model.specs.declared.syntax.Head.TheVariants.{LimitIs, TypeIs, ObjectIs, SemaphoreIs, ProcedureIs, CodeIs, ProcessIs}
-use Rattle.hk_model.specs.declared.syntax.Item.{Item}
+use Rattle.hk_format.specs.declared.syntax.Head.{Head}
+use Rattle.hk_format.specs.declared.syntax.Head.TheVariants.{LimitIs, TypeIs, ObjectIs, SemaphoreIs, ProcedureIs, CodeIs, ProcessIs}
+use Rattle.hk_format.specs.declared.syntax.Item.{Item}
 use Rattle.hk_model.specs.Labels.{same_text, are_apart}
-use Rattle.hk_model.specs.Grammar.{is_among}
-use Rattle.hk_model.specs.Syntax.{IsSyntax}
-use Rattle.hk_model.specs.Loading.{Names, names_of, object_label, is_type_head, code_label}
-use Rattle.hk_model.proofs.HeadsApart.{objects_apart, codes_apart}
+use Rattle.hk_format.specs.Grammar.{is_among}
+use Rattle.hk_format.specs.Syntax.{IsSyntax}
+use Rattle.hk_format.specs.Loading.{Names, names_of, object_label, is_type_head, code_label}
+use Rattle.hk_format.proofs.HeadsApart.{objects_apart, codes_apart}
 use Rattle.hk_load.specs.Naming.{names, with_head, names_from, IsNewHead}
 use Rattle.hk_load.proofs.NameLists.{or_parts}
 

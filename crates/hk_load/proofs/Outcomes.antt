@@ -1,8 +1,8 @@
 -- What is answered where a line is refused, or is not.
 use Rattle.std.proofs.Common.{◌≡◌, ℕ, refl, ap, sym, ◌∙◌, Ok, Err, Result}
 use Rattle.std.specs.Prelude.{IfOk}
-use Rattle.hk_model.specs.declared.causes.LoadCause.{LoadCause}
-use Rattle.hk_model.specs.Loading.{Refused, at_line, ◌>>=◌}
+use Rattle.hk_format.specs.declared.causes.LoadCause.{LoadCause}
+use Rattle.hk_format.specs.Loading.{Refused, at_line, ◌>>=◌}
 use Rattle.hk_load.specs.declared.errors.LineError.{LineError}
 use Rattle.hk_load.specs.declared.errors.LineError.TheVariants as line_error
 use Rattle.hk_load.specs.declared.errors.LoadError.{LoadError}

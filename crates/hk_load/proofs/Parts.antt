@@ -2,11 +2,11 @@
 use Rattle.std.proofs.Common.{◌≡◌, ℕ, ◌+◌, ◌<◌, sym, List, [], ◌∷◌, length, drop, get_or, subst}
 use Rattle.std.specs.List.{AllByRecursion}
 use Rattle.std.proofs.lemmas.List.{at_drop_more}
-use Rattle.hk_model.specs.declared.syntax.Head.{Head}
-use Rattle.hk_model.specs.declared.syntax.Item.{Item}
-use Rattle.hk_model.specs.declared.syntax.Part.{Part}
-use Rattle.hk_model.specs.Grammar.{Seen, nothing_seen, noted, noted_label}
-use Rattle.hk_model.specs.Syntax.{AreParts, AreItems, IsSyntax}
+use Rattle.hk_format.specs.declared.syntax.Head.{Head}
+use Rattle.hk_format.specs.declared.syntax.Item.{Item}
+use Rattle.hk_format.specs.declared.syntax.Part.{Part}
+use Rattle.hk_format.specs.Grammar.{Seen, nothing_seen, noted, noted_label}
+use Rattle.hk_format.specs.Syntax.{AreParts, AreItems, IsSyntax}
 use Rattle.hk_load.specs.Jumping.{HasNewLabels}
 
 parts_new : (head : Head) (labels : List (List ℕ)) (ps : List Part) → AreParts head labels ps → HasNewLabels labels ps

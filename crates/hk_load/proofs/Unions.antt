@@ -5,7 +5,7 @@ use Rattle.std.proofs.Math.Bool.{or_assoc, or-false}
 use Rattle.std.proofs.lemmas.List.{at_drop_more}
 use Rattle.hk_rights.specs.Rights.{has, number_named}
 use Rattle.hk_rights.proofs.Sets.{has-bit_or, has-zero, same_rights}
-use Rattle.hk_model.specs.RightsTexts.{right_of, both, union_of}
+use Rattle.hk_format.specs.RightsTexts.{right_of, both, union_of}
 use Rattle.hk_load.specs.Texts.{united}
 
 union_assoc : (a b c : ℕ) → bit_or (bit_or a b) c ≡ bit_or a (bit_or b c)

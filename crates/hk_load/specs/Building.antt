@@ -1,9 +1,9 @@
 -- What the items of a script give, one after another. docs/FORMATS.md, "Loading".
 use Rattle.std.specs.Prelude.{ℕ, ◌==◌, not, List, [], ◌∷◌, ◌++◌, length, Option, Some, None, Result, Ok, Err, nat_lt, true}
-use Rattle.hk_model.specs.declared.causes.LoadCause.TheVariants.{TooMany}
-use Rattle.hk_model.specs.declared.syntax.Head.{Head}
-use Rattle.hk_model.specs.declared.syntax.Head.TheVariants.{LimitIs, TypeIs, ObjectIs, SemaphoreIs, ProcedureIs, CodeIs, ProcessIs}
-use Rattle.hk_model.specs.declared.syntax.Part.{Part}
+use Rattle.hk_format.specs.declared.causes.LoadCause.TheVariants.{TooMany}
+use Rattle.hk_format.specs.declared.syntax.Head.{Head}
+use Rattle.hk_format.specs.declared.syntax.Head.TheVariants.{LimitIs, TypeIs, ObjectIs, SemaphoreIs, ProcedureIs, CodeIs, ProcessIs}
+use Rattle.hk_format.specs.declared.syntax.Part.{Part}
 use Rattle.hk_model.specs.declared.entries.Entry.{Entry}
 use Rattle.hk_model.specs.declared.instructions.Instr.{Instr}
 use Rattle.hk_model.specs.declared.world.Born.{Born}
@@ -14,7 +14,7 @@ use Rattle.hk_model.specs.declared.world.Kind.TheVariants as kind
 use Rattle.hk_model.specs.Limits.{entry_limit, slot_limit, code_limit, process_limit, usual_limit}
 use Rattle.hk_model.specs.Targets.{DATA}
 use Rattle.hk_model.specs.Setup.{Setup, setup}
-use Rattle.hk_model.specs.Loading.{Names, Refused, Counts, counts, object_fits, at_line, unless, limited, plain_type, code_named, name_numbered, room, used, contents_of, labels_from, instrs_of, ◌>>=◌, ◌>>◌}
+use Rattle.hk_format.specs.Loading.{Names, Refused, Counts, counts, object_fits, at_line, unless, limited, plain_type, code_named, name_numbered, room, used, contents_of, labels_from, instrs_of, ◌>>=◌, ◌>>◌}
 use Rattle.hk_load.specs.declared.items.Loaded.{Loaded}
 
 -- what items have given

@@ -1,12 +1,12 @@
 -- What an item holds, one line after another. docs/FORMATS.md, "Loading".
 use Rattle.std.specs.Prelude.{ℕ, ◌+◌, List, [], ◌∷◌, ◌++◌, length, Result, Ok, Err, nat_lt, nat_le}
-use Rattle.hk_model.specs.declared.causes.LoadCause.{LoadCause}
+use Rattle.hk_format.specs.declared.causes.LoadCause.{LoadCause}
 use Rattle.hk_model.specs.declared.entries.Param.{Param}
-use Rattle.hk_model.specs.declared.syntax.Body.{Body}
-use Rattle.hk_model.specs.declared.syntax.Body.TheVariants.{WordsAre, ParamIs}
+use Rattle.hk_format.specs.declared.syntax.Body.{Body}
+use Rattle.hk_format.specs.declared.syntax.Body.TheVariants.{WordsAre, ParamIs}
 use Rattle.hk_model.specs.Limits.{word_limit, param_limit}
-use Rattle.hk_model.specs.Loading as loading
-use Rattle.hk_model.specs.Loading.{Names, Refused, contents, room, used, limited, permitted, entry_of, param_of, ◌>>=◌}
+use Rattle.hk_format.specs.Loading as loading
+use Rattle.hk_format.specs.Loading.{Names, Refused, contents, room, used, limited, permitted, entry_of, param_of, ◌>>=◌}
 use Rattle.hk_load.specs.declared.contents.Contents.{Contents}
 use Rattle.hk_load.specs.declared.contents.Room.{Room}
 

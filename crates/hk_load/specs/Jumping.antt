@@ -1,14 +1,14 @@
 -- The labels and the instructions of a code, one line after another. docs/FORMATS.md, "Loading".
 use Rattle.std.specs.Prelude.{ℕ, List, [], ◌∷◌, ◌++◌, length, IsTrue, Result, Ok, Err, nat_lt, map, string_bytes, String}
 use Rattle.std.specs.Global.{Global}
-use Rattle.hk_model.specs.declared.causes.LoadCause.{LoadCause}
+use Rattle.hk_format.specs.declared.causes.LoadCause.{LoadCause}
 use Rattle.hk_model.specs.declared.instructions.Instr.{Instr}
-use Rattle.hk_model.specs.declared.syntax.Body.{Body}
-use Rattle.hk_model.specs.declared.syntax.Body.TheVariants.{StepIs}
-use Rattle.hk_model.specs.declared.syntax.Part.{Part}
+use Rattle.hk_format.specs.declared.syntax.Body.{Body}
+use Rattle.hk_format.specs.declared.syntax.Body.TheVariants.{StepIs}
+use Rattle.hk_format.specs.declared.syntax.Part.{Part}
 use Rattle.hk_model.specs.Limits.{code_limit}
-use Rattle.hk_model.specs.Grammar.{is_new_label, noted_label}
-use Rattle.hk_model.specs.Loading.{Label, Refused, limited, instr_of, ◌>>=◌}
+use Rattle.hk_format.specs.Grammar.{is_new_label, noted_label}
+use Rattle.hk_format.specs.Loading.{Label, Refused, limited, instr_of, ◌>>=◌}
 
 -- a label, and the number of the instruction behind it
 abbrev pub label_at : List ℕ → ℕ → Label

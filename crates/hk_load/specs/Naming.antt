@@ -2,11 +2,11 @@
 use Rattle.std.specs.Prelude.{◌≡◌, ℕ, Bool, true, false, List, [], ◌∷◌, ◌++◌, map, string_bytes, String}
 use Rattle.std.specs.Global.{Global}
 use Rattle.std.specs.List.{filter_map}
-use Rattle.hk_model.specs.declared.syntax.Head.{Head}
-use Rattle.hk_model.specs.declared.syntax.Head.TheVariants.{LimitIs, TypeIs, ObjectIs, SemaphoreIs, ProcedureIs, CodeIs, ProcessIs}
-use Rattle.hk_model.specs.Grammar.{is_among}
-use Rattle.hk_model.specs.Loading.{Names, kernel_flags, object_label, is_type_head, code_label}
-use Rattle.hk_model.specs.Canonical.{kernel_names}
+use Rattle.hk_format.specs.declared.syntax.Head.{Head}
+use Rattle.hk_format.specs.declared.syntax.Head.TheVariants.{LimitIs, TypeIs, ObjectIs, SemaphoreIs, ProcedureIs, CodeIs, ProcessIs}
+use Rattle.hk_format.specs.Grammar.{is_among}
+use Rattle.hk_format.specs.Loading.{Names, kernel_flags, object_label, is_type_head, code_label}
+use Rattle.hk_format.specs.Canonical.{kernel_names}
 
 -- so many names
 abbrev pub names : List (List ℕ) → List Bool → List (List ℕ) → Names

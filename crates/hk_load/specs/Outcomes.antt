@@ -1,7 +1,7 @@
 -- What loading answers, beside what the definition gives. docs/FORMATS.md, "Loading".
 use Rattle.std.specs.Prelude.{◌≡◌, ℕ, Result, Ok, Err}
-use Rattle.hk_model.specs.declared.causes.LoadCause.{LoadCause}
-use Rattle.hk_model.specs.Loading.{Refused}
+use Rattle.hk_format.specs.declared.causes.LoadCause.{LoadCause}
+use Rattle.hk_format.specs.Loading.{Refused}
 use Rattle.hk_load.specs.declared.errors.LoadError.{LoadError}
 use Rattle.hk_load.specs.declared.errors.LoadError.TheVariants as load_error
 use Rattle.hk_load.specs.declared.errors.LineError.{LineError}

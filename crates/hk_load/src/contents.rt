@@ -1,13 +1,14 @@
 //! The lines of an object, a procedure or a process (`docs/FORMATS.md`, "Loading").
 
 ghost use Rattle.std.specs.Prelude.{◌≡◌, ◌+◌, ◌≤◌, ◌++◌, [], length, OnOk};
-ghost use Rattle.hk_model.specs.Loading.{used, contents, contents_of};
+ghost use Rattle.hk_format.specs.Loading.{used, contents, contents_of};
 ghost use Rattle.hk_load.specs.Outcomes.{Becomes, Loads};
 ghost use Rattle.hk_load.specs.Filling.{contents_seen, room_seen, words_added, param_added, entry_added, added};
 
 use crate::errors::{LineError, LoadError};
 use crate::names::Declared;
-use hk_model::{Body, Entries, LoadCause, Param, Params, Part, Template, Words};
+use hk_format::{Body, LoadCause, Part};
+use hk_model::{Entries, Param, Params, Template, Words};
 use std::alloc::{AllocError, Global};
 use std::marker::PhantomData;
 

@@ -1,14 +1,15 @@
 //! Entry lines and parameter lines (`docs/FORMATS.md`, "Grammar" and "Loading").
 
 ghost use Rattle.std.specs.Prelude.{◌≡◌};
-ghost use Rattle.hk_model.specs.declared.syntax.Body.TheVariants.{CapEntry, AmplifyEntry, CreateEntry};
-ghost use Rattle.hk_model.specs.Loading.{entry_of, param_of};
+ghost use Rattle.hk_format.specs.declared.syntax.Body.TheVariants.{CapEntry, AmplifyEntry, CreateEntry};
+ghost use Rattle.hk_format.specs.Loading.{entry_of, param_of};
 ghost use Rattle.hk_load.specs.Outcomes.{Gives};
 
 use crate::errors::LineError;
 use crate::names::Declared;
 use crate::rights::rights;
-use hk_model::{Body, Cap, Entry, Param, Template, Text};
+use hk_format::Body;
+use hk_model::{Cap, Entry, Param, Template, Text};
 
 impl Declared {
     /// The entry of a line. UnknownName and BadRights come from the left.

@@ -2,7 +2,7 @@
 
 ghost use Rattle.std.specs.Prelude.{◌≡◌};
 
-use hk_model::LoadCause;
+use hk_format::LoadCause;
 use std::alloc::{AllocError, AllocFailed};
 
 /// Why a script can not be loaded (`docs/FORMATS.md`, "Loading").

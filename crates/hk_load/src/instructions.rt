@@ -2,15 +2,16 @@
 
 ghost use Rattle.std.specs.Prelude.{◌≡◌, Ok, List};
 ghost use Rattle.hk_model.specs.declared.instructions.Instr.TheVariants as instr;
-ghost use Rattle.hk_model.specs.declared.syntax.Written.TheVariants as written;
-ghost use Rattle.hk_model.specs.Loading.{Label, instr_of, making_of};
+ghost use Rattle.hk_format.specs.declared.syntax.Written.TheVariants as written;
+ghost use Rattle.hk_format.specs.Loading.{Label, instr_of, making_of};
 ghost use Rattle.hk_load.specs.Outcomes.{Gives};
 
 use crate::errors::LineError;
 use crate::labels::Labels;
 use crate::rights::rights;
+use hk_format::{MakingText, Written};
 use hk_model::copying::Duplicate;
-use hk_model::{Args, Instr, Making, MakingText, Operand, Route, Slot, Text, Written};
+use hk_model::{Args, Instr, Making, Operand, Route, Slot, Text};
 use std::alloc::Global;
 
 impl Labels {

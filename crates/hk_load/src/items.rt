@@ -1,11 +1,11 @@
 //! The items of a script, one after another (`docs/FORMATS.md`, "Loading").
 
 ghost use Rattle.std.specs.Prelude.{◌≡◌, [], None, Ok, length, nat_lt};
-ghost use Rattle.hk_model.specs.declared.syntax.Head.TheVariants.{ObjectIs, ProcedureIs, CodeIs, ProcessIs};
+ghost use Rattle.hk_format.specs.declared.syntax.Head.TheVariants.{ObjectIs, ProcedureIs, CodeIs, ProcessIs};
 ghost use Rattle.hk_model.specs.declared.world.Kind.TheVariants as kind;
 ghost use Rattle.hk_model.specs.Limits.{process_limit};
 ghost use Rattle.hk_model.specs.Setup.{IsWorld};
-ghost use Rattle.hk_model.specs.Loading.{Names, at_line, limited, object_fits, code_named, plain_type};
+ghost use Rattle.hk_format.specs.Loading.{Names, at_line, limited, object_fits, code_named, plain_type};
 ghost use Rattle.hk_load.specs.Outcomes.{Gives, Loads, Grows};
 ghost use Rattle.hk_load.specs.Jumping.{HasNewLabels};
 ghost use Rattle.hk_load.specs.Building.{built, built_of, finished, counts_of, with_limit, with_born, with_task, single_added, added};
@@ -14,9 +14,8 @@ use crate::contents::{Contents, Room};
 use crate::errors::{LineError, LoadError};
 use crate::names::Declared;
 use crate::steps::steps;
-use hk_model::{
-    Born, Code, Entry, Head, Item, Items, Kind, LoadCause, Name, Task, Template, Text, World,
-};
+use hk_format::{Head, Item, LoadCause};
+use hk_model::{Born, Code, Entry, Items, Kind, Name, Task, Template, Text, World};
 use std::alloc::Global;
 use std::marker::PhantomData;
 

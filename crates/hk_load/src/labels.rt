@@ -1,13 +1,14 @@
 //! The labels of a code (`docs/FORMATS.md`, "Loading").
 
 ghost use Rattle.std.specs.Prelude.{◌≡◌, ◌++◌, ◌∷◌, [], false, length, map, IfOk, OnOk};
-ghost use Rattle.hk_model.specs.Grammar.{is_among};
-ghost use Rattle.hk_model.specs.Loading.{labels_from, target};
+ghost use Rattle.hk_format.specs.Grammar.{is_among};
+ghost use Rattle.hk_format.specs.Loading.{labels_from, target};
 ghost use Rattle.hk_load.specs.Outcomes.{Gives};
 ghost use Rattle.hk_load.specs.Jumping.{label_at, label_texts, HasNewLabels};
 
 use crate::errors::LineError;
-use hk_model::{Body, LoadCause, Part, Text};
+use hk_format::{Body, LoadCause, Part};
+use hk_model::Text;
 use indexmap::IndexMap;
 use std::alloc::{AllocError, Global};
 use std::marker::Model;
@@ -20,7 +21,7 @@ pub struct Labels {
 
 impl Model for Labels {
     ghost use Rattle.std.specs.Prelude.{List};
-    ghost use Rattle.hk_model.specs.Loading.{Label};
+    ghost use Rattle.hk_format.specs.Loading.{Label};
     ghost use Rattle.hk_load.specs.Jumping.{labels_seen};
 
     ghost Value = { List Label };

@@ -1,16 +1,17 @@
 //! The world of a script (`docs/FORMATS.md`, "Loading").
 
 ghost use Rattle.std.specs.Prelude.{◌≡◌, ℕ, Ok, Err, IfOk, map};
-ghost use Rattle.hk_model.specs.declared.causes.LoadCause.{LoadCause};
-ghost use Rattle.hk_model.specs.declared.syntax.Item.{Item};
-ghost use Rattle.hk_model.specs.Syntax.{IsSyntax};
-ghost use Rattle.hk_model.specs.Loading.{load, names_of};
+ghost use Rattle.hk_format.specs.declared.causes.LoadCause.{LoadCause};
+ghost use Rattle.hk_format.specs.declared.syntax.Item.{Item};
+ghost use Rattle.hk_format.specs.Syntax.{IsSyntax};
+ghost use Rattle.hk_format.specs.Loading.{load, names_of};
 ghost use Rattle.hk_load.specs.Outcomes.{IsRefused, Loads};
 
 use crate::errors::LoadError;
 use crate::items::Loaded;
 use crate::names::Declared;
-use hk_model::{Item, World};
+use hk_format::Item;
+use hk_model::World;
 use hk_script::Syntax;
 use std::alloc::Global;
 

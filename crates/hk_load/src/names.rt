@@ -1,15 +1,16 @@
 //! The names that the heads of a script declare (`docs/FORMATS.md`, "Loading").
 
 ghost use Rattle.std.specs.Prelude.{◌≡◌, IfOk, OnOk, false, map};
-ghost use Rattle.hk_model.specs.declared.syntax.Item.{Item};
-ghost use Rattle.hk_model.specs.Syntax.{IsSyntax};
-ghost use Rattle.hk_model.specs.Loading.{names_of, object_named, type_named, kind_named, code_named};
-ghost use Rattle.hk_model.specs.Grammar.{is_among};
+ghost use Rattle.hk_format.specs.declared.syntax.Item.{Item};
+ghost use Rattle.hk_format.specs.Syntax.{IsSyntax};
+ghost use Rattle.hk_format.specs.Loading.{names_of, object_named, type_named, kind_named, code_named};
+ghost use Rattle.hk_format.specs.Grammar.{is_among};
 ghost use Rattle.hk_load.specs.Outcomes.{Gives};
 ghost use Rattle.hk_load.specs.Naming.{IsNewHead, with_head, with_object, with_code, kernel_declared};
 
 use crate::errors::LineError;
-use hk_model::{Head, Item, LoadCause, Name, Text};
+use hk_format::{Head, Item, LoadCause};
+use hk_model::{Name, Text};
 use indexmap::{IndexMap, IndexSet};
 use std::alloc::{AllocError, Global};
 use std::marker::Model;
@@ -24,7 +25,7 @@ pub struct Declared {
 }
 
 impl Model for Declared {
-    ghost use Rattle.hk_model.specs.Loading.{Names};
+    ghost use Rattle.hk_format.specs.Loading.{Names};
     ghost use Rattle.hk_load.specs.Naming.{names_seen};
 
     ghost Value = { Names };

@@ -1,13 +1,14 @@
 //! The lines of a code (`docs/FORMATS.md`, "Loading").
 
 ghost use Rattle.std.specs.Prelude.{◌≡◌, []};
-ghost use Rattle.hk_model.specs.Loading.{labels_from, instrs_of};
+ghost use Rattle.hk_format.specs.Loading.{labels_from, instrs_of};
 ghost use Rattle.hk_load.specs.Outcomes.{Becomes, Loads};
 ghost use Rattle.hk_load.specs.Jumping.{HasNewLabels, step_added};
 
 use crate::errors::{LineError, LoadError};
 use crate::labels::Labels;
-use hk_model::{Body, Instr, Items, LoadCause, Part};
+use hk_format::{Body, LoadCause, Part};
+use hk_model::{Instr, Items};
 use std::alloc::Global;
 
 /// The instructions of a code with these lines. A line's UnknownName and BadRights come from the left,

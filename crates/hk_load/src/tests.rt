@@ -1,7 +1,8 @@
 ghost use Rattle.std.specs.Prelude.{◌<◌, ◌^◌, length};
 
 use crate::{LoadError, World, load};
-use hk_model::{Cap, Entry, Instr, Kind, LoadCause, Name, Template};
+use hk_format::LoadCause;
+use hk_model::{Cap, Entry, Instr, Kind, Name, Template};
 use hk_rights::Rights;
 use hk_script::parse;
 use hk_text::lines;

@@ -2,10 +2,10 @@
 use Rattle.std.specs.Prelude.{◌≡◌, ℕ, ◌+◌, List, length, Option, Some, None, slice_get, take}
 use Rattle.hk_model.specs.declared.lines.Line.{Line}
 use Rattle.hk_model.specs.declared.lines.End.{End}
-use Rattle.hk_model.specs.declared.causes.Misstep.{Misstep}
-use Rattle.hk_model.specs.declared.causes.Misstep.TheVariants as misstep
-use Rattle.hk_model.specs.declared.causes.Verdict.{Verdict}
-use Rattle.hk_model.specs.declared.causes.Verdict.TheVariants as verdict
+use Rattle.hk_model.specs.declared.verdicts.Misstep.{Misstep}
+use Rattle.hk_model.specs.declared.verdicts.Misstep.TheVariants as misstep
+use Rattle.hk_model.specs.declared.verdicts.Verdict.{Verdict}
+use Rattle.hk_model.specs.declared.verdicts.Verdict.TheVariants as verdict
 use Rattle.hk_model.specs.Setup.{Setup}
 use Rattle.hk_model.specs.Running.{AreStepsOf, line_of, machine_at, state_after}
 use Rattle.hk_model.specs.Legal.{IsLegal, end_word}

@@ -1,11 +1,10 @@
-//! The data of the kernel, and what its calls, processors, scripts and records mean.
+//! The data of the kernel, and what its calls and processors mean.
 //!
 //! `src` has the plain data and the trait `Kernel`; `specs` has the definitions that every contract
 //! of the project cites. `docs/ARCHITECTURE.md` says which file answers which question.
 #![tactic(auto)]
 
 pub mod calls;
-pub mod causes;
 pub mod copying;
 pub mod entries;
 pub mod frames;
@@ -17,14 +16,13 @@ pub mod names;
 pub mod objects;
 pub mod paths;
 pub mod snapshot;
-pub mod syntax;
 #[cfg(test)]
 mod tests;
 pub mod vanishing;
+pub mod verdicts;
 pub mod world;
 
 pub use calls::{Answer, Call, Refusal, Reply, What8};
-pub use causes::{Cause, LoadCause, Misstep, ParseCause, TextCause, Verdict};
 pub use entries::{Arg, Cap, Entry, Making, Param, Template};
 pub use frames::{Frame, Todo};
 pub use instructions::{Index, Instr, Operand, Route};
@@ -35,6 +33,6 @@ pub use names::{Cpu, Inc, Name, Proc, Slot};
 pub use objects::{Incarnation, Object, Process, ProcessState};
 pub use paths::{Args, Path};
 pub use snapshot::{Live, Seen, Snapshot};
-pub use syntax::{Body, Head, Item, MakingText, Part, Verb, Written};
 pub use vanishing::{kept_are_greatest_supported, rooted_are_least_closed};
+pub use verdicts::{Misstep, Verdict};
 pub use world::{Born, Code, Kind, Task, World};

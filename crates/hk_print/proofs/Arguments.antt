@@ -4,8 +4,8 @@ use Rattle.std.specs.List.{join_with_byte, flat_map}
 use Rattle.std.specs.Fmt.{decimal}
 use mathlib.Core.List.{append_assoc, append-nil}
 use Rattle.hk_model.specs.declared.names.Slot.{Slot}
-use Rattle.hk_model.specs.Pieces.{spell}
-use Rattle.hk_model.specs.Operands.{argument_pieces}
+use Rattle.hk_format.specs.Pieces.{spell}
+use Rattle.hk_format.specs.Operands.{argument_pieces}
 
 -- the slots of the arguments, and the last one behind them
 pub slots_spelled : (front : List ℕ) (args : List ℕ) (into : Slot) → (front ++ flat_map (λ n. 32 ∷ decimal n) args) ++ 32 ∷ decimal into.0 ≡ join_with_byte 32 (front ∷ map spell (argument_pieces args into))

@@ -6,13 +6,13 @@ use Rattle.std.specs.Fmt.{digits}
 use Rattle.std.proofs.lemmas.Grind.{flat_map-append}
 use Rattle.std.proofs.lemmas.List.Folds.{flat_map-map}
 use mathlib.Core.List.{append_assoc}
-use Rattle.hk_model.specs.declared.syntax.Item.{Item}
+use Rattle.hk_format.specs.declared.syntax.Item.{Item}
 use Rattle.hk_model.specs.declared.world.Born.{Born}
 use Rattle.hk_model.specs.declared.world.Code.{Code}
 use Rattle.hk_model.specs.declared.world.Task.{Task}
 use Rattle.hk_model.specs.Setup.{Setup}
-use Rattle.hk_model.specs.Spelling.{item_lines}
-use Rattle.hk_model.specs.Canonical.{canon, spoken, limit_items, object_item, code_item, task_item, syntax_of}
+use Rattle.hk_format.specs.Spelling.{item_lines}
+use Rattle.hk_format.specs.Canonical.{canon, spoken, limit_items, object_item, code_item, task_item, syntax_of}
 use Rattle.hk_print.specs.ItemTexts.{line_text, item_text}
 
 items_text : (items : List Item) → flat_map line_text (flat_map item_lines items) ≡ flat_map item_text items

@@ -7,10 +7,10 @@ use Rattle.std.proofs.lemmas.List.Folds.{flat_map-map}
 use mathlib.Core.List.{append_assoc}
 use Rattle.hk_model.specs.declared.entries.Entry.{Entry}
 use Rattle.hk_model.specs.declared.entries.Param.{Param}
-use Rattle.hk_model.specs.declared.syntax.Head.{Head}
-use Rattle.hk_model.specs.declared.syntax.Part.{Part}
-use Rattle.hk_model.specs.Spelling.{has_parts, head_pieces, body_pieces, end_line}
-use Rattle.hk_model.specs.Canonical.{Spoken, item, part, entry_body, entry_parts, param_body, param_parts}
+use Rattle.hk_format.specs.declared.syntax.Head.{Head}
+use Rattle.hk_format.specs.declared.syntax.Part.{Part}
+use Rattle.hk_format.specs.Spelling.{has_parts, head_pieces, body_pieces, end_line}
+use Rattle.hk_format.specs.Canonical.{Spoken, item, part, entry_body, entry_parts, param_body, param_parts}
 use Rattle.hk_print.specs.ItemTexts.{line_text, body_text, parts_text, entry_text, param_text, item_text}
 
 -- the head, the lines, `end`

@@ -3,13 +3,13 @@ use Rattle.std.proofs.Common.{◌≡◌, ℕ, Bool, true, false, cond, List, [],
 use Rattle.std.specs.Prelude.{codes}
 use Rattle.std.proofs.lemmas.Bool.{and_parts, false≢true, eqb-true}
 use mathlib.Core.List.{append_assoc}
-use Rattle.hk_model.specs.declared.syntax.Body.TheVariants.{CapEntry, AmplifyEntry, CreateEntry, ParamIs}
-use Rattle.hk_model.specs.declared.syntax.Head.TheVariants.{ObjectIs, ProcedureIs, ProcessIs}
-use Rattle.hk_model.specs.Spelling.{head_pieces}
+use Rattle.hk_format.specs.declared.syntax.Body.TheVariants.{CapEntry, AmplifyEntry, CreateEntry, ParamIs}
+use Rattle.hk_format.specs.declared.syntax.Head.TheVariants.{ObjectIs, ProcedureIs, ProcessIs}
+use Rattle.hk_format.specs.Spelling.{head_pieces}
 use Rattle.hk_print.specs.ItemTexts.{body_text, line_text}
 use Rattle.hk_model.specs.Labels.{is_word, same_text}
-use Rattle.hk_model.specs.Pieces.{Word, Upper, Dash, spell}
-use Rattle.hk_model.specs.Operands.{type_piece, rights_piece}
+use Rattle.hk_format.specs.Pieces.{Word, Upper, Dash, spell}
+use Rattle.hk_format.specs.Operands.{type_piece, rights_piece}
 
 same_is : (xs ys : List ℕ) → same_text xs ys ≡ true → xs ≡ ys
 same_is [] [] h = refl

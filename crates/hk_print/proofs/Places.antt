@@ -7,7 +7,7 @@ use Rattle.std.proofs.lemmas.Bool.{eqb-true, eqb-false}
 use Rattle.hk_model.specs.declared.instructions.Instr.{Instr}
 use Rattle.hk_model.specs.declared.instructions.Instr.TheVariants as instr
 use Rattle.hk_model.specs.Setup.{IsInstr}
-use Rattle.hk_model.specs.Canonical.{jumps_to}
+use Rattle.hk_format.specs.Canonical.{jumps_to}
 use Rattle.hk_print.specs.Jumps.{target_of}
 
 jumps_some : (n : ℕ) (i : Instr) (to : ℕ) → target_of i ≡ Some to → jumps_to n i ≡ eqb to n

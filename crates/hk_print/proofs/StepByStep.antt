@@ -4,10 +4,10 @@ use Rattle.std.specs.List.{list_any}
 use Rattle.std.proofs.lemmas.List.{drop_more}
 use mathlib.Core.List.{append_assoc, append-nil}
 use Rattle.hk_model.specs.declared.instructions.Instr.{Instr}
-use Rattle.hk_model.specs.declared.syntax.Body.TheVariants.{LabelIs, StepIs}
-use Rattle.hk_model.specs.Canonical.{code_parts, jumps_to, label_parts, label_text, part, written_of}
-use Rattle.hk_model.specs.Texts.{spell_line}
-use Rattle.hk_model.specs.Spelling.{written_pieces}
+use Rattle.hk_format.specs.declared.syntax.Body.TheVariants.{LabelIs, StepIs}
+use Rattle.hk_format.specs.Canonical.{code_parts, jumps_to, label_parts, label_text, part, written_of}
+use Rattle.hk_format.specs.Texts.{spell_line}
+use Rattle.hk_format.specs.Spelling.{written_pieces}
 use Rattle.hk_print.specs.ItemTexts.{body_text, parts_text}
 use Rattle.hk_print.proofs.Items.{parts_joined}
 

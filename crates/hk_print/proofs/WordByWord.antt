@@ -6,9 +6,9 @@ use Rattle.std.specs.Fmt.{decimal}
 use Rattle.std.proofs.lemmas.Bool.{le-leb}
 use Rattle.std.proofs.lemmas.Bool.Decides.{nat_tests}
 use mathlib.Core.List.{append_assoc, append-nil}
-use Rattle.hk_model.specs.declared.syntax.Body.TheVariants.{WordsAre}
-use Rattle.hk_model.specs.Pieces.{Number, spell}
-use Rattle.hk_model.specs.Canonical.{number_bytes, words_from, word_parts, part}
+use Rattle.hk_format.specs.declared.syntax.Body.TheVariants.{WordsAre}
+use Rattle.hk_format.specs.Pieces.{Number, spell}
+use Rattle.hk_format.specs.Canonical.{number_bytes, words_from, word_parts, part}
 use Rattle.hk_print.specs.ItemTexts.{parts_text}
 use Rattle.hk_print.specs.WordLines.{numbers_text, words_line, begun_lines}
 

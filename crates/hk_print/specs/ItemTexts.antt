@@ -3,13 +3,13 @@ use Rattle.std.specs.Prelude.{ℕ, List}
 use Rattle.std.specs.List.{flat_map}
 use Rattle.hk_model.specs.declared.entries.Entry.{Entry}
 use Rattle.hk_model.specs.declared.entries.Param.{Param}
-use Rattle.hk_model.specs.declared.syntax.Body.{Body}
-use Rattle.hk_model.specs.declared.syntax.Item.{Item}
-use Rattle.hk_model.specs.declared.syntax.Part.{Part}
-use Rattle.hk_model.specs.Pieces.{Piece}
-use Rattle.hk_model.specs.Texts.{ended_line, spell_line, spell_lines}
-use Rattle.hk_model.specs.Spelling.{body_pieces, item_lines}
-use Rattle.hk_model.specs.Canonical.{Spoken, entry_body, param_body}
+use Rattle.hk_format.specs.declared.syntax.Body.{Body}
+use Rattle.hk_format.specs.declared.syntax.Item.{Item}
+use Rattle.hk_format.specs.declared.syntax.Part.{Part}
+use Rattle.hk_format.specs.Pieces.{Piece}
+use Rattle.hk_format.specs.Texts.{ended_line, spell_line, spell_lines}
+use Rattle.hk_format.specs.Spelling.{body_pieces, item_lines}
+use Rattle.hk_format.specs.Canonical.{Spoken, entry_body, param_body}
 
 -- a line of these pieces
 abbrev pub line_text : List Piece → List ℕ

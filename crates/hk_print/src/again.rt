@@ -1,8 +1,8 @@
 //! Reading a canonical script again (`docs/FORMATS.md`, "Canonical script").
 
 ghost use Rattle.std.specs.Prelude.{◌≡◌, Ok};
-ghost use Rattle.hk_model.specs.Canonical.{canon};
-ghost use Rattle.hk_model.specs.Worlds.{world};
+ghost use Rattle.hk_format.specs.Canonical.{canon};
+ghost use Rattle.hk_format.specs.Worlds.{world};
 
 use hk_model::World;
 

@@ -2,10 +2,10 @@
 
 ghost use Rattle.std.specs.Prelude.{◌≡◌, IfOk, string_bytes};
 ghost use Rattle.hk_model.specs.Setup.{IsInstr, IsRoute};
-ghost use Rattle.hk_model.specs.Texts.{spell_line};
-ghost use Rattle.hk_model.specs.Spelling.{written_pieces};
-ghost use Rattle.hk_model.specs.Canonical.{written_of, making_text};
-ghost use Rattle.hk_model.specs.declared.syntax.Written.TheVariants as written;
+ghost use Rattle.hk_format.specs.Texts.{spell_line};
+ghost use Rattle.hk_format.specs.Spelling.{written_pieces};
+ghost use Rattle.hk_format.specs.Canonical.{written_of, making_text};
+ghost use Rattle.hk_format.specs.declared.syntax.Written.TheVariants as written;
 
 use crate::operands::route_text;
 use crate::rights::rights_text;

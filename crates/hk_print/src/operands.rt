@@ -2,8 +2,8 @@
 
 ghost use Rattle.std.specs.Prelude.{◌≡◌, ◌++◌, ◌<◌, ◌∷◌, IfOk, OnOk, string_bytes};
 ghost use Rattle.hk_model.specs.Setup.{IsIndex, IsOperand, IsReg, IsRoute};
-ghost use Rattle.hk_model.specs.Pieces.{spell, spell_index, register_text};
-ghost use Rattle.hk_model.specs.Operands.{operand_piece, route_piece};
+ghost use Rattle.hk_format.specs.Pieces.{spell, spell_index, register_text};
+ghost use Rattle.hk_format.specs.Operands.{operand_piece, route_piece};
 
 use hk_model::{Index, NoMemory, Operand, Route};
 use std::alloc::Global;

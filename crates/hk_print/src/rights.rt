@@ -3,7 +3,7 @@
 ghost use Rattle.std.specs.Prelude.{◌≡◌, ◌++◌, IfOk, OnOk, string_bytes, Some, None, map, if◌then◌else◌};
 ghost use Rattle.std.specs.List.{filter, join_with_byte};
 ghost use Rattle.hk_rights.specs.Rights.{has, IsRightsWord, name_of, right_numbers};
-ghost use Rattle.hk_model.specs.RightsTexts.{rights_text};
+ghost use Rattle.hk_format.specs.RightsTexts.{rights_text};
 
 use hk_model::NoMemory;
 use hk_rights::{Right, Rights};
@@ -11,7 +11,7 @@ use std::alloc::Global;
 
 /// The canonical spelling of a set: `-` for none, `ALL` for all 19, else each name once by rising
 /// number, joined by `+`.
-#[tactic(auto, unfolding(hk_model::specs::RightsTexts::rights_text))]
+#[tactic(auto, unfolding(hk_format::specs::RightsTexts::rights_text))]
 pub fn rights_text(alloc: Global, rights: Rights) -> Result<String, NoMemory>
     ensures { IfOk result (λ t. string_bytes t ≡ rights_text rights) }
 {

@@ -2,7 +2,7 @@
 
 ghost use Rattle.std.specs.Prelude.{◌≡◌, ◌++◌, OnOk, IfOk, string_bytes};
 ghost use Rattle.std.specs.List.{flat_map};
-ghost use Rattle.hk_model.specs.Canonical.{canon, limit_items};
+ghost use Rattle.hk_format.specs.Canonical.{canon, limit_items};
 ghost use Rattle.hk_print.specs.ItemTexts.{item_text};
 
 use crate::codes::write_codes;

@@ -3,10 +3,10 @@
 
 ghost use Rattle.std.specs.Prelude.{◌≡◌, ◌∷◌, ◌++◌, [], IfOk, string_bytes, map};
 ghost use Rattle.hk_model.specs.Setup.{IsOperand, IsReg, IsRoute};
-ghost use Rattle.hk_model.specs.Pieces.{Word, Number};
-ghost use Rattle.hk_model.specs.Operands.{operand_piece, register_piece, rights_set_piece, route_piece, slot_piece, argument_pieces};
-ghost use Rattle.hk_model.specs.Texts.{spell_line};
-ghost use Rattle.hk_model.specs.Canonical.{label_text};
+ghost use Rattle.hk_format.specs.Pieces.{Word, Number};
+ghost use Rattle.hk_format.specs.Operands.{operand_piece, register_piece, rights_set_piece, route_piece, slot_piece, argument_pieces};
+ghost use Rattle.hk_format.specs.Texts.{spell_line};
+ghost use Rattle.hk_format.specs.Canonical.{label_text};
 
 use crate::operands::{operand_text, register_text, route_text};
 use crate::rights::rights_text;

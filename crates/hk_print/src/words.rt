@@ -2,7 +2,7 @@
 
 ghost use Rattle.std.specs.Prelude.{◌≡◌, ◌++◌, ◌∷◌, ◌≤◌, ℕ, List, OnOk, IfOk, string_bytes};
 ghost use Rattle.hk_model.specs.Limits.{line_bytes};
-ghost use Rattle.hk_model.specs.Canonical.{word_parts, words_from};
+ghost use Rattle.hk_format.specs.Canonical.{word_parts, words_from};
 ghost use Rattle.hk_print.specs.ItemTexts.{parts_text};
 ghost use Rattle.hk_print.specs.WordLines.{begun_lines};
 

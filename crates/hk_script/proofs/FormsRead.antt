@@ -3,16 +3,16 @@ use Rattle.std.proofs.Common.{◌≡◌, ℕ, Bool, true, false, cond, List, ◌
 use Rattle.std.specs.Prelude.{IsTrue}
 use Rattle.std.proofs.lemmas.Bool.{false≢true}
 use Rattle.std.specs.List.{find, list_any}
-use Rattle.hk_model.specs.declared.causes.ParseCause.{ParseCause}
-use Rattle.hk_model.specs.declared.causes.TextCause.TheVariants.{BadToken, NumberTooLarge}
+use Rattle.hk_format.specs.declared.causes.ParseCause.{ParseCause}
+use Rattle.hk_format.specs.declared.causes.TextCause.TheVariants.{BadToken, NumberTooLarge}
 use Rattle.hk_model.specs.declared.instructions.Route.{Route}
-use Rattle.hk_model.specs.declared.syntax.Verb.{Verb}
+use Rattle.hk_format.specs.declared.syntax.Verb.{Verb}
 use Rattle.hk_model.specs.Labels.{same_text}
-use Rattle.hk_model.specs.Pieces as piece
-use Rattle.hk_model.specs.Pieces.{index_of, path_of, is_path, is_too_large, is_piece}
-use Rattle.hk_model.specs.Reading.{wanted, taken}
-use Rattle.hk_model.specs.Verbs.{verb_word, all_verbs}
-use Rattle.hk_model.specs.Forms.{as_verb, verb_found, as_route}
+use Rattle.hk_format.specs.Pieces as piece
+use Rattle.hk_format.specs.Pieces.{index_of, path_of, is_path, is_too_large, is_piece}
+use Rattle.hk_format.specs.Reading.{wanted, taken}
+use Rattle.hk_format.specs.Verbs.{verb_word, all_verbs}
+use Rattle.hk_format.specs.Forms.{as_verb, verb_found, as_route}
 use Rattle.hk_text.specs.declared.pieces.Piece.{Piece}
 use Rattle.hk_text.specs.declared.pieces.PieceKind.TheVariants as kind
 use Rattle.hk_text.specs.Views.{seen, text_of, path_read}

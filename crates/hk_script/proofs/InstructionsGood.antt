@@ -3,18 +3,18 @@ use Rattle.std.proofs.Common.{ℕ, ◌<◌, ◌≤◌, List, [], ◌∷◌, leng
 use Rattle.std.specs.List.{AllByRecursion}
 use Rattle.hk_model.specs.declared.names.Slot.{Slot}
 use Rattle.hk_model.specs.declared.instructions.Route.{Route}
-use Rattle.hk_model.specs.declared.syntax.Verb.{Verb}
-use Rattle.hk_model.specs.declared.syntax.Verb.TheVariants as verb
-use Rattle.hk_model.specs.declared.syntax.MakingText.{MakingText}
-use Rattle.hk_model.specs.declared.syntax.MakingText.TheVariants as making
-use Rattle.hk_model.specs.declared.syntax.Written.{Written}
-use Rattle.hk_model.specs.declared.syntax.Written.TheVariants as written
+use Rattle.hk_format.specs.declared.syntax.Verb.{Verb}
+use Rattle.hk_format.specs.declared.syntax.Verb.TheVariants as verb
+use Rattle.hk_format.specs.declared.syntax.MakingText.{MakingText}
+use Rattle.hk_format.specs.declared.syntax.MakingText.TheVariants as making
+use Rattle.hk_format.specs.declared.syntax.Written.{Written}
+use Rattle.hk_format.specs.declared.syntax.Written.TheVariants as written
 use Rattle.hk_model.specs.Limits.{argument_limit, slot_limit}
 use Rattle.hk_model.specs.Setup.{IsSlot, IsSlotOrNone, IsReg, IsOperand, IsRoute}
-use Rattle.hk_model.specs.Reading.{Reads, ◌>>=◌, wanted, end}
-use Rattle.hk_model.specs.Forms.{as_slot, as_number_below, slot_numbered, as_route}
-use Rattle.hk_model.specs.WrittenLines.{before_last, last_of, template_end, template_of, instruction_of}
-use Rattle.hk_model.specs.Syntax.{IsWordText, IsRightsText, IsMakingText, IsWritten}
+use Rattle.hk_format.specs.Reading.{Reads, ◌>>=◌, wanted, end}
+use Rattle.hk_format.specs.Forms.{as_slot, as_number_below, slot_numbered, as_route}
+use Rattle.hk_format.specs.WrittenLines.{before_last, last_of, template_end, template_of, instruction_of}
+use Rattle.hk_format.specs.Syntax.{IsWordText, IsRightsText, IsMakingText, IsWritten}
 use Rattle.hk_script.proofs.ReadersGood.{Good, Any, IsBelow, AtMost, IfSome, bind_good, end_good, unknown_good, takes, optional_good, at_most_good, verb_forms, word_forms, rights_forms, number_below_forms, slot_forms, register_forms, operand_forms, route_forms}
 
 -- the instruction, at the end of its line

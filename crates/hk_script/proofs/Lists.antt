@@ -2,25 +2,25 @@
 use Rattle.std.proofs.Common.{◌≡◌, ℕ, zero, suc, ◌<◌, arith, Bool, true, false, cond, ltb, List, [], ◌∷◌, ◌++◌, length, map, ◌-◌, refl, sym, ap, ◌∙◌, Ok, Err, Result}
 use Rattle.std.proofs.lemmas.List.{map-append, length-append}
 use mathlib.Core.List.{append_assoc, append-nil}
-use Rattle.hk_model.specs.declared.causes.ParseCause.{ParseCause}
-use Rattle.hk_model.specs.declared.causes.ParseCause.TheVariants.{OutOfRange, Missing}
+use Rattle.hk_format.specs.declared.causes.ParseCause.{ParseCause}
+use Rattle.hk_format.specs.declared.causes.ParseCause.TheVariants.{OutOfRange, Missing}
 use Rattle.hk_model.specs.declared.instructions.Route.{Route}
 use Rattle.hk_model.specs.declared.names.Slot.{Slot}
-use Rattle.hk_model.specs.declared.syntax.Body.{Body}
-use Rattle.hk_model.specs.declared.syntax.Body.TheVariants.{WordsAre}
-use Rattle.hk_model.specs.declared.syntax.Written.{Written}
-use Rattle.hk_model.specs.declared.syntax.Written.TheVariants as written
-use Rattle.hk_model.specs.declared.syntax.Verb.TheVariants as verb
+use Rattle.hk_format.specs.declared.syntax.Body.{Body}
+use Rattle.hk_format.specs.declared.syntax.Body.TheVariants.{WordsAre}
+use Rattle.hk_format.specs.declared.syntax.Written.{Written}
+use Rattle.hk_format.specs.declared.syntax.Written.TheVariants as written
+use Rattle.hk_format.specs.declared.syntax.Verb.TheVariants as verb
 use Rattle.hk_script.specs.declared.errors.LineError.{LineError}
 use Rattle.hk_script.specs.declared.errors.LineError.TheVariants as line_error
 use Rattle.hk_script.specs.Outcomes.{Fails}
 use Rattle.hk_model.specs.Limits.{slot_limit}
-use Rattle.hk_model.specs.Pieces.{Piece, Word, Upper, Dash, Number, Path}
-use Rattle.hk_model.specs.Texts.{is_none}
+use Rattle.hk_format.specs.Pieces.{Piece, Word, Upper, Dash, Number, Path}
+use Rattle.hk_format.specs.Texts.{is_none}
 use Rattle.std.proofs.lemmas.Bool.{false≢true}
-use Rattle.hk_model.specs.Reading.{Found, Reads, onward, taken, wanted, each, at_most, end}
-use Rattle.hk_model.specs.Forms.{as_number, as_number_below, slot_numbered, as_slot, as_route}
-use Rattle.hk_model.specs.WrittenLines.{before_last, last_of, instruction_of}
+use Rattle.hk_format.specs.Reading.{Found, Reads, onward, taken, wanted, each, at_most, end}
+use Rattle.hk_format.specs.Forms.{as_number, as_number_below, slot_numbered, as_slot, as_route}
+use Rattle.hk_format.specs.WrittenLines.{before_last, last_of, instruction_of}
 
 -- the value and the pieces that were read
 read_parts : {A : Type 0} (r : Found A) (x y : A) (left ps : List Piece) → r ≡ Ok (x, left) → r ≡ Ok (y, ps) → (x ≡ y) × (left ≡ ps)

@@ -1,20 +1,20 @@
 -- What a head's line and a line inside an item give is in form and in range.
 use Rattle.std.proofs.Common.{ℕ, List, ◌∷◌, Ok, Err, Some, None}
 use Rattle.std.specs.List.{AllByRecursion}
-use Rattle.hk_model.specs.declared.syntax.Verb.{Verb}
-use Rattle.hk_model.specs.declared.syntax.Verb.TheVariants as verb
-use Rattle.hk_model.specs.declared.syntax.Written.{Written}
-use Rattle.hk_model.specs.declared.syntax.Head.{Head}
-use Rattle.hk_model.specs.declared.syntax.Head.TheVariants.{LimitIs, TypeIs, ObjectIs, SemaphoreIs, ProcedureIs, CodeIs, ProcessIs}
-use Rattle.hk_model.specs.declared.syntax.Body.{Body}
-use Rattle.hk_model.specs.declared.syntax.Body.TheVariants.{WordsAre, EmptyEntry, CapEntry, AmplifyEntry, CreateEntry, ParamIs, LabelIs, StepIs}
+use Rattle.hk_format.specs.declared.syntax.Verb.{Verb}
+use Rattle.hk_format.specs.declared.syntax.Verb.TheVariants as verb
+use Rattle.hk_format.specs.declared.syntax.Written.{Written}
+use Rattle.hk_format.specs.declared.syntax.Head.{Head}
+use Rattle.hk_format.specs.declared.syntax.Head.TheVariants.{LimitIs, TypeIs, ObjectIs, SemaphoreIs, ProcedureIs, CodeIs, ProcessIs}
+use Rattle.hk_format.specs.declared.syntax.Body.{Body}
+use Rattle.hk_format.specs.declared.syntax.Body.TheVariants.{WordsAre, EmptyEntry, CapEntry, AmplifyEntry, CreateEntry, ParamIs, LabelIs, StepIs}
 use Rattle.hk_model.specs.Limits.{event_limit, token_limit}
 use Rattle.hk_model.specs.Setup.{IsWord32}
-use Rattle.hk_model.specs.Reading.{Reads, Found, onward}
-use Rattle.hk_model.specs.Forms.{as_number}
-use Rattle.hk_model.specs.WrittenLines.{instruction_of}
-use Rattle.hk_model.specs.Grammar.{head_of, head_line, entry_of, object_part, procedure_part, step_part, code_part, body_of, some_part, part_of, part_line}
-use Rattle.hk_model.specs.Syntax.{IsWordText, IsName, IsTypeText, IsRightsText, IsWritten, IsHead, IsEntryBody, Belongs}
+use Rattle.hk_format.specs.Reading.{Reads, Found, onward}
+use Rattle.hk_format.specs.Forms.{as_number}
+use Rattle.hk_format.specs.WrittenLines.{instruction_of}
+use Rattle.hk_format.specs.Grammar.{head_of, head_line, entry_of, object_part, procedure_part, step_part, code_part, body_of, some_part, part_of, part_line}
+use Rattle.hk_format.specs.Syntax.{IsWordText, IsName, IsTypeText, IsRightsText, IsWritten, IsHead, IsEntryBody, Belongs}
 use Rattle.hk_script.proofs.ReadersGood.{Good, Has, Any, IsBetween, IfSome, bind_good, end_good, unknown_good, takes, each_good, verb_forms, word_forms, name_forms, type_forms, rights_forms, number_forms, number_in_forms}
 use Rattle.hk_script.proofs.InstructionsGood.{instruction_good}
 

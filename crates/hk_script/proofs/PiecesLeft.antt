@@ -4,7 +4,7 @@ use Rattle.std.specs.Prelude.{slice_index_or}
 use Rattle.std.specs.List.{list_all}
 use Rattle.std.proofs.lemmas.Bool.{and_parts, le-leb}
 use Rattle.std.proofs.lemmas.Bool.Decides.{nat_tests}
-use Rattle.hk_model.specs.Texts.{is_none}
+use Rattle.hk_format.specs.Texts.{is_none}
 
 -- none is left where all were read
 pub left_none : {X Y : Type 0} (f : X → Y) (xs : List X) (n : ℕ) → leb (length xs) n ≡ is_none (map f (drop n xs))

@@ -4,20 +4,20 @@ use Rattle.std.specs.Prelude.{IfOk, codes}
 use Rattle.std.specs.List.{list_all, AllByRecursion, find}
 use Rattle.std.proofs.lemmas.Bool.{and_parts, false≢true, ltb-true}
 use Rattle.std.proofs.lemmas.Bool.Decides.{nat_tests}
-use Rattle.hk_model.specs.declared.causes.ParseCause.{ParseCause}
-use Rattle.hk_model.specs.declared.causes.ParseCause.TheVariants.{UnknownWord, OutOfRange}
+use Rattle.hk_format.specs.declared.causes.ParseCause.{ParseCause}
+use Rattle.hk_format.specs.declared.causes.ParseCause.TheVariants.{UnknownWord, OutOfRange}
 use Rattle.hk_model.specs.declared.instructions.Index.{Index}
 use Rattle.hk_model.specs.declared.instructions.Index.TheVariants.{Fixed, ByReg}
 use Rattle.hk_model.specs.declared.instructions.Operand.TheVariants as operand
-use Rattle.hk_model.specs.declared.syntax.Verb.{Verb}
+use Rattle.hk_format.specs.declared.syntax.Verb.{Verb}
 use Rattle.hk_model.specs.Labels.{between, is_word, is_name, is_register, same_text}
 use Rattle.hk_model.specs.Limits.{slot_limit, index_bound}
-use Rattle.hk_model.specs.Pieces.{Piece, Word, Upper, Dash, Number, Path, is_upper, is_piece, is_index, register_of}
+use Rattle.hk_format.specs.Pieces.{Piece, Word, Upper, Dash, Number, Path, is_upper, is_piece, is_index, register_of}
 use Rattle.hk_model.specs.Setup.{IsSlot, IsReg, IsOperand, IsIndex, IsRoute, IsWord32, BeginsAtSlot}
-use Rattle.hk_model.specs.Verbs.{verb_word, all_verbs}
-use Rattle.hk_model.specs.Reading.{Reads, Found, ◌>>=◌, onward, taken, wanted, end, unknown, optional, each, at_most}
-use Rattle.hk_model.specs.Forms.{as_verb, verb_found, as_word, as_name, as_type, as_rights, as_number, as_number_in, as_number_below, as_slot, slot_numbered, as_register, as_operand, as_route, is_route, is_index_below, route_of}
-use Rattle.hk_model.specs.Syntax.{IsWordText, IsName, IsTypeText, IsRightsText}
+use Rattle.hk_format.specs.Verbs.{verb_word, all_verbs}
+use Rattle.hk_format.specs.Reading.{Reads, Found, ◌>>=◌, onward, taken, wanted, end, unknown, optional, each, at_most}
+use Rattle.hk_format.specs.Forms.{as_verb, verb_found, as_word, as_name, as_type, as_rights, as_number, as_number_in, as_number_below, as_slot, slot_numbered, as_register, as_operand, as_route, is_route, is_index_below, route_of}
+use Rattle.hk_format.specs.Syntax.{IsWordText, IsName, IsTypeText, IsRightsText}
 use Rattle.hk_text.proofs.PiecesGood.{register_below}
 
 -- pieces that some text spells

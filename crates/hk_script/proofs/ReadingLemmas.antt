@@ -1,13 +1,13 @@
 -- What was read of a script, line by line.
 use Rattle.std.proofs.Common.{◌≡◌, ℕ, true, cond, List, [], ◌∷◌, map, not, Ok, Err}
-use Rattle.hk_model.specs.declared.causes.ParseCause.TheVariants.{Repeated}
-use Rattle.hk_model.specs.declared.syntax.Body.{Body}
+use Rattle.hk_format.specs.declared.causes.ParseCause.TheVariants.{Repeated}
+use Rattle.hk_format.specs.declared.syntax.Body.{Body}
 use Rattle.std.specs.List.{list_all}
 use Rattle.std.proofs.lemmas.Bool.{and_parts}
-use Rattle.hk_model.specs.Pieces as piece
-use Rattle.hk_model.specs.Pieces.{is_piece}
-use Rattle.hk_model.specs.Texts.{text}
-use Rattle.hk_model.specs.Grammar.{Read, is_new_label, header, items_from, script, between_items, nothing_seen}
+use Rattle.hk_format.specs.Pieces as piece
+use Rattle.hk_format.specs.Pieces.{is_piece}
+use Rattle.hk_format.specs.Texts.{text}
+use Rattle.hk_format.specs.Grammar.{Read, is_new_label, header, items_from, script, between_items, nothing_seen}
 use Rattle.hk_text.specs.declared.pieces.Piece.{Piece}
 use Rattle.hk_text.specs.declared.text.TextLine.{TextLine}
 use Rattle.hk_text.specs.Views.{seen, line_seen}

@@ -5,7 +5,7 @@ use Rattle.std.proofs.lemmas.Bool.{and_parts, lt-ltb}
 use Rattle.std.proofs.lemmas.Bool.Decides.{nat_tests}
 use Rattle.hk_text.proofs.Turns.{cut_turn}
 use Rattle.std.proofs.lemmas.List.{take_all, drop-drop, length-drop}
-use Rattle.hk_model.specs.declared.causes.TextCause.TheVariants.{BadToken, NumberTooLarge}
+use Rattle.hk_format.specs.declared.causes.TextCause.TheVariants.{BadToken, NumberTooLarge}
 use Rattle.hk_model.specs.Labels.{between}
 use Rattle.hk_script.specs.Lines.{index_in}
 use Rattle.hk_script.specs.Paths.{AreIndices, cut_points, route_on}
@@ -13,13 +13,13 @@ use Rattle.hk_script.specs.Outcomes.{Fails, Gives}
 use Rattle.hk_script.specs.declared.errors.LineError.{LineError}
 use Rattle.hk_script.specs.declared.errors.LineError.TheVariants as line_error
 use mathlib.Core.List.{append_assoc, append-nil}
-use Rattle.hk_model.specs.declared.causes.ParseCause.{ParseCause}
-use Rattle.hk_model.specs.declared.causes.ParseCause.TheVariants.{OutOfRange}
+use Rattle.hk_format.specs.declared.causes.ParseCause.{ParseCause}
+use Rattle.hk_format.specs.declared.causes.ParseCause.TheVariants.{OutOfRange}
 use Rattle.hk_model.specs.declared.instructions.Index.{Index}
 use Rattle.hk_model.specs.declared.instructions.Route.{Route}
 use Rattle.hk_model.specs.Limits.{slot_limit, index_bound}
-use Rattle.hk_model.specs.Pieces.{Piece, Path, index_of, path_of, is_path, is_index_text, is_too_large}
-use Rattle.hk_model.specs.Forms.{as_route, is_index_below, route_of}
+use Rattle.hk_format.specs.Pieces.{Piece, Path, index_of, path_of, is_path, is_index_text, is_too_large}
+use Rattle.hk_format.specs.Forms.{as_route, is_index_below, route_of}
 
 route_rest : (done is : List Index) → route_on done index_bound is ≡ cond (list_all (is_index_below index_bound) is) (Ok (route_of (done ++ is))) (Err OutOfRange)
 route_rest done [] = rw append-nil

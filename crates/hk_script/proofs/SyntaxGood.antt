@@ -4,18 +4,18 @@ use Rattle.std.specs.Prelude.{IfOk}
 use Rattle.std.specs.List.{list_all}
 use Rattle.std.proofs.lemmas.Bool.{and_parts}
 use Rattle.std.proofs.lemmas.List.{drop_all}
-use Rattle.hk_model.specs.declared.causes.ParseCause.{ParseCause}
-use Rattle.hk_model.specs.declared.causes.ParseCause.TheVariants.{Repeated}
-use Rattle.hk_model.specs.declared.syntax.Head.{Head}
-use Rattle.hk_model.specs.declared.syntax.Body.{Body}
-use Rattle.hk_model.specs.declared.syntax.Part.{Part}
-use Rattle.hk_model.specs.declared.syntax.Item.{Item}
-use Rattle.hk_model.specs.Pieces.{Piece, is_piece}
-use Rattle.hk_model.specs.Texts.{Lines, text}
-use Rattle.hk_model.specs.Reading.{Found}
-use Rattle.hk_model.specs.Grammar.{Seen, nothing_seen, is_new, noted, is_new_label, noted_label, Open, Read, item_at, part_at, between_items, placed_head, begun, with_part, joined, and_then, next_line, after_line, Refused, closed, go_on, items_from, header, after_header, script, head_line, part_line}
-use Rattle.hk_model.specs.Spelling.{has_parts}
-use Rattle.hk_model.specs.Syntax.{IsHead, Belongs, AreParts, AreItems, IsSyntax}
+use Rattle.hk_format.specs.declared.causes.ParseCause.{ParseCause}
+use Rattle.hk_format.specs.declared.causes.ParseCause.TheVariants.{Repeated}
+use Rattle.hk_format.specs.declared.syntax.Head.{Head}
+use Rattle.hk_format.specs.declared.syntax.Body.{Body}
+use Rattle.hk_format.specs.declared.syntax.Part.{Part}
+use Rattle.hk_format.specs.declared.syntax.Item.{Item}
+use Rattle.hk_format.specs.Pieces.{Piece, is_piece}
+use Rattle.hk_format.specs.Texts.{Lines, text}
+use Rattle.hk_format.specs.Reading.{Found}
+use Rattle.hk_format.specs.Grammar.{Seen, nothing_seen, is_new, noted, is_new_label, noted_label, Open, Read, item_at, part_at, between_items, placed_head, begun, with_part, joined, and_then, next_line, after_line, Refused, closed, go_on, items_from, header, after_header, script, head_line, part_line}
+use Rattle.hk_format.specs.Spelling.{has_parts}
+use Rattle.hk_format.specs.Syntax.{IsHead, Belongs, AreParts, AreItems, IsSyntax}
 use Rattle.hk_text.specs.declared.text.TextLine.{TextLine}
 use Rattle.hk_text.specs.Views.{line_seen}
 use Rattle.hk_text.proofs.PiecesGood.{is_good, text_good}

@@ -7,9 +7,9 @@ use Rattle.std.proofs.lemmas.Str.{IsUtf8-from_ascii}
 use Rattle.std.proofs.lemmas.Bool.{and_parts, ltb-true, false≢true}
 use Rattle.std.proofs.lemmas.Bool.Decides.{nat_tests}
 use Rattle.hk_model.specs.Labels.{is_word, is_word_byte, is_lower, first}
-use Rattle.hk_model.specs.Pieces.{is_upper}
-use Rattle.hk_model.proofs.Cutting.{all_weaker}
-use Rattle.hk_model.proofs.PieceAgain.{is_name_byte, names_bytes}
+use Rattle.hk_format.specs.Pieces.{is_upper}
+use Rattle.hk_format.proofs.Cutting.{all_weaker}
+use Rattle.hk_format.proofs.PieceAgain.{is_name_byte, names_bytes}
 use Rattle.hk_script.specs.Lines.{HasText}
 
 ascii_from : (t : List ℕ) → list_all (λ b. ltb b 128) t ≡ true → IsAscii t

@@ -1,11 +1,11 @@
 -- What is left of a line that is read. docs/FORMATS.md, "Grammar".
 use Rattle.std.specs.Prelude.{ℕ, List, Result, Ok, Err, IsTrue, ◌||◌, map, drop, if◌then◌else◌}
-use Rattle.hk_model.specs.declared.causes.ParseCause.{ParseCause}
-use Rattle.hk_model.specs.declared.causes.ParseCause.TheVariants.{OutOfRange}
+use Rattle.hk_format.specs.declared.causes.ParseCause.{ParseCause}
+use Rattle.hk_format.specs.declared.causes.ParseCause.TheVariants.{OutOfRange}
 use Rattle.hk_model.specs.declared.instructions.Index.{Index}
 use Rattle.hk_model.specs.Labels.{is_word}
-use Rattle.hk_model.specs.Pieces.{Piece, is_upper}
-use Rattle.hk_model.specs.Forms.{is_index_below}
+use Rattle.hk_format.specs.Pieces.{Piece, is_upper}
+use Rattle.hk_format.specs.Forms.{is_index_below}
 use Rattle.hk_text.specs.Views.{seen}
 use Rattle.hk_script.specs.declared.line.Line.{Line}
 

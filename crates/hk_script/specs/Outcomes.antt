@@ -1,10 +1,10 @@
 -- What reading answers, beside what the grammar gives. docs/FORMATS.md, "Grammar".
 use Rattle.std.specs.Prelude.{◌≡◌, ℕ, List, Result, Ok, Err, IsTrue, false}
-use Rattle.hk_model.specs.declared.causes.ParseCause.{ParseCause}
-use Rattle.hk_model.specs.declared.causes.ParseCause.TheVariants.{UnknownWord}
+use Rattle.hk_format.specs.declared.causes.ParseCause.{ParseCause}
+use Rattle.hk_format.specs.declared.causes.ParseCause.TheVariants.{UnknownWord}
 use Rattle.hk_model.specs.Labels.{is_register}
-use Rattle.hk_model.specs.Pieces.{Piece, register_of}
-use Rattle.hk_model.specs.Reading.{Found}
+use Rattle.hk_format.specs.Pieces.{Piece, register_of}
+use Rattle.hk_format.specs.Reading.{Found}
 use Rattle.hk_script.specs.declared.errors.ParseError.{ParseError}
 use Rattle.hk_script.specs.declared.errors.ParseError.TheVariants as parse_error
 use Rattle.hk_script.specs.declared.errors.LineError.{LineError}

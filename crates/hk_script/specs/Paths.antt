@@ -1,13 +1,13 @@
 -- The indices of a path, read one after another. docs/FORMATS.md, "Pieces" and "Grammar".
 use Rattle.std.specs.Prelude.{◌≡◌, ℕ, ◌==◌, true, false, List, [], ◌∷◌, ◌++◌, Result, Ok, Err, if◌then◌else◌}
 use Rattle.std.specs.List.{list_all, list_any, slice_split}
-use Rattle.hk_model.specs.declared.causes.ParseCause.{ParseCause}
-use Rattle.hk_model.specs.declared.causes.ParseCause.TheVariants.{OutOfRange}
+use Rattle.hk_format.specs.declared.causes.ParseCause.{ParseCause}
+use Rattle.hk_format.specs.declared.causes.ParseCause.TheVariants.{OutOfRange}
 use Rattle.hk_model.specs.declared.instructions.Index.{Index}
 use Rattle.hk_model.specs.declared.instructions.Route.{Route}
 use Rattle.hk_model.specs.Limits.{index_bound}
-use Rattle.hk_model.specs.Pieces.{is_index_text, is_too_large}
-use Rattle.hk_model.specs.Forms.{is_index_below, route_of}
+use Rattle.hk_format.specs.Pieces.{is_index_text, is_too_large}
+use Rattle.hk_format.specs.Forms.{is_index_below, route_of}
 
 -- the texts between points
 abbrev pub cut_points : List ℕ → List (List ℕ)

@@ -1,11 +1,11 @@
 -- What was read of a script, as the grammar has it. docs/FORMATS.md, "Grammar".
 use Rattle.std.specs.Prelude.{◌≡◌, ℕ, List, Option, Some, None, Result, Ok, Err, false, true}
-use Rattle.hk_model.specs.declared.causes.ParseCause.{ParseCause}
-use Rattle.hk_model.specs.declared.causes.ParseCause.TheVariants.{Repeated}
-use Rattle.hk_model.specs.declared.syntax.Head.{Head}
-use Rattle.hk_model.specs.declared.syntax.Body.{Body}
-use Rattle.hk_model.specs.declared.syntax.Item.{Item}
-use Rattle.hk_model.specs.Grammar.{Read, Open, Refused, is_new, noted, is_new_label, noted_label}
+use Rattle.hk_format.specs.declared.causes.ParseCause.{ParseCause}
+use Rattle.hk_format.specs.declared.causes.ParseCause.TheVariants.{Repeated}
+use Rattle.hk_format.specs.declared.syntax.Head.{Head}
+use Rattle.hk_format.specs.declared.syntax.Body.{Body}
+use Rattle.hk_format.specs.declared.syntax.Item.{Item}
+use Rattle.hk_format.specs.Grammar.{Read, Open, Refused, is_new, noted, is_new_label, noted_label}
 use Rattle.hk_script.specs.declared.errors.ParseError.{ParseError}
 use Rattle.hk_script.specs.declared.errors.ParseError.TheVariants as parse_error
 use Rattle.hk_script.specs.declared.errors.LineError.{LineError}

@@ -2,7 +2,7 @@
 
 ghost use Rattle.std.specs.Prelude.{◌≡◌};
 
-use hk_model::ParseCause;
+use hk_format::ParseCause;
 use std::alloc::AllocError;
 
 /// Why lines are no script (`docs/FORMATS.md`, "Grammar").

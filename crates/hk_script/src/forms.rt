@@ -4,9 +4,9 @@ ghost use Rattle.std.specs.Prelude.{◌≡◌, ◌<◌, ◌≤◌, ◌==◌, ◌
 ghost use Rattle.std.specs.List.{slice_split, position_or_len};
 ghost use Rattle.hk_model.specs.declared.instructions.Route.{Route};
 ghost use Rattle.hk_model.specs.Limits.{slot_limit};
-ghost use Rattle.hk_model.specs.Pieces.{Path, is_index_text, is_too_large, index_of};
-ghost use Rattle.hk_model.specs.Reading.{wanted};
-ghost use Rattle.hk_model.specs.Forms.{as_verb, as_word, as_name, as_type, as_rights, as_number, as_number_in, as_slot, as_register, as_operand, as_route, route_of};
+ghost use Rattle.hk_format.specs.Pieces.{Path, is_index_text, is_too_large, index_of};
+ghost use Rattle.hk_format.specs.Reading.{wanted};
+ghost use Rattle.hk_format.specs.Forms.{as_verb, as_word, as_name, as_type, as_rights, as_number, as_number_in, as_slot, as_register, as_operand, as_route, route_of};
 ghost use Rattle.hk_script.specs.declared.errors.LineError.TheVariants as line_error;
 ghost use Rattle.hk_script.specs.Lines.{rest, index_in};
 ghost use Rattle.hk_script.specs.Paths.{AreIndices, cut_points, route_on};
@@ -15,7 +15,8 @@ ghost use Rattle.hk_script.specs.Outcomes.{Reads, Gives, GivesRegister};
 use crate::errors::LineError;
 use crate::line::Line;
 use crate::verbs::verb_of;
-use hk_model::{Index, Items, Operand, ParseCause, Route, Slot, Text, Verb};
+use hk_format::{ParseCause, Verb};
+use hk_model::{Index, Items, Operand, Route, Slot, Text};
 use hk_text::{PieceKind, first_of, is_register, value};
 use std::alloc::Global;
 

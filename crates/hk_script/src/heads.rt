@@ -1,15 +1,15 @@
 //! The lines between items (`docs/FORMATS.md`, "Grammar").
 
 ghost use Rattle.std.specs.Prelude.{◌≡◌};
-ghost use Rattle.hk_model.specs.declared.syntax.Verb.TheVariants as verb;
-ghost use Rattle.hk_model.specs.Grammar.{header, head_line, head_of, head_name};
-ghost use Rattle.hk_model.specs.Spelling.{has_parts};
+ghost use Rattle.hk_format.specs.declared.syntax.Verb.TheVariants as verb;
+ghost use Rattle.hk_format.specs.Grammar.{header, head_line, head_of, head_name};
+ghost use Rattle.hk_format.specs.Spelling.{has_parts};
 ghost use Rattle.hk_script.specs.Lines.{rest};
 ghost use Rattle.hk_script.specs.Outcomes.{Reads};
 
 use crate::errors::LineError;
 use crate::line::Line;
-use hk_model::{Head, ParseCause, Verb};
+use hk_format::{Head, ParseCause, Verb};
 use std::alloc::Global;
 
 impl<'a> Line<'a> {

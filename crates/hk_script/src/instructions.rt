@@ -1,14 +1,15 @@
 //! The instructions of a code (`docs/FORMATS.md`, "Grammar" and "Texts of calls").
 
 ghost use Rattle.std.specs.Prelude.{◌≡◌};
-ghost use Rattle.hk_model.specs.declared.syntax.Verb.TheVariants as verb;
-ghost use Rattle.hk_model.specs.WrittenLines.{instruction_of, template_of, template_end};
+ghost use Rattle.hk_format.specs.declared.syntax.Verb.TheVariants as verb;
+ghost use Rattle.hk_format.specs.WrittenLines.{instruction_of, template_of, template_end};
 ghost use Rattle.hk_script.specs.Lines.{rest};
 ghost use Rattle.hk_script.specs.Outcomes.{Reads};
 
 use crate::errors::LineError;
 use crate::line::Line;
-use hk_model::{Args, Items, MakingText, ParseCause, Route, Verb, Written};
+use hk_format::{MakingText, ParseCause, Verb, Written};
+use hk_model::{Args, Items, Route};
 use std::alloc::Global;
 
 impl<'a> Line<'a> {

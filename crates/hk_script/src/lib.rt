@@ -19,4 +19,4 @@ mod verbs;
 pub use crate::errors::ParseError;
 pub use crate::script::{Syntax, parse};
 pub use crate::verbs::verb_of;
-pub use hk_model::{Body, Head, Item, MakingText, Part, Written};
+pub use hk_format::{Body, Head, Item, MakingText, Part, Written};

@@ -2,11 +2,12 @@
 
 ghost use Rattle.std.specs.Prelude.{◌≡◌, IsTrue, map};
 ghost use Rattle.std.specs.List.{list_all};
-ghost use Rattle.hk_model.specs.Pieces.{is_piece};
+ghost use Rattle.hk_format.specs.Pieces.{is_piece};
 ghost use Rattle.hk_text.specs.Views.{seen};
 
 use crate::errors::LineError;
-use hk_model::{ParseCause, Text};
+use hk_format::ParseCause;
+use hk_model::Text;
 use hk_text::Piece;
 use std::alloc::Global;
 
@@ -21,9 +22,9 @@ pub struct Line<'a> {
 
 impl<'a> Line<'a> {
     ghost use Rattle.std.specs.Prelude.{◌∷◌, [], IfOk, IfErr, OnErr};
-    ghost use Rattle.hk_model.specs.declared.causes.ParseCause.TheVariants as cause;
-    ghost use Rattle.hk_model.specs.Texts.{is_none};
-    ghost use Rattle.hk_model.specs.Reading.{end};
+    ghost use Rattle.hk_format.specs.declared.causes.ParseCause.TheVariants as cause;
+    ghost use Rattle.hk_format.specs.Texts.{is_none};
+    ghost use Rattle.hk_format.specs.Reading.{end};
     ghost use Rattle.hk_text.specs.Views.{text_of};
     ghost use Rattle.hk_script.specs.declared.errors.LineError.TheVariants as line_error;
     ghost use Rattle.hk_script.specs.Lines.{rest, HasText};

@@ -1,7 +1,7 @@
 //! Names that were given, in the order of their lines.
 
 ghost use Rattle.std.specs.Prelude.{◌≡◌, ◌++◌, ◌∷◌, [], not, IfOk, if◌then◌else◌};
-ghost use Rattle.hk_model.specs.Grammar.{is_among};
+ghost use Rattle.hk_format.specs.Grammar.{is_among};
 
 use indexmap::IndexSet;
 use std::alloc::{AllocError, Global};

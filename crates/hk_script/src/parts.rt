@@ -1,14 +1,15 @@
 //! The lines inside items (`docs/FORMATS.md`, "Grammar").
 
 ghost use Rattle.std.specs.Prelude.{◌≡◌};
-ghost use Rattle.hk_model.specs.declared.syntax.Verb.TheVariants as verb;
-ghost use Rattle.hk_model.specs.Grammar.{part_line, part_of, body_of, object_part, procedure_part, code_part, entry_of};
+ghost use Rattle.hk_format.specs.declared.syntax.Verb.TheVariants as verb;
+ghost use Rattle.hk_format.specs.Grammar.{part_line, part_of, body_of, object_part, procedure_part, code_part, entry_of};
 ghost use Rattle.hk_script.specs.Lines.{rest};
 ghost use Rattle.hk_script.specs.Outcomes.{Reads};
 
 use crate::errors::LineError;
 use crate::line::Line;
-use hk_model::{Body, Head, Items, ParseCause, Verb};
+use hk_format::{Body, Head, ParseCause, Verb};
+use hk_model::Items;
 use std::alloc::Global;
 
 impl<'a> Line<'a> {

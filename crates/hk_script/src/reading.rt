@@ -2,8 +2,8 @@
 
 ghost use Rattle.std.specs.Prelude.{◌≡◌, [], IsTrue, IsNone, IfOk, IfErr, map};
 ghost use Rattle.std.specs.List.{list_all};
-ghost use Rattle.hk_model.specs.Pieces.{is_piece};
-ghost use Rattle.hk_model.specs.Grammar.{between_items, nothing_seen, after_line, begun, joined, closed, with_part};
+ghost use Rattle.hk_format.specs.Pieces.{is_piece};
+ghost use Rattle.hk_format.specs.Grammar.{between_items, nothing_seen, after_line, begun, joined, closed, with_part};
 ghost use Rattle.hk_script.specs.declared.errors.LineError.TheVariants as line_error;
 ghost use Rattle.hk_text.specs.Views.{seen};
 ghost use Rattle.hk_script.specs.Readings.{read_of, open_of, Becomes, MatchNew, MatchNewLabel, Closes};
@@ -12,7 +12,8 @@ use crate::errors::{LineError, ParseError};
 use crate::heads::{has_parts, name_of};
 use crate::line::Line;
 use crate::names::Names;
-use hk_model::{Body, Head, Item, Items, ParseCause, Part};
+use hk_format::{Body, Head, Item, ParseCause, Part};
+use hk_model::Items;
 use hk_text::TextLine;
 use std::alloc::Global;
 

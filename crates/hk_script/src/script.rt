@@ -1,16 +1,17 @@
 //! A whole script (`docs/FORMATS.md`, "Grammar").
 
 ghost use Rattle.std.specs.Prelude.{◌≡◌, ℕ, map, Ok, Err, IfOk};
-ghost use Rattle.hk_model.specs.declared.causes.ParseCause.{ParseCause};
-ghost use Rattle.hk_model.specs.Texts.{text};
-ghost use Rattle.hk_model.specs.Grammar.{script};
+ghost use Rattle.hk_format.specs.declared.causes.ParseCause.{ParseCause};
+ghost use Rattle.hk_format.specs.Texts.{text};
+ghost use Rattle.hk_format.specs.Grammar.{script};
 ghost use Rattle.hk_text.specs.Views.{line_seen};
 ghost use Rattle.hk_script.specs.Outcomes.{IsRefused};
 
 use crate::errors::ParseError;
 use crate::line::Line;
 use crate::reading::Reading;
-use hk_model::{Item, Items, ParseCause};
+use hk_format::{Item, ParseCause};
+use hk_model::Items;
 use hk_text::TextLine;
 use std::alloc::Global;
 use std::marker::Model;
@@ -25,8 +26,8 @@ pub struct Syntax {
 
 impl Model for Syntax {
     ghost use Rattle.std.specs.Prelude.{List};
-    ghost use Rattle.hk_model.specs.declared.syntax.Item.{Item};
-    ghost use Rattle.hk_model.specs.Syntax.{IsSyntax};
+    ghost use Rattle.hk_format.specs.declared.syntax.Item.{Item};
+    ghost use Rattle.hk_format.specs.Syntax.{IsSyntax};
 
     ghost Value = { List Item };
 
@@ -36,7 +37,7 @@ impl Model for Syntax {
 }
 
 impl Syntax {
-    ghost use Rattle.hk_model.specs.Syntax.{IsSyntax};
+    ghost use Rattle.hk_format.specs.Syntax.{IsSyntax};
 
     /// The items, in the order of their heads.
     pub fn items(&self) -> &[Item]

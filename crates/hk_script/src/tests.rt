@@ -1,5 +1,5 @@
 use crate::{ParseError, parse};
-use hk_model::ParseCause;
+use hk_format::ParseCause;
 use hk_text::lines;
 use std::alloc::Global;
 use std::test::Fail;

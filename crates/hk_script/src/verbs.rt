@@ -3,9 +3,9 @@
 ghost use Rattle.std.specs.Prelude.{◌≡◌};
 ghost use Rattle.std.specs.List.{find};
 ghost use Rattle.hk_model.specs.Labels.{same_text};
-ghost use Rattle.hk_model.specs.Verbs.{verb_word, all_verbs};
+ghost use Rattle.hk_format.specs.Verbs.{verb_word, all_verbs};
 
-use hk_model::Verb;
+use hk_format::Verb;
 
 const VERBS: [Verb; 41] = [
     Verb::Hydra,
@@ -53,7 +53,7 @@ const VERBS: [Verb; 41] = [
 
 /// The verb that these letters are the word of, in scripts and in audit lines. None exactly where there
 /// is none (`docs/FORMATS.md`, "Grammar").
-#[tactic(auto, unfolding(hk_model::specs::Verbs::all_verbs))]
+#[tactic(auto, unfolding(hk_format::specs::Verbs::all_verbs))]
 pub fn verb_of(word: &[u8]) -> Option<Verb>
     ensures { result ≡ find (λ v. same_text word.now (verb_word v)) all_verbs }
 {

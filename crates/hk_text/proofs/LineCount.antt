@@ -1,7 +1,7 @@
 -- A source has few lines where it has few bytes.
 use Rattle.std.proofs.Common.{ℕ, ◌+◌, ◌≤◌, Bool, true, false, cond, eqb, List, [], ◌∷◌, length, arith}
 use Rattle.std.specs.List.{slice_split, onto_first}
-use Rattle.hk_model.specs.Texts.{lines_of, without_last_empty, is_none}
+use Rattle.hk_format.specs.Texts.{lines_of, without_last_empty, is_none}
 
 parts_few : (p : ℕ → Bool) (bytes : List ℕ) → length (slice_split p bytes) ≤ length bytes + 1
 parts_few p [] = omega arith

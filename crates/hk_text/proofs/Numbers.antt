@@ -10,9 +10,9 @@ use Rattle.std.proofs.lemmas.List.Sums.{prefix_len-le-length}
 use Rattle.std.proofs.lemmas.Str.{IsUtf8-from_ascii}
 use Rattle.std.proofs.lemmas.Bool.{and_parts, and_from, false≢true, lt-ltb, ltb-false}
 use Rattle.std.proofs.lemmas.Bool.Decides.{nat_tests}
-use Rattle.hk_model.specs.declared.causes.TextCause.TheVariants as causes
+use Rattle.hk_format.specs.declared.causes.TextCause.TheVariants as causes
 use Rattle.hk_model.specs.Labels.{is_digit, first}
-use Rattle.hk_model.specs.Pieces.{Number, is_number, is_too_large, number_of, value}
+use Rattle.hk_format.specs.Pieces.{Number, is_number, is_too_large, number_of, value}
 
 own : IsNumeralModel (λ ds. list_all is_digit ds ≡ true) value
 own = numerals_by_value (λ ds. list_all is_digit ds ≡ true) (record {

@@ -5,12 +5,12 @@ use Rattle.std.specs.List.{list_all, list_any, slice_split}
 use Rattle.std.proofs.lemmas.Bool.{and_parts, and_from, false≢true, ltb-false, le-leb}
 use Rattle.std.proofs.lemmas.Bool.Decides.{nat_tests}
 use Rattle.std.proofs.lemmas.List.{length-map}
-use Rattle.hk_model.specs.declared.causes.TextCause.{TextCause}
-use Rattle.hk_model.specs.declared.causes.TextCause.TheVariants.{BadToken, NumberTooLarge, NotAscii, LongLine}
+use Rattle.hk_format.specs.declared.causes.TextCause.{TextCause}
+use Rattle.hk_format.specs.declared.causes.TextCause.TheVariants.{BadToken, NumberTooLarge, NotAscii, LongLine}
 use Rattle.hk_model.specs.declared.instructions.Index.TheVariants.{Fixed, ByReg}
 use Rattle.hk_model.specs.Labels.{between, is_digit, is_lower, is_capital, is_word, is_register, first}
-use Rattle.hk_model.specs.Pieces.{Piece, Word, Upper, Dash, Number, Path, is_upper, is_dash, is_number, value, is_index_text, is_too_large, register_of, index_of, is_path, path_of, number_of, formed, plain_of, piece_of, is_piece, is_index}
-use Rattle.hk_model.specs.Texts.{Lines, is_no_text, pieces_of, piece_onto, tokens, text_line, text_lines, text, lines_of, line_onto}
+use Rattle.hk_format.specs.Pieces.{Piece, Word, Upper, Dash, Number, Path, is_upper, is_dash, is_number, value, is_index_text, is_too_large, register_of, index_of, is_path, path_of, number_of, formed, plain_of, piece_of, is_piece, is_index}
+use Rattle.hk_format.specs.Texts.{Lines, is_no_text, pieces_of, piece_onto, tokens, text_line, text_lines, text, lines_of, line_onto}
 
 -- the piece is spelled by some text, if there is one
 abbrev pub GoodPiece : Result Piece TextCause → Type 0

@@ -6,10 +6,10 @@ use Rattle.std.proofs.lemmas.Bool.Decides.{nat_tests}
 use Rattle.std.proofs.lemmas.List.{drop_all, take_all, drop-take, map-append, length-take, length-drop, drop-drop, take-take}
 use Rattle.std.proofs.lemmas.List.Sums.{prefix_len-le-length}
 use mathlib.Core.List.{append_assoc}
-use Rattle.hk_model.specs.declared.causes.TextCause.{TextCause}
-use Rattle.hk_model.specs.Pieces as piece
-use Rattle.hk_model.specs.Pieces.{piece_of}
-use Rattle.hk_model.specs.Texts.{Lines, is_blank, is_none, pieces_of, piece_onto, lines_of, without_last_empty, text_lines, text_line, line_onto}
+use Rattle.hk_format.specs.declared.causes.TextCause.{TextCause}
+use Rattle.hk_format.specs.Pieces as piece
+use Rattle.hk_format.specs.Pieces.{piece_of}
+use Rattle.hk_format.specs.Texts.{Lines, is_blank, is_none, pieces_of, piece_onto, lines_of, without_last_empty, text_lines, text_line, line_onto}
 use Rattle.hk_text.specs.declared.pieces.Piece.{Piece}
 use Rattle.hk_text.specs.declared.pieces.PieceKind.{PieceKind}
 use Rattle.hk_text.specs.Views.{kind_piece, seen, texts_of, line_seen}

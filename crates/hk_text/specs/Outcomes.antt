@@ -1,6 +1,6 @@
 -- What the text pass answers, beside what the definitions give. docs/FORMATS.md, "Text".
 use Rattle.std.specs.Prelude.{◌≡◌, ℕ, Result, Ok, Err}
-use Rattle.hk_model.specs.declared.causes.TextCause.{TextCause}
+use Rattle.hk_format.specs.declared.causes.TextCause.{TextCause}
 use Rattle.hk_text.specs.declared.errors.TextError.{TextError}
 use Rattle.hk_text.specs.declared.errors.TextError.TheVariants as text_error
 use Rattle.hk_text.specs.declared.errors.LineError.{LineError}

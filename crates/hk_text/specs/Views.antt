@@ -1,10 +1,10 @@
 -- Pieces and lines of a source as the definitions have them. docs/FORMATS.md, "Text" and "Pieces".
 use Rattle.std.specs.Prelude.{ℕ, ◌==◌, ◌<◌, ◌≤◌, ◌&&◌, not, List, [], ◌∷◌, Result, Ok, Err, map, length, nat_le, if◌then◌else◌}
 use Rattle.std.specs.List.{slice_range, slice_split, filter}
-use Rattle.hk_model.specs.Pieces as piece
-use Rattle.hk_model.specs.Pieces.{path_of}
-use Rattle.hk_model.specs.Texts.{is_none, is_blank}
-use Rattle.hk_model.specs.declared.causes.TextCause.{TextCause}
+use Rattle.hk_format.specs.Pieces as piece
+use Rattle.hk_format.specs.Pieces.{path_of}
+use Rattle.hk_format.specs.Texts.{is_none, is_blank}
+use Rattle.hk_format.specs.declared.causes.TextCause.{TextCause}
 use Rattle.hk_text.specs.declared.pieces.PieceKind.{PieceKind}
 use Rattle.hk_text.specs.declared.pieces.PieceKind.TheVariants as kind
 use Rattle.hk_text.specs.declared.pieces.Piece.{Piece}

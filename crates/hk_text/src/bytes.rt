@@ -3,7 +3,7 @@
 ghost use Rattle.std.specs.Prelude.{◌≡◌, ◌≤◌, ◌==◌, length};
 ghost use Rattle.std.specs.List.{list_any, list_all, position_or_len};
 ghost use Rattle.hk_model.specs.Labels.{is_digit, is_lower, is_capital, is_word_byte, is_register};
-ghost use Rattle.hk_model.specs.Texts.{is_blank, is_no_text};
+ghost use Rattle.hk_format.specs.Texts.{is_blank, is_no_text};
 
 /// Whether the byte is one of `0` to `9`.
 pub fn is_digit(byte: u8) -> bool

@@ -2,7 +2,7 @@
 
 ghost use Rattle.std.specs.Prelude.{◌≡◌};
 
-use hk_model::TextCause;
+use hk_format::TextCause;
 use std::alloc::AllocError;
 
 /// Why bytes have no lines (`docs/FORMATS.md`, "Text").

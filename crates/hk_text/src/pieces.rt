@@ -2,14 +2,14 @@
 
 ghost use Rattle.std.specs.Prelude.{◌≡◌, ◌<◌, ◌==◌, length, IsTrue, Some, None, if◌then◌else◌};
 ghost use Rattle.std.specs.List.{slice_split, list_all, list_any};
-ghost use Rattle.hk_model.specs.Pieces.{is_number, is_upper, is_index_text, is_too_large, value, number_of, plain_of, path_of, piece_of};
+ghost use Rattle.hk_format.specs.Pieces.{is_number, is_upper, is_index_text, is_too_large, value, number_of, plain_of, path_of, piece_of};
 ghost use Rattle.hk_text.specs.Views.{kind_piece};
 ghost use Rattle.hk_text.specs.Outcomes.{GivesOrCause};
 
 use crate::bytes::{
     are_digits, are_word_bytes, has_point, is_capital, is_digit, is_lower, is_register,
 };
-use hk_model::TextCause;
+use hk_format::TextCause;
 
 /// What a piece is.
 #[derive(Clone, Copy, PartialEq, Eq, Debug)]
@@ -35,7 +35,7 @@ pub struct Piece {
 }
 
 /// What the text is as a piece, or why it is none.
-#[tactic(auto, unfolding(hk_model::specs::Pieces::piece_of))]
+#[tactic(auto, unfolding(hk_format::specs::Pieces::piece_of))]
 pub fn kind_of(text: &[u8]) -> Result<PieceKind, TextCause>
     requires { 0 < length text.now }
     ensures { GivesOrCause (λ kind. kind_piece kind text.now) result (piece_of text.now) }

@@ -1,7 +1,7 @@
 ghost use Rattle.std.specs.Prelude.{◌<◌, ◌^◌, ◌-◌, length};
 
 use crate::{Piece, PieceKind, TextError, TextLine, first_of, is_register, lines, value};
-use hk_model::TextCause;
+use hk_format::TextCause;
 use std::alloc::Global;
 use std::test::Fail;
 

@@ -2,14 +2,15 @@
 
 ghost use Rattle.std.specs.Prelude.{◌≡◌, ℕ, ◌<◌, ◌≤◌, ◌^◌, ◌-◌, length, map, Ok, Err, IfOk};
 ghost use Rattle.std.specs.List.{slice_range, flat_map};
-ghost use Rattle.hk_model.specs.Texts.{lines_of, text, text_line, pieces_of};
+ghost use Rattle.hk_format.specs.Texts.{lines_of, text, text_line, pieces_of};
 ghost use Rattle.hk_text.specs.Views.{seen, line_seen, line_pieces, texts_of, LieBetween};
 ghost use Rattle.hk_text.specs.Outcomes.{GivesLine, IsRefused};
 
 use crate::bytes::{first_blank, first_of, has_no_text};
 use crate::errors::{LineError, TextError};
 use crate::pieces::{Piece, kind_of};
-use hk_model::{Items, TextCause};
+use hk_format::TextCause;
+use hk_model::Items;
 use std::alloc::Global;
 
 /// The most bytes of a line, without its line feed.

@@ -4,21 +4,21 @@ use Rattle.hk_io.specs.Streams.{Took}
 use Rattle.hk_io.specs.declared.whole.ReadError.{ReadError}
 use Rattle.std.specs.Fmt.{digits}
 use Rattle.std.specs.Io.KnownBytes.{Consumes, IsAtEnd}
-use Rattle.hk_model.specs.declared.causes.Cause.{Cause}
-use Rattle.hk_model.specs.declared.causes.Misstep.{Misstep}
-use Rattle.hk_model.specs.declared.causes.Verdict.{Verdict}
-use Rattle.hk_model.specs.declared.causes.Verdict.TheVariants.{Legal, Illegal}
+use Rattle.hk_format.specs.declared.causes.Cause.{Cause}
+use Rattle.hk_model.specs.declared.verdicts.Misstep.{Misstep}
+use Rattle.hk_model.specs.declared.verdicts.Verdict.{Verdict}
+use Rattle.hk_model.specs.declared.verdicts.Verdict.TheVariants.{Legal, Illegal}
 use Rattle.hk_model.specs.declared.kernel.NoMemory.{NoMemory}
 use Rattle.hk_model.specs.declared.lines.Line.{Line}
 use Rattle.hk_model.specs.declared.lines.End.{End}
 use Rattle.hk_model.specs.declared.lines.End.TheVariants as end
-use Rattle.hk_model.specs.CauseTexts.{cause_name, refusal_text, too_long_text, verdict_text}
-use Rattle.hk_model.specs.Audits.{Audited, audit}
+use Rattle.hk_format.specs.CauseTexts.{cause_name, refusal_text, too_long_text, verdict_text}
+use Rattle.hk_format.specs.Audits.{Audited, audit}
 use Rattle.hk_model.specs.Legal.{IsLegal}
 use Rattle.hk_model.specs.Verdicts.{IsVerdict}
-use Rattle.hk_model.specs.Canonical.{canon}
+use Rattle.hk_format.specs.Canonical.{canon}
 use Rattle.hk_model.specs.Setup.{Setup}
-use Rattle.hk_model.specs.Worlds.{world}
+use Rattle.hk_format.specs.Worlds.{world}
 use Rattle.hk_model.specs.State.{State}
 use Rattle.hk_top.specs.declared.served.DueText.{DueText}
 use Rattle.hk_top.specs.declared.served.Served.{Served}

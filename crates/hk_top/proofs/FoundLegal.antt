@@ -1,12 +1,12 @@
 -- The record of a legal history is read again, and has the verdict that it is legal.
 use Rattle.std.proofs.Common.{◌≡◌, ◌∙◌, sym, ℕ, List, Option, Ok, refl, subst, inl, inr}
-use Rattle.hk_model.specs.declared.causes.Verdict.TheVariants.{Legal, Illegal}
+use Rattle.hk_model.specs.declared.verdicts.Verdict.TheVariants.{Legal, Illegal}
 use Rattle.hk_model.specs.declared.lines.Line.{Line}
 use Rattle.hk_model.specs.declared.lines.End.{End}
-use Rattle.hk_model.specs.CauseTexts.{verdict_text}
-use Rattle.hk_model.specs.Audits.{Audited, audit, audited, events}
+use Rattle.hk_format.specs.CauseTexts.{verdict_text}
+use Rattle.hk_format.specs.Audits.{Audited, audit, audited, events}
 use Rattle.hk_model.specs.Legal.{IsLegal}
-use Rattle.hk_model.specs.Records.{record_text}
+use Rattle.hk_format.specs.Records.{record_text}
 use Rattle.hk_model.specs.Setup.{Setup, IsWorld}
 use Rattle.hk_model.specs.State.{State}
 use Rattle.hk_audit.proofs.RecordAgain.{record_again}

@@ -4,13 +4,13 @@ use Rattle.std.specs.Io.KnownBytes.{Consumes, Appends, IsAtEnd}
 use Rattle.hk_io.specs.Causes.{Rose}
 use Rattle.hk_io.specs.Streams.{Took}
 use Rattle.hk_model.specs.declared.names.Cpu.{Cpu}
-use Rattle.hk_model.specs.declared.causes.Cause.{Cause}
-use Rattle.hk_model.specs.declared.causes.Misstep.{Misstep}
-use Rattle.hk_model.specs.declared.causes.Verdict.TheVariants.{Legal, Illegal}
+use Rattle.hk_format.specs.declared.causes.Cause.{Cause}
+use Rattle.hk_model.specs.declared.verdicts.Misstep.{Misstep}
+use Rattle.hk_model.specs.declared.verdicts.Verdict.TheVariants.{Legal, Illegal}
 use Rattle.hk_model.specs.declared.lines.Line.{Line}
 use Rattle.hk_model.specs.declared.lines.End.{End}
 use Rattle.hk_model.specs.declared.lines.End.TheVariants as end
-use Rattle.hk_model.specs.CauseTexts.{cause_name, refusal_text, too_long_text, verdict_text}
+use Rattle.hk_format.specs.CauseTexts.{cause_name, refusal_text, too_long_text, verdict_text}
 use Rattle.hk_model.specs.Setup.{Setup}
 use Rattle.hk_model.specs.State.{State}
 use Rattle.hk_model.specs.Running.{opened, step, after_lines, state_after}
@@ -20,10 +20,10 @@ use Rattle.hk_model.specs.Descent.{DescentLaw}
 use Rattle.hk_model.specs.Marks.{EnvironmentLaw}
 use Rattle.hk_model.specs.Confinement.{ConfinementLaw, ClosedCallLaw}
 use Rattle.hk_model.specs.Kept.{KeptLaw}
-use Rattle.hk_model.specs.Worlds.{world}
-use Rattle.hk_model.specs.Canonical.{canon}
-use Rattle.hk_model.specs.Records.{record_text}
-use Rattle.hk_model.specs.Audits.{Audited, audit}
+use Rattle.hk_format.specs.Worlds.{world}
+use Rattle.hk_format.specs.Canonical.{canon}
+use Rattle.hk_format.specs.Records.{record_text}
+use Rattle.hk_format.specs.Audits.{Audited, audit}
 use Rattle.hk_top.specs.Words.{IsRun, IsRunOn, IsShow, IsCheck, ReadsScript, ReadsRecord, IsCommand, ReadsAtMost}
 
 -- what is written of words that are no command

@@ -2,7 +2,7 @@
 use Rattle.std.specs.Prelude.{◌≡◌, ℕ, List, Option, None, option_map}
 use Rattle.hk_model.specs.Setup.{Setup}
 use Rattle.hk_model.specs.State.{State}
-use Rattle.hk_model.specs.CauseTexts.{too_long_text}
+use Rattle.hk_format.specs.CauseTexts.{too_long_text}
 use Rattle.hk_top.specs.declared.served.Served.{Served}
 use Rattle.hk_top.specs.declared.served.Silence.{Silence}
 use Rattle.hk_top.specs.declared.served.Silence.TheVariants as silence

@@ -1,9 +1,10 @@
 //! How refusals and verdicts are told (`docs/FORMATS.md`, "Statuses and outputs" and "Legal records").
 
 ghost use Rattle.std.specs.Prelude.{◌≡◌, IfOk, codes};
-ghost use Rattle.hk_model.specs.CauseTexts.{text_cause, parse_cause, load_cause, cause_name, misstep_name, refusal_text, verdict_text};
+ghost use Rattle.hk_format.specs.CauseTexts.{text_cause, parse_cause, load_cause, cause_name, misstep_name, refusal_text, verdict_text};
 
-use hk_model::{Cause, LoadCause, Misstep, NoMemory, ParseCause, Text, TextCause, Verdict};
+use hk_format::{Cause, LoadCause, ParseCause, TextCause};
+use hk_model::{Misstep, NoMemory, Text, Verdict};
 use std::alloc::Global;
 
 /// `line L: CAUSE`, and a line feed. NoMemory is want of memory.

@@ -2,9 +2,9 @@
 //! outputs").
 
 ghost use Rattle.std.specs.Prelude.{◌≡◌, ◌≢◌, ◌≤◌, IfOk, None, length};
-ghost use Rattle.hk_model.specs.CauseTexts.{cause_name, refusal_text, too_long_text, verdict_text};
+ghost use Rattle.hk_format.specs.CauseTexts.{cause_name, refusal_text, too_long_text, verdict_text};
 ghost use Rattle.hk_model.specs.Limits.{script_bytes, record_bytes};
-ghost use Rattle.hk_model.specs.Canonical.{canon};
+ghost use Rattle.hk_format.specs.Canonical.{canon};
 ghost use Rattle.hk_model.specs.Opening.{opening};
 ghost use Rattle.hk_model.specs.Running.{AreStepsOf};
 ghost use Rattle.hk_top.specs.Words.{words_of, byte_limit, IsAlone};
@@ -19,7 +19,8 @@ use crate::status;
 use crate::words::Command;
 use hk_audit::{Audit, RecordError, read_record, read_world, record_text, steps_have_texts};
 use hk_check::check;
-use hk_model::{Cause, End, Kernel, Line, NoMemory, Text, Verdict, World};
+use hk_format::Cause;
+use hk_model::{End, Kernel, Line, NoMemory, Text, Verdict, World};
 use hk_print::script_text;
 use std::alloc::Global;
 

@@ -3,9 +3,9 @@
 ghost use Rattle.std.specs.Prelude.{◌≡◌, ℕ, List, Option};
 ghost use Rattle.hk_model.specs.State.{State};
 ghost use Rattle.hk_model.specs.Legal.{IsLegal};
-ghost use Rattle.hk_model.specs.Records.{record_text};
-ghost use Rattle.hk_model.specs.CauseTexts.{verdict_text};
-ghost use Rattle.hk_model.specs.declared.causes.Verdict.TheVariants.{Legal};
+ghost use Rattle.hk_format.specs.Records.{record_text};
+ghost use Rattle.hk_format.specs.CauseTexts.{verdict_text};
+ghost use Rattle.hk_model.specs.declared.verdicts.Verdict.TheVariants.{Legal};
 ghost use Rattle.hk_top.specs.declared.words.Command.TheVariants as command;
 ghost use Rattle.hk_top.specs.Words.{words_of};
 ghost use Rattle.hk_top.specs.Outputs.{DueTo, IsRunBy, IsWholeRun};

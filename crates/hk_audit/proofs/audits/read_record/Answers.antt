@@ -1,5 +1,5 @@
 use Rattle.std.proofs.Common.{ap, Err}
-use Rattle.hk_model.specs.Audits.{audit}
+use Rattle.hk_format.specs.Audits.{audit}
 use Rattle.hk_audit.proofs.RecordAudits.{parted, script_refused, behind_refused, record_given, of_error}
 use Rattle.hk_audit.proofs.audits.read_record.Goals as goal
 

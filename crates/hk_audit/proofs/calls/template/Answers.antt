@@ -1,6 +1,6 @@
 use Rattle.std.proofs.Common.{string_bytes}
-use Rattle.hk_model.specs.Pieces.{spell}
-use Rattle.hk_model.specs.Operands.{path_piece}
+use Rattle.hk_format.specs.Pieces.{spell}
+use Rattle.hk_format.specs.Operands.{path_piece}
 use Rattle.hk_audit.proofs.CallTexts.{amplify_written, create_written}
 use Rattle.hk_audit.proofs.calls.template.Goals as goal
 

@@ -1,5 +1,5 @@
 use Rattle.std.proofs.Common.{ap, ◌∙◌}
-use Rattle.hk_model.specs.Forms.{verb_found}
+use Rattle.hk_format.specs.Forms.{verb_found}
 use Rattle.hk_audit.proofs.SeenForms.{verb_by_word}
 use Rattle.hk_audit.proofs.forms.verb.Goals as goal
 

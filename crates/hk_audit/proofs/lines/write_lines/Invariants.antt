@@ -1,5 +1,5 @@
 use Rattle.std.proofs.Common.{◌≡◌, ◌++◌, string_bytes, take}
-use Rattle.hk_model.specs.Records.{lines_text}
+use Rattle.hk_format.specs.Records.{lines_text}
 use Rattle.hk_audit.proofs.lines.write_lines.Given as goal
 
 abbrev pub invariant-loop-line : goal.invariant-loop-line

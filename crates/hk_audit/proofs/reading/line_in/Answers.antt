@@ -1,8 +1,8 @@
 use Rattle.std.proofs.Common.{◌≡◌, ℕ, List, map, sym, ap, subst, ◌∙◌, refl}
 use Rattle.hk_model.specs.declared.lines.Line.{Line}
-use Rattle.hk_model.specs.AuditLines.{line_body}
-use Rattle.hk_model.specs.LineReading.{event_line, reply_line}
-use Rattle.hk_model.specs.LineRanges.{IsLine}
+use Rattle.hk_format.specs.AuditLines.{line_body}
+use Rattle.hk_format.specs.LineReading.{event_line, reply_line}
+use Rattle.hk_format.specs.LineRanges.{IsLine}
 use Rattle.hk_audit.specs.Halves.{halves_text}
 use Rattle.hk_audit.specs.Seen.{seen}
 use Rattle.hk_audit.proofs.LineCuts.{event_refused, reply_refused, line_found}

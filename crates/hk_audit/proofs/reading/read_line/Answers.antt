@@ -1,4 +1,4 @@
-use Rattle.hk_model.specs.AuditLines.{line_body}
+use Rattle.hk_format.specs.AuditLines.{line_body}
 use Rattle.hk_audit.proofs.LineCuts.{text_some, text_none}
 use Rattle.hk_audit.proofs.reading.read_line.Goals as goal
 

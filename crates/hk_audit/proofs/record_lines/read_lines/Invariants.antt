@@ -1,6 +1,6 @@
 use Rattle.std.proofs.Common.{◌≡◌, ◌+◌, length}
-use Rattle.hk_model.specs.Texts.{without_last_empty}
-use Rattle.hk_model.specs.Audits.{events_from}
+use Rattle.hk_format.specs.Texts.{without_last_empty}
+use Rattle.hk_format.specs.Audits.{events_from}
 use Rattle.hk_audit.specs.Left.{texts}
 use Rattle.hk_audit.proofs.RecordEvents.{after_lines}
 use Rattle.hk_audit.proofs.record_lines.read_lines.Given as goal

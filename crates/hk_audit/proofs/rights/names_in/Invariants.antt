@@ -1,6 +1,6 @@
 use Rattle.std.proofs.Common.{◌≡◌, ◌==◌, length, Some}
 use Rattle.std.specs.List.{slice_split}
-use Rattle.hk_model.specs.RightsTexts.{both, union_of}
+use Rattle.hk_format.specs.RightsTexts.{both, union_of}
 use Rattle.hk_audit.specs.Left.{texts}
 use Rattle.hk_audit.proofs.rights.names_in.Given as goal
 

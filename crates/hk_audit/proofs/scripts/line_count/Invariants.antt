@@ -1,5 +1,5 @@
 use Rattle.std.proofs.Common.{◌≡◌, ◌+◌, ◌-◌, ◌≤◌, length, drop}
-use Rattle.hk_model.specs.Texts.{lines_of}
+use Rattle.hk_format.specs.Texts.{lines_of}
 use Rattle.hk_audit.proofs.scripts.line_count.Given as goal
 
 abbrev pub invariant-loop-start : goal.invariant-loop-start

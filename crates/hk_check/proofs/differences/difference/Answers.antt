@@ -1,6 +1,6 @@
 use Rattle.std.proofs.Common.{◌≡◌, sym, subst}
 use Rattle.std.specs.Prelude.{Option, IfSome, IfNone, Some}
-use Rattle.hk_model.specs.declared.causes.Misstep.{Misstep}
+use Rattle.hk_model.specs.declared.verdicts.Misstep.{Misstep}
 use Rattle.hk_model.specs.Verdicts.{Differs}
 use Rattle.hk_check.proofs.Replays.{cause_differs, no_cause}
 use Rattle.hk_check.proofs.differences.difference.Goals as goal

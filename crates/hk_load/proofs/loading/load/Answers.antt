@@ -1,4 +1,4 @@
-use Rattle.hk_model.specs.Loading.{load}
+use Rattle.hk_format.specs.Loading.{load}
 use Rattle.hk_load.proofs.Outcomes.{loaded_ok, loaded_refused}
 use Rattle.hk_load.proofs.loading.load.Goals as goal
 

@@ -1,7 +1,7 @@
 use Rattle.std.proofs.Common.{sym, ◌∙◌, ◌+◌, drop}
 use Rattle.std.proofs.lemmas.Result.{err_from_is_err_and}
-use Rattle.hk_model.specs.Loading.{items_of, load}
-use Rattle.hk_model.proofs.WorldValid.{loaded_world}
+use Rattle.hk_format.specs.Loading.{items_of, load}
+use Rattle.hk_format.proofs.WorldValid.{loaded_world}
 use Rattle.hk_load.specs.Building.{Built, built_of, counts_of, finished, added, after}
 use Rattle.hk_load.proofs.Buildings.{item_turn, first_items, last_items}
 use Rattle.hk_load.proofs.Parts.{all_new, next_new}

@@ -1,7 +1,7 @@
 use Rattle.std.proofs.Common.{◌≡◌, [], drop}
 use Rattle.std.specs.List.{AllByRecursion}
-use Rattle.hk_model.specs.declared.syntax.Item.{Item}
-use Rattle.hk_model.specs.Loading.{items_of, load}
+use Rattle.hk_format.specs.declared.syntax.Item.{Item}
+use Rattle.hk_format.specs.Loading.{items_of, load}
 use Rattle.hk_load.specs.Jumping.{HasNewLabels}
 use Rattle.hk_load.specs.Building.{built_of, counts_of, after}
 use Rattle.hk_load.proofs.loading.load_with.Given as goal

@@ -3,7 +3,7 @@ use Rattle.std.proofs.lemmas.List.{length_push, at_drop_all}
 use Rattle.std.proofs.lemmas.Iterator.Consumers.{YieldsList-turn, YieldsList-end}
 use Rattle.std.proofs.lemmas.Iterator.Splits.{YieldsList-from_str_split}
 use Rattle.hk_rights.specs.Rights.{number_named}
-use Rattle.hk_model.specs.RightsTexts.{union_of}
+use Rattle.hk_format.specs.RightsTexts.{union_of}
 use Rattle.hk_load.specs.Texts.{names_in, united}
 use Rattle.hk_load.proofs.Unions.{united_turn, united_bad, union_nothing}
 use Rattle.hk_load.proofs.rights.union_of.Goals as goal

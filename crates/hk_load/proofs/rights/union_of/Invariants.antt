@@ -1,5 +1,5 @@
 use Rattle.std.proofs.Common.{◌≡◌, drop, length}
-use Rattle.hk_model.specs.RightsTexts.{union_of}
+use Rattle.hk_format.specs.RightsTexts.{union_of}
 use Rattle.hk_load.specs.Texts.{names_in, united}
 use Rattle.hk_load.proofs.rights.union_of.Given as goal
 

@@ -1,5 +1,5 @@
 use Rattle.std.proofs.Common.{sym, ◌∙◌, ◌+◌, drop, length}
-use Rattle.hk_model.specs.Loading.{instrs_of}
+use Rattle.hk_format.specs.Loading.{instrs_of}
 use Rattle.hk_load.specs.Jumping.{step_added, after_steps}
 use Rattle.hk_load.proofs.Jumps.{step_turn}
 use Rattle.hk_load.proofs.Outcomes.{line_stops, line_goes}

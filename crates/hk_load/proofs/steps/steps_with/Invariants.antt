@@ -1,5 +1,5 @@
 use Rattle.std.proofs.Common.{◌≡◌, drop, length}
-use Rattle.hk_model.specs.Loading.{instrs_of}
+use Rattle.hk_format.specs.Loading.{instrs_of}
 use Rattle.hk_load.specs.Jumping.{after_steps}
 use Rattle.hk_load.proofs.steps.steps_with.Given as goal
 

@@ -1,6 +1,6 @@
 use Rattle.std.proofs.Common.{◌≡◌, ℕ, ◌+◌, ◌≤◌, false, length, take, get_or}
 use Rattle.std.specs.List.{list_any}
-use Rattle.hk_model.specs.Canonical.{jumps_to}
+use Rattle.hk_format.specs.Canonical.{jumps_to}
 use Rattle.hk_print.proofs.codes.marks.Given as goal
 
 abbrev pub invariant-loop-step : goal.invariant-loop-step

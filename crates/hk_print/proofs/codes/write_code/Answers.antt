@@ -1,7 +1,7 @@
 use Rattle.std.proofs.Common.{◌≡◌, ◌++◌, refl, string_bytes, rules}
-use Rattle.hk_model.specs.declared.syntax.Head.TheVariants.{CodeIs}
-use Rattle.hk_model.specs.Canonical.{code_parts}
-use Rattle.hk_model.specs.Spelling.{head_pieces}
+use Rattle.hk_format.specs.declared.syntax.Head.TheVariants.{CodeIs}
+use Rattle.hk_format.specs.Canonical.{code_parts}
+use Rattle.hk_format.specs.Spelling.{head_pieces}
 use Rattle.hk_print.specs.ItemTexts.{line_text}
 use Rattle.hk_print.proofs.Items.{item_written}
 use Rattle.hk_print.proofs.codes.write_code.Goals as goal

@@ -1,9 +1,9 @@
 use Rattle.std.proofs.Common.{◌≡◌, ◌++◌, ◌∙◌, ap, length, get_or, string_bytes, rules, arith}
 use Rattle.std.specs.List.{list_any}
 use Rattle.hk_model.specs.declared.instructions.Instr.{Instr}
-use Rattle.hk_model.specs.Texts.{spell_line}
-use Rattle.hk_model.specs.Spelling.{written_pieces}
-use Rattle.hk_model.specs.Canonical.{code_parts, jumps_to, label_parts, written_of}
+use Rattle.hk_format.specs.Texts.{spell_line}
+use Rattle.hk_format.specs.Spelling.{written_pieces}
+use Rattle.hk_format.specs.Canonical.{code_parts, jumps_to, label_parts, written_of}
 use Rattle.hk_print.specs.ItemTexts.{parts_text}
 use Rattle.hk_print.proofs.StepByStep.{label_written, mark_found, step_written, steps_over}
 use Rattle.hk_print.proofs.codes.write_steps.Goals as goal

@@ -1,5 +1,5 @@
 use Rattle.std.proofs.Common.{◌≡◌, ◌++◌, drop, string_bytes}
-use Rattle.hk_model.specs.Canonical.{code_parts}
+use Rattle.hk_format.specs.Canonical.{code_parts}
 use Rattle.hk_print.specs.ItemTexts.{parts_text}
 use Rattle.hk_print.proofs.codes.write_steps.Given as goal
 

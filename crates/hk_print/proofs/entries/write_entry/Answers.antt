@@ -1,7 +1,7 @@
 use Rattle.std.proofs.Common.{◌≡◌, ◌++◌, ◌∷◌, [], ◌∙◌, sym, ap, List, ℕ, string_bytes, rules}
 use Rattle.std.specs.Prelude.{codes}
-use Rattle.hk_model.specs.Canonical.{spoken, object_text}
-use Rattle.hk_model.specs.RightsTexts.{rights_text}
+use Rattle.hk_format.specs.Canonical.{spoken, object_text}
+use Rattle.hk_format.specs.RightsTexts.{rights_text}
 use Rattle.hk_print.specs.ItemTexts.{entry_text}
 use Rattle.hk_print.proofs.Pieces.{cap_spelled}
 use Rattle.hk_print.proofs.entries.write_entry.Goals as goal

@@ -1,6 +1,6 @@
 use Rattle.std.proofs.Common.{◌≡◌, ◌++◌, take, string_bytes}
 use Rattle.std.specs.List.{flat_map}
-use Rattle.hk_model.specs.Canonical.{spoken}
+use Rattle.hk_format.specs.Canonical.{spoken}
 use Rattle.hk_print.specs.ItemTexts.{param_text}
 use Rattle.hk_print.proofs.entries.write_params.Given as goal
 

@@ -1,8 +1,8 @@
 use Rattle.std.proofs.Common.{◌≡◌, ◌++◌, ◌∷◌, [], ◌∙◌, sym, ap, List, ℕ, string_bytes, rules}
 use Rattle.std.specs.Prelude.{codes}
 use Rattle.hk_model.specs.declared.entries.Entry.TheVariants.{Form}
-use Rattle.hk_model.specs.Canonical.{spoken, kind_text, object_text}
-use Rattle.hk_model.specs.RightsTexts.{rights_text}
+use Rattle.hk_format.specs.Canonical.{spoken, kind_text, object_text}
+use Rattle.hk_format.specs.RightsTexts.{rights_text}
 use Rattle.hk_print.specs.ItemTexts.{entry_text}
 use Rattle.hk_print.proofs.Pieces.{amplify_spelled, create_spelled}
 use Rattle.hk_print.proofs.entries.write_template.Goals as goal

@@ -1,6 +1,6 @@
 use Rattle.std.proofs.Common.{rules}
 use Rattle.hk_model.specs.declared.instructions.Index.TheVariants.{Fixed}
-use Rattle.hk_model.specs.Pieces.{spell_index}
+use Rattle.hk_format.specs.Pieces.{spell_index}
 use Rattle.hk_print.proofs.Joined.{joined_next, separated_next}
 use Rattle.hk_print.proofs.operands.route_text.Goals as goal
 

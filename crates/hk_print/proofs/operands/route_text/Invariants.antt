@@ -2,7 +2,7 @@ use Rattle.std.proofs.Common.{◌≡◌, take, map, string_bytes}
 use Rattle.std.specs.List.{join_with_byte}
 use denote.Text.{Utf8}
 use denote.Shadow.{shadow}
-use Rattle.hk_model.specs.Pieces.{spell_index}
+use Rattle.hk_format.specs.Pieces.{spell_index}
 use Rattle.hk_print.proofs.Joined.{separator}
 use Rattle.hk_print.proofs.operands.route_text.Given as goal
 

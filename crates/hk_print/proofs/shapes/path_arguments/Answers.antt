@@ -1,7 +1,7 @@
 use Rattle.std.proofs.Common.{arith}
 use Rattle.std.proofs.lemmas.Grind.{common_steps}
-use Rattle.hk_model.specs.Pieces.{spell}
-use Rattle.hk_model.specs.Operands.{route_piece}
+use Rattle.hk_format.specs.Pieces.{spell}
+use Rattle.hk_format.specs.Operands.{route_piece}
 use Rattle.hk_print.proofs.Arguments.{slots_spelled}
 use Rattle.hk_print.proofs.shapes.path_arguments.Goals as goal
 

@@ -1,5 +1,5 @@
 use Rattle.std.proofs.Common.{◌≡◌, ◌++◌, ◌≤◌, drop, string_bytes}
-use Rattle.hk_model.specs.Canonical.{words_from}
+use Rattle.hk_format.specs.Canonical.{words_from}
 use Rattle.hk_print.specs.WordLines.{begun_lines}
 use Rattle.hk_print.proofs.words.write_words.Given as goal
 

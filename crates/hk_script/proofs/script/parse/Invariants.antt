@@ -1,6 +1,6 @@
 use Rattle.std.proofs.Common.{◌≡◌, true, map, drop}
 use Rattle.std.specs.List.{list_all}
-use Rattle.hk_model.specs.Grammar.{items_from, script}
+use Rattle.hk_format.specs.Grammar.{items_from, script}
 use Rattle.hk_text.specs.Views.{line_seen}
 use Rattle.hk_text.proofs.PiecesGood.{is_good}
 use Rattle.hk_script.specs.Readings.{read_of}

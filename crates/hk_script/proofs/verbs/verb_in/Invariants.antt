@@ -1,7 +1,7 @@
 use Rattle.std.proofs.Common.{◌≡◌, drop}
 use Rattle.std.specs.List.{find}
 use Rattle.hk_model.specs.Labels.{same_text}
-use Rattle.hk_model.specs.Verbs.{verb_word}
+use Rattle.hk_format.specs.Verbs.{verb_word}
 use Rattle.hk_script.proofs.verbs.verb_in.Given as goal
 
 abbrev pub invariant-loop-verb : goal.invariant-loop-verb

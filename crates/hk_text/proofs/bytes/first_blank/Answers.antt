@@ -1,7 +1,7 @@
 use Rattle.std.proofs.Common.{rules, tests}
 use Rattle.std.proofs.lemmas.Iterator.{YieldsList-from_slice}
 use Rattle.std.proofs.lemmas.Iterator.Search.{position_from_yields_List}
-use Rattle.hk_model.specs.Texts.{is_blank}
+use Rattle.hk_format.specs.Texts.{is_blank}
 use Rattle.hk_text.proofs.Numbers.{found_place}
 use Rattle.hk_text.proofs.bytes.first_blank.Goals as goal
 

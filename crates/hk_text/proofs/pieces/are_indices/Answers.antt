@@ -1,7 +1,7 @@
 use Rattle.std.proofs.Common.{rules, tests, eqb}
 use Rattle.std.proofs.lemmas.Iterator.Splits.{YieldsList-from_slice_split}
 use Rattle.std.proofs.lemmas.Iterator.Search.{all_from_yields_List}
-use Rattle.hk_model.specs.Pieces.{is_index_text}
+use Rattle.hk_format.specs.Pieces.{is_index_text}
 use Rattle.hk_text.proofs.pieces.are_indices.Goals as goal
 
 pub returns : goal.returns

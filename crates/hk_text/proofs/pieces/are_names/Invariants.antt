@@ -1,5 +1,5 @@
 use Rattle.std.proofs.Common.{◌≡◌, drop}
-use Rattle.hk_model.specs.Pieces.{is_names, is_upper}
+use Rattle.hk_format.specs.Pieces.{is_names, is_upper}
 use Rattle.hk_text.proofs.pieces.are_names.Given as goal
 
 abbrev pub invariant-loop-byte : goal.invariant-loop-byte

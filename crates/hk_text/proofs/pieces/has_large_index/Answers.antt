@@ -1,7 +1,7 @@
 use Rattle.std.proofs.Common.{rules, tests, eqb}
 use Rattle.std.proofs.lemmas.Iterator.Splits.{YieldsList-from_slice_split}
 use Rattle.std.proofs.lemmas.Iterator.Search.{any_from_yields_List}
-use Rattle.hk_model.specs.Pieces.{is_too_large}
+use Rattle.hk_format.specs.Pieces.{is_too_large}
 use Rattle.hk_text.proofs.pieces.has_large_index.Goals as goal
 
 pub returns : goal.returns

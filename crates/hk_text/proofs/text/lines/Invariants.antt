@@ -1,6 +1,6 @@
 use Rattle.std.proofs.Common.{◌≡◌, ◌+◌, ◌-◌, ◌≤◌, map, length, drop, min}
 use Rattle.std.specs.List.{flat_map}
-use Rattle.hk_model.specs.Texts.{text, text_lines, lines_of}
+use Rattle.hk_format.specs.Texts.{text, text_lines, lines_of}
 use Rattle.hk_text.specs.Views.{line_seen, line_pieces, LieBetween}
 use Rattle.hk_text.proofs.Turns.{after_lines}
 use Rattle.hk_text.proofs.text.lines.Given as goal

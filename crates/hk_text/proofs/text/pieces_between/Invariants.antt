@@ -1,6 +1,6 @@
 use Rattle.std.proofs.Common.{◌≡◌, ◌+◌, ◌-◌, ◌≤◌, map, min}
 use Rattle.std.specs.List.{slice_range}
-use Rattle.hk_model.specs.Texts.{pieces_of}
+use Rattle.hk_format.specs.Texts.{pieces_of}
 use Rattle.hk_text.specs.Views.{seen, texts_of, LieBetween}
 use Rattle.hk_text.proofs.Turns.{after_front}
 use Rattle.hk_text.proofs.text.pieces_between.Given as goal

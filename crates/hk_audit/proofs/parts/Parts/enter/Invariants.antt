@@ -1,6 +1,6 @@
 use Rattle.std.proofs.Common.{◌≡◌, ◌-◌, ◌≤◌, length, map, take}
-use Rattle.hk_model.specs.declared.syntax.Verb.TheVariants as verb
-use Rattle.hk_model.specs.LineReading.{call_of}
+use Rattle.hk_format.specs.declared.syntax.Verb.TheVariants as verb
+use Rattle.hk_format.specs.LineReading.{call_of}
 use Rattle.hk_audit.specs.Left.{rest}
 use Rattle.hk_audit.proofs.Slots.{slots_on}
 use Rattle.hk_audit.proofs.parts.Parts.enter.Given as goal

@@ -1,6 +1,6 @@
 use Rattle.std.proofs.Common.{sym, ◌∙◌, ◌+◌, drop}
-use Rattle.hk_model.specs.Loading as loading
-use Rattle.hk_model.specs.Loading.{used, contents_of}
+use Rattle.hk_format.specs.Loading as loading
+use Rattle.hk_format.specs.Loading.{used, contents_of}
 use Rattle.hk_load.specs.Filling.{contents_seen, room_seen, used_by, added, after}
 use Rattle.hk_load.proofs.Fillings.{line_turn}
 use Rattle.hk_load.proofs.Outcomes.{line_stops, line_goes}

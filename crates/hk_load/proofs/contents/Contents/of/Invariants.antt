@@ -1,5 +1,5 @@
 use Rattle.std.proofs.Common.{◌≡◌, drop}
-use Rattle.hk_model.specs.Loading.{used, contents_of}
+use Rattle.hk_format.specs.Loading.{used, contents_of}
 use Rattle.hk_load.specs.Filling.{contents_seen, room_seen, used_by, after}
 use Rattle.hk_load.proofs.contents.Contents.of.Given as goal
 

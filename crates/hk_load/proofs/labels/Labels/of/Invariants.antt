@@ -1,5 +1,5 @@
 use Rattle.std.proofs.Common.{◌≡◌, ◌≤◌, ◌++◌, drop}
-use Rattle.hk_model.specs.Loading.{labels_from}
+use Rattle.hk_format.specs.Loading.{labels_from}
 use Rattle.hk_load.specs.Jumping.{label_texts, HasNewLabels}
 use Rattle.hk_load.proofs.labels.Labels.of.Given as goal
 

@@ -1,5 +1,5 @@
 use Rattle.std.proofs.Common.{sym, ap, ◌∙◌, ◌+◌, map, drop}
-use Rattle.hk_model.specs.declared.syntax.Item.{Item}
+use Rattle.hk_format.specs.declared.syntax.Item.{Item}
 use Rattle.hk_load.specs.Naming.{names_from}
 use Rattle.hk_load.proofs.NamesApart.{head_turn, head_new}
 use Rattle.hk_load.proofs.names.Declared.of.Goals as goal

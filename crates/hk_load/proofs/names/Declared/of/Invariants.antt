@@ -1,6 +1,6 @@
 use Rattle.std.proofs.Common.{◌≡◌, map, drop}
-use Rattle.hk_model.specs.declared.syntax.Item.{Item}
-use Rattle.hk_model.specs.Loading.{names_of}
+use Rattle.hk_format.specs.declared.syntax.Item.{Item}
+use Rattle.hk_format.specs.Loading.{names_of}
 use Rattle.hk_load.specs.Naming.{names_from}
 use Rattle.hk_load.proofs.names.Declared.of.Given as goal
 

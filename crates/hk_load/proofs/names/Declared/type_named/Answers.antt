@@ -1,5 +1,5 @@
 use Rattle.std.proofs.Common.{Ok, Err, cond, ap, ◌∙◌}
-use Rattle.hk_model.specs.declared.causes.LoadCause.TheVariants.{UnknownName}
+use Rattle.hk_format.specs.declared.causes.LoadCause.TheVariants.{UnknownName}
 use Rattle.hk_load.proofs.NameLists.{type_gives, no_type_gives}
 use Rattle.hk_load.proofs.names.Declared.type_named.Goals as goal
 

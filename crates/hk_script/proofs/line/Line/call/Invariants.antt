@@ -1,6 +1,6 @@
 use Rattle.std.proofs.Common.{◌≡◌, ◌-◌, ◌≤◌, length, map}
-use Rattle.hk_model.specs.declared.syntax.Verb.TheVariants as verb
-use Rattle.hk_model.specs.WrittenLines.{instruction_of}
+use Rattle.hk_format.specs.declared.syntax.Verb.TheVariants as verb
+use Rattle.hk_format.specs.WrittenLines.{instruction_of}
 use Rattle.hk_script.specs.Lines.{rest}
 use Rattle.hk_script.proofs.Lists.{slots_on}
 use Rattle.hk_script.proofs.line.Line.call.Given as goal

@@ -1,4 +1,4 @@
-use Rattle.hk_model.specs.Pieces.{is_piece}
+use Rattle.hk_format.specs.Pieces.{is_piece}
 use Rattle.hk_text.specs.Views.{seen}
 use Rattle.hk_script.proofs.PiecesLeft.{passes_at}
 use Rattle.hk_script.proofs.line.Line.piece.Goals as goal

@@ -1,6 +1,6 @@
 use Rattle.std.proofs.Common.{◌≡◌, length}
-use Rattle.hk_model.specs.declared.syntax.Verb.TheVariants as verb
-use Rattle.hk_model.specs.Grammar.{object_part}
+use Rattle.hk_format.specs.declared.syntax.Verb.TheVariants as verb
+use Rattle.hk_format.specs.Grammar.{object_part}
 use Rattle.hk_script.specs.Lines.{rest}
 use Rattle.hk_script.proofs.Lists.{words_on}
 use Rattle.hk_script.proofs.line.Line.words.Given as goal
