@@ -10,9 +10,14 @@ use Rattle.std.proofs.lemmas.Bool.{true≢false}
 use Rattle.hk_model.specs.declared.names.Name.{Name}
 use Rattle.hk_model.specs.declared.names.Inc.{Inc}
 use Rattle.hk_model.specs.declared.lines.Line.{Line}
+use Rattle.hk_model.specs.declared.reaches.Hop.{Hop}
+use Rattle.hk_model.specs.declared.reaches.Hop.TheVariants as hop_by
+use Rattle.hk_model.specs.declared.reaches.Reach.{Reach}
+use Rattle.hk_model.specs.declared.reaches.Reach.TheVariants.{Made, Param}
+use Rattle.hk_model.specs.declared.reaches.Change.{Change}
 use Rattle.hk_model.specs.Setup.{Setup}
-use Rattle.hk_model.specs.Reaches.{Hop}
-use Rattle.hk_model.specs.Changes.{hop_key, reach_key, is_at_most, BareChange, Reach, Made, Param, Change, IsReason, IsExplained, AreExplained, AreChanges, bare_changes}
+use Rattle.hk_model.specs.Reaches.{index_of, moment_of, is_handed}
+use Rattle.hk_model.specs.Changes.{hop_key, reach_key, is_at_most, BareChange, IsReason, IsExplained, AreExplained, AreChanges, bare_changes}
 
 -- lists of numbers that come before each other are the same
 at_most_both : (a b : List ℕ) → is_at_most a b ≡ true → is_at_most b a ≡ true → a ≡ b
@@ -32,17 +37,23 @@ handed_same false false h = refl
 handed_same true false h = absurd (omega (arith, h))
 handed_same false true h = absurd (omega (arith, h))
 
+hop_same : (x y : Hop) → moment_of x ≡ moment_of y → index_of x ≡ index_of y → is_handed x ≡ is_handed y → x ≡ y
+hop_same (hop_by.Entry i m) (hop_by.Entry j n) p q r = λ k. hop_by.Entry (q k) (p k)
+hop_same (hop_by.Handed i m) (hop_by.Handed j n) p q r = λ k. hop_by.Handed (q k) (p k)
+hop_same (hop_by.Entry i m) (hop_by.Handed j n) p q r = absurd (true≢false (sym r))
+hop_same (hop_by.Handed i m) (hop_by.Entry j n) p q r = absurd (true≢false r)
+
 hops_same : (a b : List Hop) → flat_map hop_key a ≡ flat_map hop_key b → a ≡ b
 hops_same [] [] h = refl
 hops_same [] (y ∷ ys) h = absurd (cc)
 hops_same (x ∷ xs) [] h = absurd (cc)
 hops_same (x ∷ xs) (y ∷ ys) h =
-    let moments : x.moment ≡ y.moment = cc in
-    let indices : x.index ≡ y.index = cc in
-    let kinds : ◌≡◌ {A = ℕ} (elim x.handed [ true ↦ 1 | false ↦ 0 ]) (elim y.handed [ true ↦ 1 | false ↦ 0 ]) = cc in
+    let moments : moment_of x ≡ moment_of y = cc in
+    let indices : index_of x ≡ index_of y = cc in
+    let kinds : ◌≡◌ {A = ℕ} (elim (is_handed x) [ true ↦ 1 | false ↦ 0 ]) (elim (is_handed y) [ true ↦ 1 | false ↦ 0 ]) = cc in
     let rest : flat_map hop_key xs ≡ flat_map hop_key ys = cc in
-    let handed = handed_same x.handed y.handed kinds in
-    let hop : x ≡ y = λ i. record { index = indices i; moment = moments i; handed = handed i } in
+    let handed = handed_same (is_handed x) (is_handed y) kinds in
+    let hop = hop_same x y moments indices handed in
     let hops = hops_same xs ys rest in
     λ i. hop i ∷ hops i
 

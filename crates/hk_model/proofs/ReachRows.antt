@@ -9,6 +9,8 @@ use Rattle.hk_model.specs.declared.calls.Refusal.TheVariants as refused
 use Rattle.hk_model.specs.declared.instructions.Instr.TheVariants as instr
 use Rattle.hk_model.specs.declared.instructions.Operand.TheVariants.{Number}
 use Rattle.hk_model.specs.declared.lines.Line.{Line}
+use Rattle.hk_model.specs.declared.reaches.Hop.{Hop}
+use Rattle.hk_model.specs.declared.reaches.Hop.TheVariants as hop_by
 use Rattle.hk_rights.specs.Rights.{PUTDATA, LOAD, STORE, APPEND, MODIFY, ENV, UNCONF, A0, modify_right, first_missing, right_numbers, right_table}
 use Rattle.hk_model.specs.Setup.{Setup}
 use Rattle.hk_model.specs.Targets.{DATA, UNIVERSAL}
@@ -18,13 +20,14 @@ use Rattle.hk_model.specs.Rule.{get_word, put_word, add_word, store_entry, appen
 use Rattle.hk_model.specs.Keeping.{kept_objects}
 use Rattle.hk_model.specs.Running.{AreStepsOf, opened, step, state_at}
 use Rattle.hk_model.specs.Under.{is_made_under, parameters}
-use Rattle.hk_model.specs.Reaches.{Hop, IsReach, IsModifiable, IsUnconfined, reach}
+use Rattle.hk_model.specs.Reaches.{IsReach, IsModifiable, IsUnconfined, reach}
 use Rattle.hk_model.proofs.OutsideReaches.{not_modifiable, not_unconfined}
 use Rattle.hk_model.proofs.RowParts.{name, inc, slot, cap, route, plain, procedure, process, small_world, dispatch, line, line_of_process, return_line}
 
 -- one hop
 abbrev hop : Bool → ℕ → ℕ → Hop
-hop handed index moment = record { index = index; moment = moment; handed = handed }
+hop true index moment = hop_by.Handed index moment
+hop false index moment = hop_by.Entry index moment
 
 -- ---- an entry without UNCONF: the parameter leads to object 8, and no further
 

@@ -7,17 +7,21 @@ use Rattle.hk_model.specs.declared.names.Name.{Name}
 use Rattle.hk_model.specs.declared.names.Inc.{Inc}
 use Rattle.hk_model.specs.declared.entries.Entry.{Entry}
 use Rattle.hk_model.specs.declared.lines.Line.{Line}
+use Rattle.hk_model.specs.declared.reaches.Hop.{Hop}
+use Rattle.hk_model.specs.declared.reaches.Reach.{Reach}
+use Rattle.hk_model.specs.declared.reaches.Reach.TheVariants.{Made, Param}
+use Rattle.hk_model.specs.declared.reaches.Change.{Change}
 use Rattle.hk_model.specs.Setup.{Setup}
 use Rattle.hk_model.specs.State.{State, incarnation}
 use Rattle.hk_model.specs.Running.{opened, state_at}
 use Rattle.hk_model.specs.Lines.{done_call, enters_call, changed, told}
 use Rattle.hk_model.specs.Under.{is_under, is_made_under, parameters}
-use Rattle.hk_model.specs.Reaches.{Hop, IsReach}
+use Rattle.hk_model.specs.Reaches.{index_of, moment_of, is_handed, IsReach}
 use Rattle.hk_model.specs.Confinement.{IsConfinedCall, IsChange}
 
 -- what the order of reaches looks at, hop by hop: the moment, the index, and an entry before what is handed
 abbrev pub hop_key : Hop → List ℕ
-hop_key hop = hop.moment ∷ hop.index ∷ (elim hop.handed [ true ↦ 1 | false ↦ 0 ]) ∷ []
+hop_key hop = moment_of hop ∷ index_of hop ∷ (elim (is_handed hop) [ true ↦ 1 | false ↦ 0 ]) ∷ []
 
 -- the fewest hops come first, then the least parameter, then the hops in their order
 abbrev pub reach_key : ℕ → List Hop → List ℕ
@@ -73,18 +77,6 @@ bare_changes_by w lines calls s line t so_far = elim (changed s line) [
 abbrev pub bare_changes : Setup → List Line → List BareChange
 bare_changes w lines = told (bare_changes_by w lines (confined_calls w lines)) w (opened w) lines []
 
--- why a call may change an object: it was made under the call, or a parameter and hops lead to it
-pub data Reach : Type 0 where
-  Made : Reach
-  Param : (param : ℕ) (hops : List Hop) → Reach
-
--- a change with its reason; its line is numbered from 1
-pub record Change : Type 0 where
-  pub line : ℕ
-  pub under : Inc
-  pub object : Name
-  pub reach : Reach
-
 -- the reason of a change: that the object was made under the call, which stands before a reach; or the least reach at the
 -- moment before the line
 abbrev pub IsReason : Setup → List Line → ℕ → Inc → ℕ → Name → Reach → Type 0
@@ -93,7 +85,7 @@ IsReason w lines k call moment name (Param param hops) =
     (is_made_under w lines k call name ≡ false)
     × IsLeastReach (state_at w lines) (is_made_under w lines k call) (parameters w lines k call) k moment name param hops
 
--- the change is this one, with its reason
+-- the change is this one, with its reason; its line is numbered from 1
 pub record IsExplained (w : Setup) (lines : List Line) (bare : BareChange) (change : Change) : Type 0 where
   pub line : change.line ≡ bare.moment + 1
   pub under : change.under ≡ bare.under.call
