@@ -1,5 +1,5 @@
 -- A small world in which a process reads a word and ends, and the lines of its run: for rows on records and verdicts.
-use Rattle.std.specs.Prelude.{ℕ, List, [], ◌∷◌, codes}
+use Rattle.std.specs.Prelude.{ℕ, List, [], ◌∷◌, codes, None}
 use Rattle.hk_model.specs.declared.entries.Entry.TheVariants.{Held}
 use Rattle.hk_model.specs.declared.instructions.Index.TheVariants.{Fixed}
 use Rattle.hk_model.specs.declared.instructions.Instr.TheVariants as instr
