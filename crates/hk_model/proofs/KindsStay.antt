@@ -5,7 +5,7 @@ use Rattle.hk_model.specs.declared.names.Name.{Name}
 use Rattle.hk_model.specs.declared.objects.Object.{Object}
 use Rattle.hk_model.specs.declared.lines.Line.{Line}
 use Rattle.hk_model.specs.declared.world.Born.{Born}
-use Rattle.hk_model.specs.Setup.{Setup}
+use Rattle.hk_model.specs.WorldValue.{WorldValue}
 use Rattle.hk_model.specs.State.{State, same_name}
 use Rattle.hk_model.specs.Targets.{kernel_types}
 use Rattle.hk_model.specs.Opening.{opening, object_of, type_object, numbered}
@@ -101,7 +101,7 @@ found_below n (x ∷ os) name o e = by (same_name name (record { 0 = n })) refl 
     by true g h later = let same : name.0 ≡ n = ap (λ (k : Name). k.0) (name_same name (record { 0 = n }) g) in omega (arith, same)
     by false g h later = let low = later h in omega (arith, low)
 
-opening_objects : (w : Setup) → ObjectsGiven (opening w)
+opening_objects : (w : WorldValue) → ObjectsGiven (opening w)
 unfolding opening
 opening_objects w name o e =
     let low = found_below 0 (replicate kernel_types type_object ++ map (λ (b : Born). object_of b.kind) w.objects) name o e in
@@ -110,12 +110,12 @@ opening_objects w name o e =
 
 -- ---- every moment
 
-pub objects_given_at : (w : Setup) (lines : List Line) (moment : ℕ) → AreStepsOf w lines → ObjectsGiven (state_at w lines moment)
+pub objects_given_at : (w : WorldValue) (lines : List Line) (moment : ℕ) → AreStepsOf w lines → ObjectsGiven (state_at w lines moment)
 unfolding opened
 objects_given_at w lines moment steps = state_kept ObjectsGiven given_each w (opened w) (take moment lines) (first_steps w (opened w) lines moment steps) (opening_objects w)
 
 -- what a law keeps from line to line it keeps from a moment to a later one
-pub from_moment : (I : State → Type 0) → EachStep (λ s line t. I s → I t) → (w : Setup) (lines : List Line) (early late : ℕ) → AreStepsOf w lines → early ≤ late → I (state_at w lines early) → I (state_at w lines late)
+pub from_moment : (I : State → Type 0) → EachStep (λ s line t. I s → I t) → (w : WorldValue) (lines : List Line) (early late : ℕ) → AreStepsOf w lines → early ≤ late → I (state_at w lines early) → I (state_at w lines late)
 from_moment I each w lines early late steps l h =
     let some = first_steps w (opened w) lines late steps in
     let same : after_lines w (opened w) (take early (take late lines)) ≡ after_lines w (opened w) (take early lines) = ap (after_lines w (opened w)) (take_less early late lines l) in
@@ -124,11 +124,11 @@ from_moment I each w lines early late steps l h =
     (state_kept I each w (after_lines w (opened w) (take early (take late lines))) (drop early (take late lines)) (later_steps w (opened w) (take late lines) early some) before)
 
 -- an object keeps its type, its code and its parameters for as long as it stands
-pub kind_stays : (w : Setup) (lines : List Line) (early late : ℕ) (name : Name) (o x : Object) → AreStepsOf w lines → early ≤ late → there (state_at w lines early).objects name ≡ Some o → there (state_at w lines late).objects name ≡ Some x → IsSameKind o x
+pub kind_stays : (w : WorldValue) (lines : List Line) (early late : ℕ) (name : Name) (o x : Object) → AreStepsOf w lines → early ≤ late → there (state_at w lines early).objects name ≡ Some o → there (state_at w lines late).objects name ≡ Some x → IsSameKind o x
 kind_stays w lines early late name o x steps l e g =
     (from_moment (IsOfKind name o) (kind_each name o) w lines early late steps l
     (objects_given_at w lines early steps name o e, λ y f. subst (λ (z : Object). IsSameKind o z) (some_object (sym e ∙ f)) (kind_self o))).1 x g
 
 -- an object that has gone does not come again
-pub gone_stays : (w : Setup) (lines : List Line) (early late : ℕ) (name : Name) → AreStepsOf w lines → early ≤ late → name.0 < (state_at w lines early).next_name.0 → there (state_at w lines early).objects name ≡ None → there (state_at w lines late).objects name ≡ None
+pub gone_stays : (w : WorldValue) (lines : List Line) (early late : ℕ) (name : Name) → AreStepsOf w lines → early ≤ late → name.0 < (state_at w lines early).next_name.0 → there (state_at w lines early).objects name ≡ None → there (state_at w lines late).objects name ≡ None
 gone_stays w lines early late name steps l low e = (from_moment (HasGone name) (gone_each name) w lines early late steps l (low, e)).1

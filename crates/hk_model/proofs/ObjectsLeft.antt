@@ -25,7 +25,7 @@ use Rattle.hk_model.specs.declared.objects.Object.{Object}
 use Rattle.hk_model.specs.declared.objects.ProcessState.TheVariants.{Waiting}
 use Rattle.hk_rights.specs.Rights.{COPY}
 use Rattle.hk_model.specs.Limits.{token_limit}
-use Rattle.hk_model.specs.Setup.{Setup}
+use Rattle.hk_model.specs.WorldValue.{WorldValue}
 use Rattle.hk_model.specs.State.{State, object, process, put_object, put_process, same_name, name_cmp, no_object}
 use Rattle.hk_model.specs.Keeping.{kept_objects}
 use Rattle.hk_model.specs.Refusing.{unless}
@@ -241,7 +241,7 @@ leaves_each = record {
 }
 
 -- in every history
-pub leaves_others : (w : Setup) (lines : List Line) → AreStepsOf w lines → LeavesOthers w lines
+pub leaves_others : (w : WorldValue) (lines : List Line) → AreStepsOf w lines → LeavesOthers w lines
 leaves_others w lines steps moment line at name =
     let before = after_lines w (opened w) (take moment lines) in
     subst (λ (m : Machine). Becomes before.state line.inc (done_call line) m.state.objects name) (sym (after_next w (opened w) lines moment line at))

@@ -15,7 +15,7 @@ use Rattle.hk_model.specs.declared.reaches.Hop.TheVariants as hop_by
 use Rattle.hk_model.specs.declared.reaches.Reach.{Reach}
 use Rattle.hk_model.specs.declared.reaches.Reach.TheVariants.{Made, Param}
 use Rattle.hk_model.specs.declared.reaches.Change.{Change}
-use Rattle.hk_model.specs.Setup.{Setup}
+use Rattle.hk_model.specs.WorldValue.{WorldValue}
 use Rattle.hk_model.specs.Reaches.{index_of, moment_of, is_handed}
 use Rattle.hk_model.specs.Changes.{hop_key, reach_key, is_at_most, BareChange, IsReason, IsExplained, AreExplained, AreChanges, bare_changes}
 
@@ -65,14 +65,14 @@ reach_same p q a b h =
     λ i. Param (params i) (hops i)
 
 -- there is one reason of a change
-one_reason : (w : Setup) (lines : List Line) (k : ℕ) (call : Inc) (moment : ℕ) (name : Name) (a b : Reach) → IsReason w lines k call moment name a → IsReason w lines k call moment name b → a ≡ b
+one_reason : (w : WorldValue) (lines : List Line) (k : ℕ) (call : Inc) (moment : ℕ) (name : Name) (a b : Reach) → IsReason w lines k call moment name a → IsReason w lines k call moment name b → a ≡ b
 one_reason w lines k call moment name Made Made f g = refl
 one_reason w lines k call moment name Made (Param q others) f g = absurd (true≢false (sym f ∙ g.0))
 one_reason w lines k call moment name (Param p hops) Made f g = absurd (true≢false (sym g ∙ f.0))
 one_reason w lines k call moment name (Param p hops) (Param q others) f g =
     reach_same p q hops others (at_most_both (reach_key p hops) (reach_key q others) (f.1.least q others g.1.is) (g.1.least p hops f.1.is))
 
-one_explanation : (w : Setup) (lines : List Line) (bare : BareChange) (a b : Change) → IsExplained w lines bare a → IsExplained w lines bare b → a ≡ b
+one_explanation : (w : WorldValue) (lines : List Line) (bare : BareChange) (a b : Change) → IsExplained w lines bare a → IsExplained w lines bare b → a ≡ b
 one_explanation w lines bare a b f g =
     let line = f.line ∙ sym g.line in
     let under = f.under ∙ sym g.under in
@@ -80,7 +80,7 @@ one_explanation w lines bare a b f g =
     let reach = one_reason w lines bare.under.moment bare.under.call bare.moment bare.object a.reach b.reach f.reason g.reason in
     λ i. record { line = line i; under = under i; object = object i; reach = reach i }
 
-explained_once : (w : Setup) (lines : List Line) (all : List BareChange) (a b : List Change) → AreExplained w lines all a → AreExplained w lines all b → a ≡ b
+explained_once : (w : WorldValue) (lines : List Line) (all : List BareChange) (a b : List Change) → AreExplained w lines all a → AreExplained w lines all b → a ≡ b
 explained_once w lines [] [] [] f g = refl
 explained_once w lines [] (x ∷ xs) b f g = absurd f
 explained_once w lines [] [] (y ∷ ys) f g = absurd g
@@ -92,5 +92,5 @@ explained_once w lines (t ∷ ts) (x ∷ xs) (y ∷ ys) f g =
     λ i. first i ∷ rest i
 
 -- the changes of a history with their reasons
-pub one_list_of_changes : (w : Setup) (lines : List Line) (a b : List Change) → AreChanges w lines a → AreChanges w lines b → a ≡ b
+pub one_list_of_changes : (w : WorldValue) (lines : List Line) (a b : List Change) → AreChanges w lines a → AreChanges w lines b → a ≡ b
 one_list_of_changes w lines a b f g = explained_once w lines (bare_changes w lines) a b f g

@@ -12,7 +12,7 @@ use Rattle.hk_model.specs.declared.lines.Line.{Line}
 use Rattle.hk_model.specs.declared.world.Born.{Born}
 use Rattle.hk_model.specs.declared.world.Kind.{Kind}
 use Rattle.hk_model.specs.declared.world.Kind.TheVariants as kind
-use Rattle.hk_model.specs.Setup.{Setup, IsKind, IsWorld, IsPlainType}
+use Rattle.hk_model.specs.WorldValue.{WorldValue, IsKind, IsWorld, IsPlainType}
 use Rattle.hk_model.specs.State.{State, no_object}
 use Rattle.hk_model.specs.Targets.{DATA, UNIVERSAL, PROCEDURE, kernel_types}
 use Rattle.hk_model.specs.Opening.{opening, object_of, type_object}
@@ -58,7 +58,7 @@ number_plain n (inl e) = grind (arith, nat_tests, e)
 number_plain n (inr (inl e)) = grind (arith, nat_tests, e)
 number_plain n (inr (inr e)) = grind (arith, nat_tests, e)
 
-kind_code : (w : Setup) (k : Kind) → IsKind w k → HasCode (object_of k)
+kind_code : (w : WorldValue) (k : Kind) → IsKind w k → HasCode (object_of k)
 kind_code w kind.TypeObject h p = absurd (false≢true p)
 kind_code w (kind.Plain of words entries) h p = absurd (false≢true (sym (number_plain of.0 (by h.0)) ∙ p))
   where
@@ -69,7 +69,7 @@ kind_code w (kind.Plain of words entries) h p = absurd (false≢true (sym (numbe
 kind_code w (kind.Semaphore count) h p = absurd (false≢true p)
 kind_code w (kind.Procedure code params entries) h p = refl
 
-kinds_code : (w : Setup) (bs : List Born) → AllByRecursion (λ (b : Born). IsKind w b.kind) bs → AllByRecursion HasCode (map (λ (b : Born). object_of b.kind) bs)
+kinds_code : (w : WorldValue) (bs : List Born) → AllByRecursion (λ (b : Born). IsKind w b.kind) bs → AllByRecursion HasCode (map (λ (b : Born). object_of b.kind) bs)
 kinds_code w [] h = tt
 kinds_code w (b ∷ bs) h = (kind_code w b.kind h.0, kinds_code w bs h.1)
 
@@ -77,7 +77,7 @@ types_code : (n : ℕ) (os : List Object) → AllByRecursion HasCode os → AllB
 types_code zero os h = h
 types_code (suc n) os h = (λ p. absurd (false≢true p), types_code n os h)
 
-opening_codes : (w : Setup) → IsWorld w → ProceduresHaveCodes (opening w)
+opening_codes : (w : WorldValue) → IsWorld w → ProceduresHaveCodes (opening w)
 unfolding opening
 opening_codes w world name o e p =
     let all = types_code kernel_types (map (λ (b : Born). object_of b.kind) w.objects) (kinds_code w w.objects world.kinds) in
@@ -86,9 +86,9 @@ opening_codes w world name o e p =
 
 -- ---- every moment
 
-pub codes_at : (w : Setup) (lines : List Line) → IsWorld w → AreStepsOf w lines → (moment : ℕ) → ProceduresHaveCodes (state_at w lines moment)
+pub codes_at : (w : WorldValue) (lines : List Line) → IsWorld w → AreStepsOf w lines → (moment : ℕ) → ProceduresHaveCodes (state_at w lines moment)
 unfolding opened
 codes_at w lines world steps moment = state_kept ProceduresHaveCodes codes_each w (opened w) (take moment lines) (first_steps w (opened w) lines moment steps) (opening_codes w world)
 
-pub shapes_are : (w : Setup) (lines : List Line) → IsWorld w → AreStepsOf w lines → AreShapes w lines
+pub shapes_are : (w : WorldValue) (lines : List Line) → IsWorld w → AreStepsOf w lines → AreShapes w lines
 shapes_are w lines world steps = record { codes = codes_at w lines world steps; currents = currents_at w lines steps }

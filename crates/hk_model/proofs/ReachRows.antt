@@ -12,7 +12,7 @@ use Rattle.hk_model.specs.declared.lines.Line.{Line}
 use Rattle.hk_model.specs.declared.reaches.Hop.{Hop}
 use Rattle.hk_model.specs.declared.reaches.Hop.TheVariants as hop_by
 use Rattle.hk_rights.specs.Rights.{PUTDATA, LOAD, STORE, APPEND, MODIFY, ENV, UNCONF, A0, modify_right, first_missing, right_numbers, right_table}
-use Rattle.hk_model.specs.Setup.{Setup}
+use Rattle.hk_model.specs.WorldValue.{WorldValue}
 use Rattle.hk_model.specs.Targets.{DATA, UNIVERSAL}
 use Rattle.hk_model.specs.Opening.{opening}
 use Rattle.hk_model.specs.Control.{next, next_from, after}
@@ -31,7 +31,7 @@ hop false index moment = hop_by.Entry index moment
 
 -- ---- an entry without UNCONF: the parameter leads to object 8, and no further
 
-abbrev closing : Setup
+abbrev closing : WorldValue
 closing = small_world
     (plain DATA (7 ∷ []) []
     ∷ plain UNIVERSAL [] (cap 7 (PUTDATA + MODIFY + ENV + UNCONF) ∷ [])
@@ -66,7 +66,7 @@ no-further-than-an-entry-without-unconf = not_modifiable closing closing_lines 2
 
 -- ---- a new object of another in the list of what is reached: it was not made under the call
 
-abbrev another : Setup
+abbrev another : WorldValue
 another = small_world
     (plain UNIVERSAL [] (Empty ∷ [])
     ∷ procedure 0 (record { of = Some (name UNIVERSAL); check = LOAD; give = LOAD + MODIFY } ∷ []) []
@@ -97,7 +97,7 @@ another's-new-object = not_modifiable another another_lines 2 (inc 2) 6 (7 ∷ [
 
 -- ---- a call without parameters reaches nothing
 
-abbrev bare : Setup
+abbrev bare : WorldValue
 bare = small_world
     (plain DATA (7 ∷ []) []
     ∷ procedure 0 [] (cap 7 (PUTDATA + MODIFY + ENV + UNCONF) ∷ [])
@@ -128,7 +128,7 @@ no-parameter-no-unconfined-reach = not_unconfined bare bare_lines 2 (inc 1) 3 []
 
 -- ---- a new object of the call, before and after it is handed over; and moments that fall
 
-abbrev handing : Setup
+abbrev handing : WorldValue
 handing = small_world
     (plain UNIVERSAL [] (Empty ∷ [])
     ∷ plain DATA (1 ∷ []) []

@@ -9,7 +9,7 @@ use Rattle.hk_model.specs.State.{State}
 use Rattle.hk_model.specs.declared.lines.Line.{Line}
 use Rattle.hk_model.specs.declared.reaches.Hop.{Hop}
 use Rattle.hk_model.specs.declared.reaches.Hop.TheVariants as hop_by
-use Rattle.hk_model.specs.Setup.{Setup}
+use Rattle.hk_model.specs.WorldValue.{WorldValue}
 use Rattle.hk_model.specs.Running.{state_at}
 use Rattle.hk_model.specs.Places.{cap_of}
 use Rattle.hk_model.specs.Under.{is_made_under, parameters}
@@ -162,7 +162,7 @@ module _ (at : ℕ → State) (made : Name → Bool) where
           rw (← r.is.same) (rules.later_unconf r.is.there.moment moment r.is.there.name g.begun r.is.by_then (g.unconf r.is.good))
 
 -- so they are the least sets that keep the rules
-pub reaches_are_least : (w : Setup) (lines : List Line) → ReachLaw w lines
+pub reaches_are_least : (w : WorldValue) (lines : List Line) → ReachLaw w lines
 reaches_are_least w lines k call =
     let at = state_at w lines in
     let made = is_made_under w lines k call in

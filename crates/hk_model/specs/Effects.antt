@@ -6,7 +6,7 @@ use Rattle.hk_model.specs.declared.names.Inc.{Inc}
 use Rattle.hk_model.specs.declared.calls.Call.{Call}
 use Rattle.hk_model.specs.declared.objects.Object.{Object}
 use Rattle.hk_model.specs.declared.lines.Line.{Line}
-use Rattle.hk_model.specs.Setup.{Setup}
+use Rattle.hk_model.specs.WorldValue.{WorldValue}
 use Rattle.hk_model.specs.State.{State, same_name}
 use Rattle.hk_model.specs.Targets.{PROCEDURE}
 use Rattle.hk_model.specs.Running.{state_at}
@@ -38,7 +38,7 @@ pub data Becomes (s : State) (inc : Inc) (c : Option Call) (objects : List (Name
   IsNew : (new : Object) → makes_object c ≡ true → name ≡ s.next_name → there objects name ≡ Some new → IsNoProcedure new → Becomes s inc c objects name
 
 -- a line leaves every object as it was but the one that it is told to change, the one that it makes and those that go
-abbrev pub LeavesOthers : Setup → List Line → Type 0
+abbrev pub LeavesOthers : WorldValue → List Line → Type 0
 LeavesOthers w lines =
     (moment : ℕ) (line : Line) → slice_get lines moment ≡ Some line → (name : Name)
     → Becomes (state_at w lines moment) line.inc (done_call line) (state_at w lines (suc moment)).objects name

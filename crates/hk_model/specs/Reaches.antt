@@ -10,7 +10,7 @@ use Rattle.hk_model.specs.declared.lines.Line.{Line}
 use Rattle.hk_model.specs.declared.reaches.Hop.{Hop}
 use Rattle.hk_model.specs.declared.reaches.Hop.TheVariants as hop_by
 use Rattle.hk_rights.specs.Rights.{has, modify_right, unconf_right}
-use Rattle.hk_model.specs.Setup.{Setup}
+use Rattle.hk_model.specs.WorldValue.{WorldValue}
 use Rattle.hk_model.specs.State.{State, object}
 use Rattle.hk_model.specs.Running.{state_at}
 use Rattle.hk_model.specs.Places.{cap_of}
@@ -93,12 +93,12 @@ pub record IsReached (at : ℕ → State) (made : Name → Bool) (params : List 
   pub is : IsReach at made params k good_for moment name param hops
 
 -- the modifiable reach of the call that begins at moment k, at a moment
-abbrev pub IsModifiable : Setup → List Line → ℕ → Inc → ℕ → Name → Type 0
+abbrev pub IsModifiable : WorldValue → List Line → ℕ → Inc → ℕ → Name → Type 0
 IsModifiable w lines k call moment name =
     IsReached (state_at w lines) (is_made_under w lines k call) (parameters w lines k call) k (λ there. there.modify) moment name
 
 -- the unconfined reach
-abbrev pub IsUnconfined : Setup → List Line → ℕ → Inc → ℕ → Name → Type 0
+abbrev pub IsUnconfined : WorldValue → List Line → ℕ → Inc → ℕ → Name → Type 0
 IsUnconfined w lines k call moment name =
     IsReached (state_at w lines) (is_made_under w lines k call) (parameters w lines k call) k (λ there. there.unconf) moment name
 
@@ -120,7 +120,7 @@ pub record AreLeastReaches (at : ℕ → State) (made : Name → Bool) (params :
   pub least : (m u : ℕ → Name → Bool) → AreReaches at made params k (λ moment x. m moment x ≡ true) (λ moment x. u moment x ≡ true) → (moment : ℕ) (x : Name) → (M moment x → m moment x ≡ true) × (U moment x → u moment x ≡ true)
 
 -- the law of the reaches: those of each call are the least sets that keep their rules
-abbrev pub ReachLaw : Setup → List Line → Type 0
+abbrev pub ReachLaw : WorldValue → List Line → Type 0
 ReachLaw w lines =
     (k : ℕ) (call : Inc)
     → AreLeastReaches (state_at w lines) (is_made_under w lines k call) (parameters w lines k call) k (IsModifiable w lines k call) (IsUnconfined w lines k call)
