@@ -15,6 +15,7 @@ pub mod lists;
 pub mod names;
 pub mod objects;
 pub mod paths;
+pub mod reaches;
 pub mod snapshot;
 #[cfg(test)]
 mod tests;
@@ -32,6 +33,7 @@ pub use lists::{Entries, Items, Params, Text, Words};
 pub use names::{Cpu, Inc, Name, Proc, Slot};
 pub use objects::{Incarnation, Object, Process, ProcessState};
 pub use paths::{Args, Path};
+pub use reaches::{Change, Hop, Reach};
 pub use snapshot::{Live, Seen, Snapshot};
 pub use vanishing::{kept_are_greatest_supported, rooted_are_least_closed};
 pub use verdicts::{Misstep, Verdict};

@@ -1,7 +1,7 @@
 //! What the operands of an instruction are worth in a frame.
 
 ghost use Rattle.std.specs.Prelude.{◌≡◌};
-ghost use Rattle.hk_model.specs.Setup.{IsOperand, IsIndex, IsRoute};
+ghost use Rattle.hk_model.specs.WorldValue.{IsOperand, IsIndex, IsRoute};
 ghost use Rattle.hk_model.specs.Control.{operand, index_of, path_of};
 
 use hk_model::{Frame, Index, Operand, Path, Route};

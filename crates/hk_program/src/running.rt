@@ -2,7 +2,7 @@
 
 ghost use Rattle.std.specs.Prelude.{◌≡◌, ◌≤◌, IfSome, drop, length};
 ghost use Rattle.hk_model.specs.Limits.{local_limit};
-ghost use Rattle.hk_model.specs.Setup.{IsCode};
+ghost use Rattle.hk_model.specs.WorldValue.{IsCode};
 ghost use Rattle.hk_model.specs.Control as control;
 ghost use Rattle.hk_model.specs.Control.{here, next_from, steps_of};
 ghost use Rattle.hk_program.specs.Contexts.{AreFrames, IsFrame};

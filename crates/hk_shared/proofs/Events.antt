@@ -17,7 +17,7 @@ use Rattle.hk_model.specs.declared.objects.ProcessState.TheVariants.{Ready}
 use Rattle.hk_model.specs.declared.frames.Todo.{Todo}
 use Rattle.hk_model.specs.declared.frames.Todo.TheVariants as todo
 use Rattle.hk_model.specs.Limits.{cpu_limit}
-use Rattle.hk_model.specs.Setup.{Setup, IsWorld}
+use Rattle.hk_model.specs.WorldValue.{WorldValue, IsWorld}
 use Rattle.hk_model.specs.State.{State, process}
 use Rattle.hk_model.specs.Control.{Context, next}
 use Rattle.hk_model.specs.Processors.{is_on, is_running, process_on, runner, running_on, may_step, dispatched, dispatched_from}
@@ -73,7 +73,7 @@ on_there (p ∷ ps) cpu (suc n) h = let g = on_there ps cpu n h in omega (arith,
 -- ---- the line of a call or a halt
 
 -- the line of a process, the state and the context that it leaves
-pub record Makes (w : Setup) (lines : List Line) (held : List (Option Context)) (cpu : Cpu) (proc : Proc) (line : Line) (t : State) (frames : Context) : Type 0 where
+pub record Makes (w : WorldValue) (lines : List Line) (held : List (Option Context)) (cpu : Cpu) (proc : Proc) (line : Line) (t : State) (frames : Context) : Type 0 where
   pub steps : AreStepsOf w (lines ++ line ∷ [])
   pub state : t ≡ state_after w (lines ++ line ∷ [])
   pub context : frames ≡ context_of (machine_after w (lines ++ line ∷ [])) proc
@@ -83,7 +83,7 @@ pub record Makes (w : Setup) (lines : List Line) (held : List (Option Context)) 
   pub there : proc.0 < length held
   pub others : (n : ℕ) → (n ≡ proc.0 → ⊥) → rests (process t (record { 0 = n })).run ≡ true → slice_get held n ≡ Some (Some (context_of (machine_after w (lines ++ line ∷ [])) (record { 0 = n })))
 
-module _ (w : Setup) (lines : List Line) (held : List (Option Context)) (world : IsWorld w) (steps : AreStepsOf w lines) (keeps : KeepsContexts (machine_after w lines) held)
+module _ (w : WorldValue) (lines : List Line) (held : List (Option Context)) (world : IsWorld w) (steps : AreStepsOf w lines) (keeps : KeepsContexts (machine_after w lines) held)
     (cpu : Cpu) (low : cpu.0 < 16) (may : may_step (state_after w lines) ≡ true) where
   abbrev pub m : Machine
   m = machine_after w lines
@@ -176,7 +176,7 @@ dispatched_is s cpu proc t = by s.ready refl
         (rest, e ∙ ap (λ (p : Proc). p ∷ rest) same, sym (ap (λ (f : Proc × State). f.1) pair) ∙ ap (λ (p : Proc). given_to s cpu p rest) same)
 
 -- the line of a dispatch, and the state that it leaves
-pub record Gets (w : Setup) (lines : List Line) (held : List (Option Context)) (cpu : Cpu) (proc : Proc) (line : Line) (t : State) : Type 0 where
+pub record Gets (w : WorldValue) (lines : List Line) (held : List (Option Context)) (cpu : Cpu) (proc : Proc) (line : Line) (t : State) : Type 0 where
   pub steps : AreStepsOf w (lines ++ line ∷ [])
   pub state : t ≡ state_after w (lines ++ line ∷ [])
   pub runs : runner t cpu ≡ Some proc
@@ -184,7 +184,7 @@ pub record Gets (w : Setup) (lines : List Line) (held : List (Option Context)) (
   pub context : slice_get held proc.0 ≡ Some (Some (context_of (machine_after w (lines ++ line ∷ [])) proc))
   pub others : (n : ℕ) → rests (process t (record { 0 = n })).run ≡ true → (n ≡ proc.0 → ⊥) × (slice_get held n ≡ Some (Some (context_of (machine_after w (lines ++ line ∷ [])) (record { 0 = n }))))
 
-module _ (w : Setup) (lines : List Line) (held : List (Option Context)) (world : IsWorld w) (steps : AreStepsOf w lines) (keeps : KeepsContexts (machine_after w lines) held)
+module _ (w : WorldValue) (lines : List Line) (held : List (Option Context)) (world : IsWorld w) (steps : AreStepsOf w lines) (keeps : KeepsContexts (machine_after w lines) held)
     (cpu : Cpu) (low : cpu.0 < 16) (may : may_step (state_after w lines) ≡ true) (idle : runner (state_after w lines) cpu ≡ None) where
   dispatch_is : (proc : Proc) (t : State) → dispatched (state_after w lines) cpu ≡ Some (proc, t)
       → step w (machine_after w lines) cpu ≡ Some (record { cpu = cpu; proc = proc; inc = (process (state_after w lines) proc).current; what = what.Dispatch; reply = Done }, record (machine_after w lines) { state = t })

@@ -19,7 +19,7 @@ use Rattle.hk_model.specs.declared.objects.ProcessState.{ProcessState}
 use Rattle.hk_model.specs.declared.objects.ProcessState.TheVariants.{Ready, Running, Waiting, Ended}
 use Rattle.hk_model.specs.declared.frames.Todo.{Todo}
 use Rattle.hk_model.specs.declared.frames.Todo.TheVariants as todo
-use Rattle.hk_model.specs.Setup.{Setup}
+use Rattle.hk_model.specs.WorldValue.{WorldValue}
 use Rattle.hk_model.specs.State.{State, process}
 use Rattle.hk_model.specs.Control.{Context, next, after}
 use Rattle.hk_model.specs.Rule.{rule}
@@ -43,7 +43,7 @@ use Rattle.hk_shared.proofs.Placed.{idle_shows}
 use Rattle.hk_shared.proofs.PlacedAlways.{placed_after}
 use Rattle.hk_shared.proofs.Events.{Makes, Gets, turn_makes, dispatch_gets, get_there, set_length, get_here, same_or}
 
-module _ {K J : Type 0} (state : K → State) (w : Setup) (cpu : Cpu) (b : Book K J) (h : IsSound state w b) where
+module _ {K J : Type 0} (state : K → State) (w : WorldValue) (cpu : Cpu) (b : Book K J) (h : IsSound state w b) where
   -- what the book's notes show is the kernel's state
   pub shown : state_shown w (notes_of_book b) ≡ state b.kernel
   shown = ap (λ (ls : List Line). state_after w ls) (lines_book b.lines.items b.stop) ∙ sym h.kernel
@@ -233,7 +233,7 @@ running_rests (Waiting at) h g = absurd (cc)
 running_rests Ended h g = absurd (cc)
 
 -- the context of the process that got the processor is taken
-pub taken_keeps : (w : Setup) (lines : List Line) (held held' : List (Option Context)) (cpu : Cpu) (proc : Proc) (line : Line) (t : State) → Gets w lines held cpu proc line t
+pub taken_keeps : (w : WorldValue) (lines : List Line) (held held' : List (Option Context)) (cpu : Cpu) (proc : Proc) (line : Line) (t : State) → Gets w lines held cpu proc line t
     → held' ≡ slice_set held proc.0 None → KeepsContexts (machine_after w (lines ++ line ∷ [])) held'
 taken_keeps w lines held held' cpu proc line t g e = rw e (record {
   count = set_length held proc.0 None ∙ g.count;
@@ -243,7 +243,7 @@ taken_keeps w lines held held' cpu proc line t g e = rw e (record {
 })
 
 -- the process goes on, and the processor keeps its context
-pub goes_keeps : (w : Setup) (lines : List Line) (held : List (Option Context)) (cpu : Cpu) (proc : Proc) (line : Line) (t : State) (frames : Context) → Makes w lines held cpu proc line t frames
+pub goes_keeps : (w : WorldValue) (lines : List Line) (held : List (Option Context)) (cpu : Cpu) (proc : Proc) (line : Line) (t : State) (frames : Context) → Makes w lines held cpu proc line t frames
     → is_running (process t proc).run ≡ true → KeepsContexts (machine_after w (lines ++ line ∷ [])) held
 goes_keeps w lines held cpu proc line t frames g runs = record {
   count = g.count;
@@ -255,7 +255,7 @@ goes_keeps w lines held cpu proc line t frames g runs = record {
     by n r (inl same) = absurd (running_rests (process t proc).run runs (subst (λ (k : ℕ). rests (process t (record { 0 = k })).run ≡ true) same r))
 
 -- the process has gone, and its context is put back
-pub gone_keeps : (w : Setup) (lines : List Line) (held held' : List (Option Context)) (cpu : Cpu) (proc : Proc) (line : Line) (t : State) (frames : Context) → Makes w lines held cpu proc line t frames
+pub gone_keeps : (w : WorldValue) (lines : List Line) (held held' : List (Option Context)) (cpu : Cpu) (proc : Proc) (line : Line) (t : State) (frames : Context) → Makes w lines held cpu proc line t frames
     → held' ≡ slice_set held proc.0 (Some frames) → KeepsContexts (machine_after w (lines ++ line ∷ [])) held'
 gone_keeps w lines held held' cpu proc line t frames g e = rw e (record {
   count = set_length held proc.0 (Some frames) ∙ g.count;
@@ -319,7 +319,7 @@ not_false a true h e = refl
 not_false a false h e = absurd (true≢false (sym e ∙ h))
 
 -- what a turn tells
-pub told_is : (w : Setup) (s : State) (proc : Proc) (next_is : Todo) (frames : Context) (happened : What) (reply : Reply) (t : State) (new : Context)
+pub told_is : (w : WorldValue) (s : State) (proc : Proc) (next_is : Todo) (frames : Context) (happened : What) (reply : Reply) (t : State) (new : Context)
     → turn w s proc (next_is, frames) ≡ (happened, reply, t, new) → happened ≡ told next_is
 told_is w s proc (todo.Do c) frames happened reply t new h = sym (ap (λ (x : What × Reply × State × Context). x.0) h)
 told_is w s proc todo.Halt frames happened reply t new h = sym (ap (λ (x : What × Reply × State × Context). x.0) h)

@@ -2,7 +2,7 @@ use Rattle.std.proofs.Common.{arith, refl, ap, sym, ◌∙◌, ◌≡◌, subst,
 use Rattle.std.specs.Prelude.{IfSome, not}
 use Rattle.hk_model.specs.declared.calls.Call.{Call}
 use Rattle.hk_model.specs.declared.calls.Reply.{Reply}
-use Rattle.hk_model.specs.Setup.{Setup}
+use Rattle.hk_model.specs.WorldValue.{WorldValue}
 use Rattle.hk_model.specs.State.{State, process}
 use Rattle.hk_model.specs.Processors.{runner, is_running, process_on, entered_on}
 use Rattle.hk_model.specs.Running.{turn}
@@ -13,12 +13,12 @@ use Rattle.hk_shared.proofs.book.Book.carry.Goals as goal
 pub carry_out-requires-clause-frames : goal.carry_out-requires-clause-frames
 carry_out-requires-clause-frames g c =
     let r = c.requires in
-    subst (λ (w : Setup). AreFrames w c.args.context) (sym r.sound.world) (frames_next g.K.Kernel.state g.J.Naming.world c.args.cpu c.args.self.now r.sound c.args.proc c.args.todo c.args.context r.next)
+    subst (λ (w : WorldValue). AreFrames w c.args.context) (sym r.sound.world) (frames_next g.K.Kernel.state g.J.Naming.world c.args.cpu c.args.self.now r.sound c.args.proc c.args.todo c.args.context r.next)
 
 pub carry_out-requires-clause-code : goal.carry_out-requires-clause-code
 carry_out-requires-clause-code g c =
     let r = c.requires in
-    subst (λ (w : Setup). (call : Call) → (reply : Reply) → IfSome (entered_on (g.K.Kernel.state c.args.self.now.kernel) c.args.cpu call reply) (λ code. code < length w.codes)) (sym r.sound.world)
+    subst (λ (w : WorldValue). (call : Call) → (reply : Reply) → IfSome (entered_on (g.K.Kernel.state c.args.self.now.kernel) c.args.cpu call reply) (λ code. code < length w.codes)) (sym r.sound.world)
     (code_known g.K.Kernel.state g.J.Naming.world c.args.cpu c.args.self.now r.sound c.args.proc c.args.inc r.runs)
 
 pub carry_out-requires-clause-room : goal.carry_out-requires-clause-room
