@@ -82,7 +82,7 @@ all_got R none h [] n g = h
 all_got R none h (x ∷ xs) zero g = g.0
 all_got R none h (x ∷ xs) (suc n) g = all_got R none h xs n g.1
 
-all_filter : {X : Type 0} (R : X → Type 0) (p : X → Bool) (xs : List X) → All R xs → All R (filter p xs)
+pub all_filter : {X : Type 0} (R : X → Type 0) (p : X → Bool) (xs : List X) → All R xs → All R (filter p xs)
 all_filter R p [] h = tt
 all_filter R p (x ∷ xs) h = on_cond (All R) (p x) (x ∷ filter p xs) (filter p xs) (λ e. (h.0, all_filter R p xs h.1)) (λ e. all_filter R p xs h.1)
 
