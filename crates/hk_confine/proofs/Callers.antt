@@ -13,7 +13,7 @@ use Rattle.hk_model.specs.declared.lines.Line.{Line}
 use Rattle.hk_model.specs.declared.objects.Incarnation.{Incarnation}
 use Rattle.hk_rights.specs.Rights.{has, unconf_right}
 use Rattle.hk_model.specs.State.{State, object, incarnation, same_inc}
-use Rattle.hk_model.specs.Places.{Place, SlotOf, EntryOf, rights_of, found, named_by}
+use Rattle.hk_model.specs.Places.{Place, SlotOf, EntryOf, rights_held, found, named_by}
 use Rattle.hk_model.specs.Lines.{done_call, enters_call, leaves_call}
 use Rattle.hk_model.specs.Ways.{Way, Inherited, call_way, way, line_way}
 use Rattle.hk_model.proofs.Standing.{inc_laws}
@@ -78,12 +78,12 @@ entered_calls s inc path args into after done (EntryOf name index) v e = absurd 
 entered_calls s inc path args into after done (SlotOf i n) v e = by (same_inc i s.next_inc) e
   where
     here : Way
-    here = call_way (named_by s inc path) (not (has (rights_of (found s inc path)) unconf_right)) args (object s (named_by s inc path)).params n
+    here = call_way (named_by s inc path) (not (has (rights_held (found s inc path)) unconf_right)) args (object s (named_by s inc path)).params n
 
-    by : (b : Bool) → ◌≡◌ {A = Option Way} (cond b (Some (call_way (named_by s inc path) (not (has (rights_of (found s inc path)) unconf_right)) args (object s (named_by s inc path)).params n)) None) (Some v) → Calls s inc v
+    by : (b : Bool) → ◌≡◌ {A = Option Way} (cond b (Some (call_way (named_by s inc path) (not (has (rights_held (found s inc path)) unconf_right)) args (object s (named_by s inc path)).params n)) None) (Some v) → Calls s inc v
     by true f =
         let same : here ≡ v = cc in
-        subst (Calls s inc) same (call_way_calls s inc (named_by s inc path) (not (has (rights_of (found s inc path)) unconf_right)) (entered_called s inc path after done) args (object s (named_by s inc path)).params n)
+        subst (Calls s inc) same (call_way_calls s inc (named_by s inc path) (not (has (rights_held (found s inc path)) unconf_right)) (entered_called s inc path after done) args (object s (named_by s inc path)).params n)
     by false f = absurd (cc)
 
 -- what is inherited comes from a procedure that the line has called

@@ -1,5 +1,5 @@
 -- Each caller lives, is of the same process, and calls one alone.
-use Rattle.std.proofs.Common.{◌≡◌, ◌<◌, ℕ, ◌==◌, List, [], ◌∷◌, ◌++◌, Bool, true, false, Option, Some, None, refl, sym, ◌∙◌, ap, arith, subst}
+use Rattle.std.proofs.Common.{◌≡◌, ◌<◌, ℕ, ◌==◌, List, [], ◌∷◌, ◌++◌, Bool, true, false, Some, None, refl, sym, ◌∙◌, ap, arith}
 use Rattle.std.specs.Prelude.{◌⊎◌, IsTrue, not, slice_get, filter, take}
 use mathlib.Core.Logic.{inl, inr}
 use Rattle.std.specs.Option.{unwrap_or}

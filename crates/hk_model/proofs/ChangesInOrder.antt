@@ -13,7 +13,7 @@ use Rattle.hk_model.specs.Changes.{Beginning, BareChange, confined_by, confined_
 use Rattle.hk_model.proofs.EventCounts.{events_each}
 use Rattle.hk_model.proofs.Histories.{Sound, LineKnown, known_each, opening_sound}
 use Rattle.hk_model.proofs.NamesStand.{All, all_more, all_append, all_map, all_filter}
-use Rattle.hk_model.proofs.Steps.{EachStep, each_more, told_keeps}
+use Rattle.hk_model.proofs.Steps.{each_more, told_keeps}
 use Rattle.hk_model.proofs.Turns.{Turn, Still, Enter, Leave, Halt}
 
 -- ---- the confined calls
@@ -57,7 +57,7 @@ calls_line s line t known calls h = by (known h.0).after (next_call s line t (kn
       sound,
       rising_last calls (record { call = s.next_inc; moment = t.events }) h.1 h.2,
       all_append (λ (b : Beginning). b.call.0 < t.next_inc.0) calls (record { call = s.next_inc; moment = t.events } ∷ [])
-      (all_more (λ (b : Beginning). b.call.0 < s.next_inc.0) (λ b. b.call.0 < t.next_inc.0) (λ b g. omega (arith, g, up)) calls h.2) (up, tt),
+          (all_more (λ (b : Beginning). b.call.0 < s.next_inc.0) (λ b. b.call.0 < t.next_inc.0) (λ b g. omega (arith, g, up)) calls h.2) (up, tt),
     )
     by sound (inl up) true f false = (sound, h.1, all_more (λ (b : Beginning). b.call.0 < s.next_inc.0) (λ b. b.call.0 < t.next_inc.0) (λ b g. omega (arith, g, up)) calls h.2)
     by sound (inl up) false f d = (sound, h.1, all_more (λ (b : Beginning). b.call.0 < s.next_inc.0) (λ b. b.call.0 < t.next_inc.0) (λ b g. omega (arith, g, up)) calls h.2)
@@ -110,9 +110,9 @@ module _ (w : WorldValue) (lines : List Line) (calls : List Beginning) (rising :
       by None = (h.0, more)
       by (Some name) = (
         in_order_append xs (map (change_at s.events name) new) h.0 (one_line s.events name new (rising_filter (λ (b : Beginning). is_under w lines b.moment b.call line.inc) calls rising))
-        (all_more (λ (x : BareChange). x.moment < s.events) (λ x. All (IsBefore x) (map (change_at s.events name) new)) (λ x g. later_than s.events name new x g) xs h.1),
+            (all_more (λ (x : BareChange). x.moment < s.events) (λ x. All (IsBefore x) (map (change_at s.events name) new)) (λ x g. later_than s.events name new x g) xs h.1),
         all_append (λ (x : BareChange). x.moment < t.events) xs (map (change_at s.events name) new) more
-        (all_map (λ (x : BareChange). x.moment < t.events) (change_at s.events name) new (at_line new)),
+            (all_map (λ (x : BareChange). x.moment < t.events) (change_at s.events name) new (at_line new)),
       )
         where
           at_line : (cs : List Beginning) → All (λ (b : Beginning). s.events < t.events) cs

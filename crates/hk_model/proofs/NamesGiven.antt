@@ -17,7 +17,7 @@ use Rattle.hk_model.specs.declared.world.Task.{Task}
 use Rattle.hk_model.specs.Limits.{slot_limit}
 use Rattle.hk_model.specs.State.{State, object, same_name, same_inc, no_object, no_incarnation}
 use Rattle.hk_model.specs.Walking.{walk}
-use Rattle.hk_model.specs.Places.{Place, SlotOf, EntryOf, standing, is_empty, end_of}
+use Rattle.hk_model.specs.Places.{Place, SlotOf, EntryOf, standing, is_empty, walk_end}
 use Rattle.hk_model.specs.WorldValue.{WorldValue, IsWorld, IsEntry, IsKind, IsTask}
 use Rattle.hk_model.specs.Opening.{opening, bases, numbered, object_of, base_of}
 use Rattle.hk_model.specs.Targets.{kernel_types}
@@ -25,7 +25,7 @@ use Rattle.hk_model.specs.declared.world.Born.{Born}
 use Rattle.hk_model.specs.declared.world.Kind.{Kind}
 use Rattle.hk_model.specs.declared.world.Kind.TheVariants as kind
 use Rattle.hk_model.specs.Lines.{done_call}
-use Rattle.hk_model.specs.Ways.{Way, Walked, Stored, Lessened, Merged, Inherited, Copied, CopyOf, Created, Formed, Gone, line_way, Writes, Wrote, IsWritable}
+use Rattle.hk_model.specs.Ways.{Way, Walked, Stored, Lessened, Merged, Inherited, Copied, CopyOf, Created, Formed, Emptied, line_way, Writes, Wrote, IsWritable}
 use Rattle.hk_model.specs.Descent.{Reduces}
 use Rattle.hk_model.proofs.Standing.{name_same}
 use Rattle.hk_model.proofs.WalkLemmas.{walk_reduces, Reduces-self, copied_reduces, inherited_reduces}
@@ -64,7 +64,7 @@ below_reduces high (Form form) (Held b) r h = absurd r
 module _ (s : State) (inc : Inc) (given_before : NamesGiven s) where
   -- what a walk gives was given
   pub walk_below : (path : List ℕ) (x : Entry) → walk s inc path ≡ Ok x → IsBelow s.next_name.0 x
-  walk_below path x w = below_reduces s.next_name.0 (standing s (end_of s inc path)) x (walk_reduces s inc path x w) (given_before.entries (end_of s inc path))
+  walk_below path x w = below_reduces s.next_name.0 (standing s (walk_end s inc path)) x (walk_reduces s inc path x w) (given_before.entries (walk_end s inc path))
 
   place_below : (t : State) → s.next_name.0 ≤ t.next_name.0 → (p : Place) (x : Entry) → Reduces (standing s p) x → IsBelow t.next_name.0 x
   place_below t up p x r = below_more s.next_name.0 t.next_name.0 x up (below_reduces s.next_name.0 (standing s p) x r (given_before.entries p))
@@ -87,7 +87,7 @@ module _ (s : State) (inc : Inc) (given_before : NamesGiven s) where
   writes_below c t p (CopyOf path) x next goes h = subst (IsBelow t.next_name.0) (sym h.is) (next_made s c t next goes.0)
   writes_below c t p (Created path) x next goes h = subst (IsBelow t.next_name.0) (sym h.is) (next_made s c t next goes.0)
   writes_below c t p (Formed path kind) x next goes h = subst (IsBelow t.next_name.0) (sym h.is) tt
-  writes_below c t p Gone x next goes h = subst (IsBelow t.next_name.0) (sym h) tt
+  writes_below c t p Emptied x next goes h = subst (IsBelow t.next_name.0) (sym h) tt
 
 -- ---- every line
 

@@ -32,12 +32,12 @@ use Rattle.hk_model.specs.Limits.{slot_limit, token_limit}
 use Rattle.hk_model.specs.State.{State, object, incarnation, process, put_object, put_slot, put_process, add_object, same_name, same_inc, no_object}
 use Rattle.hk_model.specs.Keeping.{kept_objects, restricted}
 use Rattle.hk_model.specs.Refusing.{◌>>=◌, ◌>>◌, unless, allowed, item_at}
-use Rattle.hk_model.specs.Walking.{walk, walk_on, hop, held, obtained}
+use Rattle.hk_model.specs.Walking.{walk, walk_on, hop_on, held, obtained}
 use Rattle.hk_model.specs.Merging.{merged, merged_arg, merged_all, inherited, call_slots, name_space}
-use Rattle.hk_model.specs.Targets.{TYPE, SEMAPHORE, is_general, is_type, MODIFY+A0, MODIFY+A1, ENV+A0, slot_at, storable, not_empty, target, create_form}
-use Rattle.hk_model.specs.Rule.{outcome, room_made, add_beside, made_form, plain_object, copied, argument, called_incarnation, enter, given, leave_to, token_given, yielded, counted, get_word, put_word, add_word, word_count, load_entry, store_entry, append_entry, erase_entry, drop_slot, restrict_slot, look, make_template, create_object, merge_cap, copy_object, enter_procedure, leave, take_token, give_token}
+use Rattle.hk_model.specs.Targets.{TYPE, SEMAPHORE, is_general, is_of_type, MODIFY+A0, MODIFY+A1, ENV+A0, slot_at, storable, not_empty, target, create_form}
+use Rattle.hk_model.specs.Rule.{outcome, room_made, add_beside, made_form, plain_object, copied, argument, called_incarnation, enter, returned_cap, leave_to, token_given, yielded, counted, get_word, put_word, add_word, word_count, load_entry, store_entry, append_entry, erase_entry, drop_slot, restrict_slot, look, make_template, create_object, merge_cap, copy_object, enter_procedure, leave, take_token, give_token}
 use Rattle.hk_model.specs.Processors.{ended}
-use Rattle.hk_model.specs.Places.{SlotOf, EntryOf, standing, end_of}
+use Rattle.hk_model.specs.Places.{SlotOf, EntryOf, standing, walk_end}
 use Rattle.hk_model.specs.Descent.{Reduces}
 use Rattle.hk_model.proofs.Keeping.{Vanish, kept_vanish, stays_or_lost, IsLost}
 use Rattle.hk_model.proofs.TestLemmas.{then_is, and_is, if_ok, ok_more, held_is, item_is, not_empty_is, storable_is, create_form_is}
@@ -60,9 +60,9 @@ reduced_in R (Form a) (Held b) r h = absurd r
 -- ---- walks
 
 walk_in : (R : Name → Type 0) (s : State) (inc : Inc) (path : List ℕ) (x : Entry) → Within R s → walk s inc path ≡ Ok x → InEntry R x
-walk_in R s inc path x h e = reduced_in R (standing s (end_of s inc path)) x (walk_reduces s inc path x e) (standing_in R s h (end_of s inc path))
+walk_in R s inc path x h e = reduced_in R (standing s (walk_end s inc path)) x (walk_reduces s inc path x e) (standing_in R s h (walk_end s inc path))
 
-hop_in : (R : Name → Type 0) (s : State) (cap : Cap) (at step : ℕ) → Within R s → IfOk (hop s (Held cap) at step) (InEntry R)
+hop_in : (R : Name → Type 0) (s : State) (cap : Cap) (at step : ℕ) → Within R s → IfOk (hop_on s (Held cap) at step) (InEntry R)
 hop_in R s cap at step h =
     and_is (InEntry R) (allowed cap.rights LOAD step) (item_at (object s cap.name).entries at (step + 1) >>= (λ next. obtained cap.rights next step)) (λ u g.
     then_is (InEntry R) (item_at (object s cap.name).entries at (step + 1)) (λ next. obtained cap.rights next step) (λ next i.
@@ -90,7 +90,7 @@ module _ (s : State) (objects : List (Name × Object)) (v : Vanish s objects) (h
           none None e k = false≢true k
           none (Some x) e k = absurd (cc)
 
-  hop_same : (cap : Cap) (at step : ℕ) → Stands left cap.name → hop left (Held cap) at step ≡ hop s (Held cap) at step
+  hop_same : (cap : Cap) (at step : ℕ) → Stands left cap.name → hop_on left (Held cap) at step ≡ hop_on s (Held cap) at step
   hop_same cap at step there = ap (λ (o : Object). allowed cap.rights LOAD step >> (item_at o.entries at (step + 1) >>= (λ next. obtained cap.rights next step))) (object_same cap.name there)
 
   walk_on_same : (entry : Entry) (path : List ℕ) (step : ℕ) → InEntry (Stands left) entry → walk_on left entry path step ≡ walk_on s entry path step
@@ -98,7 +98,7 @@ module _ (s : State) (objects : List (Name × Object)) (v : Vanish s objects) (h
   walk_on_same Empty (at ∷ rest) step g = refl
   walk_on_same (Form form) (at ∷ rest) step g = refl
   walk_on_same (Held cap) (at ∷ rest) step g =
-      by (λ next k. walk_on_same next rest (step + 1) k) (hop left (Held cap) at step) (hop_in (Stands left) left cap at step (named_within left h))
+      by (λ next k. walk_on_same next rest (step + 1) k) (hop_on left (Held cap) at step) (hop_in (Stands left) left cap at step (named_within left h))
       ∙ ap (λ (r : Result Entry Refusal). r >>= (λ next. walk_on s next rest (step + 1))) (hop_same cap at step g.0)
     where
       by : ((next : Entry) → InEntry (Stands left) next → walk_on left next rest (step + 1) ≡ walk_on s next rest (step + 1)) → (r : Result Entry Refusal) → IfOk r (InEntry (Stands left))
@@ -157,22 +157,22 @@ module _ (s : State) (inc : Inc) (h : NamedStand s) where
   form_names (making.Amplify check give) of g = (g, tt)
   form_names (making.Create give) of g = (g, tt)
 
-  formed_named : (path : List ℕ) (n : ℕ) (kind : Making) (c : Cap) → target s inc path (is_type TYPE) ENV+A0 ≡ Ok c → NamedStand (put_slot s inc n (Form (made_form kind c.name)))
-  formed_named path n kind c t = slot_named n (Form (made_form kind c.name)) (form_names kind c.name (target_stands path (is_type TYPE) ENV+A0 c t))
+  formed_named : (path : List ℕ) (n : ℕ) (kind : Making) (c : Cap) → target s inc path (is_of_type TYPE) ENV+A0 ≡ Ok c → NamedStand (put_slot s inc n (Form (made_form kind c.name)))
+  formed_named path n kind c t = slot_named n (Form (made_form kind c.name)) (form_names kind c.name (target_stands path (is_of_type TYPE) ENV+A0 c t))
 
   merged_named : (from n a b : ℕ) (form : Param) (c new : Cap) → held (slice_index_or (incarnation s inc).slots from Empty) a ≡ Ok c → merged c (object s c.name).of form b ≡ Ok new → NamedStand (put_slot s inc n (Held new))
   merged_named from n a b form c new e m = slot_named n (Held new) (subst (Stands s) (sym (merged_is c (object s c.name).of form b new m).same) (held_names from a c e), tt)
 
   -- an object is changed, which keeps its type
-  object_named : (path : List ℕ) (types : Name → Bool) (rights : ℕ) (c : Cap) (o : Object) → target s inc path types rights ≡ Ok c → o.of ≡ (object s c.name).of → InList (Stands s) o.entries → NamedStand (put_object s c.name o)
-  object_named path types rights c o t same list =
+  changed_named : (path : List ℕ) (types : Name → Bool) (rights : ℕ) (c : Cap) (o : Object) → target s inc path types rights ≡ Ok c → o.of ≡ (object s c.name).of → InList (Stands s) o.entries → NamedStand (put_object s c.name o)
+  changed_named path types rights c o t same list =
       within_named s (put_object s c.name o) (stands_put s c.name o) (put_object_in (Stands s) s c.name o within (subst (Stands s) (sym same) (type_in (Stands s) s within c.name (target_stands path types rights c t)), list))
 
   own_list : (name : Name) → InList (Stands s) (object s name).entries
   own_list name = list_in (Stands s) s within name
 
   words_named : (path : List ℕ) (types : Name → Bool) (rights : ℕ) (c : Cap) (words : List ℕ) → target s inc path types rights ≡ Ok c → NamedStand (put_object s c.name (record (object s c.name) { words = words }))
-  words_named path types rights c words t = object_named path types rights c (record (object s c.name) { words = words }) t refl (own_list c.name)
+  words_named path types rights c words t = changed_named path types rights c (record (object s c.name) { words = words }) t refl (own_list c.name)
 
   storable_names : (from step : ℕ) (entry : Entry) → storable (slice_index_or (incarnation s inc).slots from Empty) step ≡ Ok entry → Names entry
   storable_names from step entry e = subst Names (sym (storable_is (slice_index_or (incarnation s inc).slots from Empty) entry step e)) (slot_names from)
@@ -180,16 +180,16 @@ module _ (s : State) (inc : Inc) (h : NamedStand s) where
   stored_named : (path : List ℕ) (types : Name → Bool) (rights at from step : ℕ) (c : Cap) (entry : Entry) → target s inc path types rights ≡ Ok c → storable (slice_index_or (incarnation s inc).slots from Empty) step ≡ Ok entry
       → NamedStand (put_object s c.name (record (object s c.name) { entries = slice_set (object s c.name).entries at entry }))
   stored_named path types rights at from step c entry t e =
-      object_named path types rights c (record (object s c.name) { entries = slice_set (object s c.name).entries at entry }) t refl (all_set Names (object s c.name).entries at entry (own_list c.name) (storable_names from step entry e))
+      changed_named path types rights c (record (object s c.name) { entries = slice_set (object s c.name).entries at entry }) t refl (all_set Names (object s c.name).entries at entry (own_list c.name) (storable_names from step entry e))
 
   appended_named : (path : List ℕ) (types : Name → Bool) (rights from step : ℕ) (c : Cap) (entry : Entry) → target s inc path types rights ≡ Ok c → storable (slice_index_or (incarnation s inc).slots from Empty) step ≡ Ok entry
       → NamedStand (put_object s c.name (record (object s c.name) { entries = (object s c.name).entries ++ entry ∷ [] }))
   appended_named path types rights from step c entry t e =
-      object_named path types rights c (record (object s c.name) { entries = (object s c.name).entries ++ entry ∷ [] }) t refl (all_append Names (object s c.name).entries (entry ∷ []) (own_list c.name) (storable_names from step entry e, tt))
+      changed_named path types rights c (record (object s c.name) { entries = (object s c.name).entries ++ entry ∷ [] }) t refl (all_append Names (object s c.name).entries (entry ∷ []) (own_list c.name) (storable_names from step entry e, tt))
 
   erased_named : (path : List ℕ) (types : Name → Bool) (rights at : ℕ) (c : Cap) → target s inc path types rights ≡ Ok c → NamedStand (put_object s c.name (record (object s c.name) { entries = slice_set (object s c.name).entries at Empty }))
   erased_named path types rights at c t =
-      object_named path types rights c (record (object s c.name) { entries = slice_set (object s c.name).entries at Empty }) t refl (all_set Names (object s c.name).entries at Empty (own_list c.name) tt)
+      changed_named path types rights c (record (object s c.name) { entries = slice_set (object s c.name).entries at Empty }) t refl (all_set Names (object s c.name).entries at Empty (own_list c.name) tt)
 
   -- an object is made where there is room
   module _ (room : List (Name × Object)) (r : room_made s ≡ Ok room) where
@@ -272,7 +272,7 @@ module _ (s : State) (inc : Inc) (h : NamedStand s) where
   IfHeld None = Unit {0}
   IfHeld (Some c) = Stands s c.name
 
-  given_in : (give : Option Slot) → IfOk (given (incarnation s inc).slots give) IfHeld
+  given_in : (give : Option Slot) → IfOk (returned_cap (incarnation s inc).slots give) IfHeld
   given_in None = tt
   given_in (Some slot) =
       then_is IfHeld (slot_at slot 0) (λ at. held (slice_index_or (incarnation s inc).slots at Empty) 0 >>= (λ c. allowed c.rights ENV 0 >> Ok (Some c))) (λ at a.
@@ -294,44 +294,44 @@ module _ (s : State) (inc : Inc) (h : NamedStand s) where
   leave_named : (proc : Proc) (give : Option Slot) → IfOk (leave s proc inc give) (λ f. NamedStand f.1)
   unfolding leave
   leave_named proc give =
-      then_is (λ f. NamedStand f.1) (given (incarnation s inc).slots give) (λ c. Ok (Done, leave_to gone_from proc (incarnation s inc).caller (incarnation s inc).into.0 c)) (λ c e.
-      returned_named proc (incarnation s inc).caller (incarnation s inc).into.0 c (if_ok IfHeld (given (incarnation s inc).slots give) c (given_in give) e))
+      then_is (λ f. NamedStand f.1) (returned_cap (incarnation s inc).slots give) (λ c. Ok (Done, leave_to gone_from proc (incarnation s inc).caller (incarnation s inc).into.0 c)) (λ c e.
+      returned_named proc (incarnation s inc).caller (incarnation s inc).into.0 c (if_ok IfHeld (returned_cap (incarnation s inc).slots give) c (given_in give) e))
 
   -- semaphores
   count_named : (path : List ℕ) (types : Name → Bool) (rights count : ℕ) (c : Cap) → target s inc path types rights ≡ Ok c → NamedStand (put_object s c.name (record (object s c.name) { count = count }))
-  count_named path types rights count c t = object_named path types rights c (record (object s c.name) { count = count }) t refl (own_list c.name)
+  count_named path types rights count c t = changed_named path types rights c (record (object s c.name) { count = count }) t refl (own_list c.name)
 
   waiters_named : (path : List ℕ) (types : Name → Bool) (rights : ℕ) (waiters : List Proc) (c : Cap) → target s inc path types rights ≡ Ok c → NamedStand (put_object s c.name (record (object s c.name) { waiters = waiters }))
-  waiters_named path types rights waiters c t = object_named path types rights c (record (object s c.name) { waiters = waiters }) t refl (own_list c.name)
+  waiters_named path types rights waiters c t = changed_named path types rights c (record (object s c.name) { waiters = waiters }) t refl (own_list c.name)
 
   take_named : (proc : Proc) (path : List ℕ) → IfOk (take_token s proc inc path) (λ f. NamedStand f.1)
   unfolding take_token
   take_named proc path =
-      then_is (λ f. NamedStand f.1) (target s inc path (is_type SEMAPHORE) MODIFY+A0) (λ c. Ok (elim (nat_lt 0 (object s c.name).count) [
+      then_is (λ f. NamedStand f.1) (target s inc path (is_of_type SEMAPHORE) MODIFY+A0) (λ c. Ok (elim (nat_lt 0 (object s c.name).count) [
         | true ↦ (Done, put_object s c.name (record (object s c.name) { count = (object s c.name).count - 1 }))
         | false ↦ (Waits, put_process (put_object s c.name (record (object s c.name) { waiters = (object s c.name).waiters ++ proc ∷ [] })) proc (record (process s proc) { run = Waiting c.name }))
       ])) (λ c t. by c t (nat_lt 0 (object s c.name).count))
     where
-      by : (c : Cap) → target s inc path (is_type SEMAPHORE) MODIFY+A0 ≡ Ok c → (b : Bool) → NamedStand (elim b as (λ x. Answer × State) [
+      by : (c : Cap) → target s inc path (is_of_type SEMAPHORE) MODIFY+A0 ≡ Ok c → (b : Bool) → NamedStand (elim b as (λ x. Answer × State) [
         | true ↦ (Done, put_object s c.name (record (object s c.name) { count = (object s c.name).count - 1 }))
         | false ↦ (Waits, put_process (put_object s c.name (record (object s c.name) { waiters = (object s c.name).waiters ++ proc ∷ [] })) proc (record (process s proc) { run = Waiting c.name }))
       ]).1
-      by c t true = count_named path (is_type SEMAPHORE) MODIFY+A0 ((object s c.name).count - 1) c t
+      by c t true = count_named path (is_of_type SEMAPHORE) MODIFY+A0 ((object s c.name).count - 1) c t
       by c t false =
           let o = record (object s c.name) { waiters = (object s c.name).waiters ++ proc ∷ [] } in
           let u : State = put_object s c.name o in
           let new = record (process s proc) { run = Waiting c.name } in
           within_named u (put_process u proc new) (λ m k. k)
-          (put_process_in (Stands u) u proc new (named_within u (waiters_named path (is_type SEMAPHORE) MODIFY+A0 ((object s c.name).waiters ++ proc ∷ []) c t)) (stands_put s c.name o c.name (target_stands path (is_type SEMAPHORE) MODIFY+A0 c t), tt))
+          (put_process_in (Stands u) u proc new (named_within u (waiters_named path (is_of_type SEMAPHORE) MODIFY+A0 ((object s c.name).waiters ++ proc ∷ []) c t)) (stands_put s c.name o c.name (target_stands path (is_of_type SEMAPHORE) MODIFY+A0 c t), tt))
 
-  token_named : (path : List ℕ) (c : Cap) → target s inc path (is_type SEMAPHORE) MODIFY+A1 ≡ Ok c → (waiters : List Proc) → IfOk (token_given s c.name (object s c.name) waiters) (λ f. NamedStand f.1)
+  token_named : (path : List ℕ) (c : Cap) → target s inc path (is_of_type SEMAPHORE) MODIFY+A1 ≡ Ok c → (waiters : List Proc) → IfOk (token_given s c.name (object s c.name) waiters) (λ f. NamedStand f.1)
   token_named path c t [] = and_is (λ f. NamedStand f.1) (unless (nat_lt (object s c.name).count token_limit) (refused.Full full.Tokens)) (Ok (Done, put_object s c.name (record (object s c.name) { count = (object s c.name).count + 1 })))
-      (λ u g. count_named path (is_type SEMAPHORE) MODIFY+A1 ((object s c.name).count + 1) c t)
+      (λ u g. count_named path (is_of_type SEMAPHORE) MODIFY+A1 ((object s c.name).count + 1) c t)
   token_named path c t (first ∷ rest) =
       let o = record (object s c.name) { waiters = rest } in
       let u : State = put_object s c.name o in
       let new = record (process s first) { run = Ready } in
-      let named = within_named u (put_process u first new) (λ m k. k) (put_process_in (Stands u) u first new (named_within u (waiters_named path (is_type SEMAPHORE) MODIFY+A1 rest c t)) tt) in
+      let named = within_named u (put_process u first new) (λ m k. k) (put_process_in (Stands u) u first new (named_within u (waiters_named path (is_of_type SEMAPHORE) MODIFY+A1 rest c t)) tt) in
       record { each = named.each }
 
   yielded_named : (proc : Proc) → NamedStand (yielded s proc)
@@ -362,7 +362,7 @@ module _ (s : State) (inc : Inc) (h : NamedStand s) where
   outcome_named proc (call.Leave give) = leave_named proc give
   outcome_named proc (call.P of) = take_named proc of
   outcome_named proc (call.V of) =
-      then_is (λ f. NamedStand f.1) (target s inc of (is_type SEMAPHORE) MODIFY+A1) (λ c. token_given s c.name (object s c.name) (object s c.name).waiters) (λ c t. token_named of c t (object s c.name).waiters)
+      then_is (λ f. NamedStand f.1) (target s inc of (is_of_type SEMAPHORE) MODIFY+A1) (λ c. token_given s c.name (object s c.name) (object s c.name).waiters) (λ c t. token_named of c t (object s c.name).waiters)
   outcome_named proc call.Yield = yielded_named proc
 
 -- ---- every line

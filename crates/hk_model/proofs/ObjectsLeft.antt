@@ -31,7 +31,7 @@ use Rattle.hk_model.specs.State.{State, object, process, put_object, put_process
 use Rattle.hk_model.specs.Keeping.{kept_objects, is_opening}
 use Rattle.hk_model.specs.Refusing.{unless}
 use Rattle.hk_model.specs.Walking.{walk}
-use Rattle.hk_model.specs.Targets.{SEMAPHORE, PROCEDURE, PROCESS, LNS, is_general, is_type, slot_at, last_step, create_form, MODIFY+A0, MODIFY+A1, target}
+use Rattle.hk_model.specs.Targets.{SEMAPHORE, PROCEDURE, PROCESS, LNS, is_general, is_of_type, slot_at, last_step, create_form, MODIFY+A0, MODIFY+A1, target}
 use Rattle.hk_model.specs.Rule.{Outcome, outcome, settled, answered, can_be_created, plain_object, copied, room_made, leave_to, token_given, get_word, put_word, add_word, word_count, load_entry, store_entry, append_entry, erase_entry, drop_slot, restrict_slot, look, make_template, create_object, merge_cap, copy_object, enter_procedure, leave, take_token, give_token}
 use Rattle.hk_model.specs.Processors.{ended}
 use Rattle.hk_model.specs.Places.{cap_of, cap_found, entry_given}
@@ -189,23 +189,23 @@ module _ (s : State) (inc : Inc) (name : Name) (given : ObjectsGiven s) where
   take_leaves : (proc : Proc) (path : List ℕ) → LeavesBy (call.P path) (take_token s proc inc path)
   unfolding take_token
   take_leaves proc path =
-      then_is (λ f. Left s inc (Some (call.P path)) f.1.objects name) (target s inc path (is_type SEMAPHORE) MODIFY+A0) (λ c. Ok (elim (nat_lt 0 (object s c.name).count) [
+      then_is (λ f. Left s inc (Some (call.P path)) f.1.objects name) (target s inc path (is_of_type SEMAPHORE) MODIFY+A0) (λ c. Ok (elim (nat_lt 0 (object s c.name).count) [
         | true ↦ (Done, put_object s c.name (record (object s c.name) { count = (object s c.name).count - 1 }))
         | false ↦ (Waits, put_process (put_object s c.name (record (object s c.name) { waiters = (object s c.name).waiters ++ proc ∷ [] })) proc (record (process s proc) { run = Waiting c.name }))
       ])) (λ c g. by c g (nat_lt 0 (object s c.name).count))
     where
-      by : (c : Cap) → target s inc path (is_type SEMAPHORE) MODIFY+A0 ≡ Ok c → (b : Bool) → Left s inc (Some (call.P path)) (elim b as (λ x. Answer × State) [
+      by : (c : Cap) → target s inc path (is_of_type SEMAPHORE) MODIFY+A0 ≡ Ok c → (b : Bool) → Left s inc (Some (call.P path)) (elim b as (λ x. Answer × State) [
         | true ↦ (Done, put_object s c.name (record (object s c.name) { count = (object s c.name).count - 1 }))
         | false ↦ (Waits, put_process (put_object s c.name (record (object s c.name) { waiters = (object s c.name).waiters ++ proc ∷ [] })) proc (record (process s proc) { run = Waiting c.name }))
       ]).1.objects name
-      by c g true = left_object (call.P path) path (is_type SEMAPHORE) MODIFY+A0 c (record (object s c.name) { count = (object s c.name).count - 1 }) g refl (record { of = refl; code = refl; params = refl })
-      by c g false = left_object (call.P path) path (is_type SEMAPHORE) MODIFY+A0 c (record (object s c.name) { waiters = (object s c.name).waiters ++ proc ∷ [] }) g refl (record { of = refl; code = refl; params = refl })
+      by c g true = left_object (call.P path) path (is_of_type SEMAPHORE) MODIFY+A0 c (record (object s c.name) { count = (object s c.name).count - 1 }) g refl (record { of = refl; code = refl; params = refl })
+      by c g false = left_object (call.P path) path (is_of_type SEMAPHORE) MODIFY+A0 c (record (object s c.name) { waiters = (object s c.name).waiters ++ proc ∷ [] }) g refl (record { of = refl; code = refl; params = refl })
 
-  token_leaves : (path : List ℕ) (c : Cap) → target s inc path (is_type SEMAPHORE) MODIFY+A1 ≡ Ok c → (waiters : List Proc) → LeavesBy (call.V path) (token_given s c.name (object s c.name) waiters)
+  token_leaves : (path : List ℕ) (c : Cap) → target s inc path (is_of_type SEMAPHORE) MODIFY+A1 ≡ Ok c → (waiters : List Proc) → LeavesBy (call.V path) (token_given s c.name (object s c.name) waiters)
   token_leaves path c g [] = and_is (λ f. Left s inc (Some (call.V path)) f.1.objects name) (unless (nat_lt (object s c.name).count token_limit) (refused.Full full.Tokens)) (Ok (Done, put_object s c.name (record (object s c.name) { count = (object s c.name).count + 1 })))
-      (λ u h. left_object (call.V path) path (is_type SEMAPHORE) MODIFY+A1 c (record (object s c.name) { count = (object s c.name).count + 1 }) g refl (record { of = refl; code = refl; params = refl }))
+      (λ u h. left_object (call.V path) path (is_of_type SEMAPHORE) MODIFY+A1 c (record (object s c.name) { count = (object s c.name).count + 1 }) g refl (record { of = refl; code = refl; params = refl }))
   token_leaves path c g (first ∷ rest) =
-      left_object (call.V path) path (is_type SEMAPHORE) MODIFY+A1 c (record (object s c.name) { waiters = rest }) g refl (record { of = refl; code = refl; params = refl })
+      left_object (call.V path) path (is_of_type SEMAPHORE) MODIFY+A1 c (record (object s c.name) { waiters = rest }) g refl (record { of = refl; code = refl; params = refl })
 
   -- every call
   outcome_leaves : (proc : Proc) (c : Call) → LeavesBy c (outcome s proc inc c)
@@ -240,7 +240,7 @@ FirstBy s o = IfOk o (λ f. f.1.first_new ≡ s.first_new)
 take_first : (s : State) (proc : Proc) (inc : Inc) (path : List ℕ) → FirstBy s (take_token s proc inc path)
 unfolding take_token
 take_first s proc inc path =
-    then_is (λ f. f.1.first_new ≡ s.first_new) (target s inc path (is_type SEMAPHORE) MODIFY+A0) (λ c. Ok (elim (nat_lt 0 (object s c.name).count) [
+    then_is (λ f. f.1.first_new ≡ s.first_new) (target s inc path (is_of_type SEMAPHORE) MODIFY+A0) (λ c. Ok (elim (nat_lt 0 (object s c.name).count) [
       | true ↦ (Done, put_object s c.name (record (object s c.name) { count = (object s c.name).count - 1 }))
       | false ↦ (Waits, put_process (put_object s c.name (record (object s c.name) { waiters = (object s c.name).waiters ++ proc ∷ [] })) proc (record (process s proc) { run = Waiting c.name }))
     ])) (λ c g. by c (nat_lt 0 (object s c.name).count))
