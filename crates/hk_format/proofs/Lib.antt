@@ -17,3 +17,7 @@ pub mod ItemsLoaded
 pub mod WorldLoaded
 pub mod WorldValid
 pub mod HeadsApart
+pub mod StepCalls
+pub mod ExactForms
+pub mod ExactReaders
+pub mod ExactItems
