@@ -25,7 +25,7 @@ use Rattle.hk_model.specs.declared.world.Kind.{Kind}
 use Rattle.hk_model.specs.declared.world.Kind.TheVariants as kind
 use Rattle.hk_model.specs.declared.world.Task.{Task}
 use Rattle.hk_model.specs.Limits.{usual_limit, line_bytes}
-use Rattle.hk_model.specs.Setup.{Setup}
+use Rattle.hk_model.specs.WorldValue.{WorldValue}
 use Rattle.hk_format.specs.RightsTexts.{rights_text}
 use Rattle.hk_format.specs.Names.{Names, spoken, object_text, code_text}
 use Rattle.hk_format.specs.EntryTexts.{kind_spelled, entry_spelled, param_spelled}
@@ -169,7 +169,7 @@ abbrev pub limit_items : ℕ → List Item
 limit_items n = if n == usual_limit then [] else item (LimitIs n) [] ∷ []
 
 -- the items of a world: its limit, its objects, its codes, its processes, each in the order of their numbers
-abbrev pub syntax_of : Setup → List Item
+abbrev pub syntax_of : WorldValue → List Item
 syntax_of w =
     limit_items w.limit
     ++ (map (object_item (spoken w)) w.objects
@@ -177,5 +177,5 @@ syntax_of w =
     ++ map (task_item (spoken w)) w.tasks))
 
 -- the canonical script of a world
-unfoldable pub canon : Setup → List ℕ
+unfoldable pub canon : WorldValue → List ℕ
 canon w = spell_lines (script_lines (syntax_of w))

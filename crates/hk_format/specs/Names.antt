@@ -5,7 +5,7 @@ use Rattle.hk_model.specs.declared.world.Born.{Born}
 use Rattle.hk_model.specs.declared.world.Code.{Code}
 use Rattle.hk_model.specs.declared.world.Kind.{Kind}
 use Rattle.hk_model.specs.declared.world.Kind.TheVariants as kind
-use Rattle.hk_model.specs.Setup.{Setup}
+use Rattle.hk_model.specs.WorldValue.{WorldValue}
 
 -- the names of the kernel types, by their numbers
 abbrev pub kernel_names : List (List ℕ)
@@ -32,7 +32,7 @@ is_type_kind (kind.Semaphore count) = false
 is_type_kind (kind.Procedure code params entries) = false
 
 -- the labels of a world, the names of the kernel types before those of the objects
-abbrev pub spoken : Setup → Names
+abbrev pub spoken : WorldValue → Names
 spoken w = record {
   objects = kernel_names ++ map (λ (b : Born). b.label) w.objects;
   types = kernel_flags ++ map (λ (b : Born). is_type_kind b.kind) w.objects;
