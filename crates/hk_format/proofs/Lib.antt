@@ -21,3 +21,4 @@ pub mod StepCalls
 pub mod ExactForms
 pub mod ExactReaders
 pub mod ExactItems
+pub mod GeneratedTexts
