@@ -2,7 +2,7 @@
 
 ghost use Rattle.std.specs.Prelude.{◌≡◌, ◌+◌, ◌≤◌, ◌++◌, [], length, OnOk};
 ghost use Rattle.hk_format.specs.Loading.{used, contents, contents_of};
-ghost use Rattle.hk_load.specs.Outcomes.{Becomes, Loads};
+ghost use Rattle.hk_format.specs.Outcomes.{Becomes, GivesAll};
 ghost use Rattle.hk_load.specs.Filling.{contents_seen, room_seen, words_added, param_added, entry_added, added};
 
 use crate::errors::{LineError, LoadError};
@@ -50,7 +50,7 @@ impl Contents {
         parts: &[Part],
     ) -> Result<Contents, LoadError>
         requires { room.entries ≤ 256 }
-        ensures { Loads contents_seen result (contents_of declared.now (room_seen room) (used 0 0 0) parts.now) }
+        ensures { GivesAll contents_seen result (contents_of declared.now (room_seen room) (used 0 0 0) parts.now) }
     {
         let mut contents = Contents::new(alloc);
         for part in parts {

@@ -5,8 +5,9 @@ ghost use Rattle.hk_format.specs.declared.syntax.Head.TheVariants.{ObjectIs, Pro
 ghost use Rattle.hk_model.specs.declared.world.Kind.TheVariants as kind;
 ghost use Rattle.hk_model.specs.Limits.{process_limit};
 ghost use Rattle.hk_model.specs.WorldValue.{IsWorld};
-ghost use Rattle.hk_format.specs.Loading.{Names, at_line, limited, object_fits, code_named, plain_type};
-ghost use Rattle.hk_load.specs.Outcomes.{Gives, Loads, Grows};
+ghost use Rattle.hk_format.specs.Names.{Names};
+ghost use Rattle.hk_format.specs.Loading.{at_line, limited, object_fits, code_named, plain_type};
+ghost use Rattle.hk_format.specs.Outcomes.{Gives, GivesAll, BecomesAll};
 ghost use Rattle.hk_load.specs.Jumping.{HasNewLabels};
 ghost use Rattle.hk_load.specs.Building.{built, built_of, finished, counts_of, with_limit, with_born, with_task, single_added, added};
 
@@ -51,7 +52,7 @@ impl Loaded {
     /// WrongPart, then TooMany.
     pub fn add(&mut self, alloc: Global, declared: &Declared, item: &Item) -> Result<(), LoadError>
         requires { HasNewLabels [] item.now.parts }
-        ensures { Grows result (built_of self.new) (added declared.now (built_of self.old) item.now.line item.now.parts item.now.head) }
+        ensures { BecomesAll result (built_of self.new) (added declared.now (built_of self.old) item.now.line item.now.parts item.now.head) }
     {
         match &item.head {
             Head::LimitIs(limit) => {
@@ -88,7 +89,7 @@ impl Loaded {
         name: &Text,
         kind: Kind,
     ) -> Result<(), LoadError>
-        ensures { Grows result (built_of self.new) (single_added (built_of self.old) line name.now kind) }
+        ensures { BecomesAll result (built_of self.new) (single_added (built_of self.old) line name.now kind) }
     {
         if self.objects.len() >= 65_529 {
             let cause = LoadCause::TooMany;
@@ -106,7 +107,7 @@ impl Loaded {
         name: &Text,
         of: &Text,
     ) -> Result<(), LoadError>
-        ensures { Grows result (built_of self.new) (added declared.now (built_of self.old) item.now.line item.now.parts (ObjectIs name.now of.now)) }
+        ensures { BecomesAll result (built_of self.new) (added declared.now (built_of self.old) item.now.line item.now.parts (ObjectIs name.now of.now)) }
     {
         let of = self.object_type(declared, item.line, of)?;
         let room = Room {
@@ -126,7 +127,7 @@ impl Loaded {
         name: &Text,
         code: &Text,
     ) -> Result<(), LoadError>
-        ensures { Grows result (built_of self.new) (added declared.now (built_of self.old) item.now.line item.now.parts (ProcedureIs name.now code.now)) }
+        ensures { BecomesAll result (built_of self.new) (added declared.now (built_of self.old) item.now.line item.now.parts (ProcedureIs name.now code.now)) }
     {
         let code = self.procedure_code(declared, item.line, code)?;
         let room = Room {
@@ -140,7 +141,7 @@ impl Loaded {
     /// Adds a code.
     fn add_code(&mut self, alloc: Global, item: &Item, name: &Text) -> Result<(), LoadError>
         requires { HasNewLabels [] item.now.parts }
-        ensures { (names : Names) → Grows result (built_of self.new) (added names (built_of self.old) item.now.line item.now.parts (CodeIs name.now)) }
+        ensures { (names : Names) → BecomesAll result (built_of self.new) (added names (built_of self.old) item.now.line item.now.parts (CodeIs name.now)) }
     {
         if self.codes.len() >= 4096 {
             let cause = LoadCause::TooMany;
@@ -164,7 +165,7 @@ impl Loaded {
         name: &Text,
         code: &Text,
     ) -> Result<(), LoadError>
-        ensures { Grows result (built_of self.new) (added declared.now (built_of self.old) item.now.line item.now.parts (ProcessIs name.now code.now)) }
+        ensures { BecomesAll result (built_of self.new) (added declared.now (built_of self.old) item.now.line item.now.parts (ProcessIs name.now code.now)) }
     {
         let code = self.task_code(declared, item.line, code)?;
         let room = Room {
@@ -177,7 +178,7 @@ impl Loaded {
 
     /// The type of an object, or the cause of its line.
     fn object_type(&self, declared: &Declared, line: u32, of: &Text) -> Result<Name, LoadError>
-        ensures { Loads (λ n. n.0) result (at_line line (limited (object_fits (counts_of (built_of self.now))) (plain_type declared.now of.now))) }
+        ensures { GivesAll (λ n. n.0) result (at_line line (limited (object_fits (counts_of (built_of self.now))) (plain_type declared.now of.now))) }
     {
         match plain_type(declared, of) {
             Ok(of) => {
@@ -194,7 +195,7 @@ impl Loaded {
 
     /// The code of a procedure, or the cause of its line.
     fn procedure_code(&self, declared: &Declared, line: u32, code: &Text) -> Result<u16, LoadError>
-        ensures { Loads (λ n. n) result (at_line line (limited (object_fits (counts_of (built_of self.now))) (code_named declared.now code.now))) }
+        ensures { GivesAll (λ n. n) result (at_line line (limited (object_fits (counts_of (built_of self.now))) (code_named declared.now code.now))) }
     {
         match declared.code(code) {
             Ok(code) => {
@@ -211,7 +212,7 @@ impl Loaded {
 
     /// The code of a process, or the cause of its line.
     fn task_code(&self, declared: &Declared, line: u32, code: &Text) -> Result<u16, LoadError>
-        ensures { Loads (λ n. n) result (at_line line (limited (nat_lt (length self.now.tasks) process_limit) (code_named declared.now code.now))) }
+        ensures { GivesAll (λ n. n) result (at_line line (limited (nat_lt (length self.now.tasks) process_limit) (code_named declared.now code.now))) }
     {
         match declared.code(code) {
             Ok(code) => {
@@ -228,7 +229,7 @@ impl Loaded {
 
     /// Puts an object at the end.
     fn push_object(&mut self, alloc: Global, name: &Text, kind: Kind) -> Result<(), LoadError>
-        ensures { Grows result (built_of self.new) (Ok (with_born (built_of self.old) name.now kind)) }
+        ensures { BecomesAll result (built_of self.new) (Ok (with_born (built_of self.old) name.now kind)) }
     {
         let _ = PhantomData::<(Entry, Template)>;
         let label = name.copy(alloc)?;
@@ -244,7 +245,7 @@ impl Loaded {
         code: u16,
         contents: Contents,
     ) -> Result<(), LoadError>
-        ensures { Grows result (built_of self.new) (Ok (with_task (built_of self.old) name.now code contents.entries)) }
+        ensures { BecomesAll result (built_of self.new) (Ok (with_task (built_of self.old) name.now code contents.entries)) }
     {
         let _ = PhantomData::<(Entry, Template)>;
         let label = name.copy(alloc)?;

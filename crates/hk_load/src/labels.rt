@@ -3,7 +3,7 @@
 ghost use Rattle.std.specs.Prelude.{◌≡◌, ◌++◌, ◌∷◌, [], false, length, map, IfOk, OnOk};
 ghost use Rattle.hk_format.specs.Grammar.{is_among};
 ghost use Rattle.hk_format.specs.Loading.{labels_from, target};
-ghost use Rattle.hk_load.specs.Outcomes.{Gives};
+ghost use Rattle.hk_format.specs.Outcomes.{Gives};
 ghost use Rattle.hk_load.specs.Jumping.{label_at, label_texts, HasNewLabels};
 
 use crate::errors::LineError;

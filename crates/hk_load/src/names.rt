@@ -5,7 +5,7 @@ ghost use Rattle.hk_format.specs.declared.syntax.Item.{Item};
 ghost use Rattle.hk_format.specs.Syntax.{IsSyntax};
 ghost use Rattle.hk_format.specs.Loading.{names_of, object_named, type_named, kind_named, code_named};
 ghost use Rattle.hk_format.specs.Grammar.{is_among};
-ghost use Rattle.hk_load.specs.Outcomes.{Gives};
+ghost use Rattle.hk_format.specs.Outcomes.{Gives};
 ghost use Rattle.hk_load.specs.Naming.{IsNewHead, with_head, with_object, with_code, kernel_declared};
 
 use crate::errors::LineError;
@@ -25,7 +25,7 @@ pub struct Declared {
 }
 
 impl Model for Declared {
-    ghost use Rattle.hk_format.specs.Loading.{Names};
+    ghost use Rattle.hk_format.specs.Names.{Names};
     ghost use Rattle.hk_load.specs.Naming.{names_seen};
 
     ghost Value = { Names };

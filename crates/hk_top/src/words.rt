@@ -4,8 +4,8 @@ ghost use Rattle.std.specs.Prelude.{◌≡◌, [], ◌∷◌, IfSome, IfNone, ma
 ghost use Rattle.std.specs.Fmt.{decimal};
 ghost use Rattle.hk_top.specs.Words.{Calls, MayRun, IsNoNumber};
 
-use hk_audit::numeral;
 use hk_model::limits::CPU_LIMIT;
+use hk_text::numeral;
 
 /// What the program can do.
 #[derive(Clone, Copy, PartialEq, Eq, Debug)]

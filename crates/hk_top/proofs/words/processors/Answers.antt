@@ -1,6 +1,6 @@
 use Rattle.std.proofs.Common.{arith, ap, sym, ◌∙◌, ◌≡◌, Some, None}
-use Rattle.hk_audit.specs.Seen.{numeral_of}
-use Rattle.hk_audit.proofs.SeenFits.{numeral_is}
+use Rattle.hk_text.specs.Numerals.{numeral_of}
+use Rattle.hk_text.proofs.NumeralTexts.{numeral_is}
 use Rattle.hk_top.proofs.WordLemmas.{none_spelled, other_spelled, from_none}
 use Rattle.hk_top.proofs.words.processors.Goals as goal
 use Rattle.hk_top.proofs.words.processors.Goals.{then-cpus-lt1-via-then-cpus-lt1, then-cpus-lt1-via-else-cpus-lt1+then-cpus-gt16}
