@@ -17,7 +17,7 @@ use Rattle.hk_model.specs.declared.entries.Entry.{Entry}
 use Rattle.hk_model.specs.declared.entries.Entry.TheVariants.{Empty, Held, Form}
 use Rattle.hk_model.specs.declared.calls.Call.{Call}
 use Rattle.hk_rights.specs.Rights.{has, all_rights, all_but, special_rights, LOAD, COPY, MODIFY, ENV, A0, load_right, copy_right, modify_right, env_right, unconf_right, a0_right}
-use Rattle.hk_model.specs.Setup.{Setup, IsObject}
+use Rattle.hk_model.specs.WorldValue.{WorldValue, IsObject}
 use Rattle.hk_model.specs.Opening.{opening}
 use Rattle.hk_model.specs.State.{State, object, incarnation}
 use Rattle.hk_model.specs.Refusing.{◌>>=◌, allowed, item_at}
@@ -87,17 +87,17 @@ other_right n h s = by (has other_rights n) (has-bit_or special_rights other_rig
 -- ---- bounds
 
 -- some template that follows asks for no more, and gives no less
-pub record IsKnown (w : Setup) (h : Holder) (type : Name) (check give : ℕ) : Type 0 where
+pub record IsKnown (w : WorldValue) (h : Holder) (type : Name) (check give : ℕ) : Type 0 where
   pub asks : ℕ
   pub gives : ℕ
   pub follows : Follows w (Amplifies h type asks gives)
   pub asked : (n : ℕ) → IsTrue (has all_rights n) → IsTrue (has asks n) → IsTrue (has check n)
   pub given : (n : ℕ) → IsTrue (has all_rights n) → IsTrue (has give n) → IsTrue (has gives n)
 
-known_up : (w : Setup) (h g : Holder) (type : Name) (check give : ℕ) → ((asks gives : ℕ) → Follows w (Amplifies h type asks gives) → Follows w (Amplifies g type asks gives)) → IsKnown w h type check give → IsKnown w g type check give
+known_up : (w : WorldValue) (h g : Holder) (type : Name) (check give : ℕ) → ((asks gives : ℕ) → Follows w (Amplifies h type asks gives) → Follows w (Amplifies g type asks gives)) → IsKnown w h type check give → IsKnown w g type check give
 known_up w h g type check give f k = record { asks = k.asks; gives = k.gives; follows = f k.asks k.gives k.follows; asked = k.asked; given = k.given }
 
-module _ (w : Setup) (own : Name → Proc) where
+module _ (w : WorldValue) (own : Name → Proc) where
   -- what an object counts as: itself, or what its maker makes
   abbrev pub thing : Name → Thing
   thing name = cond (nat_lt name.0 (kernel_types + length w.objects)) (Old name) (MadeBy (own name))

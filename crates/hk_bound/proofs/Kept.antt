@@ -17,7 +17,7 @@ use Rattle.hk_model.specs.declared.lines.Line.{Line}
 use Rattle.hk_model.specs.declared.objects.Incarnation.{Incarnation}
 use Rattle.hk_rights.specs.Rights.{has, all_rights}
 use Rattle.hk_model.specs.Effects.{IsSameKind}
-use Rattle.hk_model.specs.Setup.{Setup, IsObject}
+use Rattle.hk_model.specs.WorldValue.{WorldValue, IsObject}
 use Rattle.hk_model.specs.Opening.{opening}
 use Rattle.hk_model.specs.State.{State, object, incarnation, same_inc, no_incarnation}
 use Rattle.hk_model.specs.Targets.{PROCEDURE, kernel_types, is_type}
@@ -44,7 +44,7 @@ use Rattle.hk_model.specs.Keeping.{is_opening}
 use Rattle.std.proofs.lemmas.Bool.{true≢false}
 use Rattle.hk_bound.proofs.Bounded.{thing, thing_made, Bounds, slot_bounds, list_bounds, in_bound}
 
-pub record Kept (w : Setup) (own : Name → Proc) (s : State) : Type 0 where
+pub record Kept (w : WorldValue) (own : Name → Proc) (s : State) : Type 0 where
   pub slots : (i : Inc) (n : ℕ) (x : Activation) → look_up i (activations_in s.incarnations) ≡ Some x → Bounds w own (Slots x.proc) (standing s (SlotOf i n))
   pub lists : (name : Name) (n : ℕ) → Bounds w own (ListOf (thing w own name)) (standing s (EntryOf name n))
   pub procs : (i : Inc) (x : Activation) → look_up i (activations_in s.incarnations) ≡ Some x → x.proc.0 < length w.tasks
@@ -60,7 +60,7 @@ pub record Kept (w : Setup) (own : Name → Proc) (s : State) : Type 0 where
 abbrev pub next_own : State → Proc → (Name → Proc) → Name → Proc
 next_own s p own name = cond (nat_lt name.0 s.next_name.0) (own name) p
 
-module _ (w : Setup) (s : State) (p : Proc) (own : Name → Proc) where
+module _ (w : WorldValue) (s : State) (p : Proc) (own : Name → Proc) where
   same_thing : (name : Name) → name.0 < s.next_name.0 → thing w (next_own s p own) name ≡ thing w own name
   same_thing name h = let e : nat_lt name.0 s.next_name.0 ≡ true = grind (arith, nat_tests) in rw e refl
 
@@ -119,7 +119,7 @@ some_same e = cc
 
 -- ---- one line
 
-module _ (w : Setup) (own : Name → Proc) (s : State) (line : Line) (t : State) (kept : Kept w own s) (sound : Sound s) (typed : (name : Name) → IsObject w (type_of w name)) (shown : ShownIf s line.inc (done_call line)) where
+module _ (w : WorldValue) (own : Name → Proc) (s : State) (line : Line) (t : State) (kept : Kept w own s) (sound : Sound s) (typed : (name : Name) → IsObject w (type_of w name)) (shown : ShownIf s line.inc (done_call line)) where
   -- the slots of an incarnation that is of this process where it lives
   slots_of : (i : Inc) (n : ℕ) (q : Proc) → ((x : Activation) → look_up i (activations_in s.incarnations) ≡ Some x → x.proc ≡ q) → Bounds w own (Slots q) (standing s (SlotOf i n))
   slots_of i n q h = by (lookup (same_inc i) s.incarnations) refl
