@@ -20,8 +20,10 @@ use Rattle.hk_model.specs.declared.objects.ProcessState.TheVariants.{Waiting}
 use Rattle.hk_rights.specs.Rights.{GETDATA, COPY, A0}
 use Rattle.hk_model.specs.State.{State, object, process, put_object, put_process}
 use Rattle.hk_model.specs.Walking.{walk}
-use Rattle.hk_model.specs.Targets.{TYPE, SEMAPHORE, PROCEDURE, is_general, is_listed, is_of_type, PUTDATA+MODIFY, ADDDATA+MODIFY, STORE+MODIFY, APPEND+MODIFY, KILL+MODIFY, MODIFY+A0, MODIFY+A1, ENV+A0, target, amplify_form, create_form}
-use Rattle.hk_model.specs.Rule.{Outcome, outcome, settled, token_given, get_word, word_count, put_word, add_word, store_entry, append_entry, erase_entry, make_template, create_object, merge_cap, copy_object, enter_procedure, take_token, give_token}
+use Rattle.hk_model.specs.Targets.{TYPE, SEMAPHORE, PROCEDURE, is_general, is_listed, is_of_type, PUTDATA+MODIFY, ADDDATA+MODIFY, STORE+MODIFY, APPEND+MODIFY, KILL+MODIFY}
+use Rattle.hk_model.specs.Targets.{MODIFY+A0, MODIFY+A1, ENV+A0, target, amplify_form, create_form}
+use Rattle.hk_model.specs.Rule.{Outcome, outcome, settled, token_given, get_word, word_count, put_word, add_word, store_entry, append_entry, erase_entry, make_template}
+use Rattle.hk_model.specs.Rule.{create_object, merge_cap, copy_object, enter_procedure, take_token, give_token}
 use Rattle.hk_model.specs.Lines.{done_by, done_call}
 use Rattle.hk_model.proofs.TestLemmas.{then_is, and_is, ok_each, amplify_form_is, create_form_is}
 use Rattle.hk_model.proofs.WalkLemmas.{IsTarget, target_is}
@@ -70,7 +72,8 @@ shows s inc path types rights cap h = record { cap = cap; is = target_is s inc p
 forms : (s : State) (inc : Inc) (path : List ℕ) (entry : Entry) (form : Param) (step : ℕ) → walk s inc path ≡ Ok entry → amplify_form entry step ≡ Ok form → HasForm s inc path
 forms s inc path entry form step h g = record { form = form; leads = h ∙ ap Ok (amplify_form_is entry step form g) }
 
-creates : (s : State) (inc : Inc) (path : List ℕ) (entry : Entry) (form : Name × ℕ) (step : ℕ) → walk s inc path ≡ Ok entry → create_form entry step ≡ Ok form → HasCreate s inc path
+creates : (s : State) (inc : Inc) (path : List ℕ) (entry : Entry) (form : Name × ℕ) (step : ℕ) → walk s inc path ≡ Ok entry → create_form entry step ≡ Ok form
+    → HasCreate s inc path
 creates s inc path entry form step h g = record { of = form.0; give = form.1; leads = h ∙ ap Ok (create_form_is entry step form g) }
 
 -- every call

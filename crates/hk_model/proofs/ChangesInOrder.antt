@@ -90,14 +90,16 @@ abbrev ChangesSoFar : State → List BareChange → Type 0
 ChangesSoFar s xs = AreInOrder xs × All (λ (x : BareChange). x.moment < s.events) xs
 
 later_than : (moment : ℕ) (name : Name) (bs : List Beginning) (x : BareChange) → x.moment < moment → All (IsBefore x) (map (change_at moment name) bs)
-later_than moment name bs x h = all_map (IsBefore x) (change_at moment name) bs (all_more (λ (b : Beginning). Unit {0}) (λ b. IsBefore x (change_at moment name b)) (λ b u. inl h) bs (any bs))
+later_than moment name bs x h =
+    all_map (IsBefore x) (change_at moment name) bs (all_more (λ (b : Beginning). Unit {0}) (λ b. IsBefore x (change_at moment name b)) (λ b u. inl h) bs (any bs))
   where
     any : (cs : List Beginning) → All (λ (b : Beginning). Unit {0}) cs
     any [] = tt
     any (c ∷ cs) = (tt, any cs)
 
 module _ (w : WorldValue) (lines : List Line) (calls : List Beginning) (rising : Rising calls) where
-  changes_line : (s : State) (line : Line) (t : State) → t.events ≡ s.events + 1 → (xs : List BareChange) → ChangesSoFar s xs → ChangesSoFar t (bare_changes_by w lines calls s line t xs)
+  changes_line : (s : State) (line : Line) (t : State) → t.events ≡ s.events + 1 → (xs : List BareChange) → ChangesSoFar s xs
+      → ChangesSoFar t (bare_changes_by w lines calls s line t xs)
   changes_line s line t next xs h = by (changed s line)
     where
       new : List Beginning
@@ -106,7 +108,8 @@ module _ (w : WorldValue) (lines : List Line) (calls : List Beginning) (rising :
       more : All (λ (x : BareChange). x.moment < t.events) xs
       more = all_more (λ (x : BareChange). x.moment < s.events) (λ x. x.moment < t.events) (λ x g. omega (arith, g, next)) xs h.1
 
-      by : (o : Option Name) → ChangesSoFar t (elim o [ None ↦ xs | Some name ↦ xs ++ map (λ b. record { moment = s.events; under = b; object = name }) (calls_over w lines calls line) ])
+      by : (o : Option Name)
+          → ChangesSoFar t (elim o [ None ↦ xs | Some name ↦ xs ++ map (λ b. record { moment = s.events; under = b; object = name }) (calls_over w lines calls line) ])
       by None = (h.0, more)
       by (Some name) = (
         in_order_append xs (map (change_at s.events name) new) h.0 (one_line s.events name new (rising_filter (λ (b : Beginning). is_under w lines b.moment b.call line.inc) calls rising))

@@ -35,7 +35,9 @@ use Rattle.hk_model.specs.Refusing.{◌>>=◌, ◌>>◌, unless, allowed, item_a
 use Rattle.hk_model.specs.Walking.{walk, walk_on, hop_on, held, obtained}
 use Rattle.hk_model.specs.Merging.{merged, merged_arg, merged_all, inherited, call_slots, name_space}
 use Rattle.hk_model.specs.Targets.{TYPE, SEMAPHORE, is_general, is_of_type, MODIFY+A0, MODIFY+A1, ENV+A0, slot_at, storable, not_empty, target, create_form}
-use Rattle.hk_model.specs.Rule.{outcome, room_made, add_beside, made_form, plain_object, copied, argument, called_incarnation, enter, returned_cap, leave_to, token_given, yielded, counted, get_word, put_word, add_word, word_count, load_entry, store_entry, append_entry, erase_entry, drop_slot, restrict_slot, look, make_template, create_object, merge_cap, copy_object, enter_procedure, leave, take_token, give_token}
+use Rattle.hk_model.specs.Rule.{outcome, room_made, add_beside, made_form, plain_object, copied, argument, called_incarnation, enter, returned_cap, leave_to, token_given, yielded}
+use Rattle.hk_model.specs.Rule.{counted, get_word, put_word, add_word, word_count, load_entry, store_entry, append_entry, erase_entry, drop_slot, restrict_slot, look}
+use Rattle.hk_model.specs.Rule.{make_template, create_object, merge_cap, copy_object, enter_procedure, leave, take_token, give_token}
 use Rattle.hk_model.specs.Processors.{ended}
 use Rattle.hk_model.specs.Places.{SlotOf, EntryOf, standing, walk_end}
 use Rattle.hk_model.specs.Descent.{Reduces}
@@ -45,7 +47,9 @@ use Rattle.hk_model.proofs.WalkLemmas.{walk_reduces, target_is, obtained_reduces
 use Rattle.hk_model.proofs.MergeLemmas.{merged_is}
 use Rattle.hk_model.proofs.CallWays.{room_vanish, space_is}
 use Rattle.hk_model.proofs.Steps.{EachStep, settled_keeps}
-use Rattle.hk_model.proofs.NamesStand.{All, all_more, all_append, all_map, all_replicate, all_set, InEntry, InList, Within, list_in, standing_in, type_in, run_in, put_slot_in, put_object_in, add_object_in, put_process_in, enter_in, left_in, ended_in, NamedStand, Stands, named_within, within_named, stands_put, stands_added, stands_new, vanish_named}
+use Rattle.hk_model.proofs.NamesStand.{All, all_more, all_append, all_map, all_replicate, all_set, InEntry, InList, Within, list_in, standing_in, type_in, run_in, put_slot_in}
+use Rattle.hk_model.proofs.NamesStand.{put_object_in, add_object_in, put_process_in, enter_in, left_in, ended_in, NamedStand, Stands, named_within, within_named, stands_put}
+use Rattle.hk_model.proofs.NamesStand.{stands_added, stands_new, vanish_named}
 
 -- a reduction names nothing else
 reduced_in : (R : Name → Type 0) (from x : Entry) → Reduces from x → InEntry R from → InEntry R x
@@ -91,7 +95,8 @@ module _ (s : State) (objects : List (Name × Object)) (v : Vanish s objects) (h
           none (Some x) e k = absurd (cc)
 
   hop_same : (cap : Cap) (at step : ℕ) → Stands left cap.name → hop_on left (Held cap) at step ≡ hop_on s (Held cap) at step
-  hop_same cap at step there = ap (λ (o : Object). allowed cap.rights LOAD step >> (item_at o.entries at (step + 1) >>= (λ next. obtained cap.rights next step))) (object_same cap.name there)
+  hop_same cap at step there =
+      ap (λ (o : Object). allowed cap.rights LOAD step >> (item_at o.entries at (step + 1) >>= (λ next. obtained cap.rights next step))) (object_same cap.name there)
 
   walk_on_same : (entry : Entry) (path : List ℕ) (step : ℕ) → InEntry (Stands left) entry → walk_on left entry path step ≡ walk_on s entry path step
   walk_on_same entry [] step g = refl
@@ -101,7 +106,8 @@ module _ (s : State) (objects : List (Name × Object)) (v : Vanish s objects) (h
       by (λ next k. walk_on_same next rest (step + 1) k) (hop_on left (Held cap) at step) (hop_in (Stands left) left cap at step (named_within left h))
       ∙ ap (λ (r : Result Entry Refusal). r >>= (λ next. walk_on s next rest (step + 1))) (hop_same cap at step g.0)
     where
-      by : ((next : Entry) → InEntry (Stands left) next → walk_on left next rest (step + 1) ≡ walk_on s next rest (step + 1)) → (r : Result Entry Refusal) → IfOk r (InEntry (Stands left))
+      by : ((next : Entry) → InEntry (Stands left) next → walk_on left next rest (step + 1) ≡ walk_on s next rest (step + 1)) → (r : Result Entry Refusal)
+          → IfOk r (InEntry (Stands left))
           → (r >>= (λ next. walk_on left next rest (step + 1))) ≡ (r >>= (λ next. walk_on s next rest (step + 1)))
       by later (Ok next) k = later next k
       by later (Err e) k = refl
@@ -150,44 +156,52 @@ module _ (s : State) (inc : Inc) (h : NamedStand s) where
   held_names : (from step : ℕ) (c : Cap) → held (slice_index_or (incarnation s inc).slots from Empty) step ≡ Ok c → Stands s c.name
   held_names from step c e = (subst Names (held_is (slice_index_or (incarnation s inc).slots from Empty) step c e) (slot_names from)).0
 
-  lessened_named : (from n step keep : ℕ) (c : Cap) → held (slice_index_or (incarnation s inc).slots from Empty) step ≡ Ok c → NamedStand (put_slot s inc n (Held (record c { rights = bit_and c.rights keep })))
+  lessened_named : (from n step keep : ℕ) (c : Cap) → held (slice_index_or (incarnation s inc).slots from Empty) step ≡ Ok c
+      → NamedStand (put_slot s inc n (Held (record c { rights = bit_and c.rights keep })))
   lessened_named from n step keep c e = slot_named n (Held (record c { rights = bit_and c.rights keep })) (held_names from step c e, tt)
 
   form_names : (kind : Making) (of : Name) → Stands s of → Names (Form (made_form kind of))
   form_names (making.Amplify check give) of g = (g, tt)
   form_names (making.Create give) of g = (g, tt)
 
-  formed_named : (path : List ℕ) (n : ℕ) (kind : Making) (c : Cap) → target s inc path (is_of_type TYPE) ENV+A0 ≡ Ok c → NamedStand (put_slot s inc n (Form (made_form kind c.name)))
+  formed_named : (path : List ℕ) (n : ℕ) (kind : Making) (c : Cap) → target s inc path (is_of_type TYPE) ENV+A0 ≡ Ok c
+      → NamedStand (put_slot s inc n (Form (made_form kind c.name)))
   formed_named path n kind c t = slot_named n (Form (made_form kind c.name)) (form_names kind c.name (target_stands path (is_of_type TYPE) ENV+A0 c t))
 
-  merged_named : (from n a b : ℕ) (form : Param) (c new : Cap) → held (slice_index_or (incarnation s inc).slots from Empty) a ≡ Ok c → merged c (object s c.name).of form b ≡ Ok new → NamedStand (put_slot s inc n (Held new))
+  merged_named : (from n a b : ℕ) (form : Param) (c new : Cap) → held (slice_index_or (incarnation s inc).slots from Empty) a ≡ Ok c → merged c (object s c.name).of form b ≡ Ok new
+      → NamedStand (put_slot s inc n (Held new))
   merged_named from n a b form c new e m = slot_named n (Held new) (subst (Stands s) (sym (merged_is c (object s c.name).of form b new m).same) (held_names from a c e), tt)
 
   -- an object is changed, which keeps its type
-  changed_named : (path : List ℕ) (types : Name → Bool) (rights : ℕ) (c : Cap) (o : Object) → target s inc path types rights ≡ Ok c → o.of ≡ (object s c.name).of → InList (Stands s) o.entries → NamedStand (put_object s c.name o)
+  changed_named : (path : List ℕ) (types : Name → Bool) (rights : ℕ) (c : Cap) (o : Object) → target s inc path types rights ≡ Ok c → o.of ≡ (object s c.name).of
+      → InList (Stands s) o.entries → NamedStand (put_object s c.name o)
   changed_named path types rights c o t same list =
       within_named s (put_object s c.name o) (stands_put s c.name o) (put_object_in (Stands s) s c.name o within (subst (Stands s) (sym same) (type_in (Stands s) s within c.name (target_stands path types rights c t)), list))
 
   own_list : (name : Name) → InList (Stands s) (object s name).entries
   own_list name = list_in (Stands s) s within name
 
-  words_named : (path : List ℕ) (types : Name → Bool) (rights : ℕ) (c : Cap) (words : List ℕ) → target s inc path types rights ≡ Ok c → NamedStand (put_object s c.name (record (object s c.name) { words = words }))
+  words_named : (path : List ℕ) (types : Name → Bool) (rights : ℕ) (c : Cap) (words : List ℕ) → target s inc path types rights ≡ Ok c
+      → NamedStand (put_object s c.name (record (object s c.name) { words = words }))
   words_named path types rights c words t = changed_named path types rights c (record (object s c.name) { words = words }) t refl (own_list c.name)
 
   storable_names : (from step : ℕ) (entry : Entry) → storable (slice_index_or (incarnation s inc).slots from Empty) step ≡ Ok entry → Names entry
   storable_names from step entry e = subst Names (sym (storable_is (slice_index_or (incarnation s inc).slots from Empty) entry step e)) (slot_names from)
 
-  stored_named : (path : List ℕ) (types : Name → Bool) (rights at from step : ℕ) (c : Cap) (entry : Entry) → target s inc path types rights ≡ Ok c → storable (slice_index_or (incarnation s inc).slots from Empty) step ≡ Ok entry
+  stored_named : (path : List ℕ) (types : Name → Bool) (rights at from step : ℕ) (c : Cap) (entry : Entry) → target s inc path types rights ≡ Ok c
+      → storable (slice_index_or (incarnation s inc).slots from Empty) step ≡ Ok entry
       → NamedStand (put_object s c.name (record (object s c.name) { entries = slice_set (object s c.name).entries at entry }))
   stored_named path types rights at from step c entry t e =
       changed_named path types rights c (record (object s c.name) { entries = slice_set (object s c.name).entries at entry }) t refl (all_set Names (object s c.name).entries at entry (own_list c.name) (storable_names from step entry e))
 
-  appended_named : (path : List ℕ) (types : Name → Bool) (rights from step : ℕ) (c : Cap) (entry : Entry) → target s inc path types rights ≡ Ok c → storable (slice_index_or (incarnation s inc).slots from Empty) step ≡ Ok entry
+  appended_named : (path : List ℕ) (types : Name → Bool) (rights from step : ℕ) (c : Cap) (entry : Entry) → target s inc path types rights ≡ Ok c
+      → storable (slice_index_or (incarnation s inc).slots from Empty) step ≡ Ok entry
       → NamedStand (put_object s c.name (record (object s c.name) { entries = (object s c.name).entries ++ entry ∷ [] }))
   appended_named path types rights from step c entry t e =
       changed_named path types rights c (record (object s c.name) { entries = (object s c.name).entries ++ entry ∷ [] }) t refl (all_append Names (object s c.name).entries (entry ∷ []) (own_list c.name) (storable_names from step entry e, tt))
 
-  erased_named : (path : List ℕ) (types : Name → Bool) (rights at : ℕ) (c : Cap) → target s inc path types rights ≡ Ok c → NamedStand (put_object s c.name (record (object s c.name) { entries = slice_set (object s c.name).entries at Empty }))
+  erased_named : (path : List ℕ) (types : Name → Bool) (rights at : ℕ) (c : Cap) → target s inc path types rights ≡ Ok c
+      → NamedStand (put_object s c.name (record (object s c.name) { entries = slice_set (object s c.name).entries at Empty }))
   erased_named path types rights at c t =
       changed_named path types rights c (record (object s c.name) { entries = slice_set (object s c.name).entries at Empty }) t refl (all_set Names (object s c.name).entries at Empty (own_list c.name) tt)
 
@@ -202,7 +216,8 @@ module _ (s : State) (inc : Inc) (h : NamedStand s) where
     roomy_named : NamedStand roomy
     roomy_named = vanish_named s room gone h
 
-    made_named : (n : ℕ) (rights : ℕ) (o : Object) → Stands roomy o.of → InList (Stands roomy) o.entries → NamedStand (put_slot (add_object roomy o) inc n (Held (record { name = s.next_name; rights = rights })))
+    made_named : (n : ℕ) (rights : ℕ) (o : Object) → Stands roomy o.of → InList (Stands roomy) o.entries
+        → NamedStand (put_slot (add_object roomy o) inc n (Held (record { name = s.next_name; rights = rights })))
     made_named n rights o of list =
         let new : State = add_object roomy o in
         let after : NamedStand new = within_named roomy new (stands_added roomy o) (add_object_in (Stands roomy) roomy o (named_within roomy roomy_named) (of, list)) in
@@ -212,7 +227,8 @@ module _ (s : State) (inc : Inc) (h : NamedStand s) where
     created_named : (path : List ℕ) (n step : ℕ) (entry : Entry) (form : Name × ℕ) → walk s inc path ≡ Ok entry → create_form entry step ≡ Ok form
         → NamedStand (put_slot (add_beside s room (plain_object form.0 [] [])) inc n (Held (record { name = s.next_name; rights = form.1 })))
     created_named path n step entry form w f =
-        let names : InEntry (Stands roomy) (Form (template.Create form.0 form.1)) = subst (InEntry (Stands roomy)) (create_form_is entry step form f) (walk_left s room gone roomy_named inc path entry w) in
+        let names : InEntry (Stands roomy) (Form (template.Create form.0 form.1)) =
+        subst (InEntry (Stands roomy)) (create_form_is entry step form f) (walk_left s room gone roomy_named inc path entry w) in
         made_named n form.1 (plain_object form.0 [] []) names.0 tt
 
     copied_named : (path : List ℕ) (n : ℕ) (c : Cap) → target s inc path is_general COPY ≡ Ok c
@@ -242,7 +258,8 @@ module _ (s : State) (inc : Inc) (h : NamedStand s) where
   args_in (arg ∷ args) (param ∷ params) step =
       by (args_in args params (step + 1)) (merged_arg (argument s inc arg) param step) (arg_in (argument s inc arg) param step (slot_names arg))
     where
-      by : IfOk (merged_all (map (argument s inc) args) params (step + 1)) (All (λ (c : Cap). Stands s c.name)) → (first : Result Cap Refusal) → IfOk first (λ (new : Cap). Stands s new.name)
+      by : IfOk (merged_all (map (argument s inc) args) params (step + 1)) (All (λ (c : Cap). Stands s c.name)) → (first : Result Cap Refusal)
+          → IfOk first (λ (new : Cap). Stands s new.name)
           → IfOk (first >>= (λ new. merged_all (map (argument s inc) args) params (step + 1) >>= (λ others. Ok (new ∷ others)))) (All (λ (c : Cap). Stands s c.name))
       by later (Err e) k = tt
       by later (Ok new) k = then_is (All (λ (c : Cap). Stands s c.name)) (merged_all (map (argument s inc) args) params (step + 1)) (λ others. Ok (new ∷ others))
@@ -253,7 +270,8 @@ module _ (s : State) (inc : Inc) (h : NamedStand s) where
       → NamedStand (enter s (called_incarnation proc c.name inc into confined slots))
   entered_named proc path args into step c slots confined m =
       let space = space_is (map (argument s inc) args) (object s c.name).params (object s c.name).entries confined step slots m in
-      let caps : All (λ (c : Cap). Stands s c.name) space.caps = if_ok (All (λ (c : Cap). Stands s c.name)) (merged_all (map (argument s inc) args) (object s c.name).params step) space.caps (args_in args (object s c.name).params step) space.merges in
+      let caps : All (λ (c : Cap). Stands s c.name) space.caps =
+      if_ok (All (λ (c : Cap). Stands s c.name)) (merged_all (map (argument s inc) args) (object s c.name).params step) space.caps (args_in args (object s c.name).params step) space.merges in
       let rest : ℕ = slot_limit - (length space.caps + length (object s c.name).entries) in
       let all : InList (Stands s) (call_slots space.caps (object s c.name).entries confined) =
       all_append Names (map (λ (c : Cap). Held c) space.caps) (map (inherited confined) (object s c.name).entries ++ replicate rest Empty)
@@ -298,10 +316,12 @@ module _ (s : State) (inc : Inc) (h : NamedStand s) where
       returned_named proc (incarnation s inc).caller (incarnation s inc).into.0 c (if_ok IfHeld (returned_cap (incarnation s inc).slots give) c (given_in give) e))
 
   -- semaphores
-  count_named : (path : List ℕ) (types : Name → Bool) (rights count : ℕ) (c : Cap) → target s inc path types rights ≡ Ok c → NamedStand (put_object s c.name (record (object s c.name) { count = count }))
+  count_named : (path : List ℕ) (types : Name → Bool) (rights count : ℕ) (c : Cap) → target s inc path types rights ≡ Ok c
+      → NamedStand (put_object s c.name (record (object s c.name) { count = count }))
   count_named path types rights count c t = changed_named path types rights c (record (object s c.name) { count = count }) t refl (own_list c.name)
 
-  waiters_named : (path : List ℕ) (types : Name → Bool) (rights : ℕ) (waiters : List Proc) (c : Cap) → target s inc path types rights ≡ Ok c → NamedStand (put_object s c.name (record (object s c.name) { waiters = waiters }))
+  waiters_named : (path : List ℕ) (types : Name → Bool) (rights : ℕ) (waiters : List Proc) (c : Cap) → target s inc path types rights ≡ Ok c
+      → NamedStand (put_object s c.name (record (object s c.name) { waiters = waiters }))
   waiters_named path types rights waiters c t = changed_named path types rights c (record (object s c.name) { waiters = waiters }) t refl (own_list c.name)
 
   take_named : (proc : Proc) (path : List ℕ) → IfOk (take_token s proc inc path) (λ f. NamedStand f.1)
@@ -324,14 +344,17 @@ module _ (s : State) (inc : Inc) (h : NamedStand s) where
           within_named u (put_process u proc new) (λ m k. k)
           (put_process_in (Stands u) u proc new (named_within u (waiters_named path (is_of_type SEMAPHORE) MODIFY+A0 ((object s c.name).waiters ++ proc ∷ []) c t)) (stands_put s c.name o c.name (target_stands path (is_of_type SEMAPHORE) MODIFY+A0 c t), tt))
 
-  token_named : (path : List ℕ) (c : Cap) → target s inc path (is_of_type SEMAPHORE) MODIFY+A1 ≡ Ok c → (waiters : List Proc) → IfOk (token_given s c.name (object s c.name) waiters) (λ f. NamedStand f.1)
-  token_named path c t [] = and_is (λ f. NamedStand f.1) (unless (nat_lt (object s c.name).count token_limit) (refused.Full full.Tokens)) (Ok (Done, put_object s c.name (record (object s c.name) { count = (object s c.name).count + 1 })))
+  token_named : (path : List ℕ) (c : Cap) → target s inc path (is_of_type SEMAPHORE) MODIFY+A1 ≡ Ok c → (waiters : List Proc)
+      → IfOk (token_given s c.name (object s c.name) waiters) (λ f. NamedStand f.1)
+  token_named path c t [] =
+      and_is (λ f. NamedStand f.1) (unless (nat_lt (object s c.name).count token_limit) (refused.Full full.Tokens)) (Ok (Done, put_object s c.name (record (object s c.name) { count = (object s c.name).count + 1 })))
       (λ u g. count_named path (is_of_type SEMAPHORE) MODIFY+A1 ((object s c.name).count + 1) c t)
   token_named path c t (first ∷ rest) =
       let o = record (object s c.name) { waiters = rest } in
       let u : State = put_object s c.name o in
       let new = record (process s first) { run = Ready } in
-      let named = within_named u (put_process u first new) (λ m k. k) (put_process_in (Stands u) u first new (named_within u (waiters_named path (is_of_type SEMAPHORE) MODIFY+A1 rest c t)) tt) in
+      let named =
+      within_named u (put_process u first new) (λ m k. k) (put_process_in (Stands u) u first new (named_within u (waiters_named path (is_of_type SEMAPHORE) MODIFY+A1 rest c t)) tt) in
       record { each = named.each }
 
   yielded_named : (proc : Proc) → NamedStand (yielded s proc)

@@ -83,7 +83,8 @@ ready_name_nothing R n [] = tt
 ready_name_nothing R n (t ∷ ts) = (tt, ready_name_nothing R (n + 1) ts)
 
 -- each name of the world stands
-numbered_stand : (n : ℕ) (os : List Object) (name : Name) → n ≤ name.0 → name.0 < n + length os → is_some (lookup (same_name name) (numbered {A = Object} {B = Name} (λ k. record { 0 = k }) n os)) ≡ true
+numbered_stand : (n : ℕ) (os : List Object) (name : Name) → n ≤ name.0 → name.0 < n + length os
+    → is_some (lookup (same_name name) (numbered {A = Object} {B = Name} (λ k. record { 0 = k }) n os)) ≡ true
 numbered_stand n [] name l h = absurd (omega (arith, l, h))
 numbered_stand n (o ∷ os) name l h = by (same_name name (record { 0 = n })) refl (numbered_stand (n + 1) os name)
   where
@@ -119,7 +120,8 @@ opening_within w world = record {
     below a b h = grind (arith, nat_tests, h)
 
 pub opening_named : (w : WorldValue) → IsWorld w → NamedStand (opening w)
-opening_named w world = record { each = within_names (Stands (opening w)) (opening w) (within_more (OfWorld w) (Stands (opening w)) (world_stands w) (opening w) (opening_within w world)) }
+opening_named w world =
+    record { each = within_names (Stands (opening w)) (opening w) (within_more (OfWorld w) (Stands (opening w)) (world_stands w) (opening w) (opening_within w world)) }
 
 -- at every moment
 pub named_at : (w : WorldValue) (lines : List Line) (moment : ℕ) → IsWorld w → AreStepsOf w lines → NamedStand (state_at w lines moment)

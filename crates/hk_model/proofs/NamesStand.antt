@@ -18,7 +18,8 @@ use Rattle.hk_model.specs.declared.objects.Object.{Object}
 use Rattle.hk_model.specs.declared.objects.Incarnation.{Incarnation}
 use Rattle.hk_model.specs.declared.objects.Process.{Process}
 use Rattle.hk_model.specs.declared.objects.ProcessState.TheVariants.{Ended}
-use Rattle.hk_model.specs.State.{State, object, incarnation, process, put_object, put_slot, put_process, add_object, same_name, same_inc, name_cmp, inc_cmp, no_object, no_incarnation}
+use Rattle.hk_model.specs.State.{State, object, incarnation, process, put_object, put_slot, put_process, add_object, same_name, same_inc, name_cmp, inc_cmp, no_object}
+use Rattle.hk_model.specs.State.{no_incarnation}
 use Rattle.hk_model.specs.Keeping.{entry_names, object_names, run_names, outer_names, is_among, stands, is_opening, are_supporting, supports}
 use Rattle.hk_model.specs.Rule.{enter}
 use Rattle.hk_model.specs.Processors.{ended}
@@ -177,7 +178,8 @@ module _ (R : Name → Type 0) where
 
   -- what an object's list holds, what stands at a place, and what a process does
   pub list_in : (s : State) → Within s → (name : Name) → InList (object s name).entries
-  list_in s h name = all_found (λ o. InList o.entries) (same_name name) no_object tt s.objects (all_more (λ (e : Name × Object). InObject e.1) (λ e. InList e.1.entries) (λ e k. k.1) s.objects h.objects)
+  list_in s h name =
+      all_found (λ o. InList o.entries) (same_name name) no_object tt s.objects (all_more (λ (e : Name × Object). InObject e.1) (λ e. InList e.1.entries) (λ e k. k.1) s.objects h.objects)
 
   pub standing_in : (s : State) → Within s → (p : Place) → InEntry (standing s p)
   standing_in s h (SlotOf inc n) = all_at InEntry tt (incarnation s inc).slots n (all_found InSlots (same_inc inc) no_incarnation tt s.incarnations h.slots)
@@ -186,9 +188,11 @@ module _ (R : Name → Type 0) where
   pub type_in : (s : State) → Within s → (name : Name) → stands s name ≡ true → R (object s name).of
   type_in s h name there = by s.objects h.objects there
     where
-      by : (es : List (Name × Object)) → All (λ (e : Name × Object). InObject e.1) es → is_some (lookup (same_name name) es) ≡ true → R (unwrap_or (lookup (same_name name) es) no_object).of
+      by : (es : List (Name × Object)) → All (λ (e : Name × Object). InObject e.1) es → is_some (lookup (same_name name) es) ≡ true
+          → R (unwrap_or (lookup (same_name name) es) no_object).of
       by [] h k = absurd (false≢true k)
-      by (e ∷ es) h k = on_cond (λ (o : Option Object). is_some o ≡ true → R (unwrap_or o no_object).of) (same_name name e.0) (Some e.1) (lookup (same_name name) es) (λ q r. h.0.0) (λ q r. by es h.1 r) k
+      by (e ∷ es) h k =
+          on_cond (λ (o : Option Object). is_some o ≡ true → R (unwrap_or o no_object).of) (same_name name e.0) (Some e.1) (lookup (same_name name) es) (λ q r. h.0.0) (λ q r. by es h.1 r) k
 
   pub run_in : (s : State) → Within s → (proc : Proc) → InRun (process s proc)
   run_in s h proc = all_got InRun (record { run = Ended; current = record { 0 = 0 } }) tt s.processes proc.0 h.runs
@@ -260,9 +264,11 @@ pub within_named : (s t : State) → ((n : Name) → Stands s n → Stands t n) 
 within_named s t more h = record { each = within_names (Stands t) t (within_more (Stands s) (Stands t) more t h) }
 
 -- an object that is set stands where one stood, and one that is new stands beside the others
-still_put : (name : Name) (o : Object) (n : Name) (es : List (Name × Object)) → is_some (lookup (same_name n) es) ≡ true → is_some (lookup (same_name n) (set_value (same_name name) es o)) ≡ true
+still_put : (name : Name) (o : Object) (n : Name) (es : List (Name × Object)) → is_some (lookup (same_name n) es) ≡ true
+    → is_some (lookup (same_name n) (set_value (same_name name) es o)) ≡ true
 still_put name o n [] k = k
-still_put name o n (e ∷ es) k = on_cond (λ (l : List (Name × Object)). is_some (lookup (same_name n) l) ≡ true) (same_name name e.0) ((e.0, o) ∷ es) (e ∷ set_value (same_name name) es o)
+still_put name o n (e ∷ es) k =
+    on_cond (λ (l : List (Name × Object)). is_some (lookup (same_name n) l) ≡ true) (same_name name e.0) ((e.0, o) ∷ es) (e ∷ set_value (same_name name) es o)
     (λ q. instead (same_name n e.0) k)
     (λ q. further (still_put name o n es) (same_name n e.0) k)
   where
@@ -278,9 +284,11 @@ still_put name o n (e ∷ es) k = on_cond (λ (l : List (Name × Object)). is_so
 pub stands_put : (s : State) (name : Name) (o : Object) (n : Name) → Stands s n → Stands (put_object s name o) n
 stands_put s name o n h = still_put name o n s.objects h
 
-still_added : (new : Name) (o : Object) (n : Name) (es : List (Name × Object)) → is_some (lookup (same_name n) es) ≡ true → is_some (lookup (same_name n) (insert_entry name_cmp es new o)) ≡ true
+still_added : (new : Name) (o : Object) (n : Name) (es : List (Name × Object)) → is_some (lookup (same_name n) es) ≡ true
+    → is_some (lookup (same_name n) (insert_entry name_cmp es new o)) ≡ true
 still_added new o n [] k = absurd (false≢true k)
-still_added new o n (e ∷ es) k = on_ordering (λ (l : List (Name × Object)). is_some (lookup (same_name n) l) ≡ true) (name_cmp new e.0) ((new, o) ∷ e ∷ es) ((e.0, o) ∷ es) (e ∷ insert_entry name_cmp es new o)
+still_added new o n (e ∷ es) k =
+    on_ordering (λ (l : List (Name × Object)). is_some (lookup (same_name n) l) ≡ true) (name_cmp new e.0) ((new, o) ∷ e ∷ es) ((e.0, o) ∷ es) (e ∷ insert_entry name_cmp es new o)
     (λ q. first (same_name n new))
     (λ q. instead (same_name n e.0) k)
     (λ q. further (still_added new o n es) (same_name n e.0) k)
@@ -303,7 +311,8 @@ stands_added s o n h = still_added s.next_name o n s.objects h
 
 found_new : (new : Name) (o : Object) (es : List (Name × Object)) → is_some (lookup (same_name new) (insert_entry name_cmp es new o)) ≡ true
 found_new new o [] = on_cond (λ (f : Option Object). is_some f ≡ true) (same_name new new) (Some o) None (λ e. refl) (λ e. absurd (true≢false (sym (name_laws.refl new) ∙ e)))
-found_new new o (e ∷ es) = on_ordering (λ (l : List (Name × Object)). is_some (lookup (same_name new) l) ≡ true) (name_cmp new e.0) ((new, o) ∷ e ∷ es) ((e.0, o) ∷ es) (e ∷ insert_entry name_cmp es new o)
+found_new new o (e ∷ es) =
+    on_ordering (λ (l : List (Name × Object)). is_some (lookup (same_name new) l) ≡ true) (name_cmp new e.0) ((new, o) ∷ e ∷ es) ((e.0, o) ∷ es) (e ∷ insert_entry name_cmp es new o)
     (λ q. first (same_name new new) (name_laws.refl new))
     (λ q. instead (same_name new e.0) (ap is_eq q))
     (λ q. further (found_new new o es) (same_name new e.0))
@@ -316,7 +325,8 @@ found_new new o (e ∷ es) = on_ordering (λ (l : List (Name × Object)). is_som
     instead true k = refl
     instead false k = absurd (false≢true k)
 
-    further : is_some (lookup (same_name new) (insert_entry name_cmp es new o)) ≡ true → (b : Bool) → is_some (cond b (Some e.1) (lookup (same_name new) (insert_entry name_cmp es new o))) ≡ true
+    further : is_some (lookup (same_name new) (insert_entry name_cmp es new o)) ≡ true → (b : Bool)
+        → is_some (cond b (Some e.1) (lookup (same_name new) (insert_entry name_cmp es new o))) ≡ true
     further later true = refl
     further later false = later
 

@@ -40,7 +40,8 @@ named_is (Form a) cap h = absurd h
 
 -- a law of each hop, which is through LOAD
 abbrev pub HopLaw : State → (Place → Entry → Type 0) → Type 0
-HopLaw s P = (place : Place) (cap : Cap) (at step : ℕ) → Within LOAD cap.rights → P place (Held cap) → IfOk (obtained cap.rights (standing s (EntryOf cap.name at)) step) (P (EntryOf cap.name at))
+HopLaw s P =
+    (place : Place) (cap : Cap) (at step : ℕ) → Within LOAD cap.rights → P place (Held cap) → IfOk (obtained cap.rights (standing s (EntryOf cap.name at)) step) (P (EntryOf cap.name at))
 
 module _ (s : State) (P : Place → Entry → Type 0) (hops : HopLaw s P) where
   abbrev pub Arrives : Place → Entry → Type 0
@@ -64,7 +65,8 @@ module _ (s : State) (P : Place → Entry → Type 0) (hops : HopLaw s P) where
       walk_on_keeps (EntryOf (object_named (standing s place)) at) next rest (step + 1) (rw same at there))
 
   -- the walk of an incarnation, from a slot of which the law holds
-  pub walk_keeps : (inc : Inc) (at : ℕ) (rest : List ℕ) (x : Entry) → P (SlotOf inc at) (standing s (SlotOf inc at)) → walk s inc (at ∷ rest) ≡ Ok x → Arrives (walk_end s inc (at ∷ rest)) x
+  pub walk_keeps : (inc : Inc) (at : ℕ) (rest : List ℕ) (x : Entry) → P (SlotOf inc at) (standing s (SlotOf inc at)) → walk s inc (at ∷ rest) ≡ Ok x
+      → Arrives (walk_end s inc (at ∷ rest)) x
   walk_keeps inc at rest x h e = if_ok (Arrives (walk_end s inc (at ∷ rest))) (walk s inc (at ∷ rest)) x
       (then_is (Arrives (walk_end s inc (at ∷ rest))) (item_at (incarnation s inc).slots at 0) (λ entry. walk_on s entry rest 0) (λ entry g.
       let same = item_is (incarnation s inc).slots at 0 entry g in
@@ -109,7 +111,8 @@ target_is s inc path types rights c h = if_ok (IsTarget s inc path types rights)
 pub copied_reduces : (by : ℕ) (e : Entry) → Reduces e (copied by e)
 copied_reduces by Empty = tt
 copied_reduces by (Form t) = on_cond (Reduces (Form t)) (has by env_right) (Form t) Empty (λ h. refl) (λ h. tt)
-copied_reduces by (Held c) = on_cond (Reduces (Held c)) (has (reduced_rights by c.rights) env_right) (Held (record c { rights = reduced_rights by c.rights })) Empty (λ h. (refl, Within-reduced by c.rights)) (λ h. tt)
+copied_reduces by (Held c) =
+    on_cond (Reduces (Held c)) (has (reduced_rights by c.rights) env_right) (Held (record c { rights = reduced_rights by c.rights })) Empty (λ h. (refl, Within-reduced by c.rights)) (λ h. tt)
 
 pub inherited_reduces : (confined : Bool) (e : Entry) → Reduces e (inherited confined e)
 inherited_reduces true Empty = tt

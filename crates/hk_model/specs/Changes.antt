@@ -35,7 +35,8 @@ is_at_most a b = is_le (slice_cmp nat_cmp a b)
 -- before them
 pub record IsLeastReach (at : ℕ → State) (made : Name → Bool) (params : List Entry) (k moment : ℕ) (name : Name) (param : ℕ) (hops : List Hop) : Type 0 where
   pub is : IsReach at made params k (λ there. there.modify) moment name param hops
-  pub least : (other : ℕ) (others : List Hop) → IsReach at made params k (λ there. there.modify) moment name other others → IsTrue (is_at_most (reach_key param hops) (reach_key other others))
+  pub least : (other : ℕ) (others : List Hop) → IsReach at made params k (λ there. there.modify) moment name other others
+      → IsTrue (is_at_most (reach_key param hops) (reach_key other others))
 
 -- a call that begins at a moment
 pub record Beginning : Type 0 where
