@@ -73,8 +73,10 @@ outcome_modifies s proc inc (call.P of) =
       | false ↦ (Waits, put_process (put_object s cap.name (record (object s cap.name) { waiters = (object s cap.name).waiters ++ proc ∷ [] })) proc (record (process s proc) { run = Waiting cap.name }))
     ])) (λ cap t. modified s inc (call.P of) of (is_of_type SEMAPHORE) MODIFY+A0 cap refl refl refl t)
 outcome_modifies s proc inc (call.V of) =
-    then_is (λ f. Modifies s inc (call.V of)) (target s inc of (is_of_type SEMAPHORE) MODIFY+A1) (λ cap. token_given s cap.name (object s cap.name) (object s cap.name).waiters) (λ cap t.
-    ok_each (λ f. Modifies s inc (call.V of)) (token_given s cap.name (object s cap.name) (object s cap.name).waiters) (λ f. modified s inc (call.V of) of (is_of_type SEMAPHORE) MODIFY+A1 cap refl refl refl t))
+    then_is (λ f. Modifies s inc (call.V of)) (target s inc of (is_of_type SEMAPHORE) MODIFY+A1) (λ cap. token_given s cap.name (object s cap.name) (object s cap.name).waiters)
+    (λ cap t.
+    ok_each (λ f. Modifies s inc (call.V of)) (token_given s cap.name (object s cap.name) (object s cap.name).waiters)
+    (λ f. modified s inc (call.V of) of (is_of_type SEMAPHORE) MODIFY+A1 cap refl refl refl t))
 outcome_modifies s proc inc c = ok_each (λ f. Modifies s inc c) (outcome s proc inc c) (λ f path e. absurd (cc))
 
 -- ---- where it is written
@@ -123,7 +125,8 @@ call_where s inc (call.Load path into) m p some = placed (IsWritable s inc (Some
 call_where s inc (call.Store path at from) m p some =
     placed (IsWritable s inc (Some (call.Store path at from))) (EntryOf (named_by s inc path) at) p (Stored from.0) (inr (m path refl)) some
 call_where s inc (call.Append path from) m p some =
-    placed (IsWritable s inc (Some (call.Append path from))) (EntryOf (named_by s inc path) (length (object s (named_by s inc path)).entries)) p (Stored from.0) (inr (m path refl)) some
+    placed (IsWritable s inc (Some (call.Append path from))) (EntryOf (named_by s inc path) (length (object s (named_by s inc path)).entries)) p (Stored from.0)
+    (inr (m path refl)) some
 call_where s inc (call.Erase path at) m p some = placed (IsWritable s inc (Some (call.Erase path at))) (EntryOf (named_by s inc path) at) p Emptied (inr (m path refl)) some
 call_where s inc (call.Drop slot) m p some = placed (IsWritable s inc (Some (call.Drop slot))) (SlotOf inc slot.0) p Emptied (inl refl) some
 call_where s inc (call.Restrict slot keep) m p some = placed (IsWritable s inc (Some (call.Restrict slot keep))) (SlotOf inc slot.0) p (Lessened slot.0 keep) (inl refl) some

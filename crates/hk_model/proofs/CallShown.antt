@@ -97,7 +97,8 @@ outcome_shown s proc inc (call.P of) =
       | false ↦ (Waits, put_process (put_object s cap.name (record (object s cap.name) { waiters = (object s cap.name).waiters ++ proc ∷ [] })) proc (record (process s proc) { run = Waiting cap.name }))
     ])) (λ cap t. shows s inc of (is_of_type SEMAPHORE) MODIFY+A0 cap t)
 outcome_shown s proc inc (call.V of) =
-    then_is (λ f. Shown s inc (call.V of)) (target s inc of (is_of_type SEMAPHORE) MODIFY+A1) (λ cap. token_given s cap.name (object s cap.name) (object s cap.name).waiters) (λ cap t.
+    then_is (λ f. Shown s inc (call.V of)) (target s inc of (is_of_type SEMAPHORE) MODIFY+A1) (λ cap. token_given s cap.name (object s cap.name) (object s cap.name).waiters)
+    (λ cap t.
     ok_each (λ f. Shown s inc (call.V of)) (token_given s cap.name (object s cap.name) (object s cap.name).waiters) (λ f. shows s inc of (is_of_type SEMAPHORE) MODIFY+A1 cap t))
 outcome_shown s proc inc c = ok_each (λ f. Shown s inc c) (outcome s proc inc c) (λ f. tt)
 

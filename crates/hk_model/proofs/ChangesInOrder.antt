@@ -82,7 +82,8 @@ change_at moment name b = record { moment = moment; under = b; object = name }
 one_line : (moment : ℕ) (name : Name) (bs : List Beginning) → Rising bs → AreInOrder (map (change_at moment name) bs)
 one_line moment name [] h = tt
 one_line moment name (b ∷ bs) h = (
-  all_map (IsBefore (change_at moment name b)) (change_at moment name) bs (all_more (λ (c : Beginning). b.call.0 < c.call.0) (λ c. IsBefore (change_at moment name b) (change_at moment name c)) (λ c g. inr (refl, g)) bs h.0),
+  all_map (IsBefore (change_at moment name b)) (change_at moment name) bs
+  (all_more (λ (c : Beginning). b.call.0 < c.call.0) (λ c. IsBefore (change_at moment name b) (change_at moment name c)) (λ c g. inr (refl, g)) bs h.0),
   one_line moment name bs h.1,
 )
 
@@ -112,7 +113,8 @@ module _ (w : WorldValue) (lines : List Line) (calls : List Beginning) (rising :
           → ChangesSoFar t (elim o [ None ↦ xs | Some name ↦ xs ++ map (λ b. record { moment = s.events; under = b; object = name }) (calls_over w lines calls line) ])
       by None = (h.0, more)
       by (Some name) = (
-        in_order_append xs (map (change_at s.events name) new) h.0 (one_line s.events name new (rising_filter (λ (b : Beginning). is_under w lines b.moment b.call line.inc) calls rising))
+        in_order_append xs (map (change_at s.events name) new) h.0
+        (one_line s.events name new (rising_filter (λ (b : Beginning). is_under w lines b.moment b.call line.inc) calls rising))
             (all_more (λ (x : BareChange). x.moment < s.events) (λ x. All (IsBefore x) (map (change_at s.events name) new)) (λ x g. later_than s.events name new x g) xs h.1),
         all_append (λ (x : BareChange). x.moment < t.events) xs (map (change_at s.events name) new) more
             (all_map (λ (x : BareChange). x.moment < t.events) (change_at s.events name) new (at_line new)),

@@ -89,7 +89,8 @@ listed_call w lines b steps h = by (told_has confined_by new_call call_adds w (o
         let next : state_at w lines (suc a.moment) ≡ (moved w (after_lines w (opened w) (take a.moment lines)) a.line.cpu).state =
         ap (λ (m : Machine). m.state) (after_next w (opened w) lines a.moment a.line a.is) in
         let n =
-        new_is (state_at w lines a.moment) a.line (state_at w lines (suc a.moment)) b (subst (λ (t : State). Has (new_call (state_at w lines a.moment) a.line t) b) (sym next) a.has) in
+        new_is (state_at w lines a.moment) a.line (state_at w lines (suc a.moment)) b
+        (subst (λ (t : State). Has (new_call (state_at w lines a.moment) a.line t) b) (sym next) a.has) in
         let number = events_behind w lines a.moment a.line steps a.is in
         let k : b.moment ≡ suc a.moment = sym (ap (λ (x : Beginning). x.moment) n.is) ∙ number in
         let call : b.call ≡ (state_at w lines a.moment).next_inc = sym (ap (λ (x : Beginning). x.call) n.is) in
@@ -172,7 +173,8 @@ is_change : (w : WorldValue) (lines : List Line) (calls : List Beginning) (s : S
     → Has (new_changes w lines calls s line t) (record { moment = s.events; under = b; object = name })
 is_change w lines calls s line t b name e h under = by (changed s line) e
   where
-    here : Has (map (λ (b : Beginning). let c : BareChange = record { moment = s.events; under = b; object = name } in c) (calls_over w lines calls line)) (record { moment = s.events; under = b; object = name })
+    here : Has (map (λ (b : Beginning). let c : BareChange = record { moment = s.events; under = b; object = name } in c) (calls_over w lines calls line))
+        (record { moment = s.events; under = b; object = name })
     here = has_map (λ (b : Beginning). let c : BareChange = record { moment = s.events; under = b; object = name } in c) (calls_over w lines calls line) b
         (has_filter (λ (b : Beginning). is_under w lines b.moment b.call line.inc) calls b h under)
 
@@ -187,7 +189,8 @@ listed_is : (w : WorldValue) (lines : List Line) → AreStepsOf w lines → (k m
 listed_is w lines steps k moment call name h =
     by (told_has (bare_changes_by w lines (confined_calls w lines)) (new_changes w lines (confined_calls w lines)) (changes_add w lines (confined_calls w lines)) w (opened w) lines [] (bare_change k call moment name) h)
   where
-    by : Has [] (bare_change k call moment name) ⊎ IsAdded (bare_changes_by w lines (confined_calls w lines)) (new_changes w lines (confined_calls w lines)) (changes_add w lines (confined_calls w lines)) w (opened w) lines (bare_change k call moment name)
+    by : Has [] (bare_change k call moment name) ⊎ IsAdded (bare_changes_by w lines (confined_calls w lines)) (new_changes w lines (confined_calls w lines))
+        (changes_add w lines (confined_calls w lines)) w (opened w) lines (bare_change k call moment name)
         → IsConfinedCall w lines k call × IsChange w lines k call moment name
     by (inl none) = absurd none
     by (inr a) =
@@ -206,7 +209,8 @@ is_listed w lines steps k moment call name (c, h) =
     let s : State = state_at w lines moment in
     let t : State = (moved w (after_lines w (opened w) (take moment lines)) h.line.cpu).state in
     let number : s.events ≡ moment = events_before w lines moment h.line steps h.is in
-    told_adds (bare_changes_by w lines (confined_calls w lines)) (new_changes w lines (confined_calls w lines)) (changes_add w lines (confined_calls w lines)) w (opened w) lines [] (bare_change k call moment name) moment h.line h.is
+    told_adds (bare_changes_by w lines (confined_calls w lines)) (new_changes w lines (confined_calls w lines)) (changes_add w lines (confined_calls w lines)) w
+    (opened w) lines [] (bare_change k call moment name) moment h.line h.is
     (subst (λ (n : ℕ). Has (new_changes w lines (confined_calls w lines) s h.line t) (bare_change k call n name)) number
     (is_change w lines (confined_calls w lines) s h.line t (record { call = call; moment = k }) name h.changes (call_listed w lines k call steps c) h.under))
 

@@ -101,7 +101,8 @@ opening_sound w = record { rises = opening_rises w; stacked = opening_stacked w 
 pub sound_at : (w : WorldValue) (lines : List Line) (moment : ℕ) → AreStepsOf w lines → Sound (state_at w lines moment)
 unfolding opened
 sound_at w lines moment h =
-    state_kept Sound (each_more (λ s line t. Sound s → LineKnown s line t) (λ s line t. Sound s → Sound t) (λ s line t k g. (k g).after) known_each) w (opened w) (take moment lines) (first_steps w (opened w) lines moment h) (opening_sound w)
+    state_kept Sound (each_more (λ s line t. Sound s → LineKnown s line t) (λ s line t. Sound s → Sound t) (λ s line t k g. (k g).after) known_each) w (opened w)
+    (take moment lines) (first_steps w (opened w) lines moment h) (opening_sound w)
 
 -- the line at a moment, from the state then to the next one
 pub line_known : (w : WorldValue) (lines : List Line) (moment : ℕ) (line : Line) → AreStepsOf w lines → slice_get lines moment ≡ Some line

@@ -39,7 +39,8 @@ all_below P (suc n) i l h = by (λ f. all_below P n i f (second_so (P n) (list_a
 keys_then : (a b : Hop) (xs ys : List ℕ)
     → slice_cmp nat_cmp (hop_key a ++ xs) (hop_key b ++ ys) ≡ ordering_then (slice_cmp nat_cmp (hop_key a) (hop_key b)) (slice_cmp nat_cmp xs ys)
 keys_then a b xs ys =
-    by (nat_cmp (moment_of a) (moment_of b)) (nat_cmp (index_of a) (index_of b)) (nat_cmp (elim (is_handed a) [ true ↦ 1 | false ↦ 0 ]) (elim (is_handed b) [ true ↦ 1 | false ↦ 0 ])) (slice_cmp nat_cmp xs ys)
+    by (nat_cmp (moment_of a) (moment_of b)) (nat_cmp (index_of a) (index_of b))
+    (nat_cmp (elim (is_handed a) [ true ↦ 1 | false ↦ 0 ]) (elim (is_handed b) [ true ↦ 1 | false ↦ 0 ])) (slice_cmp nat_cmp xs ys)
   where
     by : (o p q r : Ordering) → ordering_then o (ordering_then p (ordering_then q r)) ≡ ordering_then (ordering_then o (ordering_then p (ordering_then q Equal))) r
     by Less p q r = refl
@@ -125,9 +126,11 @@ module _ (at : ℕ → State) (made : Name → Bool) (moment : ℕ) (wanted : Na
     where
       by : (i t : ℕ) (b : Bool) → both_hops P from t i ≡ true → hop_to at made (hop_of t i b) from ≡ Some there → P (hop_of t i b) there ≡ true
       by i t false k e =
-          any_holds (P (hop_of t i false)) (hop_to at made (hop_of t i false) from) there e (first_so (if_any (P (hop_of t i false)) (hop_to at made (hop_of t i false) from)) (if_any (P (hop_of t i true)) (hop_to at made (hop_of t i true) from)) k)
+          any_holds (P (hop_of t i false)) (hop_to at made (hop_of t i false) from) there e
+          (first_so (if_any (P (hop_of t i false)) (hop_to at made (hop_of t i false) from)) (if_any (P (hop_of t i true)) (hop_to at made (hop_of t i true) from)) k)
       by i t true k e =
-          any_holds (P (hop_of t i true)) (hop_to at made (hop_of t i true) from) there e (second_so (if_any (P (hop_of t i false)) (hop_to at made (hop_of t i false) from)) (if_any (P (hop_of t i true)) (hop_to at made (hop_of t i true) from)) k)
+          any_holds (P (hop_of t i true)) (hop_to at made (hop_of t i true) from) there e
+          (second_so (if_any (P (hop_of t i false)) (hop_to at made (hop_of t i false) from)) (if_any (P (hop_of t i true)) (hop_to at made (hop_of t i true) from)) k)
 
       of_hop : (hop : Hop) → both_hops P from (moment_of hop) (index_of hop) ≡ true → hop_to at made hop from ≡ Some there → P hop there ≡ true
       of_hop (hop_by.Entry i t) k e = by i t false k e
@@ -241,4 +244,5 @@ module _ (at : ℕ → State) (made : Name → Bool) (moment : ℕ) (wanted : Na
                 → IsTrue (is_at_most (reach_key param hops) (reach_key other others))
             by None e f = absurd (cc)
             by (Some first) e f =
-                by_length first e f (within (slice_get params other) refl first e) (nat_cmp (length hops) (length others)) (ranked (length hops) (length others) (nat_cmp (length hops) (length others)) refl)
+                by_length first e f (within (slice_get params other) refl first e) (nat_cmp (length hops) (length others))
+                (ranked (length hops) (length others) (nat_cmp (length hops) (length others)) refl)

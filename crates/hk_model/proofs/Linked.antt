@@ -225,7 +225,8 @@ LinkedState s = Sound s × Linked (activations_in s.incarnations) (currents_in s
 pub linked_at : (w : WorldValue) (lines : List Line) (moment : ℕ) → AreStepsOf w lines → LinkedState (state_at w lines moment)
 unfolding opened
 linked_at w lines moment h =
-    state_kept LinkedState (each_more (λ s line t. Sound s → LineKnown s line t) (λ s line t. LinkedState s → LinkedState t) (λ s line t k g. ((k g.0).after, turn_linked s line t g.0.rises g.0.stacked g.1 (k g.0).turn)) known_each)
+    state_kept LinkedState
+    (each_more (λ s line t. Sound s → LineKnown s line t) (λ s line t. LinkedState s → LinkedState t) (λ s line t k g. ((k g.0).after, turn_linked s line t g.0.rises g.0.stacked g.1 (k g.0).turn)) known_each)
     w (opened w) (take moment lines) (first_steps w (opened w) lines moment h) (opening_sound w, opening_linked w)
 
 -- ---- what that says of a state
@@ -265,7 +266,8 @@ found_activation es i x h =
 module _ (s : State) (stacked : IsStacked s) (linked : Linked (activations_in s.incarnations) (currents_in s.processes)) where
   top_of : (i : Inc) (x : Incarnation) → Lives s i x → Topped (activations_in s.incarnations) (currents_in s.processes) x.proc.0
   top_of i x h =
-      topped (activations_in s.incarnations) (currents_in s.processes) s.next_inc.0 stacked linked s.next_inc.0 i (activation x) (found_activation s.incarnations i x h) (omega arith)
+      topped (activations_in s.incarnations) (currents_in s.processes) s.next_inc.0 stacked linked s.next_inc.0 i (activation x) (found_activation s.incarnations i x h)
+      (omega arith)
 
   pub currents_call_none : CurrentsCallNone s
   currents_call_none = record {

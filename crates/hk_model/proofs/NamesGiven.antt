@@ -83,9 +83,11 @@ module _ (s : State) (inc : Inc) (given_before : NamesGiven s) where
       let new : h.new.name.0 < t.next_name.0 = omega (arith, old, same, up) in
       subst (IsBelow t.next_name.0) (sym h.is) new
   writes_below c t p (Inherited procedure index confined) x next goes h =
-      place_below t (next_up s c t next) (EntryOf procedure index) x (subst (λ y. Reduces (standing s (EntryOf procedure index)) y) (sym h) (inherited_reduces confined (standing s (EntryOf procedure index))))
+      place_below t (next_up s c t next) (EntryOf procedure index) x
+      (subst (λ y. Reduces (standing s (EntryOf procedure index)) y) (sym h) (inherited_reduces confined (standing s (EntryOf procedure index))))
   writes_below c t p (Copied path index) x next goes h =
-      place_below t (next_up s c t next) (EntryOf h.cap.name index) x (subst (λ y. Reduces (standing s (EntryOf h.cap.name index)) y) (sym h.is) (copied_reduces h.cap.rights (standing s (EntryOf h.cap.name index))))
+      place_below t (next_up s c t next) (EntryOf h.cap.name index) x
+      (subst (λ y. Reduces (standing s (EntryOf h.cap.name index)) y) (sym h.is) (copied_reduces h.cap.rights (standing s (EntryOf h.cap.name index))))
   writes_below c t p (CopyOf path) x next goes h = subst (IsBelow t.next_name.0) (sym h.is) (next_made s c t next goes.0)
   writes_below c t p (Created path) x next goes h = subst (IsBelow t.next_name.0) (sym h.is) (next_made s c t next goes.0)
   writes_below c t p (Formed path kind) x next goes h = subst (IsBelow t.next_name.0) (sym h.is) tt
@@ -118,7 +120,8 @@ lists_given s line t h next g name index full = by (line_way s line (EntryOf nam
     written_in : IsWritable s line.inc (done_call line) (EntryOf name index) → name.0 < t.next_name.0
     written_in (inl made) = let a = next_made s (done_call line) t next made.0 in let b : name.0 ≡ s.next_name.0 = ap (λ (n : Name). n.0) made.1 in omega (arith, a, b)
     written_in (inr m) =
-        let a : m.cap.name.0 < s.next_name.0 = walk_below s line.inc g m.path (Held m.cap) m.leads in let b : name.0 ≡ m.cap.name.0 = ap (λ (n : Name). n.0) m.same in old (omega (arith, a, b))
+        let a : m.cap.name.0 < s.next_name.0 = walk_below s line.inc g m.path (Held m.cap) m.leads in let b : name.0 ≡ m.cap.name.0 = ap (λ (n : Name). n.0) m.same in
+        old (omega (arith, a, b))
 
     by : (o : Option Way) → line_way s line (EntryOf name index) ≡ o → Wrote s line.inc (standing s (EntryOf name index)) o (standing t (EntryOf name index))
         → name.0 < t.next_name.0
@@ -208,10 +211,12 @@ pub opening_given : (w : WorldValue) → IsWorld w → NamesGiven (opening w)
 unfolding opening
 opening_given w world = record {
   entries = λ p. by p;
-  lists = λ name index full. let r = numbered_below 0 (replicate kernel_types no_object ++ map (λ (b : Born). object_of b.kind) w.objects) name index full in let e = born_count w.objects in omega (arith, r, e);
+  lists = λ name index full. let r = numbered_below 0
+      (replicate kernel_types no_object ++ map (λ (b : Born). object_of b.kind) w.objects) name index full in let e = born_count w.objects in omega (arith, r, e);
 }
   where
     by : (p : Place) → IsBelow (kernel_types + length w.objects) (standing (opening w) p)
     by (SlotOf inc slot) = bases_below w 0 w.tasks world.tasks_are inc slot
     by (EntryOf name index) =
-        numbered_holds (ListBelow w) (λ i. tt) 0 (replicate kernel_types no_object ++ map (λ (b : Born). object_of b.kind) w.objects) (types_below w kernel_types (map (λ (b : Born). object_of b.kind) w.objects) (kinds_below w w.objects world.kinds)) name index
+        numbered_holds (ListBelow w) (λ i. tt) 0 (replicate kernel_types no_object ++ map (λ (b : Born). object_of b.kind) w.objects)
+        (types_below w kernel_types (map (λ (b : Born). object_of b.kind) w.objects) (kinds_below w w.objects world.kinds)) name index

@@ -176,7 +176,8 @@ module _ (s : State) (inc : Inc) (h : NamedStand s) where
   changed_named : (path : List ℕ) (types : Name → Bool) (rights : ℕ) (c : Cap) (o : Object) → target s inc path types rights ≡ Ok c → o.of ≡ (object s c.name).of
       → InList (Stands s) o.entries → NamedStand (put_object s c.name o)
   changed_named path types rights c o t same list =
-      within_named s (put_object s c.name o) (stands_put s c.name o) (put_object_in (Stands s) s c.name o within (subst (Stands s) (sym same) (type_in (Stands s) s within c.name (target_stands path types rights c t)), list))
+      within_named s (put_object s c.name o) (stands_put s c.name o)
+      (put_object_in (Stands s) s c.name o within (subst (Stands s) (sym same) (type_in (Stands s) s within c.name (target_stands path types rights c t)), list))
 
   own_list : (name : Name) → InList (Stands s) (object s name).entries
   own_list name = list_in (Stands s) s within name
@@ -271,7 +272,8 @@ module _ (s : State) (inc : Inc) (h : NamedStand s) where
   entered_named proc path args into step c slots confined m =
       let space = space_is (map (argument s inc) args) (object s c.name).params (object s c.name).entries confined step slots m in
       let caps : All (λ (c : Cap). Stands s c.name) space.caps =
-      if_ok (All (λ (c : Cap). Stands s c.name)) (merged_all (map (argument s inc) args) (object s c.name).params step) space.caps (args_in args (object s c.name).params step) space.merges in
+      if_ok (All (λ (c : Cap). Stands s c.name)) (merged_all (map (argument s inc) args) (object s c.name).params step) space.caps
+      (args_in args (object s c.name).params step) space.merges in
       let rest : ℕ = slot_limit - (length space.caps + length (object s c.name).entries) in
       let all : InList (Stands s) (call_slots space.caps (object s c.name).entries confined) =
       all_append Names (map (λ (c : Cap). Held c) space.caps) (map (inherited confined) (object s c.name).entries ++ replicate rest Empty)
@@ -312,7 +314,8 @@ module _ (s : State) (inc : Inc) (h : NamedStand s) where
   leave_named : (proc : Proc) (give : Option Slot) → IfOk (leave s proc inc give) (λ f. NamedStand f.1)
   unfolding leave
   leave_named proc give =
-      then_is (λ f. NamedStand f.1) (returned_cap (incarnation s inc).slots give) (λ c. Ok (Done, leave_to gone_from proc (incarnation s inc).caller (incarnation s inc).into.0 c)) (λ c e.
+      then_is (λ f. NamedStand f.1) (returned_cap (incarnation s inc).slots give) (λ c. Ok (Done, leave_to gone_from proc (incarnation s inc).caller (incarnation s inc).into.0 c))
+      (λ c e.
       returned_named proc (incarnation s inc).caller (incarnation s inc).into.0 c (if_ok IfHeld (returned_cap (incarnation s inc).slots give) c (given_in give) e))
 
   -- semaphores
@@ -354,7 +357,8 @@ module _ (s : State) (inc : Inc) (h : NamedStand s) where
       let u : State = put_object s c.name o in
       let new = record (process s first) { run = Ready } in
       let named =
-      within_named u (put_process u first new) (λ m k. k) (put_process_in (Stands u) u first new (named_within u (waiters_named path (is_of_type SEMAPHORE) MODIFY+A1 rest c t)) tt) in
+      within_named u (put_process u first new) (λ m k. k)
+      (put_process_in (Stands u) u first new (named_within u (waiters_named path (is_of_type SEMAPHORE) MODIFY+A1 rest c t)) tt) in
       record { each = named.each }
 
   yielded_named : (proc : Proc) → NamedStand (yielded s proc)
@@ -385,7 +389,8 @@ module _ (s : State) (inc : Inc) (h : NamedStand s) where
   outcome_named proc (call.Leave give) = leave_named proc give
   outcome_named proc (call.P of) = take_named proc of
   outcome_named proc (call.V of) =
-      then_is (λ f. NamedStand f.1) (target s inc of (is_of_type SEMAPHORE) MODIFY+A1) (λ c. token_given s c.name (object s c.name) (object s c.name).waiters) (λ c t. token_named of c t (object s c.name).waiters)
+      then_is (λ f. NamedStand f.1) (target s inc of (is_of_type SEMAPHORE) MODIFY+A1) (λ c. token_given s c.name (object s c.name) (object s c.name).waiters)
+      (λ c t. token_named of c t (object s c.name).waiters)
   outcome_named proc call.Yield = yielded_named proc
 
 -- ---- every line

@@ -74,7 +74,8 @@ numbered_all R n (o ∷ os) h = (h.0, numbered_all R (n + 1) os h.1)
 bases_of_world : (w : WorldValue) (n : ℕ) (ts : List Task) → AllByRecursion (IsTask w) ts → All (λ (e : Inc × Incarnation). InList (OfWorld w) e.1.slots) (bases n ts)
 bases_of_world w n [] h = tt
 bases_of_world w n (t ∷ ts) h = (
-  all_append (InEntry (OfWorld w)) t.slots (replicate (slot_limit - length t.slots) Empty) (entries_of_world w t.slots h.0.2) (all_replicate (InEntry (OfWorld w)) (slot_limit - length t.slots) Empty tt),
+  all_append (InEntry (OfWorld w)) t.slots (replicate (slot_limit - length t.slots) Empty) (entries_of_world w t.slots h.0.2)
+  (all_replicate (InEntry (OfWorld w)) (slot_limit - length t.slots) Empty tt),
   bases_of_world w (n + 1) ts h.1,
 )
 

@@ -171,7 +171,8 @@ module _ (R : Name → Type 0) where
         opening = λ n h. f n (or_left (is_opening s n) (is_among n (outer_names s ++ inner s.objects)) h);
         slots = all_more (λ (e : Inc × Incarnation). All R (flat_map entry_names e.1.slots)) (λ e. InSlots e.1) (λ e k. flat_all R entry_names e.1.slots k) s.incarnations
             (flat_all R (λ (e : Inc × Incarnation). flat_map entry_names e.1.slots) s.incarnations (all_first R (flat_map (λ (e : Inc × Incarnation). flat_map entry_names e.1.slots) s.incarnations) (flat_map (λ (p : Process). run_names p.run) s.processes) outer));
-        runs = flat_all R (λ (p : Process). run_names p.run) s.processes (all_last R (flat_map (λ (e : Inc × Incarnation). flat_map entry_names e.1.slots) s.incarnations) (flat_map (λ (p : Process). run_names p.run) s.processes) outer);
+        runs = flat_all R (λ (p : Process). run_names p.run) s.processes
+            (all_last R (flat_map (λ (e : Inc × Incarnation). flat_map entry_names e.1.slots) s.incarnations) (flat_map (λ (p : Process). run_names p.run) s.processes) outer);
         objects = all_more (λ (e : Name × Object). All R (object_names e.1)) (λ e. InObject e.1) (λ e k. (k.0, flat_all R entry_names e.1.entries k.1)) s.objects
             (flat_all R (λ (e : Name × Object). object_names e.1) s.objects (all_last R (outer_names s) (inner s.objects) named));
       }
@@ -179,7 +180,8 @@ module _ (R : Name → Type 0) where
   -- what an object's list holds, what stands at a place, and what a process does
   pub list_in : (s : State) → Within s → (name : Name) → InList (object s name).entries
   list_in s h name =
-      all_found (λ o. InList o.entries) (same_name name) no_object tt s.objects (all_more (λ (e : Name × Object). InObject e.1) (λ e. InList e.1.entries) (λ e k. k.1) s.objects h.objects)
+      all_found (λ o. InList o.entries) (same_name name) no_object tt s.objects
+      (all_more (λ (e : Name × Object). InObject e.1) (λ e. InList e.1.entries) (λ e k. k.1) s.objects h.objects)
 
   pub standing_in : (s : State) → Within s → (p : Place) → InEntry (standing s p)
   standing_in s h (SlotOf inc n) = all_at InEntry tt (incarnation s inc).slots n (all_found InSlots (same_inc inc) no_incarnation tt s.incarnations h.slots)
@@ -192,7 +194,8 @@ module _ (R : Name → Type 0) where
           → R (unwrap_or (lookup (same_name name) es) no_object).of
       by [] h k = absurd (false≢true k)
       by (e ∷ es) h k =
-          on_cond (λ (o : Option Object). is_some o ≡ true → R (unwrap_or o no_object).of) (same_name name e.0) (Some e.1) (lookup (same_name name) es) (λ q r. h.0.0) (λ q r. by es h.1 r) k
+          on_cond (λ (o : Option Object). is_some o ≡ true → R (unwrap_or o no_object).of) (same_name name e.0) (Some e.1) (lookup (same_name name) es) (λ q r. h.0.0)
+          (λ q r. by es h.1 r) k
 
   pub run_in : (s : State) → Within s → (proc : Proc) → InRun (process s proc)
   run_in s h proc = all_got InRun (record { run = Ended; current = record { 0 = 0 } }) tt s.processes proc.0 h.runs
@@ -312,7 +315,8 @@ stands_added s o n h = still_added s.next_name o n s.objects h
 found_new : (new : Name) (o : Object) (es : List (Name × Object)) → is_some (lookup (same_name new) (insert_entry name_cmp es new o)) ≡ true
 found_new new o [] = on_cond (λ (f : Option Object). is_some f ≡ true) (same_name new new) (Some o) None (λ e. refl) (λ e. absurd (true≢false (sym (name_laws.refl new) ∙ e)))
 found_new new o (e ∷ es) =
-    on_ordering (λ (l : List (Name × Object)). is_some (lookup (same_name new) l) ≡ true) (name_cmp new e.0) ((new, o) ∷ e ∷ es) ((e.0, o) ∷ es) (e ∷ insert_entry name_cmp es new o)
+    on_ordering (λ (l : List (Name × Object)). is_some (lookup (same_name new) l) ≡ true) (name_cmp new e.0) ((new, o) ∷ e ∷ es) ((e.0, o) ∷ es)
+    (e ∷ insert_entry name_cmp es new o)
     (λ q. first (same_name new new) (name_laws.refl new))
     (λ q. instead (same_name new e.0) (ap is_eq q))
     (λ q. further (found_new new o es) (same_name new e.0))

@@ -162,7 +162,8 @@ module _ (s : State) (inc : Inc) (name : Name) (given : ObjectsGiven s) where
       by : (b : Bool) → same_name name s.next_name ≡ b → (there room name ≡ there s.objects name) ⊎ IsLost s room name
           → Left s inc (Some c) (insert_entry name_cmp room s.next_name o) name
       by true e g =
-          let same = name_same name s.next_name e in New o m same (none_yet (there s.objects name) refl same) (ap (there (insert_entry name_cmp room s.next_name o)) same ∙ insert_found s.next_name room o) kind made
+          let same = name_same name s.next_name e in
+          New o m same (none_yet (there s.objects name) refl same) (ap (there (insert_entry name_cmp room s.next_name o)) same ∙ insert_found s.next_name room o) kind made
       by false e (inl g) = Same (insert_other name s.next_name room o e ∙ g)
       by false e (inr g) = lost g e (there s.objects name) refl
 
@@ -345,7 +346,8 @@ settled_leaves s cpu proc c (Err e) name first h = Stays refl
 pub leaves_each : EachStep (λ s line t. ObjectsGiven s → (name : Name) → Becomes s line t.objects name)
 leaves_each = record {
   calls = λ s cpu proc c r given name.
-      settled_leaves s cpu proc c (outcome s proc (process s proc).current c) name (outcome_first s proc (process s proc).current c) (outcome_leaves s (process s proc).current name given proc c);
+      settled_leaves s cpu proc c (outcome s proc (process s proc).current c) name (outcome_first s proc (process s proc).current c)
+      (outcome_leaves s (process s proc).current name given proc c);
   halts = λ s cpu proc r given name.
       becomes_after s (ended s proc) (proc_line s cpu proc what.Halt reply.Done) (kept_objects (ended s proc)) name refl refl (Same refl) (kept_or_lost (ended s proc) name);
   dispatches = λ s cpu first rest r given name. Stays refl;

@@ -51,7 +51,8 @@ line_codes s line t becomes h name o e p = by (becomes name)
 
 codes_each : EachStep (λ s line t. ObjectsGiven s × ProceduresHaveCodes s → ObjectsGiven t × ProceduresHaveCodes t)
 codes_each =
-    each_more (λ s line t. (ObjectsGiven s → (name : Name) → Becomes s line t.objects name) × (ObjectsGiven s → ObjectsGiven t)) (λ s line t. ObjectsGiven s × ProceduresHaveCodes s → ObjectsGiven t × ProceduresHaveCodes t)
+    each_more (λ s line t. (ObjectsGiven s → (name : Name) → Becomes s line t.objects name) × (ObjectsGiven s → ObjectsGiven t))
+    (λ s line t. ObjectsGiven s × ProceduresHaveCodes s → ObjectsGiven t × ProceduresHaveCodes t)
     (λ s line t known h. (known.1 h.0, line_codes s line t (known.0 h.0) h.1))
     (each_both (λ s line t. ObjectsGiven s → (name : Name) → Becomes s line t.objects name) (λ s line t. ObjectsGiven s → ObjectsGiven t) leaves_each given_each)
 

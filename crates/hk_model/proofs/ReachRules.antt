@@ -67,7 +67,8 @@ module _ (at : ℕ → State) (made : Name → Bool) where
 
     -- one hop more
     hop_is_reached : (good next_good : Reached → Bool) (hop : Hop) (x : Name) (cap : Cap) (next : Reached) (r : IsReached at made params k good (moment_of hop) x)
-        → listed_cap (at (moment_of hop)) x (index_of hop) ≡ Some cap → onward made hop r.is.there cap ≡ Some next → next.moment ≡ moment_of hop → next_good next ≡ true → IsReached at made params k next_good (moment_of hop) next.name
+        → listed_cap (at (moment_of hop)) x (index_of hop) ≡ Some cap → onward made hop r.is.there cap ≡ Some next → next.moment ≡ moment_of hop → next_good next ≡ true
+        → IsReached at made params k next_good (moment_of hop) next.name
     hop_is_reached good next_good hop x cap next r l step ends next_is = record {
       param = r.param;
       hops = r.hops ++ hop ∷ [];
@@ -76,7 +77,8 @@ module _ (at : ℕ → State) (made : Name → Bool) where
         leads =
             reach-append r.param r.hops hop
             ∙ ap (option_and_then (hop_to at made hop)) r.is.leads
-            ∙ ap (λ (b : Bool). if b then option_and_then (onward made hop r.is.there) (listed_cap (at (moment_of hop)) r.is.there.name (index_of hop)) else None) (le-leb r.is.there.moment (moment_of hop) r.is.by_then)
+            ∙ ap (λ (b : Bool). if b then option_and_then (onward made hop r.is.there) (listed_cap (at (moment_of hop)) r.is.there.name (index_of hop)) else None)
+            (le-leb r.is.there.moment (moment_of hop) r.is.by_then)
             ∙ ap (option_and_then (onward made hop r.is.there)) (ap (λ (y : Name). listed_cap (at (moment_of hop)) y (index_of hop)) r.is.same ∙ l)
             ∙ step;
         same = refl;
@@ -96,11 +98,15 @@ module _ (at : ℕ → State) (made : Name → Bool) where
       param_unconf = λ param cap h g. param_is_reached (λ r. r.unconf) param cap h g;
       later_modify = λ early late x begun l r. reached_later (λ r. r.modify) early late x l r;
       later_unconf = λ early late x begun l r. reached_later (λ r. r.unconf) early late x l r;
-      entry_modify = λ moment index x cap begun r l g. hop_is_reached (λ r. r.unconf) (λ r. r.modify) (hop_by.Entry index moment) x cap (reached_by moment cap) r l (some_if r.is.there.unconf (reached_by moment cap) r.is.good) refl g;
-      entry_unconf = λ moment index x cap begun r l g. hop_is_reached (λ r. r.unconf) (λ r. r.unconf) (hop_by.Entry index moment) x cap (reached_by moment cap) r l (some_if r.is.there.unconf (reached_by moment cap) r.is.good) refl g;
+      entry_modify = λ moment index x cap begun r l g. hop_is_reached (λ r. r.unconf) (λ r. r.modify) (hop_by.Entry index moment) x cap (reached_by moment cap) r l
+          (some_if r.is.there.unconf (reached_by moment cap) r.is.good) refl g;
+      entry_unconf = λ moment index x cap begun r l g. hop_is_reached (λ r. r.unconf) (λ r. r.unconf) (hop_by.Entry index moment) x cap (reached_by moment cap) r l
+          (some_if r.is.there.unconf (reached_by moment cap) r.is.good) refl g;
       handed = λ moment index x cap begun r l g. (
-        hop_is_reached (λ r. r.modify) (λ r. r.modify) (hop_by.Handed index moment) x cap (handed_over moment cap) r l (some_if (r.is.there.modify && made cap.name) (handed_over moment cap) (and_from r.is.there.modify (made cap.name) r.is.good g)) refl refl,
-        hop_is_reached (λ r. r.modify) (λ r. r.unconf) (hop_by.Handed index moment) x cap (handed_over moment cap) r l (some_if (r.is.there.modify && made cap.name) (handed_over moment cap) (and_from r.is.there.modify (made cap.name) r.is.good g)) refl refl,
+        hop_is_reached (λ r. r.modify) (λ r. r.modify) (hop_by.Handed index moment) x cap (handed_over moment cap) r l
+        (some_if (r.is.there.modify && made cap.name) (handed_over moment cap) (and_from r.is.there.modify (made cap.name) r.is.good g)) refl refl,
+        hop_is_reached (λ r. r.modify) (λ r. r.unconf) (hop_by.Handed index moment) x cap (handed_over moment cap) r l
+        (some_if (r.is.there.modify && made cap.name) (handed_over moment cap) (and_from r.is.there.modify (made cap.name) r.is.good g)) refl refl,
       );
     }
 
@@ -121,7 +127,8 @@ module _ (at : ℕ → State) (made : Name → Bool) where
               let same : handed_over (moment_of hop) cap ≡ next = cc in
               let b = f.begun in
               let both =
-              rules.handed (moment_of hop) (index_of hop) from.name cap (omega (arith, b, e)) (rules.later_modify from.moment (moment_of hop) from.name f.begun e (f.modify p)) l q in
+              rules.handed (moment_of hop) (index_of hop) from.name cap (omega (arith, b, e))
+              (rules.later_modify from.moment (moment_of hop) from.name f.begun e (f.modify p)) l q in
               rw (← same) (record { modify = λ g. both.0; unconf = λ g. both.1; begun = omega (arith, b, e) })
           by_hop cap l e true true false u p q o h = absurd (cc)
           by_hop cap l e true false m u p q o h = absurd (cc)

@@ -112,6 +112,7 @@ merged_special (Some wanted) rights give =
 
 pub merged_others : (wanted : Name) (rights give : ℕ) → bit_and (merged_rights rights (Some wanted) give) (all_but special_rights) ≡ bit_and give (all_but special_rights)
 merged_others wanted rights give =
-    same_from_bits (bit_and (bit_or (bit_and give (all_but special_rights)) (bit_and (bit_and give special_rights) rights)) (all_but special_rights)) (bit_and give (all_but special_rights)) (λ i.
+    same_from_bits (bit_and (bit_or (bit_and give (all_but special_rights)) (bit_and (bit_and give special_rights) rights)) (all_but special_rights))
+    (bit_and give (all_but special_rights)) (λ i.
     let apart : min (bit_at (all_but special_rights) i) (bit_at special_rights i) ≡ 0 = sym (bit_at_and (all_but special_rights) special_rights i) ∙ bit_at-zero i in
     omega (arith, apart, bit_at_and (bit_or (bit_and give (all_but special_rights)) (bit_and (bit_and give special_rights) rights)) (all_but special_rights) i, bit_at_or (bit_and give (all_but special_rights)) (bit_and (bit_and give special_rights) rights) i, bit_at_and give (all_but special_rights) i, bit_at_and (bit_and give special_rights) rights i, bit_at_and give special_rights i))

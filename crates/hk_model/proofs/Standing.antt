@@ -169,7 +169,8 @@ module _ (P : Bool → Entry → Type 0) (s : State) (gone : (b : Bool) → P b 
   pub put_slot_holds : (inc : Inc) (n : ℕ) (e : Entry) (p : Place) → P true e → P false (standing s p) → P (same_place p (SlotOf inc n)) (standing (put_slot s inc n e) p)
   put_slot_holds inc n e (EntryOf a i) new old = old
   put_slot_holds inc n e (SlotOf a i) new old =
-      set_holds same_inc inc_laws (λ b x. b ≡ same_inc a inc → P (b && i == n) (slice_index_or x.slots i Empty)) inc a s.incarnations (record (incarnation s inc) { slots = slice_set (incarnation s inc).slots n e }) no_incarnation
+      set_holds same_inc inc_laws (λ b x. b ≡ same_inc a inc → P (b && i == n) (slice_index_or x.slots i Empty)) inc a s.incarnations
+      (record (incarnation s inc) { slots = slice_set (incarnation s inc).slots n e }) no_incarnation
       (λ h. let same : a ≡ inc = inc_same a inc (sym h) in item_holds P (incarnation s inc).slots n i e new (gone true) (rw (← same) old))
       (λ h. gone (i == n))
       (λ h. old)

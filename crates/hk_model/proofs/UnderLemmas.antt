@@ -166,7 +166,8 @@ pub under_turn : (c : Inc) (p : ℕ) (us : List Inc) (s : State) (line : Line) (
     → UnderCall c p us (activations_in s.incarnations) s.next_inc.0 → UnderCall c p (under_by s line t us) (activations_in t.incarnations) t.next_inc.0
 under_turn c p us s line t n (Still q e) st u = rw (under_still s line t us e, q.activations, ap (λ (i : Inc). i.0) q.next) u
 under_turn c p us s line t n (Leave e) st u =
-    rw (under_still s line t us e.is, e.activations, ap (λ (i : Inc). i.0) e.next) (under_fewer c p us (activations_in s.incarnations) (remove_entry (same_inc line.inc) (activations_in s.incarnations)) s.next_inc.0 u (remove_fewer s line.inc n) stays)
+    rw (under_still s line t us e.is, e.activations, ap (λ (i : Inc). i.0) e.next)
+    (under_fewer c p us (activations_in s.incarnations) (remove_entry (same_inc line.inc) (activations_in s.incarnations)) s.next_inc.0 u (remove_fewer s line.inc n) stays)
   where
     stays : (i : Inc) (x y : Activation) → is_one_of i us ≡ true → look_up i (remove_entry (same_inc line.inc) (activations_in s.incarnations)) ≡ Some x
         → look_up c (activations_in s.incarnations) ≡ Some y → look_up c (remove_entry (same_inc line.inc) (activations_in s.incarnations)) ≡ Some y
@@ -190,7 +191,8 @@ under_turn c p us s line t n (Leave e) st u =
             let no = found.1 in
             absurd (cc)
 under_turn c p us s line t n (Halt e) st u =
-    rw (under_still s line t us (ap enters_call e.is), e.activations, ap (λ (i : Inc). i.0) e.next) (under_fewer c p us (activations_in s.incarnations) (filter (λ (y : Inc × Activation). not (y.1.proc.0 == line.proc.0)) (activations_in s.incarnations)) s.next_inc.0 u (λ i x g. (halted_found (activations_in s.incarnations) line.proc.0 i x (activations_apart s n) g).0) stays)
+    rw (under_still s line t us (ap enters_call e.is), e.activations, ap (λ (i : Inc). i.0) e.next)
+    (under_fewer c p us (activations_in s.incarnations) (filter (λ (y : Inc × Activation). not (y.1.proc.0 == line.proc.0)) (activations_in s.incarnations)) s.next_inc.0 u (λ i x g. (halted_found (activations_in s.incarnations) line.proc.0 i x (activations_apart s n) g).0) stays)
   where
     stays : (i : Inc) (x y : Activation) → is_one_of i us ≡ true
         → look_up i (filter (λ (y : Inc × Activation). not (y.1.proc.0 == line.proc.0)) (activations_in s.incarnations)) ≡ Some x
@@ -201,7 +203,8 @@ under_turn c p us s line t n (Halt e) st u =
         let same : y.proc.0 ≡ x.proc.0 = u.kin c y u.itself h ∙ sym (u.kin i x m found.0) in
         halted_keeps (activations_in s.incarnations) line.proc.0 c y (activations_apart s n) h (rw same found.1)
 under_turn c p us s line t n (Enter e) st u =
-    rw (under_more s line t us e.is, e.activations, e.next) (entered_under c p us (activations_in s.incarnations) s.next_inc line.inc line.proc (activation (incarnation s line.inc)) u st.below (activation_live s.incarnations line.inc e.live) (st.own line.proc.0 line.inc (activation (incarnation s line.inc)) e.now (activation_live s.incarnations line.inc e.live)) (is_one_of line.inc us) refl)
+    rw (under_more s line t us e.is, e.activations, e.next)
+    (entered_under c p us (activations_in s.incarnations) s.next_inc line.inc line.proc (activation (incarnation s line.inc)) u st.below (activation_live s.incarnations line.inc e.live) (st.own line.proc.0 line.inc (activation (incarnation s line.inc)) e.now (activation_live s.incarnations line.inc e.live)) (is_one_of line.inc us) refl)
 
 -- ---- the call at its beginning
 
@@ -221,7 +224,8 @@ under_begins s c stacked live = record {
   itself = one_itself c;
   above = λ i h. let e = same i h in omega (arith, e);
   fresh = λ i h. let e = same i h in let b = stacked.below c (activation (incarnation s c)) there in omega (arith, e, b);
-  kin = λ i x h g. let f : Some x ≡ Some (activation (incarnation s c)) = sym g ∙ (rw (one_is c i h) there) in let k : x ≡ activation (incarnation s c) = cc in ap (λ (z : Activation). z.proc.0) k;
+  kin = λ i x h g. let f : Some x ≡ Some (activation (incarnation s c)) = sym g
+      ∙ (rw (one_is c i h) there) in let k : x ≡ activation (incarnation s c) = cc in ap (λ (z : Activation). z.proc.0) k;
   alive = λ i x h g. rw there refl;
 }
   where

@@ -41,7 +41,8 @@ named_is (Form a) cap h = absurd h
 -- a law of each hop, which is through LOAD
 abbrev pub HopLaw : State → (Place → Entry → Type 0) → Type 0
 HopLaw s P =
-    (place : Place) (cap : Cap) (at step : ℕ) → Within LOAD cap.rights → P place (Held cap) → IfOk (obtained cap.rights (standing s (EntryOf cap.name at)) step) (P (EntryOf cap.name at))
+    (place : Place) (cap : Cap) (at step : ℕ) → Within LOAD cap.rights → P place (Held cap) → IfOk (obtained cap.rights (standing s (EntryOf cap.name at)) step)
+    (P (EntryOf cap.name at))
 
 module _ (s : State) (P : Place → Entry → Type 0) (hops : HopLaw s P) where
   abbrev pub Arrives : Place → Entry → Type 0
@@ -91,9 +92,12 @@ pub record IsTarget (s : State) (inc : Inc) (path : List ℕ) (types : Name → 
 
 target_each : (s : State) (inc : Inc) (path : List ℕ) (types : Name → Bool) (rights : ℕ) → IfOk (target s inc path types rights) (IsTarget s inc path types rights)
 target_each s inc path types rights =
-    then_is (IsTarget s inc path types rights) (walk s inc path) (λ entry. held entry (last_step path) >>= (λ cap. unless (types (object s cap.name).of) (refused.WrongType (last_step path)) >> (allowed cap.rights rights (last_step path) >> Ok cap))) (λ entry h.
-    then_is (IsTarget s inc path types rights) (held entry (last_step path)) (λ cap. unless (types (object s cap.name).of) (refused.WrongType (last_step path)) >> (allowed cap.rights rights (last_step path) >> Ok cap)) (λ cap g.
-    and_is (IsTarget s inc path types rights) (unless (types (object s cap.name).of) (refused.WrongType (last_step path))) (allowed cap.rights rights (last_step path) >> Ok cap) (λ u t.
+    then_is (IsTarget s inc path types rights) (walk s inc path)
+    (λ entry. held entry (last_step path) >>= (λ cap. unless (types (object s cap.name).of) (refused.WrongType (last_step path)) >> (allowed cap.rights rights (last_step path) >> Ok cap))) (λ entry h.
+    then_is (IsTarget s inc path types rights) (held entry (last_step path))
+    (λ cap. unless (types (object s cap.name).of) (refused.WrongType (last_step path)) >> (allowed cap.rights rights (last_step path) >> Ok cap)) (λ cap g.
+    and_is (IsTarget s inc path types rights) (unless (types (object s cap.name).of) (refused.WrongType (last_step path))) (allowed cap.rights rights (last_step path) >> Ok cap)
+    (λ u t.
     and_is (IsTarget s inc path types rights) (allowed cap.rights rights (last_step path)) (Ok cap) (λ v a.
     let there : walk s inc path ≡ Ok (Held cap) = h ∙ ap Ok (held_is entry (last_step path) cap g) in
     record {

@@ -79,7 +79,8 @@ abbrev pub reach : (ℕ → State) → (Name → Bool) → List Entry → ℕ �
 reach at made params k param hops = option_and_then (follow at made hops) (param_reached params k param)
 
 -- the parameter and the hops lead to the object by a moment, where it stands good
-pub record IsReach (at : ℕ → State) (made : Name → Bool) (params : List Entry) (k : ℕ) (good_for : Reached → Bool) (moment : ℕ) (name : Name) (param : ℕ) (hops : List Hop) : Type 0 where
+pub record IsReach (at : ℕ → State) (made : Name → Bool) (params : List Entry) (k : ℕ) (good_for : Reached → Bool) (moment : ℕ) (name : Name) (param : ℕ)
+    (hops : List Hop) : Type 0 where
   pub there : Reached
   pub leads : reach at made params k param hops ≡ Some there
   pub same : there.name ≡ name
