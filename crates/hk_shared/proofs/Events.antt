@@ -156,7 +156,7 @@ module _ (w : WorldValue) (lines : List Line) (held : List (Option Context)) (wo
       made_is = sym (ap (λ (o : Option Proc). turn w m.state (unwrap_or o (record { 0 = 0 })) (next_is, frames)) r.0) ∙ made
 
       -- the line and the machine of what a turn came to
-      abbrev of_turn : Inc → What × Reply × State × Context → Line × Machine
+      of_turn : Inc → What × Reply × State × Context → Line × Machine
       of_turn i x = (record { cpu = cpu; proc = proc; inc = i; what = x.0; reply = x.1 }, record { state = x.2; contexts = slice_set m.contexts proc.0 x.3 })
 
       whole : event w m cpu proc (next_is, frames) ≡ of_turn inc (happened, reply, t, new)
