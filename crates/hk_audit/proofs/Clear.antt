@@ -38,6 +38,7 @@ use Rattle.hk_format.proofs.RightsAgain.{rights_again}
 use Rattle.hk_text.specs.Numerals.{is_numeral, numeral_of}
 use Rattle.hk_audit.specs.Seen.{is_index_numeral, indices_of, path_of, canonical_rights, seen}
 use Rattle.hk_text.proofs.NumeralTexts.{numeral_decimal, numeral_again}
+use Rattle.hk_print.proofs.Pieces.{spelled_rights}
 use Rattle.hk_audit.proofs.Spelled.{same_self}
 use Rattle.hk_audit.proofs.SeenForms.{seen_numeral, seen_path_of, seen_spelled}
 use Rattle.hk_audit.proofs.LinesAgain.{right_among}
@@ -137,13 +138,6 @@ clear_path (x ∷ y ∷ more) h =
     }
 
 -- rights
-
-pub spelled_rights : (t : List ℕ) → spell (rights_piece t) ≡ t
-spelled_rights t = go (same_text t (codes "-")) refl
-  where
-    go : (b : Bool) → same_text t (codes "-") ≡ b → spell (cond b Dash (Upper t)) ≡ t
-    go true e = sym (same_is t (codes "-") e)
-    go false e = refl
 
 rights_plain : (t : List ℕ) → IsRightsText t → list_all is_plain t ≡ true
 rights_plain t h = go (same_text t (codes "-")) refl h

@@ -28,8 +28,9 @@ use Rattle.hk_audit.specs.Seen.{is_index_numeral, indices_of, path_of, canonical
 use Rattle.hk_text.proofs.NumeralTexts.{numeral_text, numeral_is}
 use Rattle.hk_audit.proofs.Spelled.{named_row}
 use Rattle.hk_audit.proofs.SeenForms.{spelled_is, seen_numeral, path_refused, several_taken, below_refused, word32_refused, slot_refused, rights_taken, rights_refused, right_taken, right_refused, seen_word, word_refused, not_word}
-use Rattle.hk_audit.proofs.Clear.{spelled_rights}
-use Rattle.hk_audit.proofs.Sound.{Fits, Forms, verb_is}
+use Rattle.hk_print.proofs.Pieces.{spelled_rights}
+use Rattle.hk_format.proofs.ExactForms.{verb_is}
+use Rattle.hk_audit.proofs.Sound.{Fits, Forms}
 
 below_fits : (bound : ℕ) → bound ≤ 18446744073709551616 → Fits seen true ℕ (as_number_below bound) Number (λ n. n < bound)
 below_fits bound most = record { fits = all }

@@ -32,6 +32,7 @@ use Rattle.hk_format.specs.LineReading.{as_path, as_any_slot, as_rights_set, as_
 use Rattle.hk_format.specs.AuditLines.{call_pieces, what_pieces, full_word, reply_pieces, event_pieces}
 use Rattle.hk_format.specs.LineRanges.{IsPathValue, IsAnySlot, IsCall, IsWhat, IsReply, IsLine}
 use Rattle.hk_model.specs.WorldValue.{IsWord32, IsMaking}
+use Rattle.hk_format.proofs.ExactForms.{verb_is}
 use Rattle.hk_format.proofs.LineAgain.{same_is}
 
 -- the same, where that is wanted
@@ -237,21 +238,6 @@ sound_call f verb.Yield = sound_end tt refl
 sound_call f _ = sound_unknown
 
 -- events
-
-pub verb_is : (w : List ℕ) (v : Verb) → as_verb (Word w) ≡ Ok v → verb_word v ≡ w
-verb_is w v h = go (find (λ u. same_text w (verb_word u)) all_verbs) refl h
-  where
-    found : (vs : List Verb) (u : Verb) → find (λ x. same_text w (verb_word x)) vs ≡ Some u → verb_word u ≡ w
-    found [] u e = absurd (let none : None ≡ Some u = e in cc)
-    found (x ∷ xs) u e = by (same_text w (verb_word x)) refl e (λ k. found xs u k)
-      where
-        by : (b : Bool) → same_text w (verb_word x) ≡ b → cond b (Some x) (find (λ y. same_text w (verb_word y)) xs) ≡ Some u → (find (λ y. same_text w (verb_word y)) xs ≡ Some u → verb_word u ≡ w) → verb_word u ≡ w
-        by true t k more = let same : x ≡ u = cc in sym (same_is w (verb_word x) t ∙ ap verb_word same)
-        by false t k more = more k
-
-    go : (o : Option Verb) → find (λ u. same_text w (verb_word u)) all_verbs ≡ o → verb_found o ≡ Ok v → verb_word v ≡ w
-    go (Some u) e k = let same : u ≡ v = cc in subst (λ (z : Verb). verb_word z ≡ w) same (found all_verbs u e)
-    go None e k = cc
 
 sound_some : {view : List ℕ → Piece} {exact : Bool} {reads : Reads Call} {front : List (List ℕ) → List (List ℕ)} → Sound view exact Call reads front call_pieces IsCall → Sound view exact What (some_call reads) front what_pieces IsWhat
 sound_some {view} {exact} {reads} {front} one = record { sound = λ ts x rest h. go ts x rest (reads (map view ts)) refl h }

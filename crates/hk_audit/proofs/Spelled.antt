@@ -51,13 +51,6 @@ union_begins r (Some x) e = rw e (ap Some (or_zero_l x))
 union_begins r None e = refl
 
 -- a set has no number that is no right
-pub has_right : (rights n : ℕ) → IsRightsWord rights → (IsTrue (is_right n) → ⊥) → has rights n ≡ false
-has_right rights n word none = go (has rights n) refl
-  where
-    go : (b : Bool) → has rights n ≡ b → b ≡ false
-    go true e = absurd (none (sym (has-all_rights n) ∙ HasAll-all_rights rights word n e))
-    go false e = refl
-
 -- the names, one by one
 
 pub same_self : (t : List ℕ) → same_text t t ≡ true
@@ -166,14 +159,6 @@ no_name t bad = go (number_named t) refl
         absurd (bad (IsUtf8-from_ascii t (ascii_from t (rw (← row.1) row.3))))
 
 -- the names that are left
-
-pub asked_some : (has : Bool) (n given : ℕ) (answer : Option ℕ) → answer ≡ cond has (Some n) None → answer ≡ Some given → (has ≡ true) × (given ≡ n)
-asked_some true n given answer e is = (refl, let same = sym is ∙ e in cc)
-asked_some false n given answer e is = absurd (let same = sym is ∙ e in cc)
-
-pub asked_none : (has : Bool) (n : ℕ) (answer : Option ℕ) → answer ≡ cond has (Some n) None → answer ≡ None → has ≡ false
-asked_none true n answer e is = absurd (let same = sym is ∙ e in cc)
-asked_none false n answer e is = refl
 
 -- a name that is there
 pub names_taken : (test : ℕ → Bool) (numbers : List ℕ) (i d : ℕ) (before after : List (List ℕ)) (t : List ℕ) (whole : Bool) → i < length numbers → test (get_or numbers i d) ≡ true
