@@ -22,7 +22,7 @@ use Rattle.hk_model.specs.WorldValue.{WorldValue, IsWorld}
 use Rattle.hk_model.specs.State.{State, object, incarnation, same_inc, no_incarnation}
 use Rattle.hk_model.specs.Walking.{confined_rights}
 use Rattle.hk_model.specs.Merging.{inherited}
-use Rattle.hk_model.specs.Places.{Place, SlotOf, EntryOf, standing, is_empty, rights_of, found, named_by, entry_given}
+use Rattle.hk_model.specs.Places.{Place, SlotOf, EntryOf, standing, is_empty, rights_held, found, named_by, entry_given}
 use Rattle.hk_model.specs.Lines.{done_call, enters_call, param_count, line_before}
 use Rattle.hk_model.specs.Running.{Machine, opened, machine_at, state_at, AreSteps, AreStepsOf}
 use Rattle.hk_model.specs.Under.{is_one_of, under_by, is_under, is_made_under, IsCall, parameters}
@@ -56,7 +56,7 @@ inherited_lacks (Held old) x h cap g =
     (λ r. confined_lacks old.rights modify_right refl (ap (λ n. has n modify_right) same ∙ r), λ r. confined_lacks old.rights unconf_right refl (ap (λ n. has n unconf_right) same ∙ r))
   where
     rights_same : {a b : Cap} → Held a ≡ Held b → a.rights ≡ b.rights
-    rights_same e = ap rights_of e
+    rights_same e = ap rights_held e
 
 -- a slot of a confined call has a parameter, or what is inherited
 call_way_gives : (s : State) (inc : Inc) (procedure : Name) (args : List ℕ) (params : List Param) (n : ℕ) (x : Entry) → Writes s inc (call_way procedure true args params n) x → (n < length args) ⊎ ((cap : Cap) → x ≡ Held cap → Lacks cap)
@@ -156,13 +156,13 @@ module _ (w : WorldValue) (lines : List Line) (h : AreStepsOf w lines) (k : ℕ)
     FirstOf o n = (n < param_count o) ⊎ ((cap : Cap) → standing start (SlotOf top n) ≡ Held cap → Lacks cap)
 
     entered_first : (path args : List ℕ) (into : Slot) (n : ℕ) → IsEntered before c.line.inc path start.incarnations → Wrote before c.line.inc (standing before (SlotOf top n)) (way before c.line.inc (call.Enter path args into) (SlotOf top n)) (standing start (SlotOf top n)) → FirstOf (Some (call.Enter path args into)) n
-    entered_first path args into n e g = by_slot (same_inc top before.next_inc) new (not (has (rights_of (found before c.line.inc path)) unconf_right)) confines g
+    entered_first path args into n e g = by_slot (same_inc top before.next_inc) new (not (has (rights_held (found before c.line.inc path)) unconf_right)) confines g
       where
         new : same_inc top before.next_inc ≡ true
         new = ap (λ (i : Inc). same_inc top i) (sym c.made) ∙ inc_laws.refl top
 
-        confines : not (has (rights_of (found before c.line.inc path)) unconf_right) ≡ true
-        confines = ap (λ r. not (has (rights_of (entry_given r)) unconf_right)) e.leads ∙ sym e.confined ∙ ap (λ (i : Inc). (incarnation start i).confined) (sym c.made) ∙ confined
+        confines : not (has (rights_held (found before c.line.inc path)) unconf_right) ≡ true
+        confines = ap (λ r. not (has (rights_held (entry_given r)) unconf_right)) e.leads ∙ sym e.confined ∙ ap (λ (i : Inc). (incarnation start i).confined) (sym c.made) ∙ confined
 
         nothing : standing start (SlotOf top n) ≡ Empty → FirstOf (Some (call.Enter path args into)) n
         nothing none = inr (λ cap there. absurd (cc))

@@ -18,9 +18,9 @@ use Rattle.hk_model.specs.declared.lines.What.TheVariants as what
 use Rattle.hk_model.specs.declared.objects.Incarnation.{Incarnation}
 use Rattle.hk_rights.specs.Rights.{A0, has, unconf_right}
 use Rattle.hk_model.specs.State.{State, incarnation, process, same_inc, inc_cmp, no_incarnation}
-use Rattle.hk_model.specs.Targets.{PROCEDURE, is_type, target}
+use Rattle.hk_model.specs.Targets.{PROCEDURE, is_of_type, target}
 use Rattle.hk_model.specs.Rule.{Outcome, outcome, settled, called_incarnation, enter_procedure, leave}
-use Rattle.hk_model.specs.Places.{rights_of, found, entry_given, named_by}
+use Rattle.hk_model.specs.Places.{rights_held, found, entry_given, named_by}
 use Rattle.hk_model.specs.Lines.{done_by, done_call}
 use Rattle.hk_model.specs.Ways.{LeadsTo, call_way}
 use Rattle.hk_model.proofs.Standing.{inc_laws, insert_holds}
@@ -52,11 +52,11 @@ HasDoneThat s inc (Some c) after = HasDone s inc c after
 put_in : (es : List (Inc × Incarnation)) (n : Inc) (x : Incarnation) → unwrap_or (lookup (same_inc n) (insert_entry inc_cmp es n x)) no_incarnation ≡ x
 put_in es n x = insert_holds inc_cmp inc_laws (λ b y. b ≡ true → y ≡ x) n n es x no_incarnation (λ h. refl) (λ h. absurd (cc)) (inc_laws.refl n)
 
-enter_leaf : (s : State) (proc : Proc) (inc : Inc) (path : List ℕ) (into : Slot) (cap : Cap) (slots : List Entry) → target s inc path (is_type PROCEDURE) A0 ≡ Ok cap
+enter_leaf : (s : State) (proc : Proc) (inc : Inc) (path : List ℕ) (into : Slot) (cap : Cap) (slots : List Entry) → target s inc path (is_of_type PROCEDURE) A0 ≡ Ok cap
     → IsEntered s inc path (insert_entry inc_cmp s.incarnations s.next_inc (called_incarnation proc cap.name inc into (not (has cap.rights unconf_right)) slots))
 enter_leaf s proc inc path into cap slots h = record {
   cap = cap;
-  leads = (target_is s inc path (is_type PROCEDURE) A0 cap h).leads;
+  leads = (target_is s inc path (is_of_type PROCEDURE) A0 cap h).leads;
   confined = ap (λ (x : Incarnation). x.confined) (put_in s.incarnations s.next_inc (called_incarnation proc cap.name inc into (not (has cap.rights unconf_right)) slots));
 }
 
@@ -92,11 +92,11 @@ call_way_calls s inc procedure confined h (arg ∷ args) (param ∷ params) zero
 call_way_calls s inc procedure confined h (arg ∷ args) (param ∷ params) (suc n) = call_way_calls s inc procedure confined h args params n
 
 -- the capability that was called is what its name and its rights are told of
-pub entered_called : (s : State) (inc : Inc) (path : List ℕ) (after : List (Inc × Incarnation)) → IsEntered s inc path after → IsCalled s inc (named_by s inc path) (not (has (rights_of (found s inc path)) unconf_right))
+pub entered_called : (s : State) (inc : Inc) (path : List ℕ) (after : List (Inc × Incarnation)) → IsEntered s inc path after → IsCalled s inc (named_by s inc path) (not (has (rights_held (found s inc path)) unconf_right))
 entered_called s inc path after h = record {
   path = path;
   cap = h.cap;
   leads = h.leads;
   same = leads_named s inc path h.cap h.leads;
-  confines = ap (λ r. not (has (rights_of (entry_given r)) unconf_right)) h.leads;
+  confines = ap (λ r. not (has (rights_held (entry_given r)) unconf_right)) h.leads;
 }

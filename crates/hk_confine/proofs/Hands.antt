@@ -17,7 +17,7 @@ use Rattle.hk_model.specs.Merging.{inherited}
 use Rattle.hk_model.specs.Rule.{copied}
 use Rattle.hk_model.specs.Places.{Place, SlotOf, EntryOf, standing}
 use Rattle.hk_model.specs.Lines.{makes_object}
-use Rattle.hk_model.specs.Ways.{Way, Walked, Stored, Lessened, Merged, Inherited, Copied, CopyOf, Created, Formed, Gone, LeadsTo, IsMerged, Writes}
+use Rattle.hk_model.specs.Ways.{Way, Walked, Stored, Lessened, Merged, Inherited, Copied, CopyOf, Created, Formed, Emptied, LeadsTo, IsMerged, Writes}
 use Rattle.hk_model.proofs.TestLemmas.{and_is}
 use Rattle.hk_model.proofs.RightsWithin.{HasAll-reduced, masked_off, reduced_needs_unconf}
 use Rattle.hk_model.proofs.WalkLemmas.{walk_keeps}
@@ -133,4 +133,4 @@ module _ (s : State) (inc : Inc) (G : Name → ℕ → Type 0) (g : Gets s inc G
   writes_gets c fresh p (CopyOf path) x goes calls h = subst (Holds G) (sym h.is) (fresh goes.0 h.cap.rights)
   writes_gets c fresh p (Created path) x goes calls h = subst (Holds G) (sym h.is) (fresh goes.0 h.give)
   writes_gets c fresh p (Formed path kind) x goes calls h = subst (Holds G) (sym h.is) tt
-  writes_gets c fresh p Gone x goes calls h = subst (Holds G) (sym h) tt
+  writes_gets c fresh p Emptied x goes calls h = subst (Holds G) (sym h) tt

@@ -12,11 +12,11 @@ use Rattle.hk_model.specs.declared.lines.Line.{Line}
 use Rattle.hk_model.specs.State.{State, object}
 use Rattle.hk_model.specs.Targets.{target}
 use Rattle.hk_model.specs.Rule.{made_form}
-use Rattle.hk_model.specs.Places.{Place, SlotOf, EntryOf, standing, end_of, named_by}
+use Rattle.hk_model.specs.Places.{Place, SlotOf, EntryOf, standing, walk_end, named_by}
 use Rattle.hk_model.specs.WorldValue.{WorldValue}
 use Rattle.hk_model.specs.Opening.{opening}
 use Rattle.hk_model.specs.Running.{opened, AreStepsOf}
-use Rattle.hk_model.specs.Ways.{Way, Walked, Stored, Lessened, Merged, Inherited, Copied, CopyOf, Created, Formed, Gone, line_way, Writes, Wrote}
+use Rattle.hk_model.specs.Ways.{Way, Walked, Stored, Lessened, Merged, Inherited, Copied, CopyOf, Created, Formed, Emptied, line_way, Writes, Wrote}
 use Rattle.hk_model.specs.Origins.{From, origin_of}
 use Rattle.hk_model.specs.Descent.{Chain, Opened, MadeAt, Link, extended, extend, chains, Reduces, IfThere, of_template, Descends, DescentLaw}
 use Rattle.hk_model.proofs.RightsWithin.{Within-and}
@@ -45,7 +45,7 @@ module _ (w : WorldValue) (s : State) (inc : Inc) (chains : Place → Chain) (be
 
   -- what each way writes descends by the chain of its origin
   way_descends : (p : Place) (v : Way) (x : Entry) → Writes s inc v x → Descends w x (extended s chains (origin_of s inc v) p)
-  way_descends p (Walked path) x h = from_place p (end_of s inc path) x (walk_reduces s inc path x h)
+  way_descends p (Walked path) x h = from_place p (walk_end s inc path) x (walk_reduces s inc path x h)
   way_descends p (Stored slot) x h = from_place p (SlotOf inc slot) x (rw h.0 (Reduces-self (standing s (SlotOf inc slot))))
   way_descends p (Lessened slot keep) x h = from_place p (SlotOf inc slot) x (rw (h.held, h.is) (refl, Within-and h.cap.rights keep))
   way_descends p (Merged slot form) x h = rw (h.held, h.is) (merged_is h.cap (object s h.cap.name).of form h.step h.new h.merges, subst (λ e. Descends w e (chains (SlotOf inc slot))) h.held (before (SlotOf inc slot)))
@@ -58,7 +58,7 @@ module _ (w : WorldValue) (s : State) (inc : Inc) (chains : Place → Chain) (be
       of_kind : (k : Making) → of_template (made_form k h.cap.name) ≡ Some h.cap.name
       of_kind (making.Amplify check give) = refl
       of_kind (making.Create give) = refl
-  way_descends p Gone x h = subst (λ y. Descends w y (chains p)) (sym h) (empty_descends w (chains p))
+  way_descends p Emptied x h = subst (λ y. Descends w y (chains p)) (sym h) (empty_descends w (chains p))
 
   place_descends : (p : Place) (o : Option Way) (x : Entry) → Wrote s inc (standing s p) o x → Descends w x (extended s chains (option_and_then (origin_of s inc) o) p)
   place_descends p None x (inl e) = subst (λ y. Descends w y (chains p)) (sym e) (empty_descends w (chains p))

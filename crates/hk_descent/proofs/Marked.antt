@@ -12,9 +12,9 @@ use Rattle.hk_model.specs.declared.calls.Call.{Call}
 use Rattle.hk_model.specs.declared.lines.Line.{Line}
 use Rattle.hk_model.specs.State.{State, object}
 use Rattle.hk_model.specs.Walking.{walk}
-use Rattle.hk_model.specs.Places.{Place, SlotOf, EntryOf, standing, is_empty, named, passed_from, named_by}
+use Rattle.hk_model.specs.Places.{Place, SlotOf, EntryOf, standing, is_empty, object_named, passed_from, named_by}
 use Rattle.hk_model.specs.Lines.{done_call, enters_call}
-use Rattle.hk_model.specs.Ways.{Way, Walked, Stored, Lessened, Merged, Inherited, Copied, CopyOf, Created, Formed, Gone, line_way, Writes, Wrote}
+use Rattle.hk_model.specs.Ways.{Way, Walked, Stored, Lessened, Merged, Inherited, Copied, CopyOf, Created, Formed, Emptied, line_way, Writes, Wrote}
 use Rattle.std.proofs.lemmas.Bool.{and_parts, false_from_ne_true}
 use Rattle.hk_model.specs.Under.{is_one_of, under_by}
 use Rattle.hk_model.specs.Marks.{passes_mark, carries, marked_by, mark}
@@ -50,11 +50,11 @@ module _ (us : List Inc) (s : State) (inc : Inc) (marks : Place → Bool) (m : A
   -- a walk that passes a marked place begins at one, since no list has any
   lists_unmarked : (name : Name) (index : ℕ) (rest : List ℕ) → list_any marks (passed_from s (EntryOf name index) rest) ≡ false
   lists_unmarked name index [] = rw (false_from_ne_true (marks (EntryOf name index)) (m (EntryOf name index))) refl
-  lists_unmarked name index (at ∷ rest) = rw (false_from_ne_true (marks (EntryOf name index)) (m (EntryOf name index))) (lists_unmarked (named (standing s (EntryOf name index))) at rest)
+  lists_unmarked name index (at ∷ rest) = rw (false_from_ne_true (marks (EntryOf name index)) (m (EntryOf name index))) (lists_unmarked (object_named (standing s (EntryOf name index))) at rest)
 
   passed_first : (at : ℕ) (rest : List ℕ) → passes_mark s inc marks (at ∷ rest) ≡ true → marks (SlotOf inc at) ≡ true
   passed_first at [] h = or_first (marks (SlotOf inc at)) false refl h
-  passed_first at (i ∷ rest) h = or_first (marks (SlotOf inc at)) (list_any marks (passed_from s (EntryOf (named (standing s (SlotOf inc at))) i) rest)) (lists_unmarked (named (standing s (SlotOf inc at))) i rest) h
+  passed_first at (i ∷ rest) h = or_first (marks (SlotOf inc at)) (list_any marks (passed_from s (EntryOf (object_named (standing s (SlotOf inc at))) i) rest)) (lists_unmarked (object_named (standing s (SlotOf inc at))) i rest) h
 
   walk_marked : (path : List ℕ) (x : Entry) → passes_mark s inc marks path ≡ true → walk s inc path ≡ Ok x → (is_one_of inc us ≡ true) × NoEnv x
   walk_marked [] x k h = absurd (cc)
@@ -80,7 +80,7 @@ module _ (us : List Inc) (s : State) (inc : Inc) (marks : Place → Bool) (m : A
   writes_marked (Inherited procedure index confined) x k h = absurd (false≢true k)
   writes_marked (Created path) x k h = absurd (false≢true k)
   writes_marked (Formed path kind) x k h = absurd (false≢true k)
-  writes_marked Gone x k h = absurd (false≢true k)
+  writes_marked Emptied x k h = absurd (false≢true k)
 
   -- ---- where it is then
 
@@ -107,7 +107,7 @@ module _ (us : List Inc) (s : State) (inc : Inc) (marks : Place → Bool) (m : A
   lands c more own new (Inherited procedure index confined) x p k h full goes = absurd (false≢true k)
   lands c more own new (Created path) x p k h full goes = absurd (false≢true k)
   lands c more own new (Formed path kind) x p k h full goes = absurd (false≢true k)
-  lands c more own new Gone x p k h full goes = absurd (false≢true k)
+  lands c more own new Emptied x p k h full goes = absurd (false≢true k)
 
 -- ---- one line
 

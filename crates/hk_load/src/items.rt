@@ -16,9 +16,15 @@ use crate::errors::{LineError, LoadError};
 use crate::names::Declared;
 use crate::steps::steps;
 use hk_format::{Head, Item, LoadCause};
+use hk_model::limits::{
+    CODE_LIMIT, ENTRY_LIMIT, OBJECT_LIMIT, PROCESS_LIMIT, SLOT_LIMIT, USUAL_LIMIT,
+};
 use hk_model::{Born, Code, Entry, Items, Kind, Name, Task, Template, Text, World};
 use std::alloc::Global;
 use std::marker::PhantomData;
+
+// The objects that a script may declare: the seven kernel types stand beside them.
+const DECLARED_LIMIT: usize = OBJECT_LIMIT - 7;
 
 const DATA: Name = Name(1);
 
@@ -91,7 +97,7 @@ impl Loaded {
     ) -> Result<(), LoadError>
         ensures { BecomesAll result (built_of self.new) (single_added (built_of self.old) line name.now kind) }
     {
-        if self.objects.len() >= 65_529 {
+        if self.objects.len() >= DECLARED_LIMIT {
             let cause = LoadCause::TooMany;
             return Err(LoadError::Refused { line, cause });
         }
@@ -112,7 +118,7 @@ impl Loaded {
         let of = self.object_type(declared, item.line, of)?;
         let room = Room {
             listed: of != DATA,
-            entries: 256,
+            entries: ENTRY_LIMIT,
         };
         let contents = Contents::of(alloc, declared, room, item.parts.as_slice())?;
         self.push_object(alloc, name, plain_kind(of, contents))
@@ -132,7 +138,7 @@ impl Loaded {
         let code = self.procedure_code(declared, item.line, code)?;
         let room = Room {
             listed: true,
-            entries: 256,
+            entries: ENTRY_LIMIT,
         };
         let contents = Contents::of(alloc, declared, room, item.parts.as_slice())?;
         self.push_object(alloc, name, procedure_kind(code, contents))
@@ -143,7 +149,7 @@ impl Loaded {
         requires { HasNewLabels [] item.now.parts }
         ensures { (names : Names) → BecomesAll result (built_of self.new) (added names (built_of self.old) item.now.line item.now.parts (CodeIs name.now)) }
     {
-        if self.codes.len() >= 4096 {
+        if self.codes.len() >= CODE_LIMIT {
             let cause = LoadCause::TooMany;
             return Err(LoadError::Refused {
                 line: item.line,
@@ -170,7 +176,7 @@ impl Loaded {
         let code = self.task_code(declared, item.line, code)?;
         let room = Room {
             listed: true,
-            entries: 64,
+            entries: SLOT_LIMIT,
         };
         let contents = Contents::of(alloc, declared, room, item.parts.as_slice())?;
         self.push_task(alloc, name, code, contents)
@@ -182,7 +188,7 @@ impl Loaded {
     {
         match plain_type(declared, of) {
             Ok(of) => {
-                if self.objects.len() < 65_529 {
+                if self.objects.len() < DECLARED_LIMIT {
                     Ok(of)
                 } else {
                     let cause = LoadCause::TooMany;
@@ -199,7 +205,7 @@ impl Loaded {
     {
         match declared.code(code) {
             Ok(code) => {
-                if self.objects.len() < 65_529 {
+                if self.objects.len() < DECLARED_LIMIT {
                     Ok(code)
                 } else {
                     let cause = LoadCause::TooMany;
@@ -216,7 +222,7 @@ impl Loaded {
     {
         match declared.code(code) {
             Ok(code) => {
-                if self.tasks.len() < 256 {
+                if self.tasks.len() < PROCESS_LIMIT {
                     Ok(code)
                 } else {
                     let cause = LoadCause::TooMany;
@@ -273,7 +279,7 @@ impl Loaded {
             codes,
             tasks,
         } = self;
-        World::new(limit.unwrap_or(10_000), objects, codes, tasks)
+        World::new(limit.unwrap_or(USUAL_LIMIT), objects, codes, tasks)
     }
 }
 

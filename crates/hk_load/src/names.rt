@@ -10,6 +10,7 @@ ghost use Rattle.hk_load.specs.Naming.{IsNewHead, with_head, with_object, with_c
 
 use crate::errors::LineError;
 use hk_format::{Head, Item, LoadCause};
+use hk_model::limits::CODE_LIMIT;
 use hk_model::{Name, Text};
 use indexmap::{IndexMap, IndexSet};
 use std::alloc::{AllocError, Global};
@@ -143,7 +144,7 @@ impl Declared {
         ensures { Gives (λ x. x) result (code_named self.now name.now) }
     {
         match self.codes.get_index_of(name.as_str()) {
-            Some(number) => Ok(number.min(4096) as u16),
+            Some(number) => Ok(number.min(CODE_LIMIT) as u16),
             None => Err(LineError::Bad(LoadCause::UnknownName)),
         }
     }

@@ -8,6 +8,7 @@ ghost use Rattle.hk_load.specs.Jumping.{HasNewLabels, step_added};
 use crate::errors::{LineError, LoadError};
 use crate::labels::Labels;
 use hk_format::{Body, LoadCause, Part};
+use hk_model::limits::CODE_LIMIT;
 use hk_model::{Instr, Items};
 use std::alloc::Global;
 
@@ -45,7 +46,7 @@ fn add_step(
 {
     if let Body::StepIs(written) = body {
         let step = labels.instruction(alloc, written)?;
-        if steps.len() >= 4096 {
+        if steps.len() >= CODE_LIMIT {
             return Err(LineError::Bad(LoadCause::TooMany));
         }
         steps.push(step)?;

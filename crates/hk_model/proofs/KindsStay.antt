@@ -1,5 +1,6 @@
 -- The type, the code and the parameters of an object never change, and no name is given twice.
-use Rattle.std.proofs.Common.{◌≡◌, ◌≤◌, ◌<◌, ℕ, ◌+◌, List, [], ◌∷◌, ◌++◌, length, Bool, true, false, Option, Some, None, refl, sym, ◌∙◌, ap, subst, arith, map, replicate, cond, take, drop}
+use Rattle.std.proofs.Common.{◌≡◌, ◌≤◌, ◌<◌, ℕ, ◌+◌, List, [], ◌∷◌, ◌++◌, length, Bool, true, false, Option, Some, None, refl, sym, ◌∙◌, ap, subst, arith, map, replicate, cond}
+use Rattle.std.proofs.Common.{take, drop}
 use Rattle.std.proofs.lemmas.Bool.{false≢true}
 use Rattle.hk_model.specs.declared.names.Name.{Name}
 use Rattle.hk_model.specs.declared.objects.Object.{Object}
@@ -120,20 +121,25 @@ leaves_others w lines steps moment line at name =
     (moved_holds (λ s l t. ObjectsGiven s → (name : Name) → Becomes s l t.objects name) leaves_each w before line (line_steps w (opened w) lines moment line steps at) (objects_given_at w lines moment steps) name)
 
 -- what a law keeps from line to line it keeps from a moment to a later one
-pub from_moment : (I : State → Type 0) → EachStep (λ s line t. I s → I t) → (w : WorldValue) (lines : List Line) (early late : ℕ) → AreStepsOf w lines → early ≤ late → I (state_at w lines early) → I (state_at w lines late)
+pub from_moment : (I : State → Type 0) → EachStep (λ s line t. I s → I t) → (w : WorldValue) (lines : List Line) (early late : ℕ) → AreStepsOf w lines → early ≤ late
+    → I (state_at w lines early) → I (state_at w lines late)
 from_moment I each w lines early late steps l h =
     let some = first_steps w (opened w) lines late steps in
-    let same : after_lines w (opened w) (take early (take late lines)) ≡ after_lines w (opened w) (take early lines) = ap (after_lines w (opened w)) (take_less early late lines l) in
+    let same : after_lines w (opened w) (take early (take late lines)) ≡ after_lines w (opened w) (take early lines) =
+    ap (after_lines w (opened w)) (take_less early late lines l) in
     let before : I (after_lines w (opened w) (take early (take late lines))).state = subst (λ (m : Machine). I m.state) (sym same) h in
     subst (λ (m : Machine). I m.state) (after_later w (opened w) (take late lines) early)
     (state_kept I each w (after_lines w (opened w) (take early (take late lines))) (drop early (take late lines)) (later_steps w (opened w) (take late lines) early some) before)
 
 -- an object keeps its type, its code and its parameters for as long as it stands
-pub kind_stays : (w : WorldValue) (lines : List Line) (early late : ℕ) (name : Name) (o x : Object) → AreStepsOf w lines → early ≤ late → there (state_at w lines early).objects name ≡ Some o → there (state_at w lines late).objects name ≡ Some x → IsSameKind o x
+pub kind_stays : (w : WorldValue) (lines : List Line) (early late : ℕ) (name : Name) (o x : Object) → AreStepsOf w lines → early ≤ late
+    → there (state_at w lines early).objects name ≡ Some o → there (state_at w lines late).objects name ≡ Some x → IsSameKind o x
 kind_stays w lines early late name o x steps l e g =
     (from_moment (λ s. ObjectsGiven s × IsOfKind name o s) (kind_each name o) w lines early late steps l
     (objects_given_at w lines early steps, (objects_given_at w lines early steps name o e, λ y f. subst (λ (z : Object). IsSameKind o z) (some_object (sym e ∙ f)) (kind_self o)))).1.1 x g
 
 -- an object that has gone does not come again
-pub gone_stays : (w : WorldValue) (lines : List Line) (early late : ℕ) (name : Name) → AreStepsOf w lines → early ≤ late → name.0 < (state_at w lines early).next_name.0 → there (state_at w lines early).objects name ≡ None → there (state_at w lines late).objects name ≡ None
-gone_stays w lines early late name steps l low e = (from_moment (λ s. ObjectsGiven s × HasGone name s) (gone_each name) w lines early late steps l (objects_given_at w lines early steps, (low, e))).1.1
+pub gone_stays : (w : WorldValue) (lines : List Line) (early late : ℕ) (name : Name) → AreStepsOf w lines → early ≤ late → name.0 < (state_at w lines early).next_name.0
+    → there (state_at w lines early).objects name ≡ None → there (state_at w lines late).objects name ≡ None
+gone_stays w lines early late name steps l low e =
+    (from_moment (λ s. ObjectsGiven s × HasGone name s) (gone_each name) w lines early late steps l (objects_given_at w lines early steps, (low, e))).1.1

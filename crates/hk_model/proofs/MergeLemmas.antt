@@ -30,6 +30,7 @@ merged_is cap of form step new e = if_ok (Amplified cap form of) (merged cap of 
     }))) e
 
 -- a special right behind a merge was there before it
-pub merged_has : (cap : Cap) (of : Name) (form : Param) (step : ℕ) (new : Cap) (right : ℕ) → merged cap of form step ≡ Ok new → has special_rights right ≡ true → has all_rights right ≡ true → has new.rights right ≡ true → has cap.rights right ≡ true
+pub merged_has : (cap : Cap) (of : Name) (form : Param) (step : ℕ) (new : Cap) (right : ℕ) → merged cap of form step ≡ Ok new → has special_rights right ≡ true
+    → has all_rights right ≡ true → has new.rights right ≡ true → has cap.rights right ≡ true
 merged_has cap of form step new right e special is h =
     Within-has (bit_and new.rights special_rights) cap.rights right (merged_is cap of form step new e).special is (rw (has-bit_and new.rights special_rights right, h) special)

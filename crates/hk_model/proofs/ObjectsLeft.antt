@@ -1,5 +1,6 @@
 -- What each call, halt and dispatch does to each object.
-use Rattle.std.proofs.Common.{◌≡◌, ℕ, ◌+◌, ◌-◌, ◌<◌, List, [], ◌∷◌, ◌++◌, length, Bool, true, false, Option, Some, None, Ok, Err, refl, sym, ap, ◌∙◌, subst, cond, option_map, map, arith}
+use Rattle.std.proofs.Common.{◌≡◌, ℕ, ◌+◌, ◌-◌, ◌<◌, List, [], ◌∷◌, ◌++◌, length, Bool, true, false, Option, Some, None, Ok, Err, refl, sym, ap, ◌∙◌, subst, cond, option_map, map}
+use Rattle.std.proofs.Common.{arith}
 use Rattle.std.specs.Prelude.{IfOk, nat_lt, not, ◌||◌, ◌==◌, ◌⊎◌}
 use mathlib.Core.Logic.{inl, inr}
 use Rattle.std.proofs.lemmas.Bool.Decides.{nat_tests}
@@ -31,11 +32,13 @@ use Rattle.hk_model.specs.State.{State, object, process, put_object, put_process
 use Rattle.hk_model.specs.Keeping.{kept_objects, is_opening}
 use Rattle.hk_model.specs.Refusing.{unless}
 use Rattle.hk_model.specs.Walking.{walk}
-use Rattle.hk_model.specs.Targets.{SEMAPHORE, PROCEDURE, PROCESS, LNS, is_general, is_type, slot_at, last_step, create_form, MODIFY+A0, MODIFY+A1, target}
-use Rattle.hk_model.specs.Rule.{Outcome, outcome, settled, answered, can_be_created, plain_object, copied, room_made, leave_to, token_given, get_word, put_word, add_word, word_count, load_entry, store_entry, append_entry, erase_entry, drop_slot, restrict_slot, look, make_template, create_object, merge_cap, copy_object, enter_procedure, leave, take_token, give_token}
+use Rattle.hk_model.specs.Targets.{SEMAPHORE, PROCEDURE, PROCESS, LNS, is_general, is_of_type, slot_at, last_step, create_form, MODIFY+A0, MODIFY+A1, target}
+use Rattle.hk_model.specs.Rule.{Outcome, outcome, settled, answered, can_be_created, plain_object, copied, room_made, leave_to, token_given, get_word, put_word, add_word}
+use Rattle.hk_model.specs.Rule.{word_count, load_entry, store_entry, append_entry, erase_entry, drop_slot, restrict_slot, look, make_template, create_object, merge_cap}
+use Rattle.hk_model.specs.Rule.{copy_object, enter_procedure, leave, take_token, give_token}
 use Rattle.hk_model.specs.Processors.{ended}
 use Rattle.hk_model.specs.Places.{cap_of, cap_found, entry_given}
-use Rattle.hk_model.specs.Lines.{done_by, done_call, changed_by, changes_path, makes_object}
+use Rattle.hk_model.specs.Lines.{done_call, changed_by, changes_path, makes_object}
 use Rattle.hk_model.specs.Effects.{there, IsSameKind, IsNoProcedure, IsMadeObject, lets_go, Becomes, Stays, Goes, Changes, IsNew}
 use Rattle.hk_model.proofs.TestLemmas.{then_is, and_is, unless_is, create_form_is}
 use Rattle.hk_model.proofs.Standing.{on_ordering, name_same, name_laws}
@@ -61,7 +64,8 @@ set_other : (a b : Name) (es : List (Name × Object)) (o : Object) → same_name
 set_other a b [] o h = refl
 set_other a b (e ∷ es) o h = by (same_name b e.0) refl (set_other a b es o h)
   where
-    by : (t : Bool) → same_name b e.0 ≡ t → there (set_value (same_name b) es o) a ≡ there es a → there (cond t ((e.0, o) ∷ es) (e ∷ set_value (same_name b) es o)) a ≡ cond (same_name a e.0) (Some e.1) (there es a)
+    by : (t : Bool) → same_name b e.0 ≡ t → there (set_value (same_name b) es o) a ≡ there es a
+        → there (cond t ((e.0, o) ∷ es) (e ∷ set_value (same_name b) es o)) a ≡ cond (same_name a e.0) (Some e.1) (there es a)
     by true g later = let apart : same_name a e.0 ≡ false = ap (same_name a) (sym (name_same b e.0 g)) ∙ h in rw apart refl
     by false g later = ap (λ (o : Option Object). cond (same_name a e.0) (Some e.1) o) later
 
@@ -104,8 +108,10 @@ ObjectsGiven s = (name : Name) (o : Object) → there s.objects name ≡ Some o 
 data Left (s : State) (inc : Inc) (c : Option Call) (objects : List (Name × Object)) (name : Name) : Type 0 where
   Same : there objects name ≡ there s.objects name → Left s inc c objects name
   Lost : (before : Object) → is_opening s name ≡ false → there s.objects name ≡ Some before → there objects name ≡ None → Left s inc c objects name
-  Told : (before after : Object) → changed_by s inc c ≡ Some name → there s.objects name ≡ Some before → there objects name ≡ Some after → IsSameKind before after → Left s inc c objects name
-  New : (new : Object) → makes_object c ≡ true → name ≡ s.next_name → there s.objects name ≡ None → there objects name ≡ Some new → IsNoProcedure new → IsMadeObject s inc c new → Left s inc c objects name
+  Told : (before after : Object) → changed_by s inc c ≡ Some name → there s.objects name ≡ Some before → there objects name ≡ Some after → IsSameKind before after
+      → Left s inc c objects name
+  New : (new : Object) → makes_object c ≡ true → name ≡ s.next_name → there s.objects name ≡ None → there objects name ≡ Some new → IsNoProcedure new → IsMadeObject s inc c new
+      → Left s inc c objects name
 
 -- ---- what each call does
 
@@ -144,19 +150,25 @@ module _ (s : State) (inc : Inc) (name : Name) (given : ObjectsGiven s) where
   none_yet None e same = e
   none_yet (Some x) e same = let low = given name x e in let number : name.0 ≡ s.next_name.0 = ap (λ (n : Name). n.0) same in absurd (omega (arith, low, number))
 
-  left_new : (c : Call) (room : List (Name × Object)) (o : Object) → room_made s ≡ Ok room → makes_object (Some c) ≡ true → IsNoProcedure o → IsMadeObject s inc (Some c) o → Left s inc (Some c) (insert_entry name_cmp room s.next_name o) name
+  left_new : (c : Call) (room : List (Name × Object)) (o : Object) → room_made s ≡ Ok room → makes_object (Some c) ≡ true → IsNoProcedure o → IsMadeObject s inc (Some c) o
+      → Left s inc (Some c) (insert_entry name_cmp room s.next_name o) name
   left_new c room o r m kind made = by (same_name name s.next_name) refl (stays_or_lost s room (room_vanish s room r) name)
     where
-      lost : IsLost s room name → same_name name s.next_name ≡ false → (old : Option Object) → there s.objects name ≡ old → Left s inc (Some c) (insert_entry name_cmp room s.next_name o) name
+      lost : IsLost s room name → same_name name s.next_name ≡ false → (old : Option Object) → there s.objects name ≡ old
+          → Left s inc (Some c) (insert_entry name_cmp room s.next_name o) name
       lost g e None h = Same (insert_other name s.next_name room o e ∙ (g.gone ∙ sym h))
       lost g e (Some x) h = Lost x g.made h (insert_other name s.next_name room o e ∙ g.gone)
 
-      by : (b : Bool) → same_name name s.next_name ≡ b → (there room name ≡ there s.objects name) ⊎ IsLost s room name → Left s inc (Some c) (insert_entry name_cmp room s.next_name o) name
-      by true e g = let same = name_same name s.next_name e in New o m same (none_yet (there s.objects name) refl same) (ap (there (insert_entry name_cmp room s.next_name o)) same ∙ insert_found s.next_name room o) kind made
+      by : (b : Bool) → same_name name s.next_name ≡ b → (there room name ≡ there s.objects name) ⊎ IsLost s room name
+          → Left s inc (Some c) (insert_entry name_cmp room s.next_name o) name
+      by true e g =
+          let same = name_same name s.next_name e in
+          New o m same (none_yet (there s.objects name) refl same) (ap (there (insert_entry name_cmp room s.next_name o)) same ∙ insert_found s.next_name room o) kind made
       by false e (inl g) = Same (insert_other name s.next_name room o e ∙ g)
       by false e (inr g) = lost g e (there s.objects name) refl
 
-  left_created : (path : List ℕ) (into : Slot) (step : ℕ) (entry : Entry) (form : Name × ℕ) (u : Unit {0}) (room : List (Name × Object)) → walk s inc path ≡ Ok entry → create_form entry step ≡ Ok form → unless (can_be_created form.0) (refused.WrongType step) ≡ Ok u → room_made s ≡ Ok room
+  left_created : (path : List ℕ) (into : Slot) (step : ℕ) (entry : Entry) (form : Name × ℕ) (u : Unit {0}) (room : List (Name × Object)) → walk s inc path ≡ Ok entry
+      → create_form entry step ≡ Ok form → unless (can_be_created form.0) (refused.WrongType step) ≡ Ok u → room_made s ≡ Ok room
       → Left s inc (Some (call.Create path into)) (insert_entry name_cmp room s.next_name (plain_object form.0 [] [])) name
   left_created path into step entry form u room w f h r =
       left_new (call.Create path into) room (plain_object form.0 [] []) r refl (record { of = created_of form.0 (unless_is (can_be_created form.0) (refused.WrongType step) u h); code = refl; params = refl })
@@ -181,7 +193,8 @@ module _ (s : State) (inc : Inc) (name : Name) (given : ObjectsGiven s) where
       left_new (call.Copy path into) room (copy_of cap) r refl (record { of = general_of (object s cap.name).of.0 is.typed; code = refl; params = refl })
       (record { cap = cap; of = ap (λ r. cap_of (entry_given r)) is.leads; is = refl })
 
-  leaves_same : (c : Call) (give : Option Slot) (proc : Proc) (gone : State) (caller : Option Inc) (into : ℕ) (cap : Option Cap) → gone.objects ≡ s.objects → Left s inc (Some c) (leave_to gone proc caller into cap).objects name
+  leaves_same : (c : Call) (give : Option Slot) (proc : Proc) (gone : State) (caller : Option Inc) (into : ℕ) (cap : Option Cap) → gone.objects ≡ s.objects
+      → Left s inc (Some c) (leave_to gone proc caller into cap).objects name
   leaves_same c give proc gone None into cap h = left_same c gone h
   leaves_same c give proc gone (Some caller) into None h = left_same c gone h
   leaves_same c give proc gone (Some caller) into (Some cap) h = left_same c gone h
@@ -189,23 +202,27 @@ module _ (s : State) (inc : Inc) (name : Name) (given : ObjectsGiven s) where
   take_leaves : (proc : Proc) (path : List ℕ) → LeavesBy (call.P path) (take_token s proc inc path)
   unfolding take_token
   take_leaves proc path =
-      then_is (λ f. Left s inc (Some (call.P path)) f.1.objects name) (target s inc path (is_type SEMAPHORE) MODIFY+A0) (λ c. Ok (elim (nat_lt 0 (object s c.name).count) [
+      then_is (λ f. Left s inc (Some (call.P path)) f.1.objects name) (target s inc path (is_of_type SEMAPHORE) MODIFY+A0) (λ c. Ok (elim (nat_lt 0 (object s c.name).count) [
         | true ↦ (Done, put_object s c.name (record (object s c.name) { count = (object s c.name).count - 1 }))
         | false ↦ (Waits, put_process (put_object s c.name (record (object s c.name) { waiters = (object s c.name).waiters ++ proc ∷ [] })) proc (record (process s proc) { run = Waiting c.name }))
       ])) (λ c g. by c g (nat_lt 0 (object s c.name).count))
     where
-      by : (c : Cap) → target s inc path (is_type SEMAPHORE) MODIFY+A0 ≡ Ok c → (b : Bool) → Left s inc (Some (call.P path)) (elim b as (λ x. Answer × State) [
+      by : (c : Cap) → target s inc path (is_of_type SEMAPHORE) MODIFY+A0 ≡ Ok c → (b : Bool) → Left s inc (Some (call.P path)) (elim b as (λ x. Answer × State) [
         | true ↦ (Done, put_object s c.name (record (object s c.name) { count = (object s c.name).count - 1 }))
         | false ↦ (Waits, put_process (put_object s c.name (record (object s c.name) { waiters = (object s c.name).waiters ++ proc ∷ [] })) proc (record (process s proc) { run = Waiting c.name }))
       ]).1.objects name
-      by c g true = left_object (call.P path) path (is_type SEMAPHORE) MODIFY+A0 c (record (object s c.name) { count = (object s c.name).count - 1 }) g refl (record { of = refl; code = refl; params = refl })
-      by c g false = left_object (call.P path) path (is_type SEMAPHORE) MODIFY+A0 c (record (object s c.name) { waiters = (object s c.name).waiters ++ proc ∷ [] }) g refl (record { of = refl; code = refl; params = refl })
+      by c g true =
+          left_object (call.P path) path (is_of_type SEMAPHORE) MODIFY+A0 c (record (object s c.name) { count = (object s c.name).count - 1 }) g refl (record { of = refl; code = refl; params = refl })
+      by c g false =
+          left_object (call.P path) path (is_of_type SEMAPHORE) MODIFY+A0 c (record (object s c.name) { waiters = (object s c.name).waiters ++ proc ∷ [] }) g refl (record { of = refl; code = refl; params = refl })
 
-  token_leaves : (path : List ℕ) (c : Cap) → target s inc path (is_type SEMAPHORE) MODIFY+A1 ≡ Ok c → (waiters : List Proc) → LeavesBy (call.V path) (token_given s c.name (object s c.name) waiters)
-  token_leaves path c g [] = and_is (λ f. Left s inc (Some (call.V path)) f.1.objects name) (unless (nat_lt (object s c.name).count token_limit) (refused.Full full.Tokens)) (Ok (Done, put_object s c.name (record (object s c.name) { count = (object s c.name).count + 1 })))
-      (λ u h. left_object (call.V path) path (is_type SEMAPHORE) MODIFY+A1 c (record (object s c.name) { count = (object s c.name).count + 1 }) g refl (record { of = refl; code = refl; params = refl }))
+  token_leaves : (path : List ℕ) (c : Cap) → target s inc path (is_of_type SEMAPHORE) MODIFY+A1 ≡ Ok c → (waiters : List Proc)
+      → LeavesBy (call.V path) (token_given s c.name (object s c.name) waiters)
+  token_leaves path c g [] =
+      and_is (λ f. Left s inc (Some (call.V path)) f.1.objects name) (unless (nat_lt (object s c.name).count token_limit) (refused.Full full.Tokens)) (Ok (Done, put_object s c.name (record (object s c.name) { count = (object s c.name).count + 1 })))
+      (λ u h. left_object (call.V path) path (is_of_type SEMAPHORE) MODIFY+A1 c (record (object s c.name) { count = (object s c.name).count + 1 }) g refl (record { of = refl; code = refl; params = refl }))
   token_leaves path c g (first ∷ rest) =
-      left_object (call.V path) path (is_type SEMAPHORE) MODIFY+A1 c (record (object s c.name) { waiters = rest }) g refl (record { of = refl; code = refl; params = refl })
+      left_object (call.V path) path (is_of_type SEMAPHORE) MODIFY+A1 c (record (object s c.name) { waiters = rest }) g refl (record { of = refl; code = refl; params = refl })
 
   -- every call
   outcome_leaves : (proc : Proc) (c : Call) → LeavesBy c (outcome s proc inc c)
@@ -240,7 +257,7 @@ FirstBy s o = IfOk o (λ f. f.1.first_new ≡ s.first_new)
 take_first : (s : State) (proc : Proc) (inc : Inc) (path : List ℕ) → FirstBy s (take_token s proc inc path)
 unfolding take_token
 take_first s proc inc path =
-    then_is (λ f. f.1.first_new ≡ s.first_new) (target s inc path (is_type SEMAPHORE) MODIFY+A0) (λ c. Ok (elim (nat_lt 0 (object s c.name).count) [
+    then_is (λ f. f.1.first_new ≡ s.first_new) (target s inc path (is_of_type SEMAPHORE) MODIFY+A0) (λ c. Ok (elim (nat_lt 0 (object s c.name).count) [
       | true ↦ (Done, put_object s c.name (record (object s c.name) { count = (object s c.name).count - 1 }))
       | false ↦ (Waits, put_process (put_object s c.name (record (object s c.name) { waiters = (object s c.name).waiters ++ proc ∷ [] })) proc (record (process s proc) { run = Waiting c.name }))
     ])) (λ c g. by c (nat_lt 0 (object s c.name).count))
@@ -253,10 +270,12 @@ take_first s proc inc path =
     by c false = refl
 
 token_first : (s : State) (name : Name) (o : Object) (waiters : List Proc) → FirstBy s (token_given s name o waiters)
-token_first s name o [] = and_is (λ f. f.1.first_new ≡ s.first_new) (unless (nat_lt o.count token_limit) (refused.Full full.Tokens)) (Ok (Done, put_object s name (record o { count = o.count + 1 }))) (λ u g. refl)
+token_first s name o [] =
+    and_is (λ f. f.1.first_new ≡ s.first_new) (unless (nat_lt o.count token_limit) (refused.Full full.Tokens)) (Ok (Done, put_object s name (record o { count = o.count + 1 }))) (λ u g. refl)
 token_first s name o (first ∷ rest) = refl
 
-leave_first : (s : State) (proc : Proc) (inc : Inc) (caller : Option Inc) (into : ℕ) (cap : Option Cap) → (leave_to (record s { incarnations = remove_entry (same_inc inc) s.incarnations }) proc caller into cap).first_new ≡ s.first_new
+leave_first : (s : State) (proc : Proc) (inc : Inc) (caller : Option Inc) (into : ℕ) (cap : Option Cap)
+    → (leave_to (record s { incarnations = remove_entry (same_inc inc) s.incarnations }) proc caller into cap).first_new ≡ s.first_new
 leave_first s proc inc None into cap = refl
 leave_first s proc inc (Some caller) into None = refl
 leave_first s proc inc (Some caller) into (Some cap) = refl
@@ -285,7 +304,8 @@ outcome_first s proc inc (call.V of) = search (then_is, token_first)
 outcome_first s proc inc call.Yield = refl
 
 -- what becomes of an object by a line where it stays or vanishes behind the call
-becomes_after : (s t : State) (line : Line) (left : List (Name × Object)) (name : Name) → lets_go line.what line.reply ≡ true → t.first_new ≡ s.first_new → Left s line.inc (done_call line) t.objects name
+becomes_after : (s t : State) (line : Line) (left : List (Name × Object)) (name : Name) → lets_go line.what line.reply ≡ true → t.first_new ≡ s.first_new
+    → Left s line.inc (done_call line) t.objects name
     → (there left name ≡ there t.objects name) ⊎ IsLost t left name → Becomes s line left name
 becomes_after s t line left name go first h kept = by h kept
   where
@@ -312,10 +332,12 @@ kept_or_lost t name = stays_or_lost t (kept_objects t) (kept_vanish t) name
 done_leaves : (s t : State) (cpu : Cpu) (proc : Proc) (c : Call) (a : Answer) (name : Name) → t.first_new ≡ s.first_new → Left s (process s proc).current (Some c) t.objects name
     → Becomes s (proc_line s cpu proc (what.Call c) (answered a)) (kept_objects t) name
 done_leaves s t cpu proc c Done name first h = becomes_after s t (proc_line s cpu proc (what.Call c) (answered Done)) (kept_objects t) name refl first h (kept_or_lost t name)
-done_leaves s t cpu proc c (Word n) name first h = becomes_after s t (proc_line s cpu proc (what.Call c) (answered (Word n))) (kept_objects t) name refl first h (kept_or_lost t name)
+done_leaves s t cpu proc c (Word n) name first h =
+    becomes_after s t (proc_line s cpu proc (what.Call c) (answered (Word n))) (kept_objects t) name refl first h (kept_or_lost t name)
 done_leaves s t cpu proc c Waits name first h = becomes_after s t (proc_line s cpu proc (what.Call c) (answered Waits)) (kept_objects t) name refl first h (kept_or_lost t name)
 
-settled_leaves : (s : State) (cpu : Cpu) (proc : Proc) (c : Call) (o : Outcome) (name : Name) → FirstBy s o → IfOk o (λ f. Left s (process s proc).current (Some c) f.1.objects name)
+settled_leaves : (s : State) (cpu : Cpu) (proc : Proc) (c : Call) (o : Outcome) (name : Name) → FirstBy s o
+    → IfOk o (λ f. Left s (process s proc).current (Some c) f.1.objects name)
     → Becomes s (proc_line s cpu proc (what.Call c) (settled s o).0) (settled s o).1.objects name
 settled_leaves s cpu proc c (Ok f) name first h = done_leaves s f.1 cpu proc c f.0 name first h
 settled_leaves s cpu proc c (Err e) name first h = Stays refl
@@ -324,7 +346,8 @@ settled_leaves s cpu proc c (Err e) name first h = Stays refl
 pub leaves_each : EachStep (λ s line t. ObjectsGiven s → (name : Name) → Becomes s line t.objects name)
 leaves_each = record {
   calls = λ s cpu proc c r given name.
-      settled_leaves s cpu proc c (outcome s proc (process s proc).current c) name (outcome_first s proc (process s proc).current c) (outcome_leaves s (process s proc).current name given proc c);
+      settled_leaves s cpu proc c (outcome s proc (process s proc).current c) name (outcome_first s proc (process s proc).current c)
+      (outcome_leaves s (process s proc).current name given proc c);
   halts = λ s cpu proc r given name.
       becomes_after s (ended s proc) (proc_line s cpu proc what.Halt reply.Done) (kept_objects (ended s proc)) name refl refl (Same refl) (kept_or_lost (ended s proc) name);
   dispatches = λ s cpu first rest r given name. Stays refl;

@@ -65,7 +65,8 @@ reach_same p q a b h =
     λ i. Param (params i) (hops i)
 
 -- there is one reason of a change
-one_reason : (w : WorldValue) (lines : List Line) (k : ℕ) (call : Inc) (moment : ℕ) (name : Name) (a b : Reach) → IsReason w lines k call moment name a → IsReason w lines k call moment name b → a ≡ b
+one_reason : (w : WorldValue) (lines : List Line) (k : ℕ) (call : Inc) (moment : ℕ) (name : Name) (a b : Reach) → IsReason w lines k call moment name a
+    → IsReason w lines k call moment name b → a ≡ b
 one_reason w lines k call moment name Made Made f g = refl
 one_reason w lines k call moment name Made (Param q others) f g = absurd (true≢false (sym f ∙ g.0))
 one_reason w lines k call moment name (Param p hops) Made f g = absurd (true≢false (sym g ∙ f.0))

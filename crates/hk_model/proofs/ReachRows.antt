@@ -56,7 +56,8 @@ closing-steps : AreStepsOf closing closing_lines
 unfolding opened opening step next next_from after kept_objects get_word put_word add_word store_entry append_entry erase_entry create_object enter_procedure leave take_token give_token first_missing right_numbers right_table
 closing-steps = (refl, (refl, (refl, (refl, (refl, tt)))))
 
-entry-is-reached : IsReach (state_at closing closing_lines) (is_made_under closing closing_lines 2 (inc 1)) (parameters closing closing_lines 2 (inc 1)) 2 (λ there. there.modify) 4 (name 8) 0 (hop false 0 2 ∷ [])
+entry-is-reached : IsReach (state_at closing closing_lines) (is_made_under closing closing_lines 2 (inc 1)) (parameters closing closing_lines 2 (inc 1)) 2
+    (λ there. there.modify) 4 (name 8) 0 (hop false 0 2 ∷ [])
 unfolding opened opening step next next_from after kept_objects get_word put_word add_word store_entry append_entry erase_entry create_object enter_procedure leave take_token give_token first_missing right_numbers right_table
 entry-is-reached = record { there = record { name = name 8; modify = true; unconf = false; moment = 2 }; leads = refl; same = refl; good = refl; by_then = lit≤ tt }
 
@@ -132,7 +133,8 @@ abbrev handing : WorldValue
 handing = small_world
     (plain UNIVERSAL [] (Empty ∷ [])
     ∷ plain DATA (1 ∷ []) []
-    ∷ procedure 0 (record { of = Some (name UNIVERSAL); check = STORE; give = STORE + MODIFY } ∷ []) (Form (template.Create (name UNIVERSAL) (LOAD + STORE + APPEND + MODIFY + ENV + UNCONF)) ∷ cap 8 (PUTDATA + MODIFY + ENV + UNCONF) ∷ [])
+    ∷ procedure 0 (record { of = Some (name UNIVERSAL); check = STORE; give = STORE + MODIFY } ∷ [])
+    (Form (template.Create (name UNIVERSAL) (LOAD + STORE + APPEND + MODIFY + ENV + UNCONF)) ∷ cap 8 (PUTDATA + MODIFY + ENV + UNCONF) ∷ [])
     ∷ [])
     ((instr.Create (route (1 ∷ [])) (slot 3) ∷ instr.Append (route (3 ∷ [])) (slot 2) ∷ instr.Store (route (0 ∷ [])) (Number 0) (slot 3) ∷ [])
     ∷ (instr.Enter (route (1 ∷ [])) (0 ∷ []) (slot 2) ∷ [])
@@ -158,17 +160,20 @@ not-before-it-is-handed-over : IsModifiable handing handing_lines 2 (inc 1) 4 (n
 unfolding opened opening step next next_from after kept_objects get_word put_word add_word store_entry append_entry erase_entry create_object enter_procedure leave take_token give_token first_missing right_numbers right_table
 not-before-it-is-handed-over = not_modifiable handing handing_lines 2 (inc 1) 4 (7 ∷ []) [] refl (name 10) refl
 
-once-it-is-handed-over : IsReach (state_at handing handing_lines) (is_made_under handing handing_lines 2 (inc 1)) (parameters handing handing_lines 2 (inc 1)) 2 (λ there. there.modify) 5 (name 10) 0 (hop true 0 5 ∷ [])
+once-it-is-handed-over : IsReach (state_at handing handing_lines) (is_made_under handing handing_lines 2 (inc 1)) (parameters handing handing_lines 2 (inc 1)) 2
+    (λ there. there.modify) 5 (name 10) 0 (hop true 0 5 ∷ [])
 unfolding opened opening step next next_from after kept_objects get_word put_word add_word store_entry append_entry erase_entry create_object enter_procedure leave take_token give_token first_missing right_numbers right_table
 once-it-is-handed-over = record { there = record { name = name 10; modify = true; unconf = true; moment = 5 }; leads = refl; same = refl; good = refl; by_then = lit≤ tt }
 
 -- the entry of the new object stood before, but behind a hop at moment 5 none can be made at moment 4; what the confined call
 -- inherited lost MODIFY and UNCONF, so object 8 stands good for neither
-moments-rise : reach (state_at handing handing_lines) (is_made_under handing handing_lines 2 (inc 1)) (parameters handing handing_lines 2 (inc 1)) 2 0 (hop true 0 5 ∷ hop false 0 5 ∷ [])
+moments-rise : reach (state_at handing handing_lines) (is_made_under handing handing_lines 2 (inc 1)) (parameters handing handing_lines 2 (inc 1)) 2 0
+    (hop true 0 5 ∷ hop false 0 5 ∷ [])
     ≡ Some (record { name = name 8; modify = false; unconf = false; moment = 5 })
 unfolding opened opening step next next_from after kept_objects get_word put_word add_word store_entry append_entry erase_entry create_object enter_procedure leave take_token give_token first_missing right_numbers right_table
 moments-rise = refl
 
-moments-that-fall : reach (state_at handing handing_lines) (is_made_under handing handing_lines 2 (inc 1)) (parameters handing handing_lines 2 (inc 1)) 2 0 (hop true 0 5 ∷ hop false 0 4 ∷ []) ≡ None
+moments-that-fall : reach (state_at handing handing_lines) (is_made_under handing handing_lines 2 (inc 1)) (parameters handing handing_lines 2 (inc 1)) 2 0
+    (hop true 0 5 ∷ hop false 0 4 ∷ []) ≡ None
 unfolding opened opening step next next_from after kept_objects get_word put_word add_word store_entry append_entry erase_entry create_object enter_procedure leave take_token give_token first_missing right_numbers right_table
 moments-that-fall = refl

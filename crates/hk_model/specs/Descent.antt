@@ -14,7 +14,7 @@ use Rattle.hk_model.specs.State.{State, object}
 use Rattle.hk_model.specs.Targets.{ENV+A0}
 use Rattle.hk_model.specs.Opening.{opening}
 use Rattle.hk_model.specs.Running.{opened, state_at}
-use Rattle.hk_model.specs.Places.{Place, standing, named}
+use Rattle.hk_model.specs.Places.{Place, standing, object_named}
 use Rattle.hk_model.specs.Lines.{told}
 use Rattle.hk_model.specs.Ways.{Within}
 use Rattle.hk_model.specs.Origins.{Maker, ByCreate, ByCopy, ByMakeTemplate, Origin, From, Through, Made, line_origin}
@@ -36,7 +36,7 @@ abbrev pub extended : State → (Place → Chain) → Option Origin → Place �
 extended s chains None p = chains p
 extended s chains (Some (From q)) p = Link (s.events + 1) q (standing s q) None (chains q)
 extended s chains (Some (Through q form)) p =
-    Link (s.events + 1) q (standing s q) (Some (record { form = form; of = (object s (named (standing s q))).of })) (chains q)
+    Link (s.events + 1) q (standing s q) (Some (record { form = form; of = (object s (object_named (standing s q))).of })) (chains q)
 extended s chains (Some (Made by target)) p = MadeAt (s.events + 1) by target
 
 -- the chains after one more line

@@ -68,8 +68,10 @@ lets_go what.Dispatch reply = false
 -- has the same type, code and parameters; or it is the one that the line has made, where none stood before, and is no procedure
 pub data Becomes (s : State) (line : Line) (objects : List (Name × Object)) (name : Name) : Type 0 where
   Stays : there objects name ≡ there s.objects name → Becomes s line objects name
-  Goes : (before : Object) → lets_go line.what line.reply ≡ true → is_opening s name ≡ false → there s.objects name ≡ Some before → there objects name ≡ None → Becomes s line objects name
-  Changes : (before after : Object) → changed s line ≡ Some name → there s.objects name ≡ Some before → there objects name ≡ Some after → IsSameKind before after → Becomes s line objects name
+  Goes : (before : Object) → lets_go line.what line.reply ≡ true → is_opening s name ≡ false → there s.objects name ≡ Some before → there objects name ≡ None
+      → Becomes s line objects name
+  Changes : (before after : Object) → changed s line ≡ Some name → there s.objects name ≡ Some before → there objects name ≡ Some after → IsSameKind before after
+      → Becomes s line objects name
   IsNew : (new : Object) → makes_object (done_call line) ≡ true → name ≡ s.next_name → there s.objects name ≡ None → there objects name ≡ Some new
       → IsNoProcedure new → IsMadeObject s line.inc (done_call line) new → Becomes s line objects name
 

@@ -1,7 +1,9 @@
 -- How many of each there can be. docs/RULES.md, "Limits".
 use Rattle.std.specs.Prelude.{ℕ}
-use Rattle.hk_model.specs.declared.limits.TheConstants.{OBJECT_LIMIT, WORD_LIMIT, ENTRY_LIMIT, SLOT_LIMIT, PARAM_LIMIT, ARGUMENT_LIMIT, PATH_LIMIT, INDEX_BOUND, SLOT_BOUND, STEP_BOUND, REGISTER_LIMIT}
-use Rattle.hk_model.specs.declared.limits.TheConstants.{DEPTH_LIMIT, TOKEN_LIMIT, CODE_LIMIT, PROCESS_LIMIT, CPU_LIMIT, LOCAL_LIMIT, EVENT_LIMIT, USUAL_LIMIT, LINE_BYTES, SCRIPT_BYTES, RECORD_BYTES}
+use Rattle.hk_model.specs.declared.limits.TheConstants.{OBJECT_LIMIT, WORD_LIMIT, ENTRY_LIMIT, SLOT_LIMIT, PARAM_LIMIT, ARGUMENT_LIMIT, PATH_LIMIT, INDEX_BOUND, SLOT_BOUND}
+use Rattle.hk_model.specs.declared.limits.TheConstants.{STEP_BOUND, REGISTER_LIMIT}
+use Rattle.hk_model.specs.declared.limits.TheConstants.{DEPTH_LIMIT, TOKEN_LIMIT, CODE_LIMIT, PROCESS_LIMIT, CPU_LIMIT, LOCAL_LIMIT, EVENT_LIMIT, USUAL_LIMIT, LINE_BYTES}
+use Rattle.hk_model.specs.declared.limits.TheConstants.{SCRIPT_BYTES, RECORD_BYTES}
 
 -- objects, the kernel types counted
 abbrev pub object_limit : ℕ

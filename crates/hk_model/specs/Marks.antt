@@ -11,7 +11,7 @@ use Rattle.hk_model.specs.State.{State}
 use Rattle.hk_model.specs.Running.{machine_at, state_at}
 use Rattle.hk_model.specs.Places.{Place, SlotOf, EntryOf, same_place, standing, is_empty, passed, named_by}
 use Rattle.hk_model.specs.Lines.{told}
-use Rattle.hk_model.specs.Ways.{Way, Walked, Stored, Lessened, Merged, Inherited, Copied, CopyOf, Created, Formed, Gone, line_way}
+use Rattle.hk_model.specs.Ways.{Way, Walked, Stored, Lessened, Merged, Inherited, Copied, CopyOf, Created, Formed, Emptied, line_way}
 use Rattle.hk_model.specs.Under.{IsCall, is_live, is_under_by, parameters}
 
 -- the walk passed a marked place
@@ -30,7 +30,7 @@ carries s inc marks (Copied path index) = passes_mark s inc marks path || marks 
 carries s inc marks (CopyOf path) = passes_mark s inc marks path
 carries s inc marks (Created path) = false
 carries s inc marks (Formed path kind) = false
-carries s inc marks Gone = false
+carries s inc marks Emptied = false
 
 -- what is marked by the ways of the places that are written, and elsewhere as before
 abbrev pub marked_by : State → Inc → (Place → Bool) → Option Way → Place → Bool

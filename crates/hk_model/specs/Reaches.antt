@@ -79,7 +79,8 @@ abbrev pub reach : (ℕ → State) → (Name → Bool) → List Entry → ℕ �
 reach at made params k param hops = option_and_then (follow at made hops) (param_reached params k param)
 
 -- the parameter and the hops lead to the object by a moment, where it stands good
-pub record IsReach (at : ℕ → State) (made : Name → Bool) (params : List Entry) (k : ℕ) (good_for : Reached → Bool) (moment : ℕ) (name : Name) (param : ℕ) (hops : List Hop) : Type 0 where
+pub record IsReach (at : ℕ → State) (made : Name → Bool) (params : List Entry) (k : ℕ) (good_for : Reached → Bool) (moment : ℕ) (name : Name) (param : ℕ)
+    (hops : List Hop) : Type 0 where
   pub there : Reached
   pub leads : reach at made params k param hops ≡ Some there
   pub same : there.name ≡ name
@@ -110,14 +111,18 @@ pub record AreReaches (at : ℕ → State) (made : Name → Bool) (params : List
   pub param_unconf : (param : ℕ) (cap : Cap) → slice_get params param ≡ Some (Held cap) → has cap.rights unconf_right ≡ true → U k cap.name
   pub later_modify : (early late : ℕ) (x : Name) → k ≤ early → early ≤ late → M early x → M late x
   pub later_unconf : (early late : ℕ) (x : Name) → k ≤ early → early ≤ late → U early x → U late x
-  pub entry_modify : (moment index : ℕ) (x : Name) (cap : Cap) → k ≤ moment → U moment x → listed_cap (at moment) x index ≡ Some cap → has cap.rights modify_right ≡ true → M moment cap.name
-  pub entry_unconf : (moment index : ℕ) (x : Name) (cap : Cap) → k ≤ moment → U moment x → listed_cap (at moment) x index ≡ Some cap → has cap.rights unconf_right ≡ true → U moment cap.name
-  pub handed : (moment index : ℕ) (x : Name) (cap : Cap) → k ≤ moment → M moment x → listed_cap (at moment) x index ≡ Some cap → made cap.name ≡ true → M moment cap.name × U moment cap.name
+  pub entry_modify : (moment index : ℕ) (x : Name) (cap : Cap) → k ≤ moment → U moment x → listed_cap (at moment) x index ≡ Some cap → has cap.rights modify_right ≡ true
+      → M moment cap.name
+  pub entry_unconf : (moment index : ℕ) (x : Name) (cap : Cap) → k ≤ moment → U moment x → listed_cap (at moment) x index ≡ Some cap → has cap.rights unconf_right ≡ true
+      → U moment cap.name
+  pub handed : (moment index : ℕ) (x : Name) (cap : Cap) → k ≤ moment → M moment x → listed_cap (at moment) x index ≡ Some cap → made cap.name ≡ true
+      → M moment cap.name × U moment cap.name
 
 -- the sets keep the rules, and all tests of names that keep them pass what is in the sets: so the sets are the least
 pub record AreLeastReaches (at : ℕ → State) (made : Name → Bool) (params : List Entry) (k : ℕ) (M U : ℕ → Name → Type 0) : Type 0 where
   pub keep : AreReaches at made params k M U
-  pub least : (m u : ℕ → Name → Bool) → AreReaches at made params k (λ moment x. m moment x ≡ true) (λ moment x. u moment x ≡ true) → (moment : ℕ) (x : Name) → (M moment x → m moment x ≡ true) × (U moment x → u moment x ≡ true)
+  pub least : (m u : ℕ → Name → Bool) → AreReaches at made params k (λ moment x. m moment x ≡ true) (λ moment x. u moment x ≡ true) → (moment : ℕ) (x : Name)
+      → (M moment x → m moment x ≡ true) × (U moment x → u moment x ≡ true)
 
 -- the law of the reaches: those of each call are the least sets that keep their rules
 abbrev pub ReachLaw : WorldValue → List Line → Type 0

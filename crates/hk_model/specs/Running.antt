@@ -16,7 +16,7 @@ use Rattle.hk_model.specs.WorldValue.{WorldValue}
 use Rattle.hk_model.specs.State.{State, process}
 use Rattle.hk_model.specs.Opening.{opening}
 use Rattle.hk_model.specs.Rule.{rule}
-use Rattle.hk_model.specs.Processors.{runner, may_step, dispatched, halted, entered}
+use Rattle.hk_model.specs.Processors.{runner, may_step, dispatched, halted, entered_code}
 use Rattle.hk_model.specs.Control.{Context, new_frame, next, after}
 
 -- a kernel's state, with the control of each process
@@ -36,7 +36,7 @@ context_of m proc = unwrap_or (slice_get m.contexts proc.0) []
 abbrev pub turn : WorldValue → State → Proc → Todo × Context → What × Reply × State × Context
 turn w s proc (Do c, context) =
     let found = rule s proc c in
-    (what.Call c, found.0, found.1, after w context c found.0 (entered s (process s proc).current c found.0))
+    (what.Call c, found.0, found.1, after w context c found.0 (entered_code s (process s proc).current c found.0))
 turn w s proc (Halt, context) = (what.Halt, Done, halted s proc, [])
 
 -- the event of a process, whose local instructions have led to this

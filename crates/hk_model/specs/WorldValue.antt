@@ -23,7 +23,8 @@ use Rattle.hk_model.specs.declared.world.Kind.TheVariants as kind
 use Rattle.hk_model.specs.declared.world.Task.{Task}
 use Rattle.hk_rights.specs.Rights.{IsRightsWord}
 use Rattle.hk_model.specs.Labels.{is_name, are_apart}
-use Rattle.hk_model.specs.Limits.{object_limit, word_limit, entry_limit, slot_limit, param_limit, argument_limit, path_limit, index_bound, register_limit, token_limit, code_limit, process_limit, event_limit}
+use Rattle.hk_model.specs.Limits.{object_limit, word_limit, entry_limit, slot_limit, param_limit, argument_limit, path_limit, index_bound, register_limit, token_limit, code_limit}
+use Rattle.hk_model.specs.Limits.{process_limit, event_limit}
 use Rattle.hk_model.specs.Targets.{DATA, UNIVERSAL, kernel_types}
 
 pub record WorldValue : Type 0 where

@@ -19,7 +19,7 @@ use Rattle.hk_model.specs.State.{State, name_cmp, same_name}
 use Rattle.hk_model.specs.Keeping.{are_supporting, stands, kept_objects, restricted}
 use Rattle.hk_model.proofs.Standing.{name_same, name_laws, on_cond}
 use Rattle.hk_model.proofs.Keeping.{of_set, of_all}
-use Rattle.hk_plain.specs.Marking.{all_but}
+use Rattle.hk_plain.specs.Marking.{is_none_of}
 use Rattle.hk_model.proofs.KeepingLemmas.{all_kept, kept_removed}
 
 -- each object of a list stands in it
@@ -158,6 +158,6 @@ put_beside name o p (e ∷ es) h = by (put_beside name o p es (sorted_tail name_
     by later Greater k = let other : (e.0.0 == name.0) ≡ false = is_other name.0 e.0.0 k in rw other (by_greater later k (p e.0))
 
 -- where none go, all stay
-pub all_but_none : (names : List Name) (es : List (Name × Object)) → length names ≡ 0 → of_set (all_but names) es ≡ es
+pub all_but_none : (names : List Name) (es : List (Name × Object)) → length names ≡ 0 → of_set (is_none_of names) es ≡ es
 all_but_none [] es h = of_all es
 all_but_none (n ∷ names) es h = absurd (omega arith)

@@ -26,7 +26,7 @@ use Rattle.hk_model.specs.Keeping.{object_names, outer_names, names_with, is_amo
 use Rattle.hk_model.proofs.Standing.{name_same, name_laws}
 use Rattle.hk_model.proofs.Keeping.{of_set, inner}
 use Rattle.hk_plain.proofs.KeepingLemmas.{all_but_none}
-use Rattle.hk_plain.specs.Marking.{Marking, AreMarked, AreBegun, AreUnderway, all_but}
+use Rattle.hk_plain.specs.Marking.{Marking, AreMarked, AreBegun, AreUnderway, is_none_of}
 
 or_cases : (a b : Bool) → (a || b) ≡ true → (a ≡ true) ⊎ (b ≡ true)
 or_cases true b h = inl refl
@@ -316,12 +316,12 @@ sorted_found (e ∷ es) h = (rw (name_laws.refl e.0) refl, later es (sorted_head
     later (x ∷ rest) a f = (rw (apart x.0 a.0) f.0, later rest a.1 f.1)
 
 -- what is named by a marked object is marked, where nothing is left to be looked at
-inner_marked : (s : State) (m : Marking) → AreUnderway s m → m.todo ≡ [] → (n : Name) (es : List (Name × Object)) → AreFound es s.objects → is_among n (inner (of_set (all_but m.unmarked) es)) ≡ true → is_among n m.unmarked ≡ false
+inner_marked : (s : State) (m : Marking) → AreUnderway s m → m.todo ≡ [] → (n : Name) (es : List (Name × Object)) → AreFound es s.objects → is_among n (inner (of_set (is_none_of m.unmarked) es)) ≡ true → is_among n m.unmarked ≡ false
 inner_marked s m u done n [] a h = absurd (false≢true h)
 inner_marked s m u done n (e ∷ es) a h = by (inner_marked s m u done n es a.1) (is_among e.0 m.unmarked) refl h
   where
     rest : List (Name × Object)
-    rest = of_set (all_but m.unmarked) es
+    rest = of_set (is_none_of m.unmarked) es
 
     here : (is_among e.0 m.todo ≡ true) ⊎ ((k : Name) → is_among k (object_names (object s e.0)) ≡ true → is_among k m.unmarked ≡ false) → is_among n (object_names e.1) ≡ true → is_among n m.unmarked ≡ false
     here (inl t) g = absurd (false≢true (sym (ap (is_among e.0) done) ∙ t))
@@ -336,9 +336,9 @@ inner_marked s m u done n (e ∷ es) a h = by (inner_marked s m u done n es a.1)
     by later false g k = by_names later g (in_append n (object_names e.1) (inner rest) k)
 
 -- then the marked objects are the rooted ones
-pub are_rooted : (s : State) (m : Marking) → AreUnderway s m → m.todo ≡ [] → IsStrictlySortedBy name_cmp (keys_of s.objects) → AreRooted s (all_but m.unmarked)
+pub are_rooted : (s : State) (m : Marking) → AreUnderway s m → m.todo ≡ [] → IsStrictlySortedBy name_cmp (keys_of s.objects) → AreRooted s (is_none_of m.unmarked)
 are_rooted s m u done sorted = record {
-  closed = λ n h g. not_from_false (is_among n m.unmarked) (by_ways n (or_cases (is_opening s n) (is_among n (names_with s (members s (all_but m.unmarked)))) g));
+  closed = λ n h g. not_from_false (is_among n m.unmarked) (by_ways n (or_cases (is_opening s n) (is_among n (names_with s (members s (is_none_of m.unmarked)))) g));
   least = λ set closed n h g. u.least set closed n h (false_from_not (is_among n m.unmarked) g);
 }
   where
@@ -346,13 +346,13 @@ are_rooted s m u done sorted = record {
     false_from_not true h = absurd (false≢true h)
     false_from_not false h = refl
 
-    by_names : (n : Name) → (is_among n (outer_names s) ≡ true) ⊎ (is_among n (inner (members s (all_but m.unmarked))) ≡ true) → is_among n m.unmarked ≡ false
+    by_names : (n : Name) → (is_among n (outer_names s) ≡ true) ⊎ (is_among n (inner (members s (is_none_of m.unmarked))) ≡ true) → is_among n m.unmarked ≡ false
     by_names n (inl h) = u.outer n h
     by_names n (inr h) = inner_marked s m u done n s.objects (sorted_found s.objects sorted) h
 
-    by_ways : (n : Name) → (is_opening s n ≡ true) ⊎ (is_among n (names_with s (members s (all_but m.unmarked))) ≡ true) → is_among n m.unmarked ≡ false
+    by_ways : (n : Name) → (is_opening s n ≡ true) ⊎ (is_among n (names_with s (members s (is_none_of m.unmarked))) ≡ true) → is_among n m.unmarked ≡ false
     by_ways n (inl h) = u.opened n h
-    by_ways n (inr h) = by_names n (in_append n (outer_names s) (inner (members s (all_but m.unmarked))) h)
+    by_ways n (inr h) = by_names n (in_append n (outer_names s) (inner (members s (is_none_of m.unmarked))) h)
 
 -- ---- marks on what a list of things names
 
@@ -395,11 +395,11 @@ there_is n h = grind (arith, nat_tests)
 there_is_not : (n : ℕ) → 65536 ≤ n → nat_lt n object_limit ≡ false
 there_is_not n h = grind (arith, nat_tests)
 
-pub room_there : (s : State) (names : List Name) → length s.objects < 65536 → names ≡ [] → room_made s ≡ Ok (members s (all_but names))
+pub room_there : (s : State) (names : List Name) → length s.objects < 65536 → names ≡ [] → room_made s ≡ Ok (members s (is_none_of names))
 room_there s names few none = rw (there_is (length s.objects) few, none) (ap (λ (es : List (Name × Object)). Ok es) (sym (all_but_none [] s.objects refl)))
 
-pub room_found : (s : State) (names : List Name) → AreRooted s (all_but names) → 65536 ≤ length s.objects → length (members s (all_but names)) < 65536 → room_made s ≡ Ok (members s (all_but names))
-room_found s names rooted full few = rw (there_is_not (length s.objects) full, rooted_is s (all_but names) rooted, there_is (length (members s (all_but names))) few) refl
+pub room_found : (s : State) (names : List Name) → AreRooted s (is_none_of names) → 65536 ≤ length s.objects → length (members s (is_none_of names)) < 65536 → room_made s ≡ Ok (members s (is_none_of names))
+room_found s names rooted full few = rw (there_is_not (length s.objects) full, rooted_is s (is_none_of names) rooted, there_is (length (members s (is_none_of names))) few) refl
 
-pub no_room : (s : State) (names : List Name) → AreRooted s (all_but names) → 65536 ≤ length s.objects → 65536 ≤ length (members s (all_but names)) → room_made s ≡ Err (refused.Full full.Objects)
-no_room s names rooted full many = rw (there_is_not (length s.objects) full, rooted_is s (all_but names) rooted, there_is_not (length (members s (all_but names))) many) refl
+pub no_room : (s : State) (names : List Name) → AreRooted s (is_none_of names) → 65536 ≤ length s.objects → 65536 ≤ length (members s (is_none_of names)) → room_made s ≡ Err (refused.Full full.Objects)
+no_room s names rooted full many = rw (there_is_not (length s.objects) full, rooted_is s (is_none_of names) rooted, there_is_not (length (members s (is_none_of names))) many) refl

@@ -14,7 +14,7 @@ use Rattle.hk_model.specs.declared.objects.Process.{Process}
 use Rattle.hk_model.specs.declared.objects.ProcessState.{ProcessState}
 use Rattle.hk_model.specs.declared.objects.ProcessState.TheVariants.{Ready, Running, Waiting, Ended}
 use Rattle.hk_model.specs.Processors.{is_on, is_running, runner_from}
-use Rattle.hk_plain.specs.Runners.{process_at, with_run, with_current, is_live, weight, has_place, place_of, freed, IsPlaced}
+use Rattle.hk_plain.specs.Runners.{process_at, with_run, with_current, runner_lives, weight, has_place, place_of, freed, IsPlaced}
 
 -- numbers and their tests
 
@@ -216,27 +216,27 @@ same_shows ps places n x there is shows q cpu = by (q == n) refl
         ap (λ (p : Process). is_on cpu p.run) (set_other (record { run = Ended; current = record { 0 = 0 } }) ps n q x (is_other q n e)) ∙ shows q cpu
 
 -- how many are live after one changes
-pub recount : (ps : List Process) (n : ℕ) (x : Process) → n < length ps → count_by (λ (p : Process). is_live p.run) (slice_set ps n x) + weight (process_at ps n).run ≡ count_by (λ (p : Process). is_live p.run) ps + weight x.run
+pub recount : (ps : List Process) (n : ℕ) (x : Process) → n < length ps → count_by (λ (p : Process). runner_lives p.run) (slice_set ps n x) + weight (process_at ps n).run ≡ count_by (λ (p : Process). runner_lives p.run) ps + weight x.run
 recount ps n x there =
     let d : Process = record { run = Ended; current = record { 0 = 0 } } in
-    ap (λ (p : Process). count_by (λ (y : Process). is_live y.run) (slice_set ps n x) + weight p.run) (unwrap_or-slice_get ps n d)
+    ap (λ (p : Process). count_by (λ (y : Process). runner_lives y.run) (slice_set ps n x) + weight p.run) (unwrap_or-slice_get ps n d)
     ∙ sum_by-set (λ (p : Process). weight p.run) ps n x d there
 
-pub weight_within : (ps : List Process) (n : ℕ) → n < length ps → weight (process_at ps n).run ≤ count_by (λ (p : Process). is_live p.run) ps
+pub weight_within : (ps : List Process) (n : ℕ) → n < length ps → weight (process_at ps n).run ≤ count_by (λ (p : Process). runner_lives p.run) ps
 weight_within ps n there =
     let d : Process = record { run = Ended; current = record { 0 = 0 } } in
     let read : process_at ps n ≡ get_or ps n d = unwrap_or-slice_get ps n d in
     rw read (get_or-le-sum_by (λ (p : Process). weight p.run) ps n d there)
 
 -- whether some are live
-pub any_counted : (ps : List Process) → nat_lt 0 (count_by (λ (p : Process). is_live p.run) ps) ≡ list_any (λ (p : Process). is_live p.run) ps
+pub any_counted : (ps : List Process) → nat_lt 0 (count_by (λ (p : Process). runner_lives p.run) ps) ≡ list_any (λ (p : Process). runner_lives p.run) ps
 any_counted [] = refl
-any_counted (p ∷ ps) = by (is_live p.run) (sum_by-cons (λ (x : Process). weight x.run) p ps) (any_counted ps)
+any_counted (p ∷ ps) = by (runner_lives p.run) (sum_by-cons (λ (x : Process). weight x.run) p ps) (any_counted ps)
   where
-    by : (b : Bool) → count_by (λ (x : Process). is_live x.run) (p ∷ ps) ≡ cond b 1 0 + count_by (λ (x : Process). is_live x.run) ps → nat_lt 0 (count_by (λ (x : Process). is_live x.run) ps) ≡ list_any (λ (x : Process). is_live x.run) ps → nat_lt 0 (count_by (λ (x : Process). is_live x.run) (p ∷ ps)) ≡ (b || list_any (λ (x : Process). is_live x.run) ps)
+    by : (b : Bool) → count_by (λ (x : Process). runner_lives x.run) (p ∷ ps) ≡ cond b 1 0 + count_by (λ (x : Process). runner_lives x.run) ps → nat_lt 0 (count_by (λ (x : Process). runner_lives x.run) ps) ≡ list_any (λ (x : Process). runner_lives x.run) ps → nat_lt 0 (count_by (λ (x : Process). runner_lives x.run) (p ∷ ps)) ≡ (b || list_any (λ (x : Process). runner_lives x.run) ps)
     by true more rest = grind (arith, nat_tests)
     by false more rest =
-        let same : count_by (λ (x : Process). is_live x.run) (p ∷ ps) ≡ count_by (λ (x : Process). is_live x.run) ps = omega (arith, more) in
+        let same : count_by (λ (x : Process). runner_lives x.run) (p ∷ ps) ≡ count_by (λ (x : Process). runner_lives x.run) ps = omega (arith, more) in
         ap (nat_lt 0) same ∙ rest
 
 -- the processes as they stand, where one was read

@@ -43,15 +43,15 @@ pub record AreUnderway (s : State) (m : Marking) : Type 0 where
   pub marked : (n : Name) → is_among n m.todo ≡ true → is_among n m.unmarked ≡ false
 
 -- all names but these
-abbrev pub all_but : List Name → Name → Bool
-all_but names name = not (is_among name names)
+abbrev pub is_none_of : List Name → Name → Bool
+is_none_of names name = not (is_among name names)
 
 -- an object of these names goes, unless it is the one that is made
 abbrev pub goes : Name → List Name → Name → Bool
-goes name names other = not (other.0 == name.0 || all_but names other)
+goes name names other = not (other.0 == name.0 || is_none_of names other)
 
 -- the objects that go where one more is made, or the refusal, or want of memory
 abbrev pub Spares : State → Result (BTreeSet Name) Stop → Type 0
-Spares s (Ok spare) = room_made s ≡ Ok (members s (all_but spare.keys))
+Spares s (Ok spare) = room_made s ≡ Ok (members s (is_none_of spare.keys))
 Spares s (Err (Refused refusal)) = room_made s ≡ Err refusal
 Spares s (Err OutOfMemory) = ⊤

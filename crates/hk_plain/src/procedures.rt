@@ -2,7 +2,7 @@
 
 ghost use Rattle.std.specs.Prelude.{◌≡◌, ◌<◌, ◌≤◌, ◌+◌, length, map, IfOk};
 ghost use Rattle.hk_model.specs.State.{object, incarnation};
-ghost use Rattle.hk_model.specs.Rule.{slots_at, type_held, argument, enter_procedure, leave, given};
+ghost use Rattle.hk_model.specs.Rule.{slots_at, type_held, argument, enter_procedure, leave, returned_cap};
 ghost use Rattle.hk_model.specs.Merging.{name_space};
 ghost use Rattle.hk_plain.specs.Giving.{Gives};
 ghost use Rattle.hk_plain.specs.Numbers.{HasNumbers};
@@ -143,7 +143,7 @@ impl Tables {
 
     // What a return hands to its caller: nothing, or a capability with ENV.
     fn given(&self, inc: Inc, give: Option<Slot>) -> Result<Option<Cap>, Refusal>
-        ensures { result ≡ given (incarnation self.now inc).slots give }
+        ensures { result ≡ returned_cap (incarnation self.now inc).slots give }
     {
         match give {
             None => Ok(None),

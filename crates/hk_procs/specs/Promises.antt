@@ -51,9 +51,9 @@ AnswersAsk w cpu seen after asked.Over = IsFound w cpu seen after × IsGoing aft
 AnswersAsk w cpu seen after asked.Stopped = IsFound w cpu seen after × IsStopped after
 
 -- what the line of a call or a halt tells
-abbrev pub told : Todo → What
-told (todo.Do c) = what.Call c
-told todo.Halt = what.Halt
+abbrev pub todo_told : Todo → What
+todo_told (todo.Do c) = what.Call c
+todo_told todo.Halt = what.Halt
 
 -- a call that may want memory
 abbrev pub may_want : (Call → Bool) → Todo → Bool
@@ -63,9 +63,9 @@ may_want wants todo.Halt = false
 -- of a call of `call`
 abbrev pub AnswersCall : WorldValue → (Call → Bool) → Cpu → List Noted → List Noted → Proc → Todo → Called → Type 0
 AnswersCall w wants cpu seen after proc next (called.Goes reply context) =
-    AddsLine w cpu seen after proc (told next) reply × HandsOut w cpu after proc context
+    AddsLine w cpu seen after proc (todo_told next) reply × HandsOut w cpu after proc context
 AnswersCall w wants cpu seen after proc next (called.Gone reply) =
-    AddsLine w cpu seen after proc (told next) reply × RunsNothing w cpu after × (has_left_shown w after proc ≡ true)
+    AddsLine w cpu seen after proc (todo_told next) reply × RunsNothing w cpu after × (has_left_shown w after proc ≡ true)
 AnswersCall w wants cpu seen after proc next called.Limit = IsFound w cpu seen after × IsGoing after × (is_limit_shown w after ≡ true)
 AnswersCall w wants cpu seen after proc next called.Stopped = IsFound w cpu seen after × IsStopped after
 AnswersCall w wants cpu seen after proc next called.NoMemory = Adds w cpu seen after (Stop cpu) × (may_want wants next ≡ true)

@@ -26,9 +26,9 @@ use Rattle.hk_model.specs.declared.world.Task.{Task}
 use Rattle.hk_model.specs.WorldValue.{WorldValue, IsWorld}
 use Rattle.hk_model.specs.State.{State, process, same_inc, no_object}
 use Rattle.hk_model.specs.Walking.{walk}
-use Rattle.hk_model.specs.Targets.{PROCEDURE, is_type, target}
+use Rattle.hk_model.specs.Targets.{PROCEDURE, is_of_type, target}
 use Rattle.hk_model.specs.Rule.{Outcome, outcome, rule, settled, answered, depth, enter_procedure, leave}
-use Rattle.hk_model.specs.Processors.{runner, entered, code_found, halted}
+use Rattle.hk_model.specs.Processors.{runner, entered_code, code_found, halted}
 use Rattle.hk_model.specs.Control.{Context, next, after, frames_after, behind, new_frame}
 use Rattle.hk_model.specs.Opening.{opening, bases}
 use Rattle.hk_model.specs.Lines.{done_by, done_call, enters_call, leaves_call}
@@ -167,12 +167,12 @@ module _ (s : State) (line : Line) (t : State) where
 -- ---- an event of a process
 
 -- an entered procedure has a code
-code_there : (s : State) → ProceduresHaveCodes s → (inc : Inc) (path : List ℕ) (rights : ℕ) (cap : Cap) → target s inc path (is_type PROCEDURE) rights ≡ Ok cap → IsSome (code_found s (walk s inc path))
+code_there : (s : State) → ProceduresHaveCodes s → (inc : Inc) (path : List ℕ) (rights : ℕ) (cap : Cap) → target s inc path (is_of_type PROCEDURE) rights ≡ Ok cap → IsSome (code_found s (walk s inc path))
 code_there s codes inc path rights cap h =
-    let g = target_is s inc path (is_type PROCEDURE) rights cap h in
+    let g = target_is s inc path (is_of_type PROCEDURE) rights cap h in
     rw g.leads (has_code (there s.objects cap.name) refl g.typed)
   where
-    has_code : (o : Option Object) → there s.objects cap.name ≡ o → is_type PROCEDURE (unwrap_or o no_object).of ≡ true → IsSome (unwrap_or o no_object).code
+    has_code : (o : Option Object) → there s.objects cap.name ≡ o → is_of_type PROCEDURE (unwrap_or o no_object).of ≡ true → IsSome (unwrap_or o no_object).code
     has_code None e p = absurd (true≢false (sym p))
     has_code (Some x) e p = codes cap.name x e p
 
@@ -205,7 +205,7 @@ module _ (w : WorldValue) (m : Machine) (cpu : Cpu) (proc : Proc) (frames : Cont
       (_, (live, kept.sound.stacked.own proc.0 inc _ (runs_current s cpu proc runs) live))
 
   abbrev Own : Call → Outcome → Type 0
-  Own c o = depth (settled s o).1 proc ≤ length (after w frames c (settled s o).0 (entered s inc c (settled s o).0))
+  Own c o = depth (settled s o).1 proc ≤ length (after w frames c (settled s o).0 (entered_code s inc c (settled s o).0))
 
   abbrev call_line : Call → Reply → Line
   call_line c reply = proc_line s cpu proc (what.Call c) reply
@@ -231,8 +231,8 @@ module _ (w : WorldValue) (m : Machine) (cpu : Cpu) (proc : Proc) (frames : Cont
       let more = one_more s (call_line (call.Enter path args into) (answered f.0)) (settled s (Ok f)).1 turn enters in
       let longer = after_entered w frames (call.Enter path args into) Done (code_found s (walk s inc path)) (omega (arith, some, many)) code in
       let few = old in
-      let same : length (after w frames (call.Enter path args into) (answered f.0) (entered s inc (call.Enter path args into) (answered f.0))) ≡ length (after w frames (call.Enter path args into) Done (code_found s (walk s inc path))) =
-      ap (λ (a : Answer). length (after w frames (call.Enter path args into) (answered a) (entered s inc (call.Enter path args into) (answered a)))) by.done in
+      let same : length (after w frames (call.Enter path args into) (answered f.0) (entered_code s inc (call.Enter path args into) (answered f.0))) ≡ length (after w frames (call.Enter path args into) Done (code_found s (walk s inc path))) =
+      ap (λ (a : Answer). length (after w frames (call.Enter path args into) (answered a) (entered_code s inc (call.Enter path args into) (answered a)))) by.done in
       omega (arith, more, longer, few, same)
 
   quiet_own : (c : Call) (f : Answer × State) → enters_call (Some c) ≡ false → leaves_call (Some c) ≡ false → Turn s (call_line c (answered f.0)) (settled s (Ok f)).1 → Own c (Ok f)
@@ -256,7 +256,7 @@ module _ (w : WorldValue) (m : Machine) (cpu : Cpu) (proc : Proc) (frames : Cont
   call_full : (c : Call) → IsFull (event w m cpu proc (Do c, frames)).1
   call_full c =
       let turn = turn_each.calls s cpu proc c runs kept.sound.rises in
-      event_full m (rule s proc c).1 proc.0 (after w frames c (rule s proc c).0 (entered s inc c (rule s proc c).0)) full (others_fewer s (call_line c (rule s proc c).0) (rule s proc c).1 turn)
+      event_full m (rule s proc c).1 proc.0 (after w frames c (rule s proc c).0 (entered_code s inc c (rule s proc c).0)) full (others_fewer s (call_line c (rule s proc c).0) (rule s proc c).1 turn)
       (inr (some, own_full c (outcome s proc inc c) refl turn))
 
 halt_full : (w : WorldValue) (m : Machine) (cpu : Cpu) (proc : Proc) (frames : Context) → Kept w m → IsFull m → runner m.state cpu ≡ Some proc → IsFull (event w m cpu proc (Halt, frames)).1

@@ -13,7 +13,7 @@ use Rattle.hk_model.specs.Limits.{depth_limit}
 use Rattle.hk_model.specs.WorldValue.{WorldValue, IsWorld}
 use Rattle.hk_model.specs.State.{State, process}
 use Rattle.hk_model.specs.Rule.{rule, depth}
-use Rattle.hk_model.specs.Processors.{is_on, runner, may_step, halted, entered}
+use Rattle.hk_model.specs.Processors.{is_on, runner, may_step, halted, entered_code}
 use Rattle.hk_model.specs.Control.{Context}
 use Rattle.hk_model.specs.Running.{Machine, context_of, step, line_of, moved, after_lines, opened, AreSteps, AreStepsOf, state_after}
 use Rattle.hk_model.proofs.Steps.{given_to}
@@ -22,7 +22,7 @@ use Rattle.hk_program.specs.Contexts.{AreFrames}
 use Rattle.hk_program.specs.Machines.{IsSound}
 use Rattle.hk_program.proofs.Queues.{run_at, runs_on, on_one}
 use Rattle.hk_program.proofs.Regular.{goes_each}
-use Rattle.hk_program.proofs.Kept.{Kept, moved_kept, context_fits, entered_code, entered_room}
+use Rattle.hk_program.proofs.Kept.{Kept, moved_kept, context_fits, entered_is_code, entered_room}
 use Rattle.hk_program.proofs.Opened.{opened_kept}
 use Rattle.hk_program.proofs.StepCases.{step_by, moved_by}
 
@@ -99,12 +99,12 @@ pub sound_frames : (w : WorldValue) (m : Machine) (proc : Proc) → IsSound w m 
 sound_frames w m proc h = (context_fits w m proc (sound_kept w m h)).0
 
 -- the code of an entered procedure is one of the world
-pub sound_code : (w : WorldValue) (m : Machine) (proc : Proc) (c : Call) (reply : Reply) → IsSound w m → IfSome (entered m.state (process m.state proc).current c reply) (λ code. code < length w.codes)
-sound_code w m proc c reply h = entered_code w m.state (process m.state proc).current c reply (sound_kept w m h).regular
+pub sound_code : (w : WorldValue) (m : Machine) (proc : Proc) (c : Call) (reply : Reply) → IsSound w m → IfSome (entered_code m.state (process m.state proc).current c reply) (λ code. code < length w.codes)
+sound_code w m proc c reply h = entered_is_code w m.state (process m.state proc).current c reply (sound_kept w m h).regular
 
 -- and there is room for its frame
-pub sound_room : (w : WorldValue) (m : Machine) (proc : Proc) (c : Call) → IsSound w m → IfSome (entered m.state (process m.state proc).current c (rule m.state proc c).0) (λ code. length (context_of m proc) < 64)
-sound_room w m proc c h = by (entered m.state (process m.state proc).current c (rule m.state proc c).0) (entered_room m.state proc c)
+pub sound_room : (w : WorldValue) (m : Machine) (proc : Proc) (c : Call) → IsSound w m → IfSome (entered_code m.state (process m.state proc).current c (rule m.state proc c).0) (λ code. length (context_of m proc) < 64)
+sound_room w m proc c h = by (entered_code m.state (process m.state proc).current c (rule m.state proc c).0) (entered_room m.state proc c)
   where
     by : (o : Option ℕ) → IfSome o (λ code. depth m.state proc < depth_limit) → IfSome o (λ code. length (context_of m proc) < 64)
     by None g = tt

@@ -27,7 +27,7 @@ use Rattle.hk_program.proofs.Queues.{run_at, runs_on}
 use Rattle.hk_program.proofs.Kept.{Kept}
 use Rattle.hk_program.proofs.StepCases.{step_is}
 use Rattle.hk_program.proofs.Machines.{IsLonger, steps_snoc, sound_after, sound_kept}
-use Rattle.hk_shared.specs.Contexts.{machine_after, rests, KeepsContexts}
+use Rattle.hk_shared.specs.Contexts.{machine_after, is_resting, KeepsContexts}
 use Rattle.hk_shared.proofs.Moves.{Moves, call_moves, halt_moves}
 use Rattle.hk_shared.proofs.Placed.{goes_on, gives_up, rests_back, dispatch_rests, dispatch_runs}
 use Rattle.hk_shared.proofs.PlacedAlways.{IsPlaced, placed_after, first_ready}
@@ -81,7 +81,7 @@ pub record Makes (w : WorldValue) (lines : List Line) (held : List (Option Conte
   pub gone : is_running (process t proc).run ≡ false → runner t cpu ≡ None
   pub count : length held ≡ length (machine_after w (lines ++ line ∷ [])).contexts
   pub there : proc.0 < length held
-  pub others : (n : ℕ) → (n ≡ proc.0 → ⊥) → rests (process t (record { 0 = n })).run ≡ true → slice_get held n ≡ Some (Some (context_of (machine_after w (lines ++ line ∷ [])) (record { 0 = n })))
+  pub others : (n : ℕ) → (n ≡ proc.0 → ⊥) → is_resting (process t (record { 0 = n })).run ≡ true → slice_get held n ≡ Some (Some (context_of (machine_after w (lines ++ line ∷ [])) (record { 0 = n })))
 
 module _ (w : WorldValue) (lines : List Line) (held : List (Option Context)) (world : IsWorld w) (steps : AreStepsOf w lines) (keeps : KeepsContexts (machine_after w lines) held)
     (cpu : Cpu) (low : cpu.0 < 16) (may : may_step (state_after w lines) ≡ true) where
@@ -156,7 +156,7 @@ module _ (w : WorldValue) (lines : List Line) (held : List (Option Context)) (wo
       made_is = sym (ap (λ (o : Option Proc). turn w m.state (unwrap_or o (record { 0 = 0 })) (next_is, frames)) r.0) ∙ made
 
       -- the line and the machine of what a turn came to
-      abbrev of_turn : Inc → What × Reply × State × Context → Line × Machine
+      of_turn : Inc → What × Reply × State × Context → Line × Machine
       of_turn i x = (record { cpu = cpu; proc = proc; inc = i; what = x.0; reply = x.1 }, record { state = x.2; contexts = slice_set m.contexts proc.0 x.3 })
 
       whole : event w m cpu proc (next_is, frames) ≡ of_turn inc (happened, reply, t, new)
@@ -182,7 +182,7 @@ pub record Gets (w : WorldValue) (lines : List Line) (held : List (Option Contex
   pub runs : runner t cpu ≡ Some proc
   pub count : length held ≡ length (machine_after w (lines ++ line ∷ [])).contexts
   pub context : slice_get held proc.0 ≡ Some (Some (context_of (machine_after w (lines ++ line ∷ [])) proc))
-  pub others : (n : ℕ) → rests (process t (record { 0 = n })).run ≡ true → (n ≡ proc.0 → ⊥) × (slice_get held n ≡ Some (Some (context_of (machine_after w (lines ++ line ∷ [])) (record { 0 = n }))))
+  pub others : (n : ℕ) → is_resting (process t (record { 0 = n })).run ≡ true → (n ≡ proc.0 → ⊥) × (slice_get held n ≡ Some (Some (context_of (machine_after w (lines ++ line ∷ [])) (record { 0 = n }))))
 
 module _ (w : WorldValue) (lines : List Line) (held : List (Option Context)) (world : IsWorld w) (steps : AreStepsOf w lines) (keeps : KeepsContexts (machine_after w lines) held)
     (cpu : Cpu) (low : cpu.0 < 16) (may : may_step (state_after w lines) ≡ true) (idle : runner (state_after w lines) cpu ≡ None) where
@@ -199,9 +199,9 @@ module _ (w : WorldValue) (lines : List Line) (held : List (Option Context)) (wo
     state = ap (λ (k : Machine). k.state) longer.is;
     runs = subst (λ (k : State). runner k cpu ≡ Some proc) (sym found.2) (dispatch_runs (state_after w lines) cpu proc found.0 ready idle (placed_after w lines world).apart);
     count = keeps.count ∙ ap (λ (k : Machine). length k.contexts) longer.is;
-    context = keeps.each proc.0 (ap rests ready) ∙ ap (λ (k : Machine). Some (Some (context_of k proc))) longer.is;
+    context = keeps.each proc.0 (ap is_resting ready) ∙ ap (λ (k : Machine). Some (Some (context_of k proc))) longer.is;
     others = λ n g.
-        let back = dispatch_rests (state_after w lines) cpu proc found.0 n ready (subst (λ (k : State). rests (process k (proc_at n)).run ≡ true) found.2 g) in
+        let back = dispatch_rests (state_after w lines) cpu proc found.0 n ready (subst (λ (k : State). is_resting (process k (proc_at n)).run ≡ true) found.2 g) in
         (back.0, keeps.each n back.1 ∙ ap (λ (k : Machine). Some (Some (context_of k (proc_at n)))) longer.is);
   }
     where

@@ -19,7 +19,7 @@ use Rattle.hk_model.specs.Limits.{token_limit}
 use Rattle.hk_model.specs.WorldValue.{WorldValue}
 use Rattle.hk_model.specs.State.{State, object, process, put_object, put_process, same_inc}
 use Rattle.hk_model.specs.Refusing.{unless}
-use Rattle.hk_model.specs.Targets.{SEMAPHORE, is_type, MODIFY+A0, MODIFY+A1, target}
+use Rattle.hk_model.specs.Targets.{SEMAPHORE, is_of_type, MODIFY+A0, MODIFY+A1, target}
 use Rattle.hk_model.specs.Rule.{Outcome, outcome, rule, settled, counted, leave_to, token_given, enter_procedure, leave, take_token, give_token}
 use Rattle.hk_model.specs.Keeping.{restricted}
 use Rattle.hk_model.specs.Processors.{is_waiting, is_running, is_ready, halted}
@@ -57,7 +57,7 @@ module _ (w : WorldValue) (s : State) (reg : Regular w s) where
   takes : (proc : Proc) (inc : Inc) (path : List ℕ) → IfOk (take_token s proc inc path) (λ f. Moves s proc f.1)
   unfolding take_token
   takes proc inc path =
-      then_is (λ f. Moves s proc f.1) (target s inc path (is_type SEMAPHORE) MODIFY+A0) (λ c. Ok (elim (nat_lt 0 (object s c.name).count) [
+      then_is (λ f. Moves s proc f.1) (target s inc path (is_of_type SEMAPHORE) MODIFY+A0) (λ c. Ok (elim (nat_lt 0 (object s c.name).count) [
         | true ↦ (Done, put_object s c.name (record (object s c.name) { count = (object s c.name).count - 1 }))
         | false ↦ (Waits, put_process (put_object s c.name (record (object s c.name) { waiters = (object s c.name).waiters ++ proc ∷ [] })) proc (record (process s proc) { run = Waiting c.name }))
       ])) (λ c g. by c (nat_lt 0 (object s c.name).count))
@@ -79,7 +79,7 @@ module _ (w : WorldValue) (s : State) (reg : Regular w s) where
 
   gives : (proc : Proc) (inc : Inc) (path : List ℕ) → IfOk (give_token s inc path) (λ f. Moves s proc f.1)
   unfolding give_token
-  gives proc inc path = then_is (λ f. Moves s proc f.1) (target s inc path (is_type SEMAPHORE) MODIFY+A1) (λ c. token_given s c.name (object s c.name) (object s c.name).waiters) (λ c g. token_moves proc c.name (object s c.name).waiters refl)
+  gives proc inc path = then_is (λ f. Moves s proc f.1) (target s inc path (is_of_type SEMAPHORE) MODIFY+A1) (λ c. token_given s c.name (object s c.name) (object s c.name).waiters) (λ c g. token_moves proc c.name (object s c.name).waiters refl)
 
   calm_moves : (proc : Proc) (o : Outcome) → IfOk o (λ f. IsCalm s f.1) → IfOk o (λ f. Moves s proc f.1)
   calm_moves proc (Ok f) h = Calm h.processes h.ready

@@ -10,7 +10,7 @@ use Rattle.hk_model.specs.Control.{Context, new_frame}
 use Rattle.hk_model.specs.Opening.{opening, all_ready}
 use Rattle.hk_model.specs.Running.{opened, AreStepsOf, state_after}
 use Rattle.hk_program.proofs.Queues.{run_at}
-use Rattle.hk_shared.specs.Contexts.{machine_after, rests, KeepsContexts}
+use Rattle.hk_shared.specs.Contexts.{machine_after, is_resting, KeepsContexts}
 
 pub no_steps : (w : WorldValue) (lines : List Line) → lines ≡ [] → AreStepsOf w lines
 no_steps w lines e = rw e tt
@@ -30,7 +30,7 @@ held_count : (ts : List Task) → length (map {B = Option Context} (λ (t : Task
 held_count [] = refl
 held_count (t ∷ ts) = ap suc (held_count ts)
 
-each_held : (k : ℕ) (ts : List Task) (n : ℕ) → rests (run_at (all_ready k ts) n) ≡ true
+each_held : (k : ℕ) (ts : List Task) (n : ℕ) → is_resting (run_at (all_ready k ts) n) ≡ true
     → slice_get (map {B = Option Context} (λ (t : Task). Some (new_frame t.code ∷ [])) ts) n ≡ Some (Some (unwrap_or (slice_get (map (λ (t : Task). new_frame t.code ∷ []) ts) n) []))
 each_held k [] n h = absurd (cc)
 each_held k (t ∷ ts) zero h = refl

@@ -14,7 +14,7 @@ use Rattle.hk_model.specs.State.{State, process}
 use Rattle.hk_model.specs.Processors.{is_on, is_running, is_waiting, is_ready, runner, runner_from, is_over}
 use Rattle.hk_model.proofs.Steps.{given_to}
 use Rattle.hk_program.proofs.Queues.{run_at, run_there, run_here, runs_on}
-use Rattle.hk_shared.specs.Contexts.{rests}
+use Rattle.hk_shared.specs.Contexts.{is_resting}
 use Rattle.hk_shared.proofs.Moves.{Moves, Calm, Same, Rests, Yields, Wakes}
 
 -- ---- one process changed
@@ -220,24 +220,24 @@ gives_up cpu s p t m apart r h = no_runner t.processes cpu (λ i on.
 
 -- ---- who rests, as ready or waiting
 
-waiting_rests : (r : ProcessState) → is_waiting r ≡ true → rests r ≡ true
+waiting_rests : (r : ProcessState) → is_waiting r ≡ true → is_resting r ≡ true
 waiting_rests Ready h = absurd (cc)
 waiting_rests (Running c) h = absurd (cc)
 waiting_rests (Waiting at) h = refl
 waiting_rests Ended h = absurd (cc)
 
 -- any other process that rests afterwards has rested before
-pub rests_back : (s : State) (p : Proc) (t : State) (i : ℕ) → Moves s p t → (i ≡ p.0 → ⊥) → rests (run_at t.processes i) ≡ true → rests (run_at s.processes i) ≡ true
+pub rests_back : (s : State) (p : Proc) (t : State) (i : ℕ) → Moves s p t → (i ≡ p.0 → ⊥) → is_resting (run_at t.processes i) ≡ true → is_resting (run_at s.processes i) ≡ true
 rests_back s p t i (Calm a b) apart g = rw a at g
-rests_back s p t i (Same n new a b c) apart g = back (λ r. rests r ≡ true) s.processes n i new (λ h. ap rests (sym b) ∙ h) (rw a at g)
+rests_back s p t i (Same n new a b c) apart g = back (λ r. is_resting r ≡ true) s.processes n i new (λ h. ap is_resting (sym b) ∙ h) (rw a at g)
 rests_back s p t i (Rests new a b c d) apart g = rw (a, run_there s.processes p.0 i new apart) at g
 rests_back s p t i (Yields new a b c) apart g = rw (a, run_there s.processes p.0 i new apart) at g
-rests_back s p t i (Wakes q new a b c d) apart g = back (λ r. rests r ≡ true) s.processes q.0 i new (λ h. waiting_rests (run_at s.processes q.0) c) (rw a at g)
+rests_back s p t i (Wakes q new a b c d) apart g = back (λ r. is_resting r ≡ true) s.processes q.0 i new (λ h. waiting_rests (run_at s.processes q.0) c) (rw a at g)
 
 -- a dispatch: the first ready process rests no more, and any other that rests has rested before
-pub dispatch_rests : (s : State) (cpu : Cpu) (first : Proc) (rest : List Proc) (i : ℕ) → run_at s.processes first.0 ≡ Ready → rests (run_at (given_to s cpu first rest).processes i) ≡ true → (i ≡ first.0 → ⊥) × (rests (run_at s.processes i) ≡ true)
+pub dispatch_rests : (s : State) (cpu : Cpu) (first : Proc) (rest : List Proc) (i : ℕ) → run_at s.processes first.0 ≡ Ready → is_resting (run_at (given_to s cpu first rest).processes i) ≡ true → (i ≡ first.0 → ⊥) × (is_resting (run_at s.processes i) ≡ true)
 dispatch_rests s cpu first rest i ready g =
-    ((λ e. true≢false (sym (rw e at g) ∙ ap rests (run_here s.processes first.0 new (λ z. true≢false (ap is_ready (sym ready ∙ z)))))), back (λ r. rests r ≡ true) s.processes first.0 i new (λ h. absurd (true≢false (sym h))) g)
+    ((λ e. true≢false (sym (rw e at g) ∙ ap is_resting (run_here s.processes first.0 new (λ z. true≢false (ap is_ready (sym ready ∙ z)))))), back (λ r. is_resting r ≡ true) s.processes first.0 i new (λ h. absurd (true≢false (sym h))) g)
   where
     new : Process
     new = record (process s first) { run = Running cpu }

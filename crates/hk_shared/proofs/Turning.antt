@@ -34,9 +34,9 @@ use Rattle.hk_procs.specs.declared.answers.Asked.TheVariants as asked
 use Rattle.hk_procs.specs.declared.answers.Called.TheVariants as called
 use Rattle.hk_procs.specs.Notes.{lines_of, events}
 use Rattle.hk_procs.specs.Shown.{state_shown, HandsOut, is_idle_of}
-use Rattle.hk_procs.specs.Promises.{IsFound, Adds, AnswersAsk, AnswersCall, told}
+use Rattle.hk_procs.specs.Promises.{IsFound, Adds, AnswersAsk, AnswersCall, todo_told}
 use Rattle.hk_shared.specs.declared.book.Book.{Book}
-use Rattle.hk_shared.specs.Contexts.{machine_after, rests, KeepsContexts}
+use Rattle.hk_shared.specs.Contexts.{machine_after, is_resting, KeepsContexts}
 use Rattle.hk_shared.specs.Books.{IsSound, IsNext, notes_of_book, added, stops}
 use Rattle.hk_shared.proofs.Notes.{append_nil, lines_book, one_more, stops_now, is_going, is_stopped, goes_self}
 use Rattle.hk_shared.proofs.Placed.{idle_shows}
@@ -226,7 +226,7 @@ module _ {K J : Type 0} (state : K → State) (w : WorldValue) (cpu : Cpu) (b : 
 
 -- ---- the contexts that are kept behind an event
 
-running_rests : (r : ProcessState) → is_running r ≡ true → rests r ≡ true → ⊥
+running_rests : (r : ProcessState) → is_running r ≡ true → is_resting r ≡ true → ⊥
 running_rests Ready h g = absurd (cc)
 running_rests (Running c) h g = absurd (cc)
 running_rests (Waiting at) h g = absurd (cc)
@@ -250,9 +250,9 @@ goes_keeps w lines held cpu proc line t frames g runs = record {
   each = λ n r. by n (rw g.state r) (same_or n proc.0);
 }
   where
-    by : (n : ℕ) → rests (process t (record { 0 = n })).run ≡ true → ((n ≡ proc.0) ⊎ (n ≡ proc.0 → ⊥)) → slice_get held n ≡ Some (Some (context_of (machine_after w (lines ++ line ∷ [])) (record { 0 = n })))
+    by : (n : ℕ) → is_resting (process t (record { 0 = n })).run ≡ true → ((n ≡ proc.0) ⊎ (n ≡ proc.0 → ⊥)) → slice_get held n ≡ Some (Some (context_of (machine_after w (lines ++ line ∷ [])) (record { 0 = n })))
     by n r (inr apart) = g.others n apart r
-    by n r (inl same) = absurd (running_rests (process t proc).run runs (subst (λ (k : ℕ). rests (process t (record { 0 = k })).run ≡ true) same r))
+    by n r (inl same) = absurd (running_rests (process t proc).run runs (subst (λ (k : ℕ). is_resting (process t (record { 0 = k })).run ≡ true) same r))
 
 -- the process has gone, and its context is put back
 pub gone_keeps : (w : WorldValue) (lines : List Line) (held held' : List (Option Context)) (cpu : Cpu) (proc : Proc) (line : Line) (t : State) (frames : Context) → Makes w lines held cpu proc line t frames
@@ -262,7 +262,7 @@ gone_keeps w lines held held' cpu proc line t frames g e = rw e (record {
   each = λ n r. by n (rw g.state r) (same_or n proc.0);
 })
   where
-    by : (n : ℕ) → rests (process t (record { 0 = n })).run ≡ true → ((n ≡ proc.0) ⊎ (n ≡ proc.0 → ⊥)) → slice_get (slice_set held proc.0 (Some frames)) n ≡ Some (Some (context_of (machine_after w (lines ++ line ∷ [])) (record { 0 = n })))
+    by : (n : ℕ) → is_resting (process t (record { 0 = n })).run ≡ true → ((n ≡ proc.0) ⊎ (n ≡ proc.0 → ⊥)) → slice_get (slice_set held proc.0 (Some frames)) n ≡ Some (Some (context_of (machine_after w (lines ++ line ∷ [])) (record { 0 = n })))
     by n r (inr apart) = get_there held proc.0 n (Some frames) apart ∙ g.others n apart r
     by n r (inl same) =
         subst (λ (k : ℕ). slice_get (slice_set held proc.0 (Some frames)) k ≡ Some (Some (context_of (machine_after w (lines ++ line ∷ [])) (record { 0 = k })))) (sym same)
@@ -320,6 +320,6 @@ not_false a false h e = absurd (true≢false (sym e ∙ h))
 
 -- what a turn tells
 pub told_is : (w : WorldValue) (s : State) (proc : Proc) (next_is : Todo) (frames : Context) (happened : What) (reply : Reply) (t : State) (new : Context)
-    → turn w s proc (next_is, frames) ≡ (happened, reply, t, new) → happened ≡ told next_is
+    → turn w s proc (next_is, frames) ≡ (happened, reply, t, new) → happened ≡ todo_told next_is
 told_is w s proc (todo.Do c) frames happened reply t new h = sym (ap (λ (x : What × Reply × State × Context). x.0) h)
 told_is w s proc todo.Halt frames happened reply t new h = sym (ap (λ (x : What × Reply × State × Context). x.0) h)

@@ -28,7 +28,7 @@ use Rattle.hk_model.specs.WorldValue.{WorldValue}
 use Rattle.hk_model.specs.Opening.{opening, all_ready, proc_numbers}
 use Rattle.hk_model.specs.State.{State, object, process, put_object, put_slot, put_process, add_object}
 use Rattle.hk_model.specs.Refusing.{unless}
-use Rattle.hk_model.specs.Targets.{SEMAPHORE, MODIFY+A0, is_type, target}
+use Rattle.hk_model.specs.Targets.{SEMAPHORE, MODIFY+A0, is_of_type, target}
 use Rattle.hk_model.specs.Keeping.{restricted}
 use Rattle.hk_model.specs.Rule.{Outcome, outcome, settled, counted, enter, give_to, leave_to, leave, enter_procedure, token_given, take_token, give_token, get_word, put_word, add_word, word_count, load_entry, store_entry, append_entry, erase_entry, drop_slot, restrict_slot, look, make_template, create_object, merge_cap, copy_object}
 use Rattle.hk_model.proofs.TestLemmas.{then_is, and_is}
@@ -145,7 +145,7 @@ token_kept s name o (first ∷ rest) = kept_ready s (put_object s name (record o
 take_kept : (s : State) (proc : Proc) (inc : Inc) (path : List ℕ) → IsKept s (take_token s proc inc path)
 unfolding take_token
 take_kept s proc inc path =
-    then_is (λ f. Kept s f.1) (target s inc path (is_type SEMAPHORE) MODIFY+A0) (λ c. Ok (elim (nat_lt 0 (object s c.name).count) [
+    then_is (λ f. Kept s f.1) (target s inc path (is_of_type SEMAPHORE) MODIFY+A0) (λ c. Ok (elim (nat_lt 0 (object s c.name).count) [
       | true ↦ (Done, put_object s c.name (record (object s c.name) { count = (object s c.name).count - 1 }))
       | false ↦ (Waits, put_process (put_object s c.name (record (object s c.name) { waiters = (object s c.name).waiters ++ proc ∷ [] })) proc (record (process s proc) { run = Waiting c.name }))
     ])) (λ c g. by c (nat_lt 0 (object s c.name).count))

@@ -79,9 +79,7 @@ fn run_script<M: Maker>(
             let kernel = kernels.make(alloc, &world)?;
             recorded(alloc, &world, kernel)
         }
-        Err(WorldError::Refused { line, cause }) => {
-            Ok(text_alone(refused(alloc, line, cause)?))
-        }
+        Err(WorldError::Refused { line, cause }) => { Ok(text_alone(refused(alloc, line, cause)?)) }
         Err(WorldError::NoMemory) => Err(NoMemory),
     }
 }

@@ -42,9 +42,7 @@ pub(crate) fn run_script_on<G: Gate + Sync, M: Maker, R: Threads + Wait + Sync>(
             let kernel = kernels.make(alloc, &world)?;
             run_on(rt, alloc, cpus, &world, gate, kernel)
         }
-        Err(WorldError::Refused { line, cause }) => {
-            Ok(text_alone(refused(alloc, line, cause)?))
-        }
+        Err(WorldError::Refused { line, cause }) => { Ok(text_alone(refused(alloc, line, cause)?)) }
         Err(WorldError::NoMemory) => Err(NoMemory),
     }
 }

@@ -63,7 +63,8 @@ fn processors(word: &str) -> Option<u8>
     ensures none { IfNone result (IsNoNumber word.now) }
 {
     let cpus = numeral(word.as_bytes())?;
-    if cpus < 1 || cpus > CPU_LIMIT.into() {
+    let most = u64::from(CPU_LIMIT);
+    if cpus < 1 || cpus > most {
         return None;
     }
     Some(cpus as u8)
