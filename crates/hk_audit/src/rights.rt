@@ -5,7 +5,7 @@ ghost use Rattle.std.specs.List.{filter, join_with_byte, slice_split};
 ghost use Rattle.hk_rights.specs.Rights.{has, IsRightsWord, name_of, number_named, right_numbers};
 ghost use Rattle.hk_model.specs.Labels.{same_text};
 ghost use Rattle.hk_format.specs.RightsTexts.{rights_spelled, rights_text, union_of};
-ghost use Rattle.hk_audit.specs.Seen.{canonical_rights};
+ghost use Rattle.hk_audit.specs.TextPieces.{canonical_rights};
 ghost use Rattle.hk_audit.specs.Names.{same_texts};
 
 use crate::parts::Parts;
