@@ -1,10 +1,9 @@
 -- Lines are read as items exactly where these are in form and in range and the lines spell them.
-use Rattle.std.proofs.Common.{◌≡◌, ℕ, ◌+◌, ◌==◌, Bool, true, false, cond, List, [], ◌∷◌, ◌++◌, length, map, refl, sym, ap, subst, ◌∙◌, ◌&&◌, not, Option, Some, None, Result, Ok}
-use Rattle.std.proofs.Common.{Err, IsTrue}
+use Rattle.std.proofs.Common.{◌≡◌, ℕ, Bool, true, false, cond, List, [], ◌∷◌, ◌++◌, map, refl, sym, ap, subst, ◌∙◌, not, Option, Some, None, Ok}
+use Rattle.std.proofs.Common.{Err}
 use Rattle.std.specs.List.{list_all, flat_map}
 use Rattle.std.proofs.lemmas.Bool.{and_parts}
 use mathlib.Core.List.{append_assoc, append-nil}
-use Rattle.hk_format.specs.declared.causes.ParseCause.{ParseCause}
 use Rattle.hk_format.specs.declared.causes.ParseCause.TheVariants.{Repeated}
 use Rattle.hk_format.specs.declared.syntax.Verb.TheVariants as verb
 use Rattle.hk_format.specs.declared.syntax.Head.{Head}
@@ -15,13 +14,13 @@ use Rattle.hk_format.specs.declared.syntax.Item.{Item}
 use Rattle.hk_format.specs.Pieces.{Piece, is_piece}
 use Rattle.hk_format.specs.Texts.{Lines}
 use Rattle.hk_format.specs.Reading.{Found}
-use Rattle.hk_format.specs.Grammar.{GivenNames, nothing_seen, is_new, noted, is_new_label, noted_label, Open, Read, item_at, part_at, between_items, in_item, placed_head, begun}
-use Rattle.hk_format.specs.Grammar.{with_part, joined, and_then, next_line, after_line, Refused, closed, go_on, items_from, header, after_header, script, head_line, part_line}
+use Rattle.hk_format.specs.Grammar.{GivenNames, nothing_seen, is_new, noted, is_new_label, noted_label, item_at, part_at, between_items, in_item, placed_head, begun}
+use Rattle.hk_format.specs.Grammar.{with_part, joined, and_then, go_on, items_from, header, after_header, script, head_line, part_line}
 use Rattle.hk_format.specs.Spelling.{has_parts, head_pieces, body_pieces, end_line, header_line}
 use Rattle.hk_format.specs.Syntax.{AreParts, AreItems, IsSyntax}
-use Rattle.hk_format.specs.ItemLines.{numbered_part, numbered_parts, numbered_item, AreLinesOf}
+use Rattle.hk_format.specs.ItemLines.{numbered_part, numbered_item, AreLinesOf}
 use Rattle.hk_format.proofs.LineAgain.{part_again, head_again, end_again, verb_again}
-use Rattle.hk_format.proofs.ExactReaders.{AreSpelled, found_pieces, head_exact, part_exact, header_exact}
+use Rattle.hk_format.proofs.ExactReaders.{AreSpelled, head_exact, part_exact, header_exact}
 
 -- an item with the line of its end, without that line
 abbrev item_of : Item × ℕ → Item
@@ -32,7 +31,7 @@ item_of placed = placed.0
 parts_read : (items : List Item) (seen : GivenNames) (line : ℕ) (head : Head) (before : List Part) (labels : List (List ℕ)) (end : ℕ) (ps : List Part) (rest : Lines)
     → AreParts head labels ps
     → items_from (map numbered_part ps ++ (end, end_line) ∷ rest) (in_item items seen (item_at line head before) labels)
-        ≡ items_from rest (between_items (items ++ item_at line head (before ++ ps) ∷ []) seen)
+    ≡ items_from rest (between_items (items ++ item_at line head (before ++ ps) ∷ []) seen)
 parts_read items seen line head before labels end [] rest h = rw (end_again, append-nil)
 parts_read items seen line head before labels end (p ∷ ps) rest h =
     let more = parts_read items seen line head (before ++ part_at p.line p.body ∷ []) (noted_label labels p.body) end ps rest h.2 in
@@ -56,7 +55,7 @@ items_read done seen (x ∷ placed) h = rw (head_again x.0.head h.0, h.1) (go (h
   where
     go : (b : Bool) → has_parts x.0.head ≡ b → ((d : List Item) → items_from (flat_map numbered_item placed) (between_items d (noted seen x.0.head)) ≡ Ok (d ++ map item_of placed))
         → items_from (cond b (map numbered_part x.0.parts ++ (x.1, end_line) ∷ []) [] ++ flat_map numbered_item placed)
-            (cond b (in_item done (noted seen x.0.head) (item_at x.0.line x.0.head []) []) (between_items (done ++ item_at x.0.line x.0.head [] ∷ []) (noted seen x.0.head)))
+        (cond b (in_item done (noted seen x.0.head) (item_at x.0.line x.0.head []) []) (between_items (done ++ item_at x.0.line x.0.head [] ∷ []) (noted seen x.0.head)))
         ≡ Ok (done ++ x.0 ∷ map item_of placed)
     go true e more =
         let parts = parts_read done (noted seen x.0.head) x.0.line x.0.head [] [] x.1 x.0.parts (flat_map numbered_item placed) h.2 in
@@ -69,7 +68,7 @@ script_read : (lines : Lines) (items : List Item) → IsSyntax items → AreLine
 script_read lines items h l =
     let syntax : AreItems nothing_seen (map item_of l.placed) = subst (λ (is : List Item). AreItems nothing_seen is) (sym l.same) h in
     let read : script ((l.first, header_line) ∷ flat_map numbered_item l.placed) ≡ Ok (map item_of l.placed) =
-        rw (verb_again verb.Hydra) (items_read [] nothing_seen l.placed syntax) in
+    rw (verb_again verb.Hydra) (items_read [] nothing_seen l.placed syntax) in
     ap script l.spelled ∙ read ∙ ap Ok l.same
 
 -- lines that are read as items spell these
@@ -97,7 +96,7 @@ abbrev Told : Lines → Type 0
 Told lines =
     ((done : List Item) (seen : GivenNames) (items : List Item) → items_from lines (between_items done seen) ≡ Ok items → Between lines done items)
     × ((done : List Item) (seen : GivenNames) (o : Item) (labels : List (List ℕ)) (items : List Item) → items_from lines (in_item done seen o labels) ≡ Ok items
-        → Inside lines done o items)
+    → Inside lines done o items)
 
 -- a head, and then what follows it
 head_told : (line : ℕ) (ps : List Piece) (lines : Lines) → AreSpelled ps → Told lines → (done : List Item) (seen : GivenNames) (items : List Item)
@@ -106,7 +105,7 @@ head_told line ps lines s told done seen items h = go (head_line ps) refl h
   where
     placed_so : (head : Head) → ps ≡ head_pieces head → (b : Bool) → has_parts head ≡ b
         → items_from lines (cond b (in_item done (noted seen head) (item_at line head []) []) (between_items (done ++ item_at line head [] ∷ []) (noted seen head))) ≡ Ok items
-            → Between ((line, ps) ∷ lines) done items
+        → Between ((line, ps) ∷ lines) done items
     placed_so head e true k l =
         let t = told.1 done (noted seen head) (item_at line head []) [] items l in
         record {
@@ -137,12 +136,12 @@ head_told line ps lines s told done seen items h = go (head_line ps) refl h
 part_told : (line : ℕ) (ps : List Piece) (lines : Lines) → AreSpelled ps → Told lines
     → (done : List Item) (seen : GivenNames) (o : Item) (labels : List (List ℕ)) (items : List Item)
     → go_on line (and_then (part_line o.head ps) (joined (in_item done seen o labels) (record { item = o; labels = labels }) line)) (λ next. items_from lines next) ≡ Ok items
-        → Inside ((line, ps) ∷ lines) done o items
+    → Inside ((line, ps) ∷ lines) done o items
 part_told line ps lines s told done seen o labels items h = go (part_line o.head ps) refl h
   where
     new_so : (body : Body) → ps ≡ body_pieces body → (b : Bool)
         → go_on line (cond (not b) (Err Repeated) (Ok (in_item done seen (with_part o line body) (noted_label labels body)))) (λ next. items_from lines next) ≡ Ok items
-            → Inside ((line, ps) ∷ lines) done o items
+        → Inside ((line, ps) ∷ lines) done o items
     new_so body e true l =
         let t = told.1 done seen (with_part o line body) (noted_label labels body) items l in
         record {
@@ -156,7 +155,7 @@ part_told line ps lines s told done seen o labels items h = go (part_line o.head
 
     go : (r : Found (Option Body)) → part_line o.head ps ≡ r
         → go_on line (and_then r (joined (in_item done seen o labels) (record { item = o; labels = labels }) line)) (λ next. items_from lines next) ≡ Ok items
-            → Inside ((line, ps) ∷ lines) done o items
+        → Inside ((line, ps) ∷ lines) done o items
     go (Ok (None, rest)) e l =
         let t = told.0 (done ++ o ∷ []) seen items l in
         record {

@@ -123,7 +123,7 @@ object_good w h n there =
     let rest = map (λ (c : Code). c.label) w.codes ++ map (λ (t : Task). t.label) w.tasks in
     let size : length (spoken w).objects ≡ 7 + length w.objects = rw length-map (omega arith) in
     all_at IsTypeText (spoken w).objects n.0 [] (refl, (refl, (refl, (refl, (refl, (refl, (refl, typed_names own (all_front (λ l. IsTrue (is_name l)) own rest h.names))))))))
-        (omega arith)
+    (omega arith)
 
 pub code_good : (w : WorldValue) → IsWorld w → (n : ℕ) → n < length w.codes → IsWordText (code_text (spoken w) n)
 code_good w h n there =
@@ -131,7 +131,7 @@ code_good w h n there =
     let codes = map (λ (c : Code). c.label) w.codes in
     let tasks = map (λ (t : Task). t.label) w.tasks in
     name_word (code_text (spoken w) n) (all_at (λ l. IsTrue (is_name l)) codes n [] (all_front (λ l. IsTrue (is_name l)) codes tasks
-        (all_back (λ l. IsTrue (is_name l)) own (codes ++ tasks) h.names)) (rw length-map there))
+    (all_back (λ l. IsTrue (is_name l)) own (codes ++ tasks) h.names)) (rw length-map there))
 
 pub kind_good : (w : WorldValue) → IsWorld w → (of : Option Name) → IsTypeOrAny w of → IsTypeText (kind_text (spoken w) of)
 kind_good w h None k = refl
@@ -287,7 +287,7 @@ label_new n [] few h = refl
 label_new n (l ∷ ls) few h =
     let below = h.0.1 in
     let other : same_text (label_text n) l ≡ false = subst (λ (t : List ℕ). same_text (label_text n) t ≡ false) (sym h.0.2)
-        (label_other n h.0.0 few (omega arith) (λ e. omega arith)) in
+    (label_other n h.0.0 few (omega arith) (λ e. omega arith)) in
     rw (other, label_new n ls few h.1)
 
 steps_good : (name : List ℕ) (all is : List Instr) (n : ℕ) (ls : List (List ℕ)) → AllByRecursion (IsBelow n) ls → n + length is ≤ 4096
@@ -335,17 +335,21 @@ object_item_good : (w : WorldValue) → IsWorld w → (label : List ℕ) (k : Ki
     → IsHead (kind_item (spoken w) label k).head × AreParts (kind_item (spoken w) label k).head [] (kind_item (spoken w) label k).parts
 object_item_good w h label kind.TypeObject name k = (name, tt)
 object_item_good w h label (kind.Semaphore count) name k = ((name, k), tt)
-object_item_good w h label (kind.Plain of words entries) name k =
-    ((name, object_good w h of (type_object w of (plain_general w of entries k.0).0)), words_good label (object_text (spoken w) of) (word_lines words)
-        (entry_parts (spoken w) entries) (word_lines_good words k.2) (entries_good w h (ObjectIs label (object_text (spoken w) of))
-        (object_takes w label (object_text (spoken w) of)) entries k.4))
-object_item_good w h label (kind.Procedure code params entries) name k =
-    ((name, code_good w h code k.0), params_good w h label (code_text (spoken w) code) params (entry_parts (spoken w) entries) k.2
-        (entries_good w h (ProcedureIs label (code_text (spoken w) code)) (procedure_takes w label (code_text (spoken w) code)) entries k.4))
+object_item_good w h label (kind.Plain of words entries) name k = (
+  (name, object_good w h of (type_object w of (plain_general w of entries k.0).0)),
+  words_good label (object_text (spoken w) of) (word_lines words)
+      (entry_parts (spoken w) entries) (word_lines_good words k.2) (entries_good w h (ObjectIs label (object_text (spoken w) of))
+      (object_takes w label (object_text (spoken w) of)) entries k.4),
+)
+object_item_good w h label (kind.Procedure code params entries) name k = (
+  (name, code_good w h code k.0),
+  params_good w h label (code_text (spoken w) code) params (entry_parts (spoken w) entries) k.2
+      (entries_good w h (ProcedureIs label (code_text (spoken w) code)) (procedure_takes w label (code_text (spoken w) code)) entries k.4),
+)
 
 object_seen : (w : WorldValue) (names : List (List ℕ)) (limited : Bool) (label : List ℕ) (k : Kind) → is_among names label ≡ false
     → (IsTrue (is_new (seen_so names limited) (kind_item (spoken w) label k).head)) × (noted (seen_so names limited) (kind_item (spoken w) label k).head
-        ≡ seen_so (names ++ label ∷ []) limited)
+    ≡ seen_so (names ++ label ∷ []) limited)
 unfolding seen_so
 object_seen w names limited label kind.TypeObject e = (rw e refl, refl)
 object_seen w names limited label (kind.Plain of words entries) e = (rw e refl, refl)
@@ -368,9 +372,13 @@ codes_good : (names : List (List ℕ)) (limited : Bool) (cs : List Code) (rest :
 unfolding seen_so
 codes_good names limited [] rest ls k named apart after = after names apart
 codes_good names limited (c ∷ cs) rest ls k named apart after =
-    let new = apart_seen names c.label (map (λ (d : Code). d.label) cs ++ ls) apart in
-    (named.0, rw new refl, steps_good c.label c.steps c.steps 0 [] tt (let few =
-        k.0.0 in omega arith) (all_written (length c.steps) c.steps k.0.0 k.0.1), codes_good (names ++ c.label ∷ []) limited cs rest ls k.1 named.1 (rw append_assoc apart) after)
+    let new = apart_seen names c.label (map (λ (d : Code). d.label) cs ++ ls) apart in (
+      named.0,
+      rw new refl,
+      steps_good c.label c.steps c.steps 0 [] tt (let few =
+          k.0.0 in omega arith) (all_written (length c.steps) c.steps k.0.0 k.0.1),
+      codes_good (names ++ c.label ∷ []) limited cs rest ls k.1 named.1 (rw append_assoc apart) after,
+    )
 
 tasks_good : (w : WorldValue) → IsWorld w → (names : List (List ℕ)) (limited : Bool) (ts : List Task) → AllByRecursion (IsTask w) ts
     → AllByRecursion (λ l. IsTrue (is_name l)) (map (λ (t : Task). t.label) ts) → are_apart (names ++ map (λ (t : Task). t.label) ts) ≡ true
@@ -378,9 +386,13 @@ tasks_good : (w : WorldValue) → IsWorld w → (names : List (List ℕ)) (limit
 unfolding seen_so
 tasks_good w h names limited [] k named apart = tt
 tasks_good w h names limited (t ∷ ts) k named apart =
-    let new = apart_seen names t.label (map (λ (s : Task). s.label) ts) apart in
-    ((named.0, code_good w h t.code k.0.0), rw new refl, entries_good w h (ProcessIs t.label (code_text (spoken w) t.code))
-        (process_takes w t.label (code_text (spoken w) t.code)) t.slots k.0.2, tasks_good w h (names ++ t.label ∷ []) limited ts k.1 named.1 (rw append_assoc apart))
+    let new = apart_seen names t.label (map (λ (s : Task). s.label) ts) apart in (
+      (named.0, code_good w h t.code k.0.0),
+      rw new refl,
+      entries_good w h (ProcessIs t.label (code_text (spoken w) t.code))
+          (process_takes w t.label (code_text (spoken w) t.code)) t.slots k.0.2,
+      tasks_good w h (names ++ t.label ∷ []) limited ts k.1 named.1 (rw append_assoc apart),
+    )
 
 -- the items of a world are those of some script
 pub syntax_good : (w : WorldValue) → IsWorld w → IsSyntax (syntax_of w)
@@ -402,12 +414,12 @@ syntax_good w h = go (w.limit == 10000)
     all : (limited : Bool) → AreItems (seen_so [] limited) (map (object_item (spoken w)) w.objects ++ (map code_item w.codes ++ map (task_item (spoken w)) w.tasks))
     all limited =
         objects_good w h [] limited w.objects (map code_item w.codes ++ map (task_item (spoken w)) w.tasks) (coded ++ tasked) h.kinds
-            (all_front (λ l. IsTrue (is_name l)) own (coded ++ tasked) h.names) h.apart (λ more apart. codes_good more limited w.codes
-            (map (task_item (spoken w)) w.tasks) tasked h.codes_are (all_front (λ l. IsTrue (is_name l)) coded tasked named) apart
-            (λ most apart. tasks_good w h most limited w.tasks h.tasks_are (all_back (λ l. IsTrue (is_name l)) coded tasked named) apart))
+        (all_front (λ l. IsTrue (is_name l)) own (coded ++ tasked) h.names) h.apart (λ more apart. codes_good more limited w.codes
+        (map (task_item (spoken w)) w.tasks) tasked h.codes_are (all_front (λ l. IsTrue (is_name l)) coded tasked named) apart
+        (λ most apart. tasks_good w h most limited w.tasks h.tasks_are (all_back (λ l. IsTrue (is_name l)) coded tasked named) apart))
 
     go : (b : Bool)
         → AreItems nothing_seen (cond b [] (item (LimitIs w.limit) [] ∷ []) ++ (map (object_item (spoken w)) w.objects
-            ++ (map code_item w.codes ++ map (task_item (spoken w)) w.tasks)))
+        ++ (map code_item w.codes ++ map (task_item (spoken w)) w.tasks)))
     go true = all false
     go false = ((h.some_events, h.few_events), refl, tt, all true)

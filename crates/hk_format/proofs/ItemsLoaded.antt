@@ -42,7 +42,7 @@ target_within : (len : ℕ) (labels : List Label) (t : List ℕ) (n : ℕ) → L
 unfolding LabelsWithin
 target_within len labels t n within h =
     go (find (λ (l : Label). same_text t l.text) labels) (among labels within) (found_ok (option_map (λ (l : Label). to_limit l.place)
-        (find (λ (l : Label). same_text t l.text) labels)) UnknownName n h)
+    (find (λ (l : Label). same_text t l.text) labels)) UnknownName n h)
   where
     IsWithin : Option Label → Type 0
     IsWithin None = Unit {0}
@@ -145,8 +145,12 @@ steps_loaded len n labels (p ∷ ps) is few h e = go p.body h.0 e (λ m js k f. 
         let few_rest = r.few in
         let size : n + 1 + length a.1 ≡ n + length (a.0 ∷ a.1) = omega arith in
         subst (λ (xs : List Instr). StepsLoaded len n labels (labels_from (n + 1) ps) xs) a.4
-            (record { few = omega arith; places = subst (λ (m : ℕ). LabelsWithin m (labels_from (n + 1) ps)) size r.places; good =
-            λ w. (instr_loaded len labels step a.0 w k b.0, r.good w) })
+        (record {
+          few = omega arith;
+          places = subst (λ (m : ℕ). LabelsWithin m (labels_from (n + 1) ps)) size r.places;
+          good =
+              λ w. (instr_loaded len labels step a.0 w k b.0, r.good w);
+        })
     go (WordsAre words) k f rest = absurd k
     go EmptyEntry k f rest = absurd k
     go (CapEntry object rights) k f rest = absurd k

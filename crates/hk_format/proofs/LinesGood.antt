@@ -244,8 +244,16 @@ label_size : (w : WorldValue) → AllByRecursion (λ l. IsTrue (is_name l)) (map
     → length (object_text (spoken w) n) ≤ 32
 label_size w named n there =
     let size : length (spoken w).objects ≡ 7 + length w.objects = rw length-map (omega arith) in
-    all_at (λ l. length l ≤ 32) (spoken w).objects n.0 [] (omega arith, (omega arith, (omega arith,
-        (omega arith, (omega arith, (omega arith, (omega arith, each (map (λ (b : Born). b.label) w.objects) named))))))) (omega arith)
+    all_at (λ l. length l ≤ 32) (spoken w).objects n.0 [] (
+      omega arith,
+      (
+        omega arith,
+        (
+          omega arith,
+          (omega arith, (omega arith, (omega arith, (omega arith, each (map (λ (b : Born). b.label) w.objects) named)))),
+        ),
+      ),
+    ) (omega arith)
   where
     each : (ls : List (List ℕ)) → AllByRecursion (λ l. IsTrue (is_name l)) ls → AllByRecursion (λ l. length l ≤ 32) ls
     each [] h = tt
@@ -275,7 +283,7 @@ entry_line_good w h (Held held) k =
     few_good (and_short (verb_short verb.Cap) (and_short (object_short w h held.name k.0) (and_short (rights_short held.rights k.1) none_short))) (omega arith)
 entry_line_good w h (Form (template.Amplify of check give)) k =
     few_good (and_short (verb_short verb.Amplify) (and_short (kind_short w h of k.0) (and_short (rights_short check k.1) (and_short (rights_short give k.2) none_short))))
-        (omega arith)
+    (omega arith)
 entry_line_good w h (Form (template.Create of give)) k =
     few_good (and_short (verb_short verb.Create) (and_short (object_short w h of (type_object w of k.0)) (and_short (rights_short give k.1) none_short))) (omega arith)
 
@@ -292,7 +300,7 @@ unfolding LinesAreGood
 param_lines_good w h [] k = refl
 param_lines_good w h (p ∷ ps) k =
     and_from _ _ (few_good (and_short (verb_short verb.Param) (and_short (kind_short w h p.of k.0.0)
-        (and_short (rights_short p.check k.0.1) (and_short (rights_short p.give k.0.2) none_short)))) (omega arith)) (param_lines_good w h ps k.1)
+    (and_short (rights_short p.check k.0.1) (and_short (rights_short p.give k.0.2) none_short)))) (omega arith)) (param_lines_good w h ps k.1)
 
 -- the bytes of numbers, each with the space before it
 numbers_size : List ℕ → ℕ
@@ -403,10 +411,10 @@ instr_line_good len (instr.Look of reg) few h =
     few_good (and_short (verb_short verb.Look) (and_short (route_short of h.0) (and_short (register_short reg h.1) none_short))) (omega arith)
 instr_line_good len (instr.MakeTemplate of (making.Amplify check give) into) few h =
     few_good (and_short (verb_short verb.Template) (and_short (route_short of h.0) (and_short (verb_short verb.Amplify)
-        (and_short (rights_short check (h.1).0) (and_short (rights_short give (h.1).1) (and_short (slot_short into h.2) none_short)))))) (omega arith)
+    (and_short (rights_short check (h.1).0) (and_short (rights_short give (h.1).1) (and_short (slot_short into h.2) none_short)))))) (omega arith)
 instr_line_good len (instr.MakeTemplate of (making.Create give) into) few h =
     few_good (and_short (verb_short verb.Template) (and_short (route_short of h.0) (and_short (verb_short verb.Create)
-        (and_short (rights_short give h.1) (and_short (slot_short into h.2) none_short))))) (omega arith)
+    (and_short (rights_short give h.1) (and_short (slot_short into h.2) none_short))))) (omega arith)
 instr_line_good len (instr.Create by into) few h =
     few_good (and_short (verb_short verb.Create) (and_short (route_short by h.0) (and_short (slot_short into h.1) none_short))) (omega arith)
 instr_line_good len (instr.Merge with slot into) few h =
@@ -427,10 +435,10 @@ instr_line_good len (instr.Goto to) few h =
     few_good (and_short (verb_short verb.Goto) (and_short (word_short (label_text to) (label_word to (omega arith))) none_short)) (omega arith)
 instr_line_good len (instr.IfEq left right to) few h =
     few_good (and_short (verb_short verb.IfEq) (and_short (operand_short left h.0) (and_short (operand_short right h.1)
-        (and_short (word_short (label_text to) (label_word to (let k = h.2 in omega arith))) none_short)))) (omega arith)
+    (and_short (word_short (label_text to) (label_word to (let k = h.2 in omega arith))) none_short)))) (omega arith)
 instr_line_good len (instr.IfLess left right to) few h =
     few_good (and_short (verb_short verb.IfLess) (and_short (operand_short left h.0) (and_short (operand_short right h.1)
-        (and_short (word_short (label_text to) (label_word to (let k = h.2 in omega arith))) none_short)))) (omega arith)
+    (and_short (word_short (label_text to) (label_word to (let k = h.2 in omega arith))) none_short)))) (omega arith)
 instr_line_good len (instr.IfDenied to) few h =
     few_good (and_short (verb_short verb.IfDenied) (and_short (word_short (label_text to) (label_word to (omega arith))) none_short)) (omega arith)
 
@@ -447,7 +455,7 @@ code_lines_good len all (i ∷ is) n most few h = go (list_any (jumps_to n) all)
         → LinesAreGood (cond b (part (LabelIs (label_text n)) ∷ []) [] ++ part (StepIs (written_of i)) ∷ code_parts all (n + 1) is)
     go true rest =
         and_from _ _ (few_good (and_short (verb_short verb.Label) (and_short (word_short (label_text n) (label_word n (omega arith))) none_short)) (omega arith))
-            (and_from _ _ (instr_line_good len i most h.0) rest)
+        (and_from _ _ (instr_line_good len i most h.0) rest)
     go false rest = and_from _ _ (instr_line_good len i most h.0) rest
 
 -- items
@@ -475,17 +483,17 @@ object_lines_good w h label kind.TypeObject name k =
     item_lines_good (TypeIs label) [] (few_good (and_short (verb_short verb.Type) (and_short (name_short label name) none_short)) (omega arith)) refl
 object_lines_good w h label (kind.Semaphore count) name k =
     item_lines_good (SemaphoreIs label count) [] (few_good (and_short (verb_short verb.Semaphore)
-        (and_short (name_short label name) (and_short (number_short count (omega arith)) none_short))) (omega arith)) refl
+    (and_short (name_short label name) (and_short (number_short count (omega arith)) none_short))) (omega arith)) refl
 object_lines_good w h label (kind.Plain of words entries) name k =
     item_lines_good (ObjectIs label (object_text (spoken w) of)) (word_parts words ++ entry_parts (spoken w) entries)
-        (few_good (and_short (verb_short verb.Object) (and_short (name_short label name) (and_short
-        (object_short w h of (type_object w of (plain_general w of entries k.0).0)) none_short))) (omega arith))
-        (all_append (λ (p : Part). is_line (body_pieces p.body)) (word_parts words) (entry_parts (spoken w) entries) (words_good words k.2) (entry_lines_good w h entries k.4))
+    (few_good (and_short (verb_short verb.Object) (and_short (name_short label name) (and_short
+    (object_short w h of (type_object w of (plain_general w of entries k.0).0)) none_short))) (omega arith))
+    (all_append (λ (p : Part). is_line (body_pieces p.body)) (word_parts words) (entry_parts (spoken w) entries) (words_good words k.2) (entry_lines_good w h entries k.4))
 object_lines_good w h label (kind.Procedure code params entries) name k =
     item_lines_good (ProcedureIs label (code_text (spoken w) code)) (param_parts (spoken w) params ++ entry_parts (spoken w) entries)
-        (few_good (and_short (verb_short verb.Procedure) (and_short (name_short label name) (and_short (code_short w h code k.0) none_short))) (omega arith))
-        (all_append (λ (p : Part). is_line (body_pieces p.body)) (param_parts (spoken w) params) (entry_parts (spoken w) entries) (param_lines_good w h params k.2)
-        (entry_lines_good w h entries k.4))
+    (few_good (and_short (verb_short verb.Procedure) (and_short (name_short label name) (and_short (code_short w h code k.0) none_short))) (omega arith))
+    (all_append (λ (p : Part). is_line (body_pieces p.body)) (param_parts (spoken w) params) (entry_parts (spoken w) entries) (param_lines_good w h params k.2)
+    (entry_lines_good w h entries k.4))
 
 -- the lines of items, one item behind another
 lines_both : (xs ys : List Item) → list_all is_line (flat_map item_lines xs) ≡ true → list_all is_line (flat_map item_lines ys) ≡ true
@@ -507,26 +515,26 @@ codes_lines : (cs : List Code) → AllByRecursion IsCode cs → AllByRecursion (
 codes_lines [] k named = refl
 codes_lines (c ∷ cs) k named =
     line_onto (code_item c) (map code_item cs) (item_lines_good (CodeIs c.label) (code_parts c.steps 0 c.steps)
-        (few_good (and_short (verb_short verb.Code) (and_short (name_short c.label named.0) none_short)) (omega arith))
-        (code_lines_good (length c.steps) c.steps c.steps 0 k.0.0 (let few = k.0.0 in omega arith) k.0.1)) (codes_lines cs k.1 named.1)
+    (few_good (and_short (verb_short verb.Code) (and_short (name_short c.label named.0) none_short)) (omega arith))
+    (code_lines_good (length c.steps) c.steps c.steps 0 k.0.0 (let few = k.0.0 in omega arith) k.0.1)) (codes_lines cs k.1 named.1)
 
 tasks_lines : (w : WorldValue) → IsWorld w → (ts : List Task) → AllByRecursion (IsTask w) ts → AllByRecursion (λ l. IsTrue (is_name l)) (map (λ (t : Task). t.label) ts)
     → list_all is_line (flat_map item_lines (map (task_item (spoken w)) ts)) ≡ true
 tasks_lines w h [] k named = refl
 tasks_lines w h (t ∷ ts) k named =
     line_onto (task_item (spoken w) t) (map (task_item (spoken w)) ts) (item_lines_good (ProcessIs t.label (code_text (spoken w) t.code)) (entry_parts (spoken w) t.slots)
-        (few_good (and_short (verb_short verb.Process) (and_short (name_short t.label named.0) (and_short (code_short w h t.code k.0.0) none_short))) (omega arith))
-        (entry_lines_good w h t.slots k.0.2)) (tasks_lines w h ts k.1 named.1)
+    (few_good (and_short (verb_short verb.Process) (and_short (name_short t.label named.0) (and_short (code_short w h t.code k.0.0) none_short))) (omega arith))
+    (entry_lines_good w h t.slots k.0.2)) (tasks_lines w h ts k.1 named.1)
 
 -- the lines of a world are those of some script
 pub lines_good : (w : WorldValue) → IsWorld w → list_all is_line (script_lines (syntax_of w)) ≡ true
 unfolding digits
 lines_good w h =
     lines_both (limit_items w.limit) (map (object_item (spoken w)) w.objects ++ (map code_item w.codes ++ map (task_item (spoken w)) w.tasks)) (limits (w.limit == 10000))
-        (lines_both (map (object_item (spoken w)) w.objects) (map code_item w.codes ++ map (task_item (spoken w)) w.tasks)
-        (objects_lines w h w.objects h.kinds (all_front (λ l. IsTrue (is_name l)) own (coded ++ tasked) h.names))
-        (lines_both (map code_item w.codes) (map (task_item (spoken w)) w.tasks) (codes_lines w.codes h.codes_are (all_front (λ l. IsTrue (is_name l)) coded tasked named))
-        (tasks_lines w h w.tasks h.tasks_are (all_back (λ l. IsTrue (is_name l)) coded tasked named))))
+    (lines_both (map (object_item (spoken w)) w.objects) (map code_item w.codes ++ map (task_item (spoken w)) w.tasks)
+    (objects_lines w h w.objects h.kinds (all_front (λ l. IsTrue (is_name l)) own (coded ++ tasked) h.names))
+    (lines_both (map code_item w.codes) (map (task_item (spoken w)) w.tasks) (codes_lines w.codes h.codes_are (all_front (λ l. IsTrue (is_name l)) coded tasked named))
+    (tasks_lines w h w.tasks h.tasks_are (all_back (λ l. IsTrue (is_name l)) coded tasked named))))
   where
     own : List (List ℕ)
     own = map (λ (b : Born). b.label) w.objects

@@ -75,7 +75,7 @@ lines_joined (w ∷ ws) = words_joined 5 (w ∷ ws)
 words_again : (names : Names) (listed : Bool) (bound n line : ℕ) (lines : List (List ℕ)) (rest : List Part) (c : Contents) → n + length (concat lines) ≤ 4096
     → ((m l : ℕ) → contents_of names (room listed bound) (used m 0 0) (placed_parts l rest) ≡ Ok c)
     → contents_of names (room listed bound) (used n 0 0) (placed_parts line (map (λ ws. part (WordsAre ws)) lines ++ rest))
-        ≡ Ok (contents (concat lines ++ c.words) c.params c.entries)
+    ≡ Ok (contents (concat lines ++ c.words) c.params c.entries)
 words_again names listed bound n line [] rest c few after = after n line
 words_again names listed bound n line (ws ∷ more) rest c few after =
     let len = length-append ws (concat more) in
@@ -112,8 +112,12 @@ kind_again k n few line label kind.TypeObject h = record { loaded = rw (lt-ltb (
 kind_again k n few line label (kind.Semaphore count) h = record { loaded = rw (lt-ltb (7 + n.objects) 65536 (omega arith)); counts = refl }
 kind_again {w} k n few line label (kind.Procedure code params entries) h = record {
   loaded =
-      rw (code_again k code h.0, lt-ltb (7 + n.objects) 65536 (omega arith), params_again k 256 0 (line + 1) params (entry_parts (spoken w) entries) entries h.2
-          (let most = h.1 in omega arith) (λ m l. entries_again k 256 0 m 0 l entries h.4 (let most = h.3 in omega arith)));
+      rw (
+        code_again k code h.0,
+        lt-ltb (7 + n.objects) 65536 (omega arith),
+        params_again k 256 0 (line + 1) params (entry_parts (spoken w) entries) entries h.2
+            (let most = h.1 in omega arith) (λ m l. entries_again k 256 0 m 0 l entries h.4 (let most = h.3 in omega arith)),
+      );
   counts = refl;
 }
 kind_again {w} k n few line label (kind.Plain of words entries) h =
@@ -126,9 +130,13 @@ objects_again : {w : WorldValue} {names : Names} → Known w names → (n line :
 objects_again k n line [] rest v few h after = rw add-zero at (after line)
 objects_again {w} {names} k n line (o ∷ os) rest v few h after =
     let here = kind_again k (counts n 0 0) (omega arith) line o.label o.kind h.0 in
-    rw (here.loaded, here.counts, objects_again k (n + 1) (line + lines_taken (object_item (spoken w) o)) os rest v (omega arith) h.1
-        (λ l. let more : n + length (o ∷ os) ≡ n + 1 + length os =
-        omega arith in rw more at (after l)))
+    rw (
+      here.loaded,
+      here.counts,
+      objects_again k (n + 1) (line + lines_taken (object_item (spoken w) o)) os rest v (omega arith) h.1
+          (λ l. let more : n + length (o ∷ os) ≡ n + 1 + length os =
+          omega arith in rw more at (after l)),
+    )
 
 codes_again : (names : Names) (o n line : ℕ) (cs : List Code) (rest : List Item) (v : WorldValue) → n + length cs ≤ 4096 → AllByRecursion IsCode cs
     → ((l : ℕ) → items_of names (counts o (n + length cs) 0) (placed l rest) ≡ Ok v)
@@ -139,17 +147,26 @@ codes_again names o n line (c ∷ cs) rest v few h after =
     let labels = labels_from 0 (placed_parts (line + 1) (code_parts all 0 all)) in
     let finds : Finds all labels = finds_all all (line + 1) h.0.0 in
     let steps : instrs_of labels 0 (placed_parts (line + 1) (code_parts all 0 all)) ≡ Ok all =
-        instrs_again all labels finds 0 (line + 1) all (within_all all) h.0.1 (let most = h.0.0 in omega arith) in
-    rw (lt-ltb n 4096 (omega arith), steps, codes_again names o (n + 1) (line + lines_taken (code_item c)) cs rest v (omega arith) h.1
-        (λ l. let more : n + length (c ∷ cs) ≡ n + 1 + length cs =
-        omega arith in rw more at (after l)))
+    instrs_again all labels finds 0 (line + 1) all (within_all all) h.0.1 (let most = h.0.0 in omega arith) in
+    rw (
+      lt-ltb n 4096 (omega arith),
+      steps,
+      codes_again names o (n + 1) (line + lines_taken (code_item c)) cs rest v (omega arith) h.1
+          (λ l. let more : n + length (c ∷ cs) ≡ n + 1 + length cs =
+          omega arith in rw more at (after l)),
+    )
 
 tasks_again : {w : WorldValue} {names : Names} → Known w names → (o c n line : ℕ) (ts : List Task) → n + length ts ≤ 256 → AllByRecursion (IsTask w) ts
     → items_of names (counts o c n) (placed line (map (task_item (spoken w)) ts)) ≡ Ok (world_value 10000 [] [] ts)
 tasks_again k o c n line [] few h = refl
 tasks_again {w} k o c n line (t ∷ ts) few h =
-    rw (code_again k t.code h.0.0, lt-ltb n 256 (omega arith), entries_again k 64 0 0 0 (line + 1) t.slots h.0.2 (let most =
-        h.0.1 in omega arith), tasks_again k o c (n + 1) (line + lines_taken (task_item (spoken w) t)) ts (omega arith) h.1)
+    rw (
+      code_again k t.code h.0.0,
+      lt-ltb n 256 (omega arith),
+      entries_again k 64 0 0 0 (line + 1) t.slots h.0.2 (let most =
+          h.0.1 in omega arith),
+      tasks_again k o c (n + 1) (line + lines_taken (task_item (spoken w) t)) ts (omega arith) h.1,
+    )
 
 -- names
 
@@ -173,15 +190,15 @@ labels_none f make e (x ∷ xs) = rw (e x) (labels_none f make e xs)
 -- what the items of a world give, section by section
 sections : {B : Type 0} (f : Head → Option B) (w : WorldValue) → ((n : ℕ) → f (LimitIs n) ≡ None)
     → filter_map f (heads_of w) ≡ filter_map f (map (λ (i : Item). i.head) (map (object_item (spoken w)) w.objects))
-        ++ (filter_map f (map (λ (i : Item). i.head) (map code_item w.codes)) ++ filter_map f (map (λ (i : Item). i.head) (map (task_item (spoken w)) w.tasks)))
+    ++ (filter_map f (map (λ (i : Item). i.head) (map code_item w.codes)) ++ filter_map f (map (λ (i : Item). i.head) (map (task_item (spoken w)) w.tasks)))
 unfolding heads_of
 sections f w none = go (eqb w.limit 10000)
   where
     go : (b : Bool)
         → filter_map f (map (λ (i : Item). i.head) (cond b [] (item (LimitIs w.limit) [] ∷ [])
-            ++ (map (object_item (spoken w)) w.objects ++ (map code_item w.codes ++ map (task_item (spoken w)) w.tasks))))
-            ≡ filter_map f (map (λ (i : Item). i.head) (map (object_item (spoken w)) w.objects))
-            ++ (filter_map f (map (λ (i : Item). i.head) (map code_item w.codes)) ++ filter_map f (map (λ (i : Item). i.head) (map (task_item (spoken w)) w.tasks)))
+        ++ (map (object_item (spoken w)) w.objects ++ (map code_item w.codes ++ map (task_item (spoken w)) w.tasks))))
+        ≡ filter_map f (map (λ (i : Item). i.head) (map (object_item (spoken w)) w.objects))
+        ++ (filter_map f (map (λ (i : Item). i.head) (map code_item w.codes)) ++ filter_map f (map (λ (i : Item). i.head) (map (task_item (spoken w)) w.tasks)))
     go true = simp (map-append, filter_map-append)
     go false = rw (none w.limit) (simp (map-append, filter_map-append))
 
@@ -200,29 +217,37 @@ head_again s label (kind.Procedure code params entries) = record { named = refl;
 known : (w : WorldValue) → IsWorld w → Known w (names_of (heads_of w))
 known w h = record {
   objects =
-      ap (λ (t : List (List ℕ)). kernel_names ++ t) (sections object_label w (λ n. refl) ∙ rw
-          (labels_all object_label (object_item (spoken w)) (λ (o : Born). o.label) (λ o. (head_again (spoken w) o.label o.kind).named) w.objects,
-          labels_none object_label code_item (λ c. refl) w.codes, labels_none object_label (task_item (spoken w)) (λ t. refl) w.tasks) (append-nil _));
+      ap (λ (t : List (List ℕ)). kernel_names ++ t) (sections object_label w (λ n. refl) ∙ rw (
+        labels_all object_label (object_item (spoken w)) (λ (o : Born). o.label) (λ o. (head_again (spoken w) o.label o.kind).named) w.objects,
+        labels_none object_label code_item (λ c. refl) w.codes,
+        labels_none object_label (task_item (spoken w)) (λ t. refl) w.tasks,
+      ) (append-nil _));
   types =
-      ap (λ (t : List Bool). kernel_flags ++ t) (sections is_type_head w (λ n. refl) ∙ rw (labels_all is_type_head (object_item (spoken w)) is_type_object
-          (λ o. (head_again (spoken w) o.label o.kind).typed) w.objects, labels_none is_type_head code_item (λ c. refl) w.codes,
-          labels_none is_type_head (task_item (spoken w)) (λ t. refl) w.tasks) (append-nil _));
+      ap (λ (t : List Bool). kernel_flags ++ t) (sections is_type_head w (λ n. refl) ∙ rw (
+        labels_all is_type_head (object_item (spoken w)) is_type_object
+            (λ o. (head_again (spoken w) o.label o.kind).typed) w.objects,
+        labels_none is_type_head code_item (λ c. refl) w.codes,
+        labels_none is_type_head (task_item (spoken w)) (λ t. refl) w.tasks,
+      ) (append-nil _));
   codes =
       sections code_label w (λ n. refl)
-      ∙ rw (labels_none code_label (object_item (spoken w)) (λ o. (head_again (spoken w) o.label o.kind).coded) w.objects,
-          labels_all code_label code_item (λ (c : Code). c.label) (λ c. refl) w.codes, labels_none code_label (task_item (spoken w)) (λ t. refl) w.tasks) (append-nil _);
+      ∙ rw (
+        labels_none code_label (object_item (spoken w)) (λ o. (head_again (spoken w) o.label o.kind).coded) w.objects,
+        labels_all code_label code_item (λ (c : Code). c.label) (λ c. refl) w.codes,
+        labels_none code_label (task_item (spoken w)) (λ t. refl) w.tasks,
+      ) (append-nil _);
   world = h;
 }
 
 sections_again : (w : WorldValue) (names : Names) → Known w names → (line : ℕ)
     → items_of names (counts 0 0 0) (placed line (map (object_item (spoken w)) w.objects ++ (map code_item w.codes ++ map (task_item (spoken w)) w.tasks)))
-        ≡ Ok (world_value 10000 w.objects w.codes w.tasks)
+    ≡ Ok (world_value 10000 w.objects w.codes w.tasks)
 sections_again w names k line =
     let h = k.world in
     let few_objects : 0 + length w.objects ≤ 65529 = (let few = h.few_objects in omega arith) in
     let tasks = λ (l : ℕ). tasks_again k (0 + length w.objects) (0 + length w.codes) 0 l w.tasks (let few = h.few_tasks in omega arith) h.tasks_are in
     let coded = λ (l : ℕ). codes_again names (0 + length w.objects) 0 l w.codes (map (task_item (spoken w)) w.tasks) (world_value 10000 [] [] w.tasks)
-        (let few = h.few_codes in omega arith) h.codes_are tasks ∙ rw append-nil in
+    (let few = h.few_codes in omega arith) h.codes_are tasks ∙ rw append-nil in
     objects_again k 0 line w.objects (map code_item w.codes ++ map (task_item (spoken w)) w.tasks) (world_value 10000 [] w.codes w.tasks) few_objects h.kinds coded ∙ rw append-nil
 
 pub load_again : (w : WorldValue) → IsWorld w → load (placed 2 (syntax_of w)) ≡ Ok w
@@ -231,6 +256,6 @@ load_again w h = rw (heads_placed 2 (syntax_of w)) (go (eqb w.limit 10000) refl 
   where
     go : (b : Bool) → eqb w.limit 10000 ≡ b → (names : Names) → Known w names
         → items_of names (counts 0 0 0) (placed 2 (cond b [] (item (LimitIs w.limit) [] ∷ [])
-            ++ (map (object_item (spoken w)) w.objects ++ (map code_item w.codes ++ map (task_item (spoken w)) w.tasks)))) ≡ Ok w
+        ++ (map (object_item (spoken w)) w.objects ++ (map code_item w.codes ++ map (task_item (spoken w)) w.tasks)))) ≡ Ok w
     go true e names k = sections_again w names k 2 ∙ ap (λ (n : ℕ). Ok (world_value n w.objects w.codes w.tasks)) (sym (eqb-true w.limit 10000 e))
     go false e names k = rw (sections_again w names k 3)

@@ -57,7 +57,7 @@ apart_before [] ys h = refl
 apart_before (x ∷ xs) ys h =
     let both = and_parts (not (list_any (λ u. same_text u x) (xs ++ ys))) (are_apart (xs ++ ys)) h in
     let none : list_any (λ u. same_text u x) xs ≡ false = left (list_any (λ u. same_text u x) xs) (list_any (λ u. same_text u x) ys)
-        (sym (list_any-append (λ u. same_text u x) xs ys) ∙ not-true _ both.0) in
+    (sym (list_any-append (λ u. same_text u x) xs ys) ∙ not-true _ both.0) in
     and_from _ _ (rw none refl) (apart_before xs ys both.1)
   where
     left : (a b : Bool) → (a || b) ≡ false → a ≡ false
@@ -84,8 +84,15 @@ no_kernel k ks (l ∷ ls) big h = rw (differs l (name_first l h.0)) (no_kernel k
 
 pub kernel_apart : (ls : List (List ℕ)) → AllByRecursion (λ l. IsTrue (is_name l)) ls → are_apart ls ≡ true → are_apart (kernel_names ++ ls) ≡ true
 kernel_apart ls h apart =
-    rw (no_kernel 84 (codes "YPE") ls refl h, no_kernel 68 (codes "ATA") ls refl h, no_kernel 85 (codes "NIVERSAL") ls refl h, no_kernel 83 (codes "EMAPHORE") ls refl h,
-        no_kernel 80 (codes "ROCEDURE") ls refl h, no_kernel 80 (codes "ROCESS") ls refl h, no_kernel 76 (codes "NS") ls refl h) apart
+    rw (
+      no_kernel 84 (codes "YPE") ls refl h,
+      no_kernel 68 (codes "ATA") ls refl h,
+      no_kernel 85 (codes "NIVERSAL") ls refl h,
+      no_kernel 83 (codes "EMAPHORE") ls refl h,
+      no_kernel 80 (codes "ROCEDURE") ls refl h,
+      no_kernel 80 (codes "ROCESS") ls refl h,
+      no_kernel 76 (codes "NS") ls refl h,
+    ) apart
 
 names_front : (xs ys : List (List ℕ)) → AllByRecursion (λ l. IsTrue (is_name l)) (xs ++ ys) → AllByRecursion (λ l. IsTrue (is_name l)) xs
 names_front [] ys h = tt
@@ -152,7 +159,7 @@ flag_again w n (inl low) = flag_low (map is_type_object w.objects) n.0 low
 flag_again w n (inr declared) =
     let there = there_at w.objects (n.0 - 7) declared.born declared.there in
     get_or-append_right kernel_flags (map is_type_object w.objects) 7 n.0 false refl declared.above ∙ get_or-map is_type_object w.objects (n.0 - 7) declared.born false there.0
-        ∙ ap is_type_object there.1 ∙ type_flag declared.born declared.is_type
+    ∙ ap is_type_object there.1 ∙ type_flag declared.born declared.is_type
 
 pub type_again : {w : WorldValue} {names : Names} → Known w names → (n : Name) → IsType w n → type_named names (object_text (spoken w) n) ≡ Ok n.0
 type_again {w} k n h = rw (object_again k n (type_object w n h), k.types, flag_again w n h)
@@ -171,9 +178,29 @@ object_not_any w h n there = go (spoken w).objects n.0 (all_other w h) (let size
     others (l ∷ ls) all = (not-true _ (and_parts (is_word l && not (is_register l)) (not (same_text l (codes "any"))) all.0).1, others ls all.1)
 
     all_other : (w : WorldValue) → IsWorld w → AllByRecursion (λ l. same_text l (codes "any") ≡ false) (spoken w).objects
-    all_other w h =
-        (refl, (refl, (refl, (refl, (refl, (refl, (refl, others (map (λ (b : Born). b.label) w.objects)
-            (names_front (map (λ (b : Born). b.label) w.objects) (map (λ (c : Code). c.label) w.codes ++ map (λ (t : Task). t.label) w.tasks) h.names))))))))
+    all_other w h = (
+      refl,
+      (
+        refl,
+        (
+          refl,
+          (
+            refl,
+            (
+              refl,
+              (
+                refl,
+                (
+                  refl,
+                  others (map (λ (b : Born). b.label) w.objects)
+                      (names_front (map (λ (b : Born). b.label) w.objects) (map (λ (c : Code). c.label) w.codes ++ map (λ (t : Task). t.label) w.tasks) h.names),
+                ),
+              ),
+            ),
+          ),
+        ),
+      ),
+    )
 
 pub kind_again : {w : WorldValue} {names : Names} → Known w names → (of : Option Name) → IsTypeOrAny w of → kind_named names (kind_text (spoken w) of) ≡ Ok of
 kind_again k None h = refl

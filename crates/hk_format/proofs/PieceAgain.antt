@@ -112,7 +112,7 @@ step_again (ByReg r) h =
 
 steps_again : (steps : List Index) → list_all is_index steps ≡ true
     → (list_all (λ t. not (list_any (λ b. eqb b 46) t)) (map spell_index steps) ≡ true) × (list_all is_index_text (map spell_index steps) ≡ true)
-        × (list_any is_too_large (map spell_index steps) ≡ false) × (map index_of (map spell_index steps) ≡ steps)
+    × (list_any is_too_large (map spell_index steps) ≡ false) × (map index_of (map spell_index steps) ≡ steps)
 steps_again [] h = (refl, refl, refl, refl)
 steps_again (step ∷ steps) h =
     let parts = and_parts (is_index step) (list_all is_index steps) h in

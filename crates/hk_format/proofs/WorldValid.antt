@@ -39,15 +39,15 @@ Puts names n parts (LimitIs limit) put = put ≡ with_limit limit
 Puts names n parts (TypeIs name) put = (object_fits n ≡ true) × (put ≡ with_object name kind.TypeObject)
 Puts names n parts (ObjectIs name of) put =
     (t : ℕ) × (c : Contents) × (limited (object_fits n) (plain_type names of) ≡ Ok t) × (contents_of names (room (not (t == DATA)) 256) (used 0 0 0) parts ≡ Ok c)
-        × (put ≡ with_object name (kind.Plain (name_numbered t) c.words c.entries))
+    × (put ≡ with_object name (kind.Plain (name_numbered t) c.words c.entries))
 Puts names n parts (SemaphoreIs name count) put = (object_fits n ≡ true) × (put ≡ with_object name (kind.Semaphore count))
 Puts names n parts (ProcedureIs name code) put =
     (k : ℕ) × (c : Contents) × (limited (object_fits n) (code_named names code) ≡ Ok k) × (contents_of names (room true 256) (used 0 0 0) parts ≡ Ok c)
-        × (put ≡ with_object name (kind.Procedure k c.params c.entries))
+    × (put ≡ with_object name (kind.Procedure k c.params c.entries))
 Puts names n parts (CodeIs name) put = (steps : List Instr) × (ltb n.codes 4096 ≡ true) × (instrs_of (labels_from 0 parts) 0 parts ≡ Ok steps) × (put ≡ with_code name steps)
 Puts names n parts (ProcessIs name code) put =
     (k : ℕ) × (c : Contents) × (limited (ltb n.tasks 256) (code_named names code) ≡ Ok k) × (contents_of names (room true 64) (used 0 0 0) parts ≡ Ok c)
-        × (put ≡ with_task name k c.entries)
+    × (put ≡ with_task name k c.entries)
 
 same_put : (f g : WorldValue → WorldValue) → ◌≡◌ {A = Result (WorldValue → WorldValue) Refused} (Ok f) (Ok g) → g ≡ f
 same_put f g h = let e : f ≡ g = cc in sym e
@@ -61,16 +61,20 @@ puts names n line parts (TypeIs name) put h =
     (unless_ok (object_fits n) TooMany a.0 (at_line_ok line (unless (object_fits n) TooMany) a.0 a.1), same_put (with_object name kind.TypeObject) put a.2)
 puts names n line parts (ObjectIs name of) put h =
     let a = bind_ok (at_line line (limited (object_fits n) (plain_type names of))) (λ t. contents_of names (room (not (t == DATA)) 256) (used 0 0 0) parts >>=
-        (λ c. Ok (with_object name (kind.Plain (name_numbered t) c.words c.entries)))) put h in
-    let b = bind_ok (contents_of names (room (not (a.0 == DATA)) 256) (used 0 0 0) parts) (λ c. Ok (with_object name (kind.Plain (name_numbered a.0) c.words c.entries))) put a.2 in
-    (a.0, b.0, at_line_ok line (limited (object_fits n) (plain_type names of)) a.0 a.1, b.1,
-        same_put (with_object name (kind.Plain (name_numbered a.0) (b.0).words (b.0).entries)) put b.2)
+    (λ c. Ok (with_object name (kind.Plain (name_numbered t) c.words c.entries)))) put h in
+    let b = bind_ok (contents_of names (room (not (a.0 == DATA)) 256) (used 0 0 0) parts) (λ c. Ok (with_object name (kind.Plain (name_numbered a.0) c.words c.entries))) put a.2 in (
+      a.0,
+      b.0,
+      at_line_ok line (limited (object_fits n) (plain_type names of)) a.0 a.1,
+      b.1,
+      same_put (with_object name (kind.Plain (name_numbered a.0) (b.0).words (b.0).entries)) put b.2,
+    )
 puts names n line parts (SemaphoreIs name count) put h =
     let a = then_ok (at_line line (unless (object_fits n) TooMany)) (Ok (with_object name (kind.Semaphore count))) put h in
     (unless_ok (object_fits n) TooMany a.0 (at_line_ok line (unless (object_fits n) TooMany) a.0 a.1), same_put (with_object name (kind.Semaphore count)) put a.2)
 puts names n line parts (ProcedureIs name code) put h =
     let a = bind_ok (at_line line (limited (object_fits n) (code_named names code))) (λ k. contents_of names (room true 256) (used 0 0 0) parts >>=
-        (λ c. Ok (with_object name (kind.Procedure k c.params c.entries)))) put h in
+    (λ c. Ok (with_object name (kind.Procedure k c.params c.entries)))) put h in
     let b = bind_ok (contents_of names (room true 256) (used 0 0 0) parts) (λ c. Ok (with_object name (kind.Procedure a.0 c.params c.entries))) put a.2 in
     (a.0, b.0, at_line_ok line (limited (object_fits n) (code_named names code)) a.0 a.1, b.1, same_put (with_object name (kind.Procedure a.0 (b.0).params (b.0).entries)) put b.2)
 puts names n line parts (CodeIs name) put h =
@@ -79,7 +83,7 @@ puts names n line parts (CodeIs name) put h =
     (b.0, unless_ok (ltb n.codes 4096) TooMany a.0 (at_line_ok line (unless (ltb n.codes 4096) TooMany) a.0 a.1), b.1, same_put (with_code name b.0) put b.2)
 puts names n line parts (ProcessIs name code) put h =
     let a = bind_ok (at_line line (limited (ltb n.tasks 256) (code_named names code))) (λ k. contents_of names (room true 64) (used 0 0 0) parts >>=
-        (λ c. Ok (with_task name k c.entries))) put h in
+    (λ c. Ok (with_task name k c.entries))) put h in
     let b = bind_ok (contents_of names (room true 64) (used 0 0 0) parts) (λ c. Ok (with_task name a.0 c.entries)) put a.2 in
     (a.0, b.0, at_line_ok line (limited (ltb n.tasks 256) (code_named names code)) a.0 a.1, b.1, same_put (with_task name a.0 (b.0).entries) put b.2)
 
@@ -115,22 +119,22 @@ shape names n (i ∷ is) v h =
         subst (Shape (LimitIs limit ∷ map (λ (i : Item). i.head) is)) (put_same put (with_limit limit) u v p e) (record { objects = s.objects; types = s.types; codes = s.codes })
     go (TypeIs name) put u p e s =
         subst (Shape (TypeIs name ∷ map (λ (i : Item). i.head) is)) (put_same put (with_object name kind.TypeObject) u v p.1 e)
-            (record { objects = ap (λ (t : List (List ℕ)). name ∷ t) s.objects; types = ap (λ (t : List Bool). true ∷ t) s.types; codes = s.codes })
+        (record { objects = ap (λ (t : List (List ℕ)). name ∷ t) s.objects; types = ap (λ (t : List Bool). true ∷ t) s.types; codes = s.codes })
     go (ObjectIs name of) put u p e s =
         subst (Shape (ObjectIs name of ∷ map (λ (i : Item). i.head) is)) (put_same put (with_object name (kind.Plain (name_numbered p.0) (p.1).words (p.1).entries)) u v p.4 e)
-            (record { objects = ap (λ (t : List (List ℕ)). name ∷ t) s.objects; types = ap (λ (t : List Bool). false ∷ t) s.types; codes = s.codes })
+        (record { objects = ap (λ (t : List (List ℕ)). name ∷ t) s.objects; types = ap (λ (t : List Bool). false ∷ t) s.types; codes = s.codes })
     go (SemaphoreIs name count) put u p e s =
         subst (Shape (SemaphoreIs name count ∷ map (λ (i : Item). i.head) is)) (put_same put (with_object name (kind.Semaphore count)) u v p.1 e)
-            (record { objects = ap (λ (t : List (List ℕ)). name ∷ t) s.objects; types = ap (λ (t : List Bool). false ∷ t) s.types; codes = s.codes })
+        (record { objects = ap (λ (t : List (List ℕ)). name ∷ t) s.objects; types = ap (λ (t : List Bool). false ∷ t) s.types; codes = s.codes })
     go (ProcedureIs name code) put u p e s =
         subst (Shape (ProcedureIs name code ∷ map (λ (i : Item). i.head) is)) (put_same put (with_object name (kind.Procedure p.0 (p.1).params (p.1).entries)) u v p.4 e)
-            (record { objects = ap (λ (t : List (List ℕ)). name ∷ t) s.objects; types = ap (λ (t : List Bool). false ∷ t) s.types; codes = s.codes })
+        (record { objects = ap (λ (t : List (List ℕ)). name ∷ t) s.objects; types = ap (λ (t : List Bool). false ∷ t) s.types; codes = s.codes })
     go (CodeIs name) put u p e s =
         subst (Shape (CodeIs name ∷ map (λ (i : Item). i.head) is)) (put_same put (with_code name p.0) u v p.3 e)
-            (record { objects = s.objects; types = s.types; codes = ap (λ (t : List (List ℕ)). name ∷ t) s.codes })
+        (record { objects = s.objects; types = s.types; codes = ap (λ (t : List (List ℕ)). name ∷ t) s.codes })
     go (ProcessIs name code) put u p e s =
         subst (Shape (ProcessIs name code ∷ map (λ (i : Item). i.head) is)) (put_same put (with_task name p.0 (p.1).entries) u v p.4 e)
-            (record { objects = s.objects; types = s.types; codes = s.codes })
+        (record { objects = s.objects; types = s.types; codes = s.codes })
 
 -- what the items give is in its limits and ranges
 
@@ -180,8 +184,17 @@ unfolding Puts
 front {w} fit n parts (LimitIs limit) put r h k p = record {
   room = r;
   valid =
-      λ u v. subst (λ (f : WorldValue → WorldValue). Valid w n (f u)) (sym p) (record { some_events = let some = h.0 in omega arith; few_events = h.1; few_objects =
-          v.few_objects; few_codes = v.few_codes; few_tasks = v.few_tasks; kinds = v.kinds; codes_are = v.codes_are; tasks_are = v.tasks_are });
+      λ u v. subst (λ (f : WorldValue → WorldValue). Valid w n (f u)) (sym p) (record {
+        some_events = let some = h.0 in omega arith;
+        few_events = h.1;
+        few_objects =
+            v.few_objects;
+        few_codes = v.few_codes;
+        few_tasks = v.few_tasks;
+        kinds = v.kinds;
+        codes_are = v.codes_are;
+        tasks_are = v.tasks_are;
+      });
 }
 front {w} fit n parts (TypeIs name) put r h k p =
     let below = object_room n p.0 in
@@ -189,8 +202,17 @@ front {w} fit n parts (TypeIs name) put r h k p =
       room = record { objects = omega arith; codes = r.codes; tasks = r.tasks };
       valid =
           λ u v. subst (λ (f : WorldValue → WorldValue). Valid w n (f u)) (sym p.1) (let few = v.few_objects in
-              record { some_events = v.some_events; few_events = v.few_events; few_objects = omega arith; few_codes = v.few_codes; few_tasks = v.few_tasks; kinds =
-              (tt, v.kinds); codes_are = v.codes_are; tasks_are = v.tasks_are });
+          record {
+            some_events = v.some_events;
+            few_events = v.few_events;
+            few_objects = omega arith;
+            few_codes = v.few_codes;
+            few_tasks = v.few_tasks;
+            kinds =
+                (tt, v.kinds);
+            codes_are = v.codes_are;
+            tasks_are = v.tasks_are;
+          });
     }
 front {w} fit n parts (SemaphoreIs name count) put r h k p =
     let below = object_room n p.0 in
@@ -198,8 +220,17 @@ front {w} fit n parts (SemaphoreIs name count) put r h k p =
       room = record { objects = omega arith; codes = r.codes; tasks = r.tasks };
       valid =
           λ u v. subst (λ (f : WorldValue → WorldValue). Valid w n (f u)) (sym p.1) (let few = v.few_objects in
-              record { some_events = v.some_events; few_events = v.few_events; few_objects = omega arith; few_codes = v.few_codes; few_tasks = v.few_tasks; kinds =
-              (h.1, v.kinds); codes_are = v.codes_are; tasks_are = v.tasks_are });
+          record {
+            some_events = v.some_events;
+            few_events = v.few_events;
+            few_objects = omega arith;
+            few_codes = v.few_codes;
+            few_tasks = v.few_tasks;
+            kinds =
+                (h.1, v.kinds);
+            codes_are = v.codes_are;
+            tasks_are = v.tasks_are;
+          });
     }
 front {w} {names} fit n parts (ObjectIs name of) put r h k p =
     let l = limited_ok (object_fits n) (plain_type names of) p.0 p.2 in
@@ -207,14 +238,28 @@ front {w} {names} fit n parts (ObjectIs name of) put r h k p =
     let c = contents_loaded fit (room (not (p.0 == DATA)) 256) (used 0 0 0) parts p.1 (within_none (room (not (p.0 == DATA)) 256)) (words_in (ObjectIs name of) [] parts k) p.3 in
     let few_words = c.few_words in
     let few_entries = c.few_entries in
-    let here : IsKind w (kind.Plain (name_numbered p.0) (p.1).words (p.1).entries) = (plain_kind fit of p.0 (p.1).entries l.0 c.none, omega arith, c.words, omega arith,
-        c.entries) in
+    let here : IsKind w (kind.Plain (name_numbered p.0) (p.1).words (p.1).entries) = (
+      plain_kind fit of p.0 (p.1).entries l.0 c.none,
+      omega arith,
+      c.words,
+      omega arith,
+      c.entries,
+    ) in
     record {
       room = record { objects = omega arith; codes = r.codes; tasks = r.tasks };
       valid =
           λ u v. subst (λ (f : WorldValue → WorldValue). Valid w n (f u)) (sym p.4) (let few = v.few_objects in
-              record { some_events = v.some_events; few_events = v.few_events; few_objects = omega arith; few_codes = v.few_codes; few_tasks = v.few_tasks; kinds =
-              (here, v.kinds); codes_are = v.codes_are; tasks_are = v.tasks_are });
+          record {
+            some_events = v.some_events;
+            few_events = v.few_events;
+            few_objects = omega arith;
+            few_codes = v.few_codes;
+            few_tasks = v.few_tasks;
+            kinds =
+                (here, v.kinds);
+            codes_are = v.codes_are;
+            tasks_are = v.tasks_are;
+          });
     }
 front {w} {names} fit n parts (ProcedureIs name code) put r h k p =
     let l = limited_ok (object_fits n) (code_named names code) p.0 p.2 in
@@ -227,8 +272,17 @@ front {w} {names} fit n parts (ProcedureIs name code) put r h k p =
       room = record { objects = omega arith; codes = r.codes; tasks = r.tasks };
       valid =
           λ u v. subst (λ (f : WorldValue → WorldValue). Valid w n (f u)) (sym p.4) (let few = v.few_objects in
-              record { some_events = v.some_events; few_events = v.few_events; few_objects = omega arith; few_codes = v.few_codes; few_tasks = v.few_tasks; kinds =
-              (here, v.kinds); codes_are = v.codes_are; tasks_are = v.tasks_are });
+          record {
+            some_events = v.some_events;
+            few_events = v.few_events;
+            few_objects = omega arith;
+            few_codes = v.few_codes;
+            few_tasks = v.few_tasks;
+            kinds =
+                (here, v.kinds);
+            codes_are = v.codes_are;
+            tasks_are = v.tasks_are;
+          });
     }
 front {w} fit n parts (CodeIs name) put r h k p =
     let below = ltb-true n.codes 4096 p.1 in
@@ -237,8 +291,17 @@ front {w} fit n parts (CodeIs name) put r h k p =
       room = record { objects = r.objects; codes = omega arith; tasks = r.tasks };
       valid =
           λ u v. subst (λ (f : WorldValue → WorldValue). Valid w n (f u)) (sym p.3) (let few = v.few_codes in
-              record { some_events = v.some_events; few_events = v.few_events; few_objects = v.few_objects; few_codes = omega arith; few_tasks = v.few_tasks; kinds =
-              v.kinds; codes_are = (here, v.codes_are); tasks_are = v.tasks_are });
+          record {
+            some_events = v.some_events;
+            few_events = v.few_events;
+            few_objects = v.few_objects;
+            few_codes = omega arith;
+            few_tasks = v.few_tasks;
+            kinds =
+                v.kinds;
+            codes_are = (here, v.codes_are);
+            tasks_are = v.tasks_are;
+          });
     }
 front {w} {names} fit n parts (ProcessIs name code) put r h k p =
     let l = limited_ok (ltb n.tasks 256) (code_named names code) p.0 p.2 in
@@ -250,15 +313,33 @@ front {w} {names} fit n parts (ProcessIs name code) put r h k p =
       room = record { objects = r.objects; codes = r.codes; tasks = omega arith };
       valid =
           λ u v. subst (λ (f : WorldValue → WorldValue). Valid w n (f u)) (sym p.4) (let few = v.few_tasks in
-              record { some_events = v.some_events; few_events = v.few_events; few_objects = v.few_objects; few_codes = v.few_codes; few_tasks = omega arith; kinds =
-              v.kinds; codes_are = v.codes_are; tasks_are = (here, v.tasks_are) });
+          record {
+            some_events = v.some_events;
+            few_events = v.few_events;
+            few_objects = v.few_objects;
+            few_codes = v.few_codes;
+            few_tasks = omega arith;
+            kinds =
+                v.kinds;
+            codes_are = v.codes_are;
+            tasks_are = (here, v.tasks_are);
+          });
     }
 
 valid : {w : WorldValue} {names : Names} → NamesFit w names → (n : Counts) (seen : GivenNames) (is : List Item) (v : WorldValue) → Room n → AreItems seen is
     → items_of names n is ≡ Ok v → Valid w n v
 valid {w} fit n seen [] v r h e = moved (Valid w n) (world_value 10000 [] [] []) v e (let a = r.objects in let b = r.codes in let c = r.tasks in
-    record { some_events = omega arith; few_events = omega arith; few_objects = omega arith; few_codes = omega arith; few_tasks = omega arith; kinds = tt; codes_are =
-    tt; tasks_are = tt })
+    record {
+      some_events = omega arith;
+      few_events = omega arith;
+      few_objects = omega arith;
+      few_codes = omega arith;
+      few_tasks = omega arith;
+      kinds = tt;
+      codes_are =
+          tt;
+      tasks_are = tt;
+    })
 valid {w} {names} fit n seen (i ∷ is) v r h e =
     let a = put_ok (item_of names n i) (items_of names (counted n i.head) is) v e in
     let f = front fit n i.parts i.head a.0 r h.0 h.2 (puts names n i.line i.parts i.head a.0 a.2) in
@@ -372,7 +453,7 @@ labelled names n seen [] v h e = moved (λ (w : WorldValue). Labelled seen.names
 labelled names n seen (i ∷ is) v h e =
     let a = put_ok (item_of names n i) (items_of names (counted n i.head) is) v e in
     subst (λ (w : WorldValue). Labelled seen.names (labels w)) a.4 (labelled_front names n i.parts i.head a.0 seen a.1 h.0 h.1 (puts names n i.line i.parts i.head a.0 a.2)
-        (labelled names (counted n i.head) (noted seen i.head) is a.1 h.3 a.3))
+    (labelled names (counted n i.head) (noted seen i.head) is a.1 h.3 a.3))
 
 -- the names that the heads declare are those of the world that is head_loaded
 names_fit : (is : List Item) (w : WorldValue) → Shape (map (λ (i : Item). i.head) is) w → NamesFit w (names_of (map (λ (i : Item). i.head) is))

@@ -8,7 +8,7 @@ use Rattle.hk_model.specs.declared.instructions.Instr.TheVariants as instr
 use Rattle.hk_model.specs.declared.instructions.Operand.{Operand}
 use Rattle.hk_model.specs.declared.instructions.Operand.TheVariants.{Number}
 use Rattle.hk_model.specs.declared.instructions.Route.{Route}
-use Rattle.hk_model.specs.Control.{operand, path_of, target_register, Calls, meaning}
+use Rattle.hk_model.specs.Control.{operand, path_of, target_register}
 use Rattle.hk_format.specs.Pieces.{Piece}
 use Rattle.hk_format.specs.Spelling.{written_pieces}
 use Rattle.hk_format.specs.Canonical.{written_of}
