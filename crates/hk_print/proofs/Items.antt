@@ -17,9 +17,8 @@ use Rattle.hk_print.specs.ItemTexts.{line_text, body_text, parts_text, entry_lin
 -- the head, the lines, `end`
 pub item_spelled : (head : Head) (parts : List Part) → has_parts head ≡ true → item_text (item head parts) ≡ line_text (head_pieces head) ++ (parts_text parts ++ codes "end\n")
 item_spelled head parts has =
-    rw has (ap (λ (t : List ℕ). line_text (head_pieces head) ++ t)
-    (flat_map-append line_text (map (λ (p : Part). body_pieces p.body) parts) (end_line ∷ []) ∙ ap (λ (t : List ℕ). t ++ codes "end\n")
-    (flat_map-map line_text (λ (p : Part). body_pieces p.body) parts)))
+    rw has (ap (λ (t : List ℕ). line_text (head_pieces head) ++ t) (flat_map-append line_text (map (λ (p : Part). body_pieces p.body) parts) (end_line ∷ [])
+        ∙ ap (λ (t : List ℕ). t ++ codes "end\n") (flat_map-map line_text (λ (p : Part). body_pieces p.body) parts)))
 
 pub parts_joined : (xs ys : List Part) → parts_text (xs ++ ys) ≡ parts_text xs ++ parts_text ys
 parts_joined xs ys = flat_map-append (λ (p : Part). body_text p.body) xs ys
@@ -34,8 +33,8 @@ params_spelled s params = flat_map-map (λ (p : Part). body_text p.body) (λ (p 
 pub item_written : (head : Head) (parts : List Part) (old begun filled new : List ℕ) → has_parts head ≡ true → begun ≡ old ++ line_text (head_pieces head)
     → filled ≡ begun ++ parts_text parts → new ≡ filled ++ codes "end\n" → new ≡ old ++ item_text (item head parts)
 item_written head parts old begun filled new has b f n =
-    n ∙ rw (f, b) (append_assoc (old ++ line_text (head_pieces head)) (parts_text parts) (codes "end\n") ∙ append_assoc old (line_text (head_pieces head))
-    (parts_text parts ++ codes "end\n") ∙ ap (λ (t : List ℕ). old ++ t) (sym (item_spelled head parts has)))
+    n ∙ rw (f, b) (append_assoc (old ++ line_text (head_pieces head)) (parts_text parts) (codes "end\n")
+        ∙ append_assoc old (line_text (head_pieces head)) (parts_text parts ++ codes "end\n") ∙ ap (λ (t : List ℕ). old ++ t) (sym (item_spelled head parts has)))
 
 -- an item with lines of two kinds
 pub item_of_two : (head : Head) (xs ys : List Part) (old begun half filled new : List ℕ) → has_parts head ≡ true → begun ≡ old ++ line_text (head_pieces head)

@@ -14,4 +14,5 @@ returns-else-is_type c =
     ∙ ap (λ b. cond b (Ok c.in-Some.number) (Err UnknownName)) c.if-is_type.false
 
 pub returns-in-None : goal.returns-in-None
-returns-in-None c = no_type_gives c.self.inside.objects.entries c.self.inside.codes.keys c.args.self.now c.args.name.now c.as_str.result.now c.self.view_is c.as_str.ensures c.in-None.ensures.index
+returns-in-None c =
+    no_type_gives c.self.inside.objects.entries c.self.inside.codes.keys c.args.self.now c.args.name.now c.as_str.result.now c.self.view_is c.as_str.ensures c.in-None.ensures.index
