@@ -15,7 +15,8 @@ use Rattle.hk_model.specs.Legal.{IsLegal}
 use Rattle.hk_model.specs.Verdicts.{Differs, IsBadEnd, IsBadLine, IsMisstep, IsVerdict}
 
 -- a line before so many that are steps is one of them
-step_before : (w : WorldValue) (m : Machine) (lines : List Line) (n many : ℕ) (line : Line) → n < many → AreSteps w m (take many lines) → slice_get lines n ≡ Some line → line_of w (after_lines w m (take n lines)) line.cpu ≡ Some line
+step_before : (w : WorldValue) (m : Machine) (lines : List Line) (n many : ℕ) (line : Line) → n < many → AreSteps w m (take many lines) → slice_get lines n ≡ Some line
+    → line_of w (after_lines w m (take n lines)) line.cpu ≡ Some line
 step_before w m [] n many line low steps there = absurd (cc)
 step_before w m (x ∷ lines) n zero line low steps there = absurd (omega arith)
 step_before w m (x ∷ lines) zero (suc many) line low steps there = let same : x ≡ line = cc in subst (λ (l : Line). line_of w m l.cpu ≡ Some l) same steps.0
@@ -82,14 +83,16 @@ one_bad_line w lines n many one other h k = go (cases_lt h.before k.before) (cas
     go (inr high) (inr low) = same (omega arith)
 
 -- where the lines are steps, the end word alone can be bad
-end_word_alone : (w : WorldValue) (lines : List Line) (end : End) (n : ℕ) (cause : Misstep) → AreStepsOf w lines → IsMisstep w lines end n cause → IsBadEnd w lines end n × (cause ≡ misstep.EndWord)
+end_word_alone : (w : WorldValue) (lines : List Line) (end : End) (n : ℕ) (cause : Misstep) → AreStepsOf w lines → IsMisstep w lines end n cause
+    → IsBadEnd w lines end n × (cause ≡ misstep.EndWord)
 end_word_alone w lines end n misstep.EndWord steps h = (h, refl)
 end_word_alone w lines end n misstep.Cpu steps h = absurd (bad_among w lines n misstep.Cpu steps h)
 end_word_alone w lines end n misstep.Process steps h = absurd (bad_among w lines n misstep.Process steps h)
 end_word_alone w lines end n misstep.Call steps h = absurd (bad_among w lines n misstep.Call steps h)
 end_word_alone w lines end n misstep.Reply steps h = absurd (bad_among w lines n misstep.Reply steps h)
 
-one_misstep : (w : WorldValue) (lines : List Line) (end : End) (n many : ℕ) (one other : Misstep) → IsMisstep w lines end n one → IsMisstep w lines end many other → (n ≡ many) × (one ≡ other)
+one_misstep : (w : WorldValue) (lines : List Line) (end : End) (n many : ℕ) (one other : Misstep) → IsMisstep w lines end n one → IsMisstep w lines end many other
+    → (n ≡ many) × (one ≡ other)
 one_misstep w lines end n many misstep.EndWord other h k =
     let alone = end_word_alone w lines end many other h.steps k in
     (h.number ∙ sym alone.0.number, sym alone.1)

@@ -40,13 +40,15 @@ take_one lines n line h = rw (next n) (by lines n h)
     by (x ∷ lines) zero h = let same : x ≡ line = cc in rw same refl
     by (x ∷ lines) (suc n) h = ap (λ (l : List Line). x ∷ l) (by lines n h)
 
-pub replay_goes_on : (w : WorldValue) (lines : List Line) (n : ℕ) (m new : Machine) (line : Line) → IsReplay w (take n lines) m → slice_get lines n ≡ Some line → step w m line.cpu ≡ Some (line, new) → IsSound w new → IsReplay w (take (n + 1) lines) new
+pub replay_goes_on : (w : WorldValue) (lines : List Line) (n : ℕ) (m new : Machine) (line : Line) → IsReplay w (take n lines) m → slice_get lines n ≡ Some line
+    → step w m line.cpu ≡ Some (line, new) → IsSound w new → IsReplay w (take (n + 1) lines) new
 replay_goes_on w lines n m new line h there e sound =
     let longer = steps_snoc w (take n lines) m line.cpu line new h.steps h.is e in
     subst (λ (l : List Line). IsReplay w l new) (sym (take_one lines n line there)) (record { steps = longer.steps; is = longer.is; sound = sound })
 
 -- the first bad line
-pub line_is_bad : (w : WorldValue) (lines : List Line) (end : End) (n : ℕ) (m : Machine) (line : Line) (cause : Misstep) → IsReplay w (take n lines) m → slice_get lines n ≡ Some line → Differs (line_of w m line.cpu) line cause → IsMisstep w lines end (n + 1) cause
+pub line_is_bad : (w : WorldValue) (lines : List Line) (end : End) (n : ℕ) (m : Machine) (line : Line) (cause : Misstep) → IsReplay w (take n lines) m
+    → slice_get lines n ≡ Some line → Differs (line_of w m line.cpu) line cause → IsMisstep w lines end (n + 1) cause
 line_is_bad w lines end n m line cause h there d = by cause (subst (λ (k : Machine). Differs (line_of w k line.cpu) line cause) h.is d)
   where
     none : (o : Option Line) → Differs o line misstep.EndWord → ⊥
@@ -81,7 +83,8 @@ few_lines w lines n m h below =
 pub record_is_legal : (w : WorldValue) (lines : List Line) (end : End) (m : Machine) → IsReplay w lines m → end_word m.state ≡ Some end → IsLegal w lines end
 record_is_legal w lines end m h e = record { steps = h.steps; ends = subst (λ (k : Machine). end_word k.state ≡ Some end) h.is e }
 
-pub end_is_bad : (w : WorldValue) (lines : List Line) (end : End) (n : ℕ) (m : Machine) → n ≡ length lines → IsReplay w lines m → (end_word m.state ≡ Some end → ⊥) → IsMisstep w lines end (n + 1) misstep.EndWord
+pub end_is_bad : (w : WorldValue) (lines : List Line) (end : End) (n : ℕ) (m : Machine) → n ≡ length lines → IsReplay w lines m → (end_word m.state ≡ Some end → ⊥)
+    → IsMisstep w lines end (n + 1) misstep.EndWord
 end_is_bad w lines end n m many h e = record { number = ap (λ (k : ℕ). k + 1) many; steps = h.steps; differs = subst (λ (k : Machine). end_word k.state ≡ Some end → ⊥) h.is e }
 
 -- behind all lines
@@ -102,13 +105,15 @@ pub step_is_of : (w : WorldValue) (m : Machine) (cpu : Cpu) (line : Line) (new :
 step_is_of w m cpu line new e = subst (λ (found : Option (Line × Machine)). IfSome found (λ f. f.0.cpu ≡ cpu)) e (step_cpu w m cpu)
 
 -- the first cause is how the line differs, and there is none where it is the step
-pub cause_differs : (made line : Line) (by event reply : Bool) → Decides by (IsBySame made line) → Decides event (made.what ≡ line.what) → Decides reply (made.reply ≡ line.reply) → IfSome (first_cause by event reply) (λ cause. Differs (Some made) line cause)
+pub cause_differs : (made line : Line) (by event reply : Bool) → Decides by (IsBySame made line) → Decides event (made.what ≡ line.what) → Decides reply (made.reply ≡ line.reply)
+    → IfSome (first_cause by event reply) (λ cause. Differs (Some made) line cause)
 cause_differs made line false event reply a b c = λ h. true≢false (sym (a.1 h))
 cause_differs made line true false reply a b c = (a.0 refl, λ h. true≢false (sym (b.1 h)))
 cause_differs made line true true false a b c = (a.0 refl, b.0 refl, λ h. true≢false (sym (c.1 h)))
 cause_differs made line true true true a b c = tt
 
-pub no_cause : (made line : Line) (by event reply : Bool) → made.cpu ≡ line.cpu → Decides by (IsBySame made line) → Decides event (made.what ≡ line.what) → Decides reply (made.reply ≡ line.reply) → IfNone (first_cause by event reply) (made ≡ line)
+pub no_cause : (made line : Line) (by event reply : Bool) → made.cpu ≡ line.cpu → Decides by (IsBySame made line) → Decides event (made.what ≡ line.what)
+    → Decides reply (made.reply ≡ line.reply) → IfNone (first_cause by event reply) (made ≡ line)
 no_cause made line false event reply e a b c = tt
 no_cause made line true false reply e a b c = tt
 no_cause made line true true false e a b c = tt

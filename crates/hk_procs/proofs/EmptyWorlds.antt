@@ -34,7 +34,8 @@ pub empty_answers_over : (cpu : Cpu) (notes : List Noted) → notes ≡ [] → A
 empty_answers_over cpu notes h = rw h (empty_is_over cpu)
 
 -- no process has a call to make
-pub empty_makes_nothing : (cpu : Cpu) (notes : List Noted) (proc : Proc) (todo : Todo) (context : Context) → notes ≡ [] → MakesNext (world_value 1 [] [] []) cpu notes proc todo context → ⊥
+pub empty_makes_nothing : (cpu : Cpu) (notes : List Noted) (proc : Proc) (todo : Todo) (context : Context) → notes ≡ []
+    → MakesNext (world_value 1 [] [] []) cpu notes proc todo context → ⊥
 empty_makes_nothing cpu notes proc todo context h makes =
     let none : runner (state_shown (world_value 1 [] [] []) notes) cpu ≡ None = empty_runs_nothing cpu notes h in
     let some : runner (state_shown (world_value 1 [] [] []) notes) cpu ≡ Some proc = makes.0 in
