@@ -1,11 +1,12 @@
 -- The canonical script of the generated world of each count.
-use Rattle.std.proofs.Common.{◌≡◌, ℕ, zero, suc, ◌+◌, List, [], ◌∷◌, ◌++◌, map, refl, ap, ◌∙◌}
+use Rattle.std.proofs.Common.{◌≡◌, ℕ, zero, suc, ◌+◌, List, [], ◌∷◌, ◌++◌, map, refl, sym, ap, ◌∙◌}
 use Rattle.std.specs.Prelude.{codes}
 use Rattle.std.specs.List.{flat_map}
 use Rattle.std.specs.Fmt.{decimal, digits}
 use mathlib.Core.List.{append_assoc}
 use Rattle.hk_rights.specs.Rights.{right_table, right_numbers, name_of}
-use Rattle.hk_model.specs.Generated.{generate, process_numbered, processes_from}
+use Rattle.hk_model.specs.Generated.{generate, processes_from, task, main, main_slots}
+use Rattle.hk_format.specs.Pieces.{Piece}
 use Rattle.hk_format.specs.RightsTexts.{rights_text}
 use Rattle.hk_format.specs.Names.{spoken}
 use Rattle.hk_format.specs.Texts.{spell_lines}
@@ -28,3 +29,23 @@ generated_processes n (suc k) = generated_process (decimal n) ++ generated_proce
 head_first : (k : ℕ) → canon (generate k) ≡ generated_head ++ spell_lines (flat_map item_lines (map (task_item (spoken (generate k))) (processes_from 0 k)))
 unfolding digits right_table right_numbers name_of rights_text canon generate
 head_first k = refl
+
+-- a process among the items
+process_first : (k : ℕ) (d : List ℕ) (more : List (List Piece)) → spell_lines (item_lines (task_item (spoken (generate k)) (task (119 ∷ d) main main_slots)) ++ more) ≡ generated_process d ++ spell_lines more
+unfolding right_table right_numbers name_of rights_text generate
+process_first k d more =
+    let caps : List ℕ = codes "cap bump A0\ncap total GETDATA+PUTDATA+MODIFY\ncap lock MODIFY+A0+A1\nend\n" in
+    let one = append_assoc (d ++ codes " main") (codes "\n") (caps ++ spell_lines more) in
+    let two = append_assoc d (codes " main") (codes "\n" ++ (caps ++ spell_lines more)) in
+    let three = append_assoc d (codes " main\n" ++ caps) (spell_lines more) in
+    ap (λ (t : List ℕ). codes "process w" ++ t) (one ∙ two ∙ sym three)
+
+processes_text : (j n k : ℕ) → spell_lines (flat_map item_lines (map (task_item (spoken (generate j))) (processes_from n k))) ≡ generated_processes n k
+processes_text j n zero = refl
+processes_text j n (suc k) =
+    process_first j (decimal n) (flat_map item_lines (map (task_item (spoken (generate j))) (processes_from (n + 1) k)))
+    ∙ ap (λ (t : List ℕ). generated_process (decimal n) ++ t) (processes_text j (n + 1) k)
+
+-- the canonical script of the generated world of k processes has the part for each number below k
+pub generated_text : (k : ℕ) → canon (generate k) ≡ generated_head ++ generated_processes 0 k
+generated_text k = head_first k ∙ ap (λ (t : List ℕ). generated_head ++ t) (processes_text k 0 k)

@@ -15,6 +15,22 @@ use Rattle.hk_format.specs.Texts.{spell_line}
 abbrev pub Speller : Type 0
 Speller = Name → List ℕ
 
+-- names that have a text
+
+-- the name is such, if there is one
+abbrev pub IsSpelledOrAny : (Name → Type 0) → Option Name → Type 0
+IsSpelledOrAny P None = Unit {0}
+IsSpelledOrAny P (Some name) = P name
+
+-- the names of the entry are such
+abbrev pub AreSpelledIn : (Name → Type 0) → Entry → Type 0
+AreSpelledIn P Empty = Unit {0}
+AreSpelledIn P (Held cap) = P cap.name
+AreSpelledIn P (Form (template.Amplify of check give)) = IsSpelledOrAny P of
+AreSpelledIn P (Form (template.Create of give)) = P of
+
+-- texts
+
 -- a type, or `any`
 abbrev pub kind_spelled : Speller → Option Name → List ℕ
 kind_spelled speak None = codes "any"

@@ -16,6 +16,8 @@ mod rights;
 mod steps;
 #[cfg(test)]
 mod tests;
+#[cfg(test)]
+mod world_tests;
 mod worlds;
 
 pub use crate::errors::LoadError;

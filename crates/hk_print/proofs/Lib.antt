@@ -9,3 +9,4 @@ mod Places
 mod Registers
 mod StepByStep
 mod WordByWord
+pub mod Spelled
