@@ -43,6 +43,5 @@ opened_keeps w = record {
   each = λ n r. each_held 0 w.tasks n r;
 }
 
-pub open_keeps : (w : WorldValue) (lines : List Line) (held : List (Option Context)) → lines ≡ []
-    → held ≡ map {B = Option Context} (λ (t : Task). Some (new_frame t.code ∷ [])) w.tasks → KeepsContexts (machine_after w lines) held
+pub open_keeps : (w : WorldValue) (lines : List Line) (held : List (Option Context)) → lines ≡ [] → held ≡ map {B = Option Context} (λ (t : Task). Some (new_frame t.code ∷ [])) w.tasks → KeepsContexts (machine_after w lines) held
 open_keeps w lines held e is = rw (e, is) (opened_keeps w)

@@ -7,8 +7,7 @@ use Rattle.hk_model.specs.State.{State, process}
 use Rattle.hk_model.specs.Processors.{runner, is_running, process_on, entered_on}
 use Rattle.hk_model.specs.Running.{turn}
 use Rattle.hk_program.specs.Contexts.{AreFrames}
-use Rattle.hk_shared.proofs.Turning.{has_room, adds, hands_out, shown_now, sound_more, carries, left_is, frames_next, code_known, room_known, adds_stop, goes_keeps, gone_keeps}
-use Rattle.hk_shared.proofs.Turning.{not_true, not_false, told_is}
+use Rattle.hk_shared.proofs.Turning.{has_room, adds, hands_out, shown_now, sound_more, carries, left_is, frames_next, code_known, room_known, adds_stop, goes_keeps, gone_keeps, not_true, not_false, told_is}
 use Rattle.hk_shared.proofs.book.Book.carry.Goals as goal
 
 pub carry_out-requires-clause-frames : goal.carry_out-requires-clause-frames

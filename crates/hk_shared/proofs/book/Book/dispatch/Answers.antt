@@ -1,8 +1,7 @@
 use Rattle.std.proofs.Common.{arith, refl, ap, sym, ◌∙◌}
 use Rattle.std.specs.Prelude.{slice_set}
 use Rattle.hk_model.specs.State.{process}
-use Rattle.hk_shared.proofs.Turning.{has_room, goes_below, ask_idle, gets, adds, hands_out, sound_more, taken_keeps, no_current, current_is, get_below, taken_is, not_both}
-use Rattle.hk_shared.proofs.Turning.{same_frames}
+use Rattle.hk_shared.proofs.Turning.{has_room, goes_below, ask_idle, gets, adds, hands_out, sound_more, taken_keeps, no_current, current_is, get_below, taken_is, not_both, same_frames}
 use Rattle.hk_shared.proofs.book.Book.dispatch.Goals as goal
 
 pub returns-in_default-clause-answer : goal.returns-in_default-clause-answer

@@ -27,7 +27,6 @@ give_back-requires-clause-room g c =
 pub returns-clause-answer : goal.returns-clause-answer
 returns-clause-answer g c =
     let t = c.take-turn.result in
-    let answer =
-    subst (λ (n : ℕ). AnswersCall g.J.Naming.world g.K.Kernel.wants (record { 0 = n }) (notes_of_book c.value.result.now) (notes_of_book c.call-note.new.self) c.args.proc c.args.next c.call-note.result.1) c.number.ensures c.call-note.ensures.answer in
+    let answer = subst (λ (n : ℕ). AnswersCall g.J.Naming.world g.K.Kernel.wants (record { 0 = n }) (notes_of_book c.value.result.now) (notes_of_book c.call-note.new.self) c.args.proc c.args.next c.call-note.result.1) c.number.ensures c.call-note.ensures.answer in
     call_answers g.J.Naming.world (cpu_of c.args.pass) (seen_list c.args.pass) (found_list t) (notes_of_book c.value.result.now) (notes_of_book c.call-note.new.self) (seen_list c.give_back.result) c.call-note.result.0
     c.take-turn.ensures.goes_on (ap notes_of_book c.value.ensures.value ∙ c.take-turn.ensures.stands.0) c.call-note.ensures.next.notes c.give_back.ensures.seen g.K.Kernel.wants c.args.proc c.args.next c.call-note.result.1 answer
