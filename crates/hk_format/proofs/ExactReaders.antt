@@ -25,7 +25,8 @@ use Rattle.hk_format.specs.Forms.{as_verb, as_number, as_number_below, as_slot, 
 use Rattle.hk_format.specs.WrittenLines.{before_last, last_of, template_end, template_of, instruction_of}
 use Rattle.hk_format.specs.Grammar.{header, header_of, head_of, head_line, entry_of, object_part, procedure_part, step_part, code_part, body_of, some_part, part_of, part_line}
 use Rattle.hk_format.specs.Spelling.{written_pieces, body_pieces, head_pieces, end_line, header_line}
-use Rattle.hk_format.proofs.ExactForms.{ExactForm, taken_is, number_exact, number_in_exact, version_exact, number_below_exact, slot_exact, word_exact, name_exact, type_exact, rights_exact, verb_exact, register_exact, operand_exact, route_exact}
+use Rattle.hk_format.proofs.ExactForms.{ExactForm, taken_is, number_exact, number_in_exact, version_exact, number_below_exact, slot_exact, word_exact, name_exact, type_exact}
+use Rattle.hk_format.proofs.ExactForms.{rights_exact, verb_exact, register_exact, operand_exact, route_exact}
 
 -- pieces that some text spells
 abbrev pub AreSpelled : List Piece → Type 0
@@ -89,7 +90,8 @@ each_is (p ∷ ps) xs rest s h = go (as_number p) refl (each as_number ps) refl 
     go (Err cause) e m i k others = cc
 
 -- the same, at most so many, below a bound
-at_most_is : (room : ℕ) (ps : List Piece) (xs : List ℕ) (rest : List Piece) → AreSpelled ps → at_most room (as_number_below 64) ps ≡ Ok (xs, rest) → (ps ≡ map Number xs) × (rest ≡ [])
+at_most_is : (room : ℕ) (ps : List Piece) (xs : List ℕ) (rest : List Piece) → AreSpelled ps → at_most room (as_number_below 64) ps ≡ Ok (xs, rest)
+    → (ps ≡ map Number xs) × (rest ≡ [])
 at_most_is room [] xs rest s h =
     let pair : ◌≡◌ {A = List ℕ × List Piece} ([], []) (xs, rest) = cc in
     (ap (λ (q : List ℕ × List Piece). map Number q.0) pair, sym (ap (λ (q : List ℕ × List Piece). q.1) pair))
@@ -120,7 +122,8 @@ at_most_is (suc room) (p ∷ ps) xs rest s h = go (as_number_below 64 p) refl (a
 
 -- instructions
 
-template_end_exact : (of : Route) (kind : MakingText) (front : List Piece → List Piece) → ((into : Slot) → front (slot_piece into ∷ []) ≡ written_pieces (written.MakeTemplate of kind into))
+template_end_exact : (of : Route) (kind : MakingText) (front : List Piece → List Piece)
+    → ((into : Slot) → front (slot_piece into ∷ []) ≡ written_pieces (written.MakeTemplate of kind into))
     → Exact Written (template_end of kind) front written_pieces
 template_end_exact of kind front e = exact_wanted slot_exact (λ into. exact_end (e into))
 
@@ -133,7 +136,8 @@ slots_spelled : (x : ℕ) (ys : List ℕ) → argument_pieces (before_last x ys)
 slots_spelled x [] = refl
 slots_spelled x (y ∷ ys) = ap (λ (ps : List Piece). Number x ∷ ps) (slots_spelled y ys)
 
-slots_exact : (proc : Route) (first : ℕ) → Exact Written (at_most argument_limit (as_number_below slot_limit) >>= (λ more. end (written.Enter proc (before_last first more) (slot_numbered (last_of first more)))))
+slots_exact : (proc : Route) (first : ℕ)
+    → Exact Written (at_most argument_limit (as_number_below slot_limit) >>= (λ more. end (written.Enter proc (before_last first more) (slot_numbered (last_of first more)))))
     (λ ps. verb_piece verb.Call ∷ route_piece proc ∷ Number first ∷ ps) written_pieces
 slots_exact proc first = record { exact = λ ps x rest s h. go ps x rest s (at_most 8 (as_number_below 64) ps) refl h }
   where
@@ -161,7 +165,8 @@ return_exact = record { exact = all }
     all [] x rest s h = none.exact [] x rest s h
     all (p ∷ ps) x rest s h = go (as_slot p) refl h
       where
-        go : (r : Result Slot ParseCause) → as_slot p ≡ r → onward (onward (taken r ps) (λ y left. Ok (Some y, left))) (λ give. end (written.Leave give)) ≡ Ok (x, rest) → verb_piece verb.Return ∷ p ∷ ps ≡ written_pieces x
+        go : (r : Result Slot ParseCause) → as_slot p ≡ r → onward (onward (taken r ps) (λ y left. Ok (Some y, left))) (λ give. end (written.Leave give)) ≡ Ok (x, rest)
+            → verb_piece verb.Return ∷ p ∷ ps ≡ written_pieces x
         go (Ok y) e k =
             let parts = and_parts (is_piece p) (list_all is_piece ps) s in
             subst (λ (q : Piece). verb_piece verb.Return ∷ q ∷ ps ≡ written_pieces x) (slot_exact.exact p y parts.0 e) ((some y).exact ps x rest parts.1 k)
@@ -249,7 +254,8 @@ procedure_exact v = entry_exact v
 step_exact : {reads : Reads Written} {front : List Piece → List Piece} → Exact Written reads front written_pieces → Exact Body (step_part reads) front body_pieces
 step_exact {reads} {front} one = record { exact = λ ps x rest s h. go ps x rest s (reads ps) refl h }
   where
-    go : (ps : List Piece) (x : Body) (rest : List Piece) → AreSpelled ps → (r : Found Written) → reads ps ≡ r → onward r (λ w left. Ok (StepIs w, left)) ≡ Ok (x, rest) → front ps ≡ body_pieces x
+    go : (ps : List Piece) (x : Body) (rest : List Piece) → AreSpelled ps → (r : Found Written) → reads ps ≡ r → onward r (λ w left. Ok (StepIs w, left)) ≡ Ok (x, rest)
+        → front ps ≡ body_pieces x
     go ps x rest s (Ok q) e k =
         let pair : ◌≡◌ {A = Body × List Piece} (StepIs q.0, q.1) (x, rest) = cc in
         one.exact ps q.0 q.1 s e ∙ ap (λ (t : Body × List Piece). body_pieces t.0) pair
@@ -276,7 +282,8 @@ found_pieces (Some body) = body_pieces body
 some_exact : {reads : Reads Body} {front : List Piece → List Piece} → Exact Body reads front body_pieces → Exact (Option Body) (some_part reads) front found_pieces
 some_exact {reads} {front} one = record { exact = λ ps x rest s h. go ps x rest s (reads ps) refl h }
   where
-    go : (ps : List Piece) (x : Option Body) (rest : List Piece) → AreSpelled ps → (r : Found Body) → reads ps ≡ r → onward r (λ b left. Ok (Some b, left)) ≡ Ok (x, rest) → front ps ≡ found_pieces x
+    go : (ps : List Piece) (x : Option Body) (rest : List Piece) → AreSpelled ps → (r : Found Body) → reads ps ≡ r → onward r (λ b left. Ok (Some b, left)) ≡ Ok (x, rest)
+        → front ps ≡ found_pieces x
     go ps x rest s (Ok q) e k =
         let pair : ◌≡◌ {A = Option Body × List Piece} (Some q.0, q.1) (x, rest) = cc in
         one.exact ps q.0 q.1 s e ∙ ap (λ (t : Option Body × List Piece). found_pieces t.0) pair

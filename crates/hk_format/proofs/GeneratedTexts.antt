@@ -15,7 +15,8 @@ use Rattle.hk_format.specs.Canonical.{canon, task_item}
 
 -- the part that all of them have
 abbrev pub generated_head : List ℕ
-generated_head = codes "hydra 1\nlimit 1000000\nobject total DATA\nwords 0\nend\nsemaphore lock 1\nprocedure bump cbump\nparam DATA GETDATA+PUTDATA GETDATA+PUTDATA+MODIFY\nend\ncode cbump\ngetdata 0 0 r1\nadd r1 1\nputdata 0 0 r1\nend\ncode main\nlabel l0\np 2\ncall 0 1 3\nv 2\nadd r0 1\niflt r0 100 l0\nend\n"
+generated_head =
+    codes "hydra 1\nlimit 1000000\nobject total DATA\nwords 0\nend\nsemaphore lock 1\nprocedure bump cbump\nparam DATA GETDATA+PUTDATA GETDATA+PUTDATA+MODIFY\nend\ncode cbump\ngetdata 0 0 r1\nadd r1 1\nputdata 0 0 r1\nend\ncode main\nlabel l0\np 2\ncall 0 1 3\nv 2\nadd r0 1\niflt r0 100 l0\nend\n"
 
 -- a process, by the text of its number
 abbrev pub generated_process : List ℕ → List ℕ
@@ -31,7 +32,8 @@ unfolding digits right_table right_numbers name_of rights_text canon generate
 head_first k = refl
 
 -- a process among the items
-process_first : (k : ℕ) (d : List ℕ) (more : List (List Piece)) → spell_lines (item_lines (task_item (spoken (generate k)) (task (119 ∷ d) main main_slots)) ++ more) ≡ generated_process d ++ spell_lines more
+process_first : (k : ℕ) (d : List ℕ) (more : List (List Piece))
+    → spell_lines (item_lines (task_item (spoken (generate k)) (task (119 ∷ d) main main_slots)) ++ more) ≡ generated_process d ++ spell_lines more
 unfolding right_table right_numbers name_of rights_text generate
 process_first k d more =
     let caps : List ℕ = codes "cap bump A0\ncap total GETDATA+PUTDATA+MODIFY\ncap lock MODIFY+A0+A1\nend\n" in

@@ -17,7 +17,8 @@ use Rattle.hk_format.proofs.WorldValid.{Labelled, fresh_parts, labelled_put}
 seen_less : (seen : List (List ℕ)) (t : List ℕ) (ls : List (List ℕ)) → Labelled (seen ++ t ∷ []) ls → Labelled seen ls
 seen_less seen t ls l = record { named = l.named; apart = l.apart; fresh = (fresh_parts seen t ls l.fresh).0 }
 
-object_front : (seen : Seen) (head : Head) (heads : List Head) → IsHead head → IsTrue (is_new seen head) → Labelled (noted seen head).names (filter_map object_label heads) → Labelled seen.names (filter_map object_label (head ∷ heads))
+object_front : (seen : Seen) (head : Head) (heads : List Head) → IsHead head → IsTrue (is_new seen head) → Labelled (noted seen head).names (filter_map object_label heads)
+    → Labelled seen.names (filter_map object_label (head ∷ heads))
 object_front seen (LimitIs n) heads h new l = l
 object_front seen (TypeIs name) heads h new l = labelled_put seen.names [] (filter_map object_label heads) name h new l
 object_front seen (ObjectIs name of) heads h new l = labelled_put seen.names [] (filter_map object_label heads) name h.0 new l
@@ -26,7 +27,8 @@ object_front seen (ProcedureIs name code) heads h new l = labelled_put seen.name
 object_front seen (CodeIs name) heads h new l = seen_less seen.names name (filter_map object_label heads) l
 object_front seen (ProcessIs name code) heads h new l = seen_less seen.names name (filter_map object_label heads) l
 
-code_front : (seen : Seen) (head : Head) (heads : List Head) → IsHead head → IsTrue (is_new seen head) → Labelled (noted seen head).names (filter_map code_label heads) → Labelled seen.names (filter_map code_label (head ∷ heads))
+code_front : (seen : Seen) (head : Head) (heads : List Head) → IsHead head → IsTrue (is_new seen head) → Labelled (noted seen head).names (filter_map code_label heads)
+    → Labelled seen.names (filter_map code_label (head ∷ heads))
 code_front seen (LimitIs n) heads h new l = l
 code_front seen (TypeIs name) heads h new l = seen_less seen.names name (filter_map code_label heads) l
 code_front seen (ObjectIs name of) heads h new l = seen_less seen.names name (filter_map code_label heads) l

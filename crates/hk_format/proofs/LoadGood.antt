@@ -1,5 +1,6 @@
 -- What is loaded from the items of a script is a world.
-use Rattle.std.proofs.Common.{◌≡◌, ℕ, ◌+◌, ◌-◌, ◌<◌, ◌≤◌, ◌⊎◌, inl, inr, ◌==◌, Bool, true, false, cond, ltb, List, [], ◌∷◌, ◌++◌, length, get_or, map, min, refl, sym, ap, ◌∙◌, subst, arith, Ok, Err, Result, Option, Some, None}
+use Rattle.std.proofs.Common.{◌≡◌, ℕ, ◌+◌, ◌-◌, ◌<◌, ◌≤◌, ◌⊎◌, inl, inr, ◌==◌, Bool, true, false, cond, ltb, List, [], ◌∷◌, ◌++◌, length, get_or, map, min, refl, sym, ap, ◌∙◌}
+use Rattle.std.proofs.Common.{subst, arith, Ok, Err, Result, Option, Some, None}
 use Rattle.std.specs.Prelude.{codes, slice_get, slice_index_or}
 use Rattle.std.specs.List.{position_or_len, slice_split}
 use Rattle.std.proofs.lemmas.Bool.{ltb-true, false≢true, eqb-true}
@@ -28,7 +29,8 @@ use Rattle.hk_model.specs.Labels.{same_text}
 use Rattle.hk_format.specs.RightsTexts.{rights_spelled, right_of, both, union_of}
 use Rattle.hk_model.specs.WorldValue.{WorldValue, IsEntry, IsParam, IsObject, IsType, IsTypeOrAny, IsTypeKind}
 use Rattle.hk_format.specs.Names.{Names, kernel_flags}
-use Rattle.hk_format.specs.Loading.{Refused, ◌>>=◌, ◌>>◌, found, unless, limited, permitted, onto, object_named, type_named, kind_named, some_name, code_named, rights_named, name_numbered, entry_meant, param_of, parameter, held_entry, place, to_limit}
+use Rattle.hk_format.specs.Loading.{Refused, ◌>>=◌, ◌>>◌, found, unless, limited, permitted, onto, object_named, type_named, kind_named, some_name, code_named, rights_named}
+use Rattle.hk_format.specs.Loading.{name_numbered, entry_meant, param_of, parameter, held_entry, place, to_limit}
 use Rattle.hk_format.proofs.NamesAgain.{is_type_object}
 
 -- a test that passed, and what came before it
@@ -41,7 +43,8 @@ pub then_ok : {A B C : Type 0} (r : Result A C) (next : Result B C) (y : B) → 
 then_ok (Ok x) next y h = (x, refl, h)
 then_ok (Err e) next y h = absurd (let k : Err e ≡ Ok y = h in cc)
 
-pub onto_ok : {A B : Type 0} (put : A → B → B) (line : ℕ) (r : Result A LoadCause) (rest : Result B Refused) (y : B) → onto put line r rest ≡ Ok y → (x : A) × (xs : B) × (r ≡ Ok x) × (rest ≡ Ok xs) × (put x xs ≡ y)
+pub onto_ok : {A B : Type 0} (put : A → B → B) (line : ℕ) (r : Result A LoadCause) (rest : Result B Refused) (y : B) → onto put line r rest ≡ Ok y
+    → (x : A) × (xs : B) × (r ≡ Ok x) × (rest ≡ Ok xs) × (put x xs ≡ y)
 onto_ok put line (Ok x) (Ok xs) y h = (x, xs, refl, refl, cc)
 onto_ok put line (Ok x) (Err e) y h = absurd (let k : Err e ≡ Ok y = h in cc)
 onto_ok put line (Err c) rest y h = absurd (let k : Err (line, c) ≡ Ok y = h in cc)
@@ -133,12 +136,17 @@ type_kind b h = go b.kind h
 type_flagged : (w : WorldValue) (n : ℕ) → n < 7 + length w.objects → get_or (kernel_flags ++ map is_type_object w.objects) n false ≡ true → IsType w (name_numbered n)
 type_flagged w n there flag = go (ltb n 7) refl
   where
-    declared : 7 ≤ n → ((born : Born) × (n - 7 < length w.objects) × (slice_get w.objects (n - 7) ≡ Some born) × (get_or w.objects (n - 7) born ≡ born)) → IsType w (name_numbered n)
+    declared : 7 ≤ n → ((born : Born) × (n - 7 < length w.objects) × (slice_get w.objects (n - 7) ≡ Some born) × (get_or w.objects (n - 7) born ≡ born))
+        → IsType w (name_numbered n)
     declared above at =
-        let flagged : is_type_object at.0 ≡ true = ap is_type_object (sym at.3) ∙ sym (get_or-map is_type_object w.objects (n - 7) at.0 false at.1) ∙ sym (get_or-append_right kernel_flags (map is_type_object w.objects) 7 n false refl above) ∙ flag in
+        let flagged : is_type_object at.0 ≡ true = ap is_type_object (sym at.3) ∙ sym (get_or-map is_type_object w.objects (n - 7) at.0 false at.1) ∙ sym
+        (get_or-append_right kernel_flags (map is_type_object w.objects) 7 n false refl above) ∙ flag in
         inr (record { born = at.0; above = above; there = at.2; is_type = type_kind at.0 flagged })
 
-    either : 7 ≤ n → (((born : Born) × (n - 7 < length w.objects) × (slice_get w.objects (n - 7) ≡ Some born) × (get_or w.objects (n - 7) born ≡ born)) ⊎ ((length w.objects ≤ n - 7) × (slice_get w.objects (n - 7) ≡ None))) → IsType w (name_numbered n)
+    either : 7 ≤ n
+        → (((born : Born) × (n - 7 < length w.objects) × (slice_get w.objects (n - 7) ≡ Some born) × (get_or w.objects (n - 7) born ≡ born)) ⊎
+        ((length w.objects ≤ n - 7) × (slice_get w.objects (n - 7) ≡ None)))
+        → IsType w (name_numbered n)
     either above (inl at) = declared above at
     either above (inr past) = absurd (let end = past.0 in omega arith)
 

@@ -1,5 +1,6 @@
 -- Names and entries of a world are found again by the labels that they are written as.
-use Rattle.std.proofs.Common.{◌≡◌, ℕ, suc, zero, ◌+◌, ◌-◌, ◌<◌, inl, inr, Bool, true, false, eqb, List, [], ◌∷◌, ◌++◌, length, get_or, refl, sym, ap, ◌∙◌, arith, ◌&&◌, ◌||◌, not, map, min, Ok, Option, Some, None}
+use Rattle.std.proofs.Common.{◌≡◌, ℕ, suc, zero, ◌+◌, ◌-◌, ◌<◌, inl, inr, Bool, true, false, eqb, List, [], ◌∷◌, ◌++◌, length, get_or, refl, sym, ap, ◌∙◌, arith, ◌&&◌, ◌||◌, not}
+use Rattle.std.proofs.Common.{map, min, Ok, Option, Some, None}
 use Rattle.std.specs.List.{list_any, position_or_len, AllByRecursion}
 use Rattle.std.specs.Prelude.{codes, IsTrue, slice_get}
 use Rattle.std.proofs.lemmas.Bool.{and_parts, and_from, lt-ltb, eq-eqb, not-true}
@@ -55,7 +56,8 @@ apart_before : (xs ys : List (List ℕ)) → are_apart (xs ++ ys) ≡ true → a
 apart_before [] ys h = refl
 apart_before (x ∷ xs) ys h =
     let both = and_parts (not (list_any (λ u. same_text u x) (xs ++ ys))) (are_apart (xs ++ ys)) h in
-    let none : list_any (λ u. same_text u x) xs ≡ false = left (list_any (λ u. same_text u x) xs) (list_any (λ u. same_text u x) ys) (sym (list_any-append (λ u. same_text u x) xs ys) ∙ not-true _ both.0) in
+    let none : list_any (λ u. same_text u x) xs ≡ false = left (list_any (λ u. same_text u x) xs) (list_any (λ u. same_text u x) ys)
+    (sym (list_any-append (λ u. same_text u x) xs ys) ∙ not-true _ both.0) in
     and_from _ _ (rw none refl) (apart_before xs ys both.1)
   where
     left : (a b : Bool) → (a || b) ≡ false → a ≡ false
@@ -81,7 +83,17 @@ no_kernel k ks (l ∷ ls) big h = rw (differs l (name_first l h.0)) (no_kernel k
         go false e = refl
 
 pub kernel_apart : (ls : List (List ℕ)) → AllByRecursion (λ l. IsTrue (is_name l)) ls → are_apart ls ≡ true → are_apart (kernel_names ++ ls) ≡ true
-kernel_apart ls h apart = rw (no_kernel 84 (codes "YPE") ls refl h, no_kernel 68 (codes "ATA") ls refl h, no_kernel 85 (codes "NIVERSAL") ls refl h, no_kernel 83 (codes "EMAPHORE") ls refl h, no_kernel 80 (codes "ROCEDURE") ls refl h, no_kernel 80 (codes "ROCESS") ls refl h, no_kernel 76 (codes "NS") ls refl h) apart
+kernel_apart ls h apart =
+    rw (
+      no_kernel 84 (codes "YPE") ls refl h,
+      no_kernel 68 (codes "ATA") ls refl h,
+      no_kernel 85 (codes "NIVERSAL") ls refl h,
+      no_kernel 83 (codes "EMAPHORE") ls refl h,
+      no_kernel
+          80 (codes "ROCEDURE") ls refl h,
+      no_kernel 80 (codes "ROCESS") ls refl h,
+      no_kernel 76 (codes "NS") ls refl h,
+    ) apart
 
 names_front : (xs ys : List (List ℕ)) → AllByRecursion (λ l. IsTrue (is_name l)) (xs ++ ys) → AllByRecursion (λ l. IsTrue (is_name l)) xs
 names_front [] ys h = tt
@@ -147,7 +159,8 @@ flag_again : (w : WorldValue) (n : Name) → IsType w n → get_or (kernel_flags
 flag_again w n (inl low) = flag_low (map is_type_object w.objects) n.0 low
 flag_again w n (inr declared) =
     let there = there_at w.objects (n.0 - 7) declared.born declared.there in
-    get_or-append_right kernel_flags (map is_type_object w.objects) 7 n.0 false refl declared.above ∙ get_or-map is_type_object w.objects (n.0 - 7) declared.born false there.0 ∙ ap is_type_object there.1 ∙ type_flag declared.born declared.is_type
+    get_or-append_right kernel_flags (map is_type_object w.objects) 7 n.0 false refl declared.above ∙ get_or-map is_type_object w.objects (n.0 - 7) declared.born false there.0 ∙ ap
+    is_type_object there.1 ∙ type_flag declared.born declared.is_type
 
 pub type_again : {w : WorldValue} {names : Names} → Known w names → (n : Name) → IsType w n → type_named names (object_text (spoken w) n) ≡ Ok n.0
 type_again {w} k n h = rw (object_again k n (type_object w n h), k.types, flag_again w n h)
@@ -166,7 +179,29 @@ object_not_any w h n there = go (spoken w).objects n.0 (all_other w h) (let size
     others (l ∷ ls) all = (not-true _ (and_parts (is_word l && not (is_register l)) (not (same_text l (codes "any"))) all.0).1, others ls all.1)
 
     all_other : (w : WorldValue) → IsWorld w → AllByRecursion (λ l. same_text l (codes "any") ≡ false) (spoken w).objects
-    all_other w h = (refl, (refl, (refl, (refl, (refl, (refl, (refl, others (map (λ (b : Born). b.label) w.objects) (names_front (map (λ (b : Born). b.label) w.objects) (map (λ (c : Code). c.label) w.codes ++ map (λ (t : Task). t.label) w.tasks) h.names))))))))
+    all_other w h = (
+      refl,
+      (
+        refl,
+        (
+          refl,
+          (
+            refl,
+            (
+              refl,
+              (
+                refl,
+                (
+                  refl,
+                  others (map (λ (b : Born). b.label) w.objects)
+                      (names_front (map (λ (b : Born). b.label) w.objects) (map (λ (c : Code). c.label) w.codes ++ map (λ (t : Task). t.label) w.tasks) h.names),
+                ),
+              ),
+            ),
+          ),
+        ),
+      ),
+    )
 
 pub kind_again : {w : WorldValue} {names : Names} → Known w names → (of : Option Name) → IsTypeOrAny w of → kind_named names (kind_text (spoken w) of) ≡ Ok of
 kind_again k None h = refl
@@ -187,5 +222,6 @@ entry_again k (Held cap) h = rw (object_again k cap.name h.0, rights_found cap.r
 entry_again k (Form (template.Amplify of check give)) h = rw (kind_again k of h.0, rights_found check h.1, rights_found give h.2)
 entry_again k (Form (template.Create of give)) h = rw (type_again k of h.0, rights_found give h.1)
 
-pub param_again : {w : WorldValue} {names : Names} → Known w names → (p : Param) → IsParam w p → param_of names (kind_text (spoken w) p.of) (rights_text p.check) (rights_text p.give) ≡ Ok p
+pub param_again : {w : WorldValue} {names : Names} → Known w names → (p : Param) → IsParam w p
+    → param_of names (kind_text (spoken w) p.of) (rights_text p.check) (rights_text p.give) ≡ Ok p
 param_again k p h = rw (kind_again k p.of h.0, rights_found p.check h.1, rights_found p.give h.2)

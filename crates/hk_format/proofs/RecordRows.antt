@@ -56,7 +56,8 @@ unfolding piece_of all_verbs digits right_table right_numbers name_of number_nam
 restricted_again = refl
 
 -- a call with two arguments
-called_again : read_body (codes "15 255 7 call 1.65535 2 3 4 -> full slots") ≡ Some (line 15 255 7 (what.Call (call.Enter (1 ∷ 65535 ∷ []) (2 ∷ 3 ∷ []) (record { 0 = 4 }))) (reply.No (refused.Full Slots)))
+called_again : read_body (codes "15 255 7 call 1.65535 2 3 4 -> full slots") ≡ Some
+    (line 15 255 7 (what.Call (call.Enter (1 ∷ 65535 ∷ []) (2 ∷ 3 ∷ []) (record { 0 = 4 }))) (reply.No (refused.Full Slots)))
 unfolding piece_of all_verbs digits right_table right_numbers name_of number_named rights_text rights_spelled line_body read_body
 called_again = refl
 

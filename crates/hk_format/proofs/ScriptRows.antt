@@ -111,7 +111,8 @@ nine_parameters = refl
 
 -- the part that all of them have
 abbrev generated_head : List ℕ
-generated_head = codes "hydra 1\nlimit 1000000\nobject total DATA\nwords 0\nend\nsemaphore lock 1\nprocedure bump cbump\nparam DATA GETDATA+PUTDATA GETDATA+PUTDATA+MODIFY\nend\ncode cbump\ngetdata 0 0 r1\nadd r1 1\nputdata 0 0 r1\nend\ncode main\nlabel l0\np 2\ncall 0 1 3\nv 2\nadd r0 1\niflt r0 100 l0\nend\n"
+generated_head =
+    codes "hydra 1\nlimit 1000000\nobject total DATA\nwords 0\nend\nsemaphore lock 1\nprocedure bump cbump\nparam DATA GETDATA+PUTDATA GETDATA+PUTDATA+MODIFY\nend\ncode cbump\ngetdata 0 0 r1\nadd r1 1\nputdata 0 0 r1\nend\ncode main\nlabel l0\np 2\ncall 0 1 3\nv 2\nadd r0 1\niflt r0 100 l0\nend\n"
 
 -- a process, by the text of its number
 abbrev generated_process : List ℕ → List ℕ

@@ -1,5 +1,6 @@
 -- The items of a script as a world, or the first line that is refused and its first cause. docs/FORMATS.md, "Loading".
-use Rattle.std.specs.Prelude.{ℕ, ◌+◌, ◌==◌, Bool, true, false, not, List, [], ◌∷◌, ◌++◌, length, Option, Some, None, Result, Ok, Err, if◌then◌else◌, nat_lt, nat_le, map, codes, slice_index_or, option_map, min}
+use Rattle.std.specs.Prelude.{ℕ, ◌+◌, ◌==◌, Bool, true, false, not, List, [], ◌∷◌, ◌++◌, length, Option, Some, None, Result, Ok, Err, if◌then◌else◌, nat_lt, nat_le, map, codes}
+use Rattle.std.specs.Prelude.{slice_index_or, option_map, min}
 use Rattle.std.specs.List.{find, filter_map, position}
 use Rattle.hk_model.specs.declared.names.Name.{Name}
 use Rattle.hk_model.specs.declared.entries.Entry.{Entry}

@@ -81,7 +81,8 @@ pub record Makes (w : WorldValue) (lines : List Line) (held : List (Option Conte
   pub gone : is_running (process t proc).run ≡ false → runner t cpu ≡ None
   pub count : length held ≡ length (machine_after w (lines ++ line ∷ [])).contexts
   pub there : proc.0 < length held
-  pub others : (n : ℕ) → (n ≡ proc.0 → ⊥) → is_resting (process t (record { 0 = n })).run ≡ true → slice_get held n ≡ Some (Some (context_of (machine_after w (lines ++ line ∷ [])) (record { 0 = n })))
+  pub others : (n : ℕ) → (n ≡ proc.0 → ⊥) → is_resting (process t (record { 0 = n })).run ≡ true
+      → slice_get held n ≡ Some (Some (context_of (machine_after w (lines ++ line ∷ [])) (record { 0 = n })))
 
 module _ (w : WorldValue) (lines : List Line) (held : List (Option Context)) (world : IsWorld w) (steps : AreStepsOf w lines) (keeps : KeepsContexts (machine_after w lines) held)
     (cpu : Cpu) (low : cpu.0 < 16) (may : may_step (state_after w lines) ≡ true) where
@@ -106,7 +107,8 @@ module _ (w : WorldValue) (lines : List Line) (held : List (Option Context)) (wo
     there = rw keeps.count in_contexts;
     others = λ n apart g.
         keeps.each n (rests_back m.state proc t n moves apart g)
-        ∙ ap (λ (c : Context). Some (Some c)) (sym (ap (λ (o : Option Context). unwrap_or o []) (get_there m.contexts proc.0 n frames apart)) ∙ ap (λ (k : Machine). context_of k (proc_at n)) longer.is);
+        ∙ ap (λ (c : Context). Some (Some c)) (sym (ap (λ (o : Option Context). unwrap_or o []) (get_there m.contexts proc.0 n frames apart)) ∙ ap
+        (λ (k : Machine). context_of k (proc_at n)) longer.is);
   }
     where
       new : Machine
@@ -124,14 +126,16 @@ module _ (w : WorldValue) (lines : List Line) (held : List (Option Context)) (wo
   runs : (proc : Proc) (inc : Inc) → running_on m.state cpu ≡ Some (proc, inc) → (runner m.state cpu ≡ Some proc) × (inc ≡ (process m.state proc).current)
   runs proc inc = by (runner m.state cpu)
     where
-      by : (found : Option Proc) → option_map {U = Proc × Inc} (λ (p : Proc). (p, (process m.state p).current)) found ≡ Some (proc, inc) → (found ≡ Some proc) × (inc ≡ (process m.state proc).current)
+      by : (found : Option Proc) → option_map {U = Proc × Inc} (λ (p : Proc). (p, (process m.state p).current)) found ≡ Some (proc, inc)
+          → (found ≡ Some proc) × (inc ≡ (process m.state proc).current)
       by None h = absurd (cc)
       by (Some p) h =
           let pair : ◌≡◌ {A = Proc × Inc} (p, (process m.state p).current) (proc, inc) = cc in
           let same : p ≡ proc = ap (λ (f : Proc × Inc). f.0) pair in
           (ap Some same, sym (ap (λ (f : Proc × Inc). f.1) pair) ∙ ap (λ (q : Proc). (process m.state q).current) same)
 
-  event_is : (proc : Proc) (todo : Todo) (frames : Context) → runner m.state cpu ≡ Some proc → (todo, frames) ≡ next w (context_of m proc) → step w m cpu ≡ Some (event w m cpu proc (todo, frames))
+  event_is : (proc : Proc) (todo : Todo) (frames : Context) → runner m.state cpu ≡ Some proc → (todo, frames) ≡ next w (context_of m proc)
+      → step w m cpu ≡ Some (event w m cpu proc (todo, frames))
   event_is proc todo frames r e = step_is w m cpu may low_is ∙ (ap (event_of w m cpu) r ∙ ap (λ (f : Todo × Context). Some (event w m cpu proc f)) (sym e))
 
   -- what becomes of a process
@@ -165,7 +169,8 @@ module _ (w : WorldValue) (lines : List Line) (held : List (Option Context)) (wo
 -- ---- the line of a dispatch
 
 -- who was first in the ready list, and the state in which that process has the processor
-pub dispatched_is : (s : State) (cpu : Cpu) (proc : Proc) (t : State) → dispatched s cpu ≡ Some (proc, t) → (rest : List Proc) × (s.ready ≡ proc ∷ rest) × (t ≡ given_to s cpu proc rest)
+pub dispatched_is : (s : State) (cpu : Cpu) (proc : Proc) (t : State) → dispatched s cpu ≡ Some (proc, t)
+    → (rest : List Proc) × (s.ready ≡ proc ∷ rest) × (t ≡ given_to s cpu proc rest)
 dispatched_is s cpu proc t = by s.ready refl
   where
     by : (ready : List Proc) → s.ready ≡ ready → dispatched_from s cpu ready ≡ Some (proc, t) → (rest : List Proc) × (s.ready ≡ proc ∷ rest) × (t ≡ given_to s cpu proc rest)
@@ -182,12 +187,17 @@ pub record Gets (w : WorldValue) (lines : List Line) (held : List (Option Contex
   pub runs : runner t cpu ≡ Some proc
   pub count : length held ≡ length (machine_after w (lines ++ line ∷ [])).contexts
   pub context : slice_get held proc.0 ≡ Some (Some (context_of (machine_after w (lines ++ line ∷ [])) proc))
-  pub others : (n : ℕ) → is_resting (process t (record { 0 = n })).run ≡ true → (n ≡ proc.0 → ⊥) × (slice_get held n ≡ Some (Some (context_of (machine_after w (lines ++ line ∷ [])) (record { 0 = n }))))
+  pub others : (n : ℕ) → is_resting (process t (record { 0 = n })).run ≡ true
+      → (n ≡ proc.0 → ⊥) × (slice_get held n ≡ Some (Some (context_of (machine_after w (lines ++ line ∷ [])) (record { 0 = n }))))
 
 module _ (w : WorldValue) (lines : List Line) (held : List (Option Context)) (world : IsWorld w) (steps : AreStepsOf w lines) (keeps : KeepsContexts (machine_after w lines) held)
     (cpu : Cpu) (low : cpu.0 < 16) (may : may_step (state_after w lines) ≡ true) (idle : runner (state_after w lines) cpu ≡ None) where
   dispatch_is : (proc : Proc) (t : State) → dispatched (state_after w lines) cpu ≡ Some (proc, t)
-      → step w (machine_after w lines) cpu ≡ Some (record { cpu = cpu; proc = proc; inc = (process (state_after w lines) proc).current; what = what.Dispatch; reply = Done }, record (machine_after w lines) { state = t })
+      → step w (machine_after w lines) cpu ≡ Some (
+        record { cpu = cpu; proc = proc; inc = (process (state_after w lines) proc).current; what = what.Dispatch; reply = Done },
+        record
+            (machine_after w lines) { state = t },
+      )
   dispatch_is proc t e =
       let low_is : nat_lt cpu.0 cpu_limit ≡ true = grind (arith, nat_tests, low) in
       step_is w (machine_after w lines) cpu may low_is ∙ (ap (event_of w (machine_after w lines) cpu) idle ∙ ap (dispatch_event (machine_after w lines) cpu) e)

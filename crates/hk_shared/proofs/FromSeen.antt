@@ -37,7 +37,8 @@ module _ (w : WorldValue) (cpu : Cpu) (seen found after : List Noted) (goes : Go
   ask_from asked.Over h = ((goes_further cpu.0 seen found after goes h.0.0, h.0.1), h.1, h.2)
   ask_from asked.Stopped h = ((goes_further cpu.0 seen found after goes h.0.0, h.0.1), h.1)
 
-  pub call_from : (wants : Call → Bool) (proc : Proc) (next : Todo) (answer : Called) → AnswersCall w wants cpu found after proc next answer → AnswersCall w wants cpu seen after proc next answer
+  pub call_from : (wants : Call → Bool) (proc : Proc) (next : Todo) (answer : Called) → AnswersCall w wants cpu found after proc next answer
+      → AnswersCall w wants cpu seen after proc next answer
   call_from wants proc next (called.Goes reply context) h = ((h.0.0, adds_from _ h.0.1), h.1)
   call_from wants proc next (called.Gone reply) h = ((h.0.0, adds_from _ h.0.1), h.1, h.2)
   call_from wants proc next called.Limit h = ((goes_further cpu.0 seen found after goes h.0.0, h.0.1), h.1, h.2)

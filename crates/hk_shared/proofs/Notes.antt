@@ -98,7 +98,8 @@ others_run w m cpu [] sound h = refl
 others_run w m cpu (line ∷ rest) sound h =
     others_run w (moved w m line.cpu) cpu rest (moved_sound w m line.cpu sound) h.1 ∙ other_runs w m cpu line.cpu sound h.0
 
-others_context : (w : WorldValue) (m : Machine) (cpu : Cpu) (proc : Proc) (rest : List Line) → IsSound w m → AreOthers cpu rest → runner m.state cpu ≡ Some proc → context_of (after_lines w m rest) proc ≡ context_of m proc
+others_context : (w : WorldValue) (m : Machine) (cpu : Cpu) (proc : Proc) (rest : List Line) → IsSound w m → AreOthers cpu rest → runner m.state cpu ≡ Some proc
+    → context_of (after_lines w m rest) proc ≡ context_of m proc
 others_context w m cpu proc [] sound h r = refl
 others_context w m cpu proc (line ∷ rest) sound h r =
     others_context w (moved w m line.cpu) cpu proc rest (moved_sound w m line.cpu sound) h.1 (other_runs w m cpu line.cpu sound h.0 ∙ r)
@@ -122,4 +123,5 @@ module _ (w : WorldValue) (world : IsWorld w) (cpu : Cpu) (seen found : List Not
   runner_same = ap (λ (m : Machine). runner m.state cpu) machine_is ∙ others_run w (machine_shown w seen) cpu (lines_of goes.0) sound (others_of cpu goes.0 goes.2)
 
   pub context_same : (proc : Proc) → runner (state_shown w seen) cpu ≡ Some proc → context_of (machine_shown w found) proc ≡ context_of (machine_shown w seen) proc
-  context_same proc r = ap (λ (m : Machine). context_of m proc) machine_is ∙ others_context w (machine_shown w seen) cpu proc (lines_of goes.0) sound (others_of cpu goes.0 goes.2) r
+  context_same proc r =
+      ap (λ (m : Machine). context_of m proc) machine_is ∙ others_context w (machine_shown w seen) cpu proc (lines_of goes.0) sound (others_of cpu goes.0 goes.2) r

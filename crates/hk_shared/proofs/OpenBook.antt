@@ -31,7 +31,8 @@ held_count [] = refl
 held_count (t ∷ ts) = ap suc (held_count ts)
 
 each_held : (k : ℕ) (ts : List Task) (n : ℕ) → is_resting (run_at (all_ready k ts) n) ≡ true
-    → slice_get (map {B = Option Context} (λ (t : Task). Some (new_frame t.code ∷ [])) ts) n ≡ Some (Some (unwrap_or (slice_get (map (λ (t : Task). new_frame t.code ∷ []) ts) n) []))
+    → slice_get (map {B = Option Context} (λ (t : Task). Some (new_frame t.code ∷ [])) ts) n ≡ Some
+    (Some (unwrap_or (slice_get (map (λ (t : Task). new_frame t.code ∷ []) ts) n) []))
 each_held k [] n h = absurd (cc)
 each_held k (t ∷ ts) zero h = refl
 each_held k (t ∷ ts) (suc n) h = each_held (k + 1) ts n h
@@ -43,5 +44,6 @@ opened_keeps w = record {
   each = λ n r. each_held 0 w.tasks n r;
 }
 
-pub open_keeps : (w : WorldValue) (lines : List Line) (held : List (Option Context)) → lines ≡ [] → held ≡ map {B = Option Context} (λ (t : Task). Some (new_frame t.code ∷ [])) w.tasks → KeepsContexts (machine_after w lines) held
+pub open_keeps : (w : WorldValue) (lines : List Line) (held : List (Option Context)) → lines ≡ []
+    → held ≡ map {B = Option Context} (λ (t : Task). Some (new_frame t.code ∷ [])) w.tasks → KeepsContexts (machine_after w lines) held
 open_keeps w lines held e is = rw (e, is) (opened_keeps w)

@@ -1,5 +1,6 @@
 -- What a turn at a sound book leaves, and what it may answer.
-use Rattle.std.specs.Prelude.{◌≡◌, ◌⊎◌, ℕ, zero, suc, ◌<◌, List, [], ◌∷◌, ◌++◌, length, Bool, true, false, not, ◌||◌, Option, Some, None, slice_get, slice_set, refl, IfSome, option_map, is_some}
+use Rattle.std.specs.Prelude.{◌≡◌, ◌⊎◌, ℕ, zero, suc, ◌<◌, List, [], ◌∷◌, ◌++◌, length, Bool, true, false, not, ◌||◌, Option, Some, None, slice_get, slice_set, refl, IfSome}
+use Rattle.std.specs.Prelude.{option_map, is_some}
 use Rattle.std.specs.List.{list_any}
 use Rattle.std.specs.Vec.{vec_capacity}
 use Rattle.std.proofs.Common.{arith, ap, sym, ◌∙◌, subst, get_or, unwrap_or}
@@ -91,8 +92,14 @@ module _ {K J : Type 0} (state : K → State) (w : WorldValue) (cpu : Cpu) (b : 
 
   pub ask_idle : (n : ℕ) → b.stop ≡ None → runner (state b.kernel) cpu ≡ None → (not (may_step (state b.kernel)) || is_over (state b.kernel)) ≡ false
       → dispatched (state b.kernel) cpu ≡ None → n ≡ length b.lines.items → AnswersAsk w cpu (notes_of_book b) (notes_of_book b) (asked.Idle n)
-  ask_idle n e idle over none n_is =
-      (found, is_going b.lines.items b.stop e, ap (λ (s : State). runner s cpu) shown ∙ idle, n_is ∙ ap length (sym (lines_book b.lines.items b.stop)), ap is_idle_of shown ∙ rw (goes.0, shows.0, shows.1) refl)
+  ask_idle n e idle over none n_is = (
+    found,
+    is_going b.lines.items b.stop e,
+    ap (λ (s : State). runner s cpu) shown ∙ idle,
+    n_is ∙ ap length (sym (lines_book b.lines.items b.stop)),
+    ap is_idle_of shown
+        ∙ rw (goes.0, shows.0, shows.1) refl,
+  )
     where
       goes : (may_step (state b.kernel) ≡ true) × (is_over (state b.kernel) ≡ false)
       goes = goes_below over
@@ -106,7 +113,8 @@ module _ {K J : Type 0} (state : K → State) (w : WorldValue) (cpu : Cpu) (b : 
       → dispatched (state b.kernel) cpu ≡ Some (proc, t) → inc ≡ (process t proc).current
       → Gets w b.lines.items b.contexts.items cpu proc (record { cpu = cpu; proc = proc; inc = inc; what = what.Dispatch; reply = Done }) t
   gets proc t inc low idle may e inc_is =
-      dispatch_gets w b.lines.items b.contexts.items h.valid h.steps h.contexts cpu low (sym (ap may_step h.kernel) ∙ may) (sym (ap (λ (s : State). runner s cpu) h.kernel) ∙ idle) proc t inc
+      dispatch_gets w b.lines.items b.contexts.items h.valid h.steps h.contexts cpu low (sym (ap may_step h.kernel) ∙ may)
+      (sym (ap (λ (s : State). runner s cpu) h.kernel) ∙ idle) proc t inc
       (sym (ap (λ (s : State). dispatched s cpu) h.kernel) ∙ e) inc_is
 
   -- ---- a call or a halt of the process that the processor runs
@@ -120,7 +128,8 @@ module _ {K J : Type 0} (state : K → State) (w : WorldValue) (cpu : Cpu) (b : 
           let pair : ◌≡◌ {A = Proc × Inc} (p, (process s p).current) (proc, inc) = cc in
           ap (λ (f : Proc × Inc). Some f.0) pair
 
-  pub carries : (proc : Proc) (inc : Inc) (next_is : Todo) (frames : Context) (happened : What) (reply : Reply) (t : State) (new : Context) → cpu.0 < 16 → may_step (state b.kernel) ≡ true
+  pub carries : (proc : Proc) (inc : Inc) (next_is : Todo) (frames : Context) (happened : What) (reply : Reply) (t : State) (new : Context) → cpu.0 < 16
+      → may_step (state b.kernel) ≡ true
       → running_on (state b.kernel) cpu ≡ Some (proc, inc) → (next_is, frames) ≡ next w (context_of (machine_after w b.lines.items) proc)
       → turn w (state b.kernel) (process_on (state b.kernel) cpu) (next_is, frames) ≡ (happened, reply, t, new)
       → Makes w b.lines.items b.contexts.items cpu proc (record { cpu = cpu; proc = proc; inc = inc; what = happened; reply = reply }) t new
@@ -129,7 +138,8 @@ module _ {K J : Type 0} (state : K → State) (w : WorldValue) (cpu : Cpu) (b : 
       (sym (ap (λ (s : State). running_on s cpu) h.kernel) ∙ on) nx (sym (ap (λ (s : State). turn w s (process_on s cpu) (next_is, frames)) h.kernel) ∙ made)
 
   -- whether the process has left the processor
-  pub left_is : (proc : Proc) (inc : Inc) (t : State) (gone : Bool) → running_on (state b.kernel) cpu ≡ Some (proc, inc) → gone ≡ has_left (state b.kernel) cpu t → gone ≡ not (is_running (process t proc).run)
+  pub left_is : (proc : Proc) (inc : Inc) (t : State) (gone : Bool) → running_on (state b.kernel) cpu ≡ Some (proc, inc) → gone ≡ has_left (state b.kernel) cpu t
+      → gone ≡ not (is_running (process t proc).run)
   left_is proc inc t gone on e = e ∙ ap (λ (o : Option Proc). not (is_running (process t (unwrap_or o (record { 0 = 0 }))).run)) (runner_of (state b.kernel) proc inc on)
 
   -- the context that is next has frames of the world
@@ -139,12 +149,14 @@ module _ {K J : Type 0} (state : K → State) (w : WorldValue) (cpu : Cpu) (b : 
       rw (ap (λ (f : Todo × Context). f.1) e) (next_frames w (context_of m proc) h.valid.codes_are (sound_frames w m proc (sound_after w b.lines.items h.steps h.valid)))
 
   -- the code of an entered procedure is one of the world, and there is room for its frame
-  pub code_known : (proc : Proc) (inc : Inc) → running_on (state b.kernel) cpu ≡ Some (proc, inc) → (c : Call) (reply : Reply) → IfSome (entered_on (state b.kernel) cpu c reply) (λ n. n < length w.codes)
+  pub code_known : (proc : Proc) (inc : Inc) → running_on (state b.kernel) cpu ≡ Some (proc, inc) → (c : Call) (reply : Reply)
+      → IfSome (entered_on (state b.kernel) cpu c reply) (λ n. n < length w.codes)
   code_known proc inc on c reply =
       let r = runner_of (state b.kernel) proc inc on in
       rw (r, h.kernel) (sound_code w (machine_after w b.lines.items) proc c reply (sound_after w b.lines.items h.steps h.valid))
 
-  pub room_known : (proc : Proc) (inc : Inc) (next_is : Todo) (frames : Context) → running_on (state b.kernel) cpu ≡ Some (proc, inc) → (next_is, frames) ≡ next w (context_of (machine_after w b.lines.items) proc)
+  pub room_known : (proc : Proc) (inc : Inc) (next_is : Todo) (frames : Context) → running_on (state b.kernel) cpu ≡ Some (proc, inc)
+      → (next_is, frames) ≡ next w (context_of (machine_after w b.lines.items) proc)
       → (c : Call) → IfSome (entered_on (state b.kernel) cpu c (acted_on (state b.kernel) cpu c).0) (λ n. length frames < 64)
   room_known proc inc next_is frames on nx c =
       let m = machine_after w b.lines.items in
@@ -170,16 +182,20 @@ module _ {K J : Type 0} (state : K → State) (w : WorldValue) (cpu : Cpu) (b : 
     below = ap (λ (s : State). not (may_step s)) shown ∙ rw may refl;
   }
 
-  pub call_stopped : (other : Cpu) → b.stop ≡ Some other → (wants : Call → Bool) (proc : Proc) (todo : Todo) → AnswersCall w wants cpu (notes_of_book b) (notes_of_book b) proc todo called.Stopped
+  pub call_stopped : (other : Cpu) → b.stop ≡ Some other → (wants : Call → Bool) (proc : Proc) (todo : Todo)
+      → AnswersCall w wants cpu (notes_of_book b) (notes_of_book b) proc todo called.Stopped
   call_stopped other e wants proc todo = (found, is_stopped b.lines.items b.stop other e)
 
-  pub call_limit : b.stop ≡ None → not (may_step (state b.kernel)) ≡ true → (wants : Call → Bool) (proc : Proc) (todo : Todo) → AnswersCall w wants cpu (notes_of_book b) (notes_of_book b) proc todo called.Limit
+  pub call_limit : b.stop ≡ None → not (may_step (state b.kernel)) ≡ true → (wants : Call → Bool) (proc : Proc) (todo : Todo)
+      → AnswersCall w wants cpu (notes_of_book b) (notes_of_book b) proc todo called.Limit
   call_limit e limit wants proc todo = (found, is_going b.lines.items b.stop e, ap (λ (s : State). not (may_step s)) shown ∙ limit)
 
   -- the notes of the book with one line more
   module _ (b' : Book K J) (line : Line) (e : b.stop ≡ None) (stop : b'.stop ≡ b.stop) (lines : b'.lines.items ≡ b.lines.items ++ line ∷ []) where
     pub more_notes : notes_of_book b' ≡ notes_of_book b ++ added (Some (Event line))
-    more_notes = ap (λ (ls : List Line). events ls ++ stops b'.stop) lines ∙ (ap (λ (o : Option Cpu). events (b.lines.items ++ line ∷ []) ++ stops o) stop ∙ one_more b.lines.items line b.stop e)
+    more_notes =
+        ap (λ (ls : List Line). events ls ++ stops b'.stop) lines
+        ∙ (ap (λ (o : Option Cpu). events (b.lines.items ++ line ∷ []) ++ stops o) stop ∙ one_more b.lines.items line b.stop e)
 
     pub shown_lines : lines_of (notes_of_book b') ≡ b.lines.items ++ line ∷ []
     shown_lines = lines_book b'.lines.items b'.stop ∙ lines
@@ -194,7 +210,8 @@ module _ {K J : Type 0} (state : K → State) (w : WorldValue) (cpu : Cpu) (b : 
       below = ap (λ (s : State). not (may_step s)) shown ∙ rw may refl;
     }
 
-    pub hands_out : (t : State) (proc : Proc) (context : Context) → AreStepsOf w (b.lines.items ++ line ∷ []) → t ≡ state_after w (b.lines.items ++ line ∷ []) → runner t cpu ≡ Some proc
+    pub hands_out : (t : State) (proc : Proc) (context : Context) → AreStepsOf w (b.lines.items ++ line ∷ []) → t ≡ state_after w (b.lines.items ++ line ∷ [])
+        → runner t cpu ≡ Some proc
         → context ≡ context_of (machine_after w (b.lines.items ++ line ∷ [])) proc → HandsOut w cpu (notes_of_book b') proc context
     hands_out t proc context steps state_is runs is = (
       (
@@ -209,7 +226,8 @@ module _ {K J : Type 0} (state : K → State) (w : WorldValue) (cpu : Cpu) (b : 
 
     -- the contexts that are kept behind it
     module _ (t : State) (world_is : b'.world ≡ b.world) (kernel_is : state b'.kernel ≡ t) (room_is : vec_capacity b'.lines ≡ vec_capacity b.lines) where
-      pub sound_more : AreStepsOf w (b.lines.items ++ line ∷ []) → t ≡ state_after w (b.lines.items ++ line ∷ []) → KeepsContexts (machine_after w (b.lines.items ++ line ∷ [])) b'.contexts.items → line.cpu.0 ≡ cpu.0
+      pub sound_more : AreStepsOf w (b.lines.items ++ line ∷ []) → t ≡ state_after w (b.lines.items ++ line ∷ [])
+          → KeepsContexts (machine_after w (b.lines.items ++ line ∷ [])) b'.contexts.items → line.cpu.0 ≡ cpu.0
           → IsNext state w cpu b b' (Some (Event line))
       sound_more steps state_is keeps own = record {
         sound = record {
@@ -243,26 +261,30 @@ taken_keeps w lines held held' cpu proc line t g e = rw e (record {
 })
 
 -- the process goes on, and the processor keeps its context
-pub goes_keeps : (w : WorldValue) (lines : List Line) (held : List (Option Context)) (cpu : Cpu) (proc : Proc) (line : Line) (t : State) (frames : Context) → Makes w lines held cpu proc line t frames
+pub goes_keeps : (w : WorldValue) (lines : List Line) (held : List (Option Context)) (cpu : Cpu) (proc : Proc) (line : Line) (t : State) (frames : Context)
+    → Makes w lines held cpu proc line t frames
     → is_running (process t proc).run ≡ true → KeepsContexts (machine_after w (lines ++ line ∷ [])) held
 goes_keeps w lines held cpu proc line t frames g runs = record {
   count = g.count;
   each = λ n r. by n (rw g.state r) (same_or n proc.0);
 }
   where
-    by : (n : ℕ) → is_resting (process t (record { 0 = n })).run ≡ true → ((n ≡ proc.0) ⊎ (n ≡ proc.0 → ⊥)) → slice_get held n ≡ Some (Some (context_of (machine_after w (lines ++ line ∷ [])) (record { 0 = n })))
+    by : (n : ℕ) → is_resting (process t (record { 0 = n })).run ≡ true → ((n ≡ proc.0) ⊎ (n ≡ proc.0 → ⊥))
+        → slice_get held n ≡ Some (Some (context_of (machine_after w (lines ++ line ∷ [])) (record { 0 = n })))
     by n r (inr apart) = g.others n apart r
     by n r (inl same) = absurd (running_rests (process t proc).run runs (subst (λ (k : ℕ). is_resting (process t (record { 0 = k })).run ≡ true) same r))
 
 -- the process has gone, and its context is put back
-pub gone_keeps : (w : WorldValue) (lines : List Line) (held held' : List (Option Context)) (cpu : Cpu) (proc : Proc) (line : Line) (t : State) (frames : Context) → Makes w lines held cpu proc line t frames
+pub gone_keeps : (w : WorldValue) (lines : List Line) (held held' : List (Option Context)) (cpu : Cpu) (proc : Proc) (line : Line) (t : State) (frames : Context)
+    → Makes w lines held cpu proc line t frames
     → held' ≡ slice_set held proc.0 (Some frames) → KeepsContexts (machine_after w (lines ++ line ∷ [])) held'
 gone_keeps w lines held held' cpu proc line t frames g e = rw e (record {
   count = set_length held proc.0 (Some frames) ∙ g.count;
   each = λ n r. by n (rw g.state r) (same_or n proc.0);
 })
   where
-    by : (n : ℕ) → is_resting (process t (record { 0 = n })).run ≡ true → ((n ≡ proc.0) ⊎ (n ≡ proc.0 → ⊥)) → slice_get (slice_set held proc.0 (Some frames)) n ≡ Some (Some (context_of (machine_after w (lines ++ line ∷ [])) (record { 0 = n })))
+    by : (n : ℕ) → is_resting (process t (record { 0 = n })).run ≡ true → ((n ≡ proc.0) ⊎ (n ≡ proc.0 → ⊥))
+        → slice_get (slice_set held proc.0 (Some frames)) n ≡ Some (Some (context_of (machine_after w (lines ++ line ∷ [])) (record { 0 = n })))
     by n r (inr apart) = get_there held proc.0 n (Some frames) apart ∙ g.others n apart r
     by n r (inl same) =
         subst (λ (k : ℕ). slice_get (slice_set held proc.0 (Some frames)) k ≡ Some (Some (context_of (machine_after w (lines ++ line ∷ [])) (record { 0 = k })))) (sym same)
@@ -274,9 +296,11 @@ no_current s cpu proc found n e r =
     true≢false (sym (ap (λ (o : Option Proc). is_some (option_map {U = Proc × Inc} (λ (p : Proc). (p, (process s p).current)) o)) r) ∙ ap is_some (sym e ∙ n))
 
 -- its current incarnation
-pub current_is : (s : State) (cpu : Cpu) (proc : Proc) (x : Proc) (inc : Inc) → Some (x, inc) ≡ running_on s cpu → runner s cpu ≡ Some proc → (x ≡ proc) × (inc ≡ (process s proc).current)
+pub current_is : (s : State) (cpu : Cpu) (proc : Proc) (x : Proc) (inc : Inc) → Some (x, inc) ≡ running_on s cpu → runner s cpu ≡ Some proc
+    → (x ≡ proc) × (inc ≡ (process s proc).current)
 current_is s cpu proc x inc e r =
-    let both : ◌≡◌ {A = Option (Proc × Inc)} (Some (x, inc)) (Some (proc, (process s proc).current)) = e ∙ ap (λ (o : Option Proc). option_map {U = Proc × Inc} (λ (p : Proc). (p, (process s p).current)) o) r in
+    let both : ◌≡◌ {A = Option (Proc × Inc)} (Some (x, inc)) (Some (proc, (process s proc).current)) = e ∙ ap
+    (λ (o : Option Proc). option_map {U = Proc × Inc} (λ (p : Proc). (p, (process s p).current)) o) r in
     let pair : ◌≡◌ {A = Proc × Inc} (x, inc) (proc, (process s proc).current) = cc in
     (ap (λ (f : Proc × Inc). f.0) pair, ap (λ (f : Proc × Inc). f.1) pair)
 
@@ -293,7 +317,8 @@ get_or_is (y ∷ xs) zero d x h = cc
 get_or_is (y ∷ xs) (suc n) d x h = get_or_is xs n d x h
 
 -- the context that was taken is the one that stood there
-pub taken_is : (held : List (Option Context)) (n : ℕ) (frames : Context) (now d : Option Context) → slice_get held n ≡ Some (Some frames) → now ≡ get_or held n d → now ≡ Some frames
+pub taken_is : (held : List (Option Context)) (n : ℕ) (frames : Context) (now d : Option Context) → slice_get held n ≡ Some (Some frames) → now ≡ get_or held n d
+    → now ≡ Some frames
 taken_is held n frames now d h e = e ∙ get_or_is held n d (Some frames) h
 
 pub not_both : (frames : Context) (found : Option Context) → found ≡ None → found ≡ Some frames → ⊥

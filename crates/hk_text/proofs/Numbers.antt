@@ -37,20 +37,25 @@ too_large (d ∷ ds) e h k =
     and_from (is_number (d ∷ ds)) (ltb 0xffffffff (value (d ∷ ds))) h test
 
 -- digits as a piece, by their value
-pub number_by_value : (t : List ℕ) (o : Option ℕ) → is_number t ≡ true → o ≡ cond (is_too_large t) None (Some (value t)) → MatchOption o (number_of t ≡ Err causes.NumberTooLarge) (λ n. number_of t ≡ Ok (Number n))
+pub number_by_value : (t : List ℕ) (o : Option ℕ) → is_number t ≡ true → o ≡ cond (is_too_large t) None (Some (value t))
+    → MatchOption o (number_of t ≡ Err causes.NumberTooLarge) (λ n. number_of t ≡ Ok (Number n))
 number_by_value t o h k =
     let digits = (and_parts (is_digit (first t)) (list_all is_digit t) h).1 in
     go (is_number t) (list_all is_digit t) (ltb 0xffffffff (value t)) h digits o k
   where
-    go : (number digits large : Bool) → number ≡ true → digits ≡ true → (o : Option ℕ) → o ≡ cond (number && large) None (Some (value t)) → MatchOption o (cond (not digits) (Err causes.BadToken) (cond large (Err causes.NumberTooLarge) (Ok (Number (value t)))) ≡ Err causes.NumberTooLarge) (λ n. cond (not digits) (Err causes.BadToken) (cond large (Err causes.NumberTooLarge) (Ok (Number (value t)))) ≡ Ok (Number n))
+    go : (number digits large : Bool) → number ≡ true → digits ≡ true → (o : Option ℕ) → o ≡ cond (number && large) None (Some (value t))
+        → MatchOption o (cond (not digits) (Err causes.BadToken) (cond large (Err causes.NumberTooLarge) (Ok (Number (value t)))) ≡ Err causes.NumberTooLarge)
+        (λ n. cond (not digits) (Err causes.BadToken) (cond large (Err causes.NumberTooLarge) (Ok (Number (value t)))) ≡ Ok (Number n))
     go true true true h k o e = rw e refl
     go true true false h k o e = rw e refl
     go false digits large h k o e = absurd (false≢true h)
     go true false large h k o e = absurd (false≢true k)
 
-pub found_place : {X : Type 0} (p : X → Bool) (xs : List X) (r : Option ℕ) → r ≡ cond (ltb (position_or_len p xs) (length xs)) (Some (position_or_len p xs)) None → MatchOption r (length xs ≡ position_or_len p xs) (λ i. i ≡ position_or_len p xs)
+pub found_place : {X : Type 0} (p : X → Bool) (xs : List X) (r : Option ℕ) → r ≡ cond (ltb (position_or_len p xs) (length xs)) (Some (position_or_len p xs)) None
+    → MatchOption r (length xs ≡ position_or_len p xs) (λ i. i ≡ position_or_len p xs)
 found_place p xs r e = go (ltb (position_or_len p xs) (length xs)) refl r e
   where
-    go : (b : Bool) → ltb (position_or_len p xs) (length xs) ≡ b → (o : Option ℕ) → o ≡ cond b (Some (position_or_len p xs)) None → MatchOption o (length xs ≡ position_or_len p xs) (λ i. i ≡ position_or_len p xs)
+    go : (b : Bool) → ltb (position_or_len p xs) (length xs) ≡ b → (o : Option ℕ) → o ≡ cond b (Some (position_or_len p xs)) None
+        → MatchOption o (length xs ≡ position_or_len p xs) (λ i. i ≡ position_or_len p xs)
     go true k o f = rw f refl
     go false k o f = rw f (let high = ltb-false _ _ k in let low = prefix_len-le-length (λ x. not (p x)) xs in omega arith)

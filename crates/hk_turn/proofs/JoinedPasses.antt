@@ -38,7 +38,8 @@ module _ {E : Type 0} where
   remembers_still v u p h = (still v u (seen_list p) h.0, (let l = le-max_left v.known u.known in let k = h.1 in omega arith))
 
   -- a pass more is remembered, whose view was taken in
-  pub remembers_more : (v u : View E) (p : Pass E) (ps : List (Pass E)) → seen_list p ≡ u.seen → known_count p ≡ u.known → RemembersAll v ps → RemembersAll (joined_view v u) (p ∷ ps)
+  pub remembers_more : (v u : View E) (p : Pass E) (ps : List (Pass E)) → seen_list p ≡ u.seen → known_count p ≡ u.known → RemembersAll v ps
+      → RemembersAll (joined_view v u) (p ∷ ps)
   remembers_more v u p ps saw knew h =
       All-cons (Remembers (joined_view v u)) p ps (inr (1, omega arith, sym saw), (let l = le-max_right v.known u.known in omega arith))
       (All-weaker (Remembers v) (Remembers (joined_view v u)) (λ q. remembers_still v u q) ps h)
@@ -59,7 +60,8 @@ module _ {E : Type 0} where
 
 module _ {T E : Type 0} (stands : T → List E → Type 0) (owner : E → ℕ) (seats : ℕ) where
   -- the value of the last state stands for a list that extends each pass
-  pub stands_for_all : (id : ℕ) (v : View E) (ws : List ℕ) (xs : List (Option T)) (ps : List (Pass E)) → 0 < seats → v.weight ≡ seats → v.holds ≡ false → RemembersAll v ps → Final (Seen (KeepsRule stands owner seats) id v) ws xs
+  pub stands_for_all : (id : ℕ) (v : View E) (ws : List ℕ) (xs : List (Option T)) (ps : List (Pass E)) → 0 < seats → v.weight ≡ seats → v.holds ≡ false → RemembersAll v ps
+      → Final (Seen (KeepsRule stands owner seats) id v) ws xs
       → (x : T) × (get_elem? xs 0 ≡ some (Some x)) × StandsForAll stands owner seats ps x
   stands_for_all id v ws xs ps some_seats all free remembers f =
       let r = last_state_shows stands owner seats id v ws xs some_seats all free f in

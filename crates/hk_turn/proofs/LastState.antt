@@ -18,7 +18,8 @@ module _ {T E : Type 0} (stands : T → List E → Type 0) (owner : E → ℕ) (
 
   -- the slot is at home, with a value that stands for a list which begins with all that the seat has seen and was told
   pub last_state_shows : (id : ℕ) (v : View E) (ws : List ℕ) (xs : List (Option T)) → 0 < seats → v.weight ≡ seats → v.holds ≡ false → Final (Seen Rule id v) ws xs
-      → (x : T) × (l : List E) × (get_elem? xs 0 ≡ some (Some x)) × stands x l × IsPrefix v.seen l × All (λ t. IsPrefix t l) v.lists_told × (v.known ≤ length l) × All (λ e. owner e < seats) l
+      → (x : T) × (l : List E) × (get_elem? xs 0 ≡ some (Some x)) × stands x l × IsPrefix v.seen l × All (λ t. IsPrefix t l) v.lists_told × (v.known ≤ length l)
+      × All (λ e. owner e < seats) l
   last_state_shows id v ws xs some_seats all free f =
       let s : State (Option T) (View E) = f.0 in let r : Rule s = f.1.0 in let at = f.1.1 in
       let fit = r.fits id v at (omega arith) in

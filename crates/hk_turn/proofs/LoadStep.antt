@@ -25,6 +25,7 @@ module _ {T E : Type 0} (stands : T → List E → Type 0) (owner : E → ℕ) (
         w,
         keeps,
         tt,
-        view_change_keeps_rule stands owner seats s r id v w at refl refl refl refl refl some_weight record { goes_on = fit.goes_on; lists_told = fit.lists_told; known = omega arith; seats_are = fit.seats_are; below = fit.below },
+        view_change_keeps_rule stands owner seats s r id v w at refl refl refl refl refl some_weight record
+            { goes_on = fit.goes_on; lists_told = fit.lists_told; known = omega arith; seats_are = fit.seats_are; below = fit.below },
         (refl, refl, (let l = goes_length owner v.number v.seen r.list fit.goes_on in omega arith), (let l = fit.known in omega arith)),
       )

@@ -11,4 +11,5 @@ returns c =
     let label = c.args.code.now.label in
     let steps = c.args.code.now.steps in
     let begun : string_bytes c.write.new.self ≡ string_bytes c.args.out.now ++ line_text (head_pieces (CodeIs label)) = search rules in
-    item_written (CodeIs label) (code_parts steps 0 steps) (string_bytes c.args.out.now) (string_bytes c.write.new.self) (string_bytes c.write_steps.new.out) (string_bytes c.push_str.new.self) refl begun (search rules) (search rules)
+    item_written (CodeIs label) (code_parts steps 0 steps) (string_bytes c.args.out.now) (string_bytes c.write.new.self) (string_bytes c.write_steps.new.out)
+    (string_bytes c.push_str.new.self) refl begun (search rules) (search rules)

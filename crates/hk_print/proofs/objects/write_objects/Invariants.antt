@@ -7,4 +7,5 @@ use Rattle.hk_print.specs.ItemTexts.{item_text}
 use Rattle.hk_print.proofs.objects.write_objects.Given as goal
 
 abbrev pub invariant-loop-object : goal.invariant-loop-object
-invariant-loop-object l = string_bytes l.out ≡ string_bytes l.initial.out ++ flat_map (λ (x : Born). item_text (object_item (spoken l.world) x)) (take l.object-index l.object-items)
+invariant-loop-object l =
+    string_bytes l.out ≡ string_bytes l.initial.out ++ flat_map (λ (x : Born). item_text (object_item (spoken l.world) x)) (take l.object-index l.object-items)

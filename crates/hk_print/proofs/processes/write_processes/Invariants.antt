@@ -7,4 +7,5 @@ use Rattle.hk_print.specs.ItemTexts.{item_text}
 use Rattle.hk_print.proofs.processes.write_processes.Given as goal
 
 abbrev pub invariant-loop-process : goal.invariant-loop-process
-invariant-loop-process l = string_bytes l.out ≡ string_bytes l.initial.out ++ flat_map (λ (x : Task). item_text (task_item (spoken l.world) x)) (take l.process-index l.process-items)
+invariant-loop-process l =
+    string_bytes l.out ≡ string_bytes l.initial.out ++ flat_map (λ (x : Task). item_text (task_item (spoken l.world) x)) (take l.process-index l.process-items)

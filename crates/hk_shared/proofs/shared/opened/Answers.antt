@@ -18,7 +18,9 @@ returns g c =
         valid = subst (λ (x : WorldValue). IsWorld x) c.requires.world c.limit.ensures.valid;
         steps = no_steps w c.in_ok-lines.lines.items none;
         kernel = open_state w c.in_ok-lines.lines.items (g.K.Kernel.state c.args.kernel) none (c.requires.opening ∙ ap opening c.requires.world);
-        contexts = open_keeps w c.in_ok-lines.lines.items c.in_ok-contexts.contexts.items none (c.in_ok-contexts.ensures ∙ ap (λ ts. map (λ (t : Task). Some (new_frame t.code ∷ [])) ts) (c.tasks.ensures.value ∙ ap (λ (x : WorldValue). x.tasks) c.requires.world));
+        contexts =
+            open_keeps w c.in_ok-lines.lines.items c.in_ok-contexts.contexts.items none
+            (c.in_ok-contexts.ensures ∙ ap (λ ts. map (λ (t : Task). Some (new_frame t.code ∷ [])) ts) (c.tasks.ensures.value ∙ ap (λ (x : WorldValue). x.tasks) c.requires.world));
         room = let a = c.in_ok-lines.ensures.capacity in let b = c.limit.ensures.value in let d = ap (λ (x : WorldValue). x.limit) c.requires.world in omega (arith, a, b, d);
       },
     )
