@@ -60,17 +60,20 @@ enter_leaf s proc inc path into cap slots h = record {
   confined = ap (λ (x : Incarnation). x.confined) (put_in s.incarnations s.next_inc (called_incarnation proc cap.name inc into (not (has cap.rights unconf_right)) slots));
 }
 
-enter_done : (s : State) (proc : Proc) (inc : Inc) (path args : List ℕ) (into : Slot) → IfOk (enter_procedure s proc inc path args into) (λ f. IsEntered s inc path f.1.incarnations)
+enter_done : (s : State) (proc : Proc) (inc : Inc) (path args : List ℕ) (into : Slot)
+    → IfOk (enter_procedure s proc inc path args into) (λ f. IsEntered s inc path f.1.incarnations)
 unfolding enter_procedure
 enter_done s proc inc path args into = search (then_is, and_is, enter_leaf) depth 12
 
 outcome_done : (s : State) (proc : Proc) (inc : Inc) (c : Call) → IfOk (outcome s proc inc c) (λ f. HasDone s inc c f.1.incarnations)
 outcome_done s proc inc (call.Enter path args into) = enter_done s proc inc path args into
 outcome_done s proc inc (call.Leave give) =
-    ok_more (λ f. LeavesBy s proc inc (incarnation s inc).caller f.1) (λ f. HasDone s inc (call.Leave give) f.1.incarnations) (leave s proc inc give) (λ f h. h.activations) (leave_leaves s proc inc give)
+    ok_more (λ f. LeavesBy s proc inc (incarnation s inc).caller f.1) (λ f. HasDone s inc (call.Leave give) f.1.incarnations) (leave s proc inc give) (λ f h. h.activations)
+    (leave_leaves s proc inc give)
 outcome_done s proc inc c = ok_each (λ f. HasDone s inc c f.1.incarnations) (outcome s proc inc c) (λ f. tt)
 
-settled_done : (s : State) (inc : Inc) (c : Call) (o : Outcome) → IfOk o (λ f. HasDone s inc c f.1.incarnations) → HasDoneThat s inc (done_by (what.Call c) (settled s o).0) (settled s o).1.incarnations
+settled_done : (s : State) (inc : Inc) (c : Call) (o : Outcome) → IfOk o (λ f. HasDone s inc c f.1.incarnations)
+    → HasDoneThat s inc (done_by (what.Call c) (settled s o).0) (settled s o).1.incarnations
 settled_done s inc c (Ok f) h = subst (λ (d : Option Call). HasDoneThat s inc d f.1.incarnations) (sym (answered_done c f.0)) h
 settled_done s inc c (Err e) h = tt
 
@@ -85,14 +88,16 @@ done_each = record {
 -- ---- the ways of an Enter
 
 -- a slot of the new incarnation takes a parameter, or what the procedure holds
-pub call_way_calls : (s : State) (inc : Inc) (procedure : Name) (confined : Bool) → IsCalled s inc procedure confined → (args : List ℕ) (params : List Param) (n : ℕ) → Calls s inc (call_way procedure confined args params n)
+pub call_way_calls : (s : State) (inc : Inc) (procedure : Name) (confined : Bool) → IsCalled s inc procedure confined → (args : List ℕ) (params : List Param) (n : ℕ)
+    → Calls s inc (call_way procedure confined args params n)
 call_way_calls s inc procedure confined h [] params n = h
 call_way_calls s inc procedure confined h (arg ∷ args) [] n = h
 call_way_calls s inc procedure confined h (arg ∷ args) (param ∷ params) zero = tt
 call_way_calls s inc procedure confined h (arg ∷ args) (param ∷ params) (suc n) = call_way_calls s inc procedure confined h args params n
 
 -- the capability that was called is what its name and its rights are told of
-pub entered_called : (s : State) (inc : Inc) (path : List ℕ) (after : List (Inc × Incarnation)) → IsEntered s inc path after → IsCalled s inc (named_by s inc path) (not (has (rights_held (found s inc path)) unconf_right))
+pub entered_called : (s : State) (inc : Inc) (path : List ℕ) (after : List (Inc × Incarnation)) → IsEntered s inc path after
+    → IsCalled s inc (named_by s inc path) (not (has (rights_held (found s inc path)) unconf_right))
 entered_called s inc path after h = record {
   path = path;
   cap = h.cap;

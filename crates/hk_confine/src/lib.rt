@@ -12,8 +12,8 @@ mod tests;
 
 ghost use Rattle.hk_model.specs.Running.{AreStepsOf};
 ghost use Rattle.hk_model.specs.Confinement.{ConfinementLaw, ClosedCallLaw};
-ghost use Rattle.hk_model.specs.Effects.{LeavesOthers};
-ghost use Rattle.hk_model.specs.Changes.{ListsChanges};
+ghost use Rattle.hk_model.specs.Effects.{LeavesOthers, NamesLast};
+ghost use Rattle.hk_model.specs.Changes.{HasOneList, ListsChanges};
 ghost use Rattle.hk_model.specs.Reaches.{ReachLaw};
 
 use hk_model::{Line, World};
@@ -57,21 +57,27 @@ pub fn closed_call_law(world: &World, lines: &[Line])
 /// - Those that go. They are none of the opening, and the line is a halt or a call that is not
 ///   refused.
 ///
+/// So an object keeps its type, its code and its parameters for as long as it stands, and where one
+/// has gone none comes again under its name.
+///
 /// `lines` are steps of `world` from its opening on, in the order of the history.
 pub fn changes_law(world: &World, lines: &[Line])
     requires { AreStepsOf world.now lines.now }
-    ensures { LeavesOthers world.now lines.now }
+    ensures others { LeavesOthers world.now lines.now }
+    ensures names { NamesLast world.now lines.now }
 {}
 
 /// What the list of changes has (`docs/RULES.md`, "Changes and their reasons"): an item for a
 /// confined call, a line and an object exactly where the line is by an incarnation under that call
 /// and changes that object, so where the confinement law speaks of them. The items stand by rising
-/// line, and for one line by rising number of the call; so none stands twice.
+/// line, and for one line by rising number of the call; so none stands twice. And with the reasons,
+/// each the least reach of its object, there is one such list at most.
 ///
 /// `lines` are steps of `world` from its opening on, in the order of the history.
 pub fn listed_changes_law(world: &World, lines: &[Line])
     requires { AreStepsOf world.now lines.now }
-    ensures { ListsChanges world.now lines.now }
+    ensures items { ListsChanges world.now lines.now }
+    ensures one { HasOneList world.now lines.now }
 {}
 
 /// What the reaches of a call are (`docs/RULES.md`, "Reaches"): the least sets that hold the objects

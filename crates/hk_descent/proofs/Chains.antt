@@ -48,9 +48,11 @@ module _ (w : WorldValue) (s : State) (inc : Inc) (chains : Place → Chain) (be
   way_descends p (Walked path) x h = from_place p (walk_end s inc path) x (walk_reduces s inc path x h)
   way_descends p (Stored slot) x h = from_place p (SlotOf inc slot) x (rw h.0 (Reduces-self (standing s (SlotOf inc slot))))
   way_descends p (Lessened slot keep) x h = from_place p (SlotOf inc slot) x (rw (h.held, h.is) (refl, Within-and h.cap.rights keep))
-  way_descends p (Merged slot form) x h = rw (h.held, h.is) (merged_is h.cap (object s h.cap.name).of form h.step h.new h.merges, subst (λ e. Descends w e (chains (SlotOf inc slot))) h.held (before (SlotOf inc slot)))
+  way_descends p (Merged slot form) x h =
+      rw (h.held, h.is) (merged_is h.cap (object s h.cap.name).of form h.step h.new h.merges, subst (λ e. Descends w e (chains (SlotOf inc slot))) h.held (before (SlotOf inc slot)))
   way_descends p (Inherited procedure index confined) x h = from_place p (EntryOf procedure index) x (rw h (inherited_reduces confined (standing s (EntryOf procedure index))))
-  way_descends p (Copied path index) x h = from_place p (EntryOf (named_by s inc path) index) x (rw (leads_named s inc path h.cap h.leads, h.is) (copied_reduces h.cap.rights (standing s (EntryOf h.cap.name index))))
+  way_descends p (Copied path index) x h =
+      from_place p (EntryOf (named_by s inc path) index) x (rw (leads_named s inc path h.cap h.leads, h.is) (copied_reduces h.cap.rights (standing s (EntryOf h.cap.name index))))
   way_descends p (CopyOf path) x h = rw (h.leads, h.is) (refl, refl)
   way_descends p (Created path) x h = rw (h.leads, h.is) (refl, refl)
   way_descends p (Formed path kind) x h = rw (h.leads, h.is) (of_kind kind, h.allowed)
@@ -72,7 +74,9 @@ abbrev Descend : WorldValue → State → (Place → Chain) → Type 0
 Descend w s chains = NumbersRise s × ((p : Place) → Descends w (standing s p) (chains p))
 
 descend_each : (w : WorldValue) → EachStep (λ s line t. (g : Place → Chain) → Descend w s g → Descend w t (extend s line t g))
-descend_each w = each_more (λ s line t. (NumbersRise s → NumbersRise t) × (NumbersRise s → LineWrites s line t)) (λ s line t. (g : Place → Chain) → Descend w s g → Descend w t (extend s line t g))
+descend_each w =
+    each_more (λ s line t. (NumbersRise s → NumbersRise t) × (NumbersRise s → LineWrites s line t))
+    (λ s line t. (g : Place → Chain) → Descend w s g → Descend w t (extend s line t g))
     (λ s line t h g k. (h.0 k.0, λ p. place_descends w s line.inc g k.1 p (line_way s line p) (standing t p) ((h.1 k.0).entries p)))
     (each_both (λ s line t. NumbersRise s → NumbersRise t) (λ s line t. NumbersRise s → LineWrites s line t) rises_each writes_each)
 
@@ -81,4 +85,5 @@ opens w p = if_there (standing (opening w) p) (standing (opening w) p ≡ standi
 
 pub descent : (w : WorldValue) (lines : List Line) → AreStepsOf w lines → DescentLaw w lines
 unfolding opened
-descent w lines h moment = (told_keeps extend (Descend w) (descend_each w) w (opened w) (take moment lines) Opened (first_steps w (opened w) lines moment h) (opening_rises w, opens w)).1
+descent w lines h moment =
+    (told_keeps extend (Descend w) (descend_each w) w (opened w) (take moment lines) Opened (first_steps w (opened w) lines moment h) (opening_rises w, opens w)).1

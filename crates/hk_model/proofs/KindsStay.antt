@@ -12,7 +12,7 @@ use Rattle.hk_model.specs.Targets.{kernel_types}
 use Rattle.hk_model.specs.Opening.{opening, object_of, type_object, numbered}
 use Rattle.hk_model.specs.Lines.{done_call, makes_object}
 use Rattle.hk_model.specs.Running.{Machine, opened, after_lines, state_at, AreStepsOf}
-use Rattle.hk_model.specs.Effects.{there, IsSameKind, Becomes, Stays, Goes, Changes, IsNew, LeavesOthers}
+use Rattle.hk_model.specs.Effects.{there, IsSameKind, Becomes, Stays, Goes, Changes, IsNew, LeavesOthers, NamesLast}
 use Rattle.hk_model.proofs.Standing.{name_same}
 use Rattle.hk_model.proofs.Steps.{EachStep, each_both, each_more, moved_holds, line_steps, after_next, state_kept, first_steps, later_steps, after_later, take_less}
 use Rattle.hk_model.proofs.NextNames.{NextName, next_each, next_up}
@@ -132,14 +132,20 @@ from_moment I each w lines early late steps l h =
     (state_kept I each w (after_lines w (opened w) (take early (take late lines))) (drop early (take late lines)) (later_steps w (opened w) (take late lines) early some) before)
 
 -- an object keeps its type, its code and its parameters for as long as it stands
-pub kind_stays : (w : WorldValue) (lines : List Line) (early late : ℕ) (name : Name) (o x : Object) → AreStepsOf w lines → early ≤ late
+kind_stays : (w : WorldValue) (lines : List Line) (early late : ℕ) (name : Name) (o x : Object) → AreStepsOf w lines → early ≤ late
     → there (state_at w lines early).objects name ≡ Some o → there (state_at w lines late).objects name ≡ Some x → IsSameKind o x
 kind_stays w lines early late name o x steps l e g =
     (from_moment (λ s. ObjectsGiven s × IsOfKind name o s) (kind_each name o) w lines early late steps l
     (objects_given_at w lines early steps, (objects_given_at w lines early steps name o e, λ y f. subst (λ (z : Object). IsSameKind o z) (some_object (sym e ∙ f)) (kind_self o)))).1.1 x g
 
 -- an object that has gone does not come again
-pub gone_stays : (w : WorldValue) (lines : List Line) (early late : ℕ) (name : Name) → AreStepsOf w lines → early ≤ late → name.0 < (state_at w lines early).next_name.0
+gone_stays : (w : WorldValue) (lines : List Line) (early late : ℕ) (name : Name) → AreStepsOf w lines → early ≤ late → name.0 < (state_at w lines early).next_name.0
     → there (state_at w lines early).objects name ≡ None → there (state_at w lines late).objects name ≡ None
 gone_stays w lines early late name steps l low e =
     (from_moment (λ s. ObjectsGiven s × HasGone name s) (gone_each name) w lines early late steps l (objects_given_at w lines early steps, (low, e))).1.1
+
+pub names_last : (w : WorldValue) (lines : List Line) → AreStepsOf w lines → NamesLast w lines
+names_last w lines steps = record {
+  kinds = λ early late name before after l e g. kind_stays w lines early late name before after steps l e g;
+  gone = λ early late name l low e. gone_stays w lines early late name steps l low e;
+}

@@ -17,7 +17,7 @@ use Rattle.hk_model.specs.declared.reaches.Reach.TheVariants.{Made, Param}
 use Rattle.hk_model.specs.declared.reaches.Change.{Change}
 use Rattle.hk_model.specs.WorldValue.{WorldValue}
 use Rattle.hk_model.specs.Reaches.{index_of, moment_of, is_handed}
-use Rattle.hk_model.specs.Changes.{hop_key, reach_key, is_at_most, BareChange, IsReason, IsExplained, AreExplained, AreChanges, bare_changes}
+use Rattle.hk_model.specs.Changes.{hop_key, reach_key, is_at_most, BareChange, IsReason, IsExplained, AreExplained, HasOneList, bare_changes}
 
 -- lists of numbers that come before each other are the same
 at_most_both : (a b : List ℕ) → is_at_most a b ≡ true → is_at_most b a ≡ true → a ≡ b
@@ -93,5 +93,5 @@ explained_once w lines (t ∷ ts) (x ∷ xs) (y ∷ ys) f g =
     λ i. first i ∷ rest i
 
 -- the changes of a history with their reasons
-pub one_list_of_changes : (w : WorldValue) (lines : List Line) (a b : List Change) → AreChanges w lines a → AreChanges w lines b → a ≡ b
+pub one_list_of_changes : (w : WorldValue) (lines : List Line) → HasOneList w lines
 one_list_of_changes w lines a b f g = explained_once w lines (bare_changes w lines) a b f g

@@ -123,3 +123,7 @@ pub record ListsChanges (w : WorldValue) (lines : List Line) : Type 0 where
   pub exactly : (k moment : ℕ) (call : Inc) (name : Name)
       → Contains (bare_changes w lines) (bare_change k call moment name) ↔ (IsConfinedCall w lines k call × IsChange w lines k call moment name)
   pub in_order : AreInOrder (bare_changes w lines)
+
+-- there is one list of the changes with their reasons at most
+abbrev pub HasOneList : WorldValue → List Line → Type 0
+HasOneList w lines = (a b : List Change) → AreChanges w lines a → AreChanges w lines b → a ≡ b

@@ -1,5 +1,5 @@
 -- What a line does to each object. docs/RULES.md, "Under a call".
-use Rattle.std.specs.Prelude.{◌≡◌, ◌==◌, ℕ, suc, Bool, true, false, not, List, [], slice_get, Option, Some, None, map}
+use Rattle.std.specs.Prelude.{◌≡◌, ◌<◌, ◌≤◌, ◌==◌, ℕ, suc, Bool, true, false, not, List, [], slice_get, Option, Some, None, map}
 use Rattle.std.specs.Map.{lookup}
 use Rattle.hk_model.specs.declared.names.Name.{Name}
 use Rattle.hk_model.specs.declared.names.Inc.{Inc}
@@ -80,3 +80,11 @@ abbrev pub LeavesOthers : WorldValue → List Line → Type 0
 LeavesOthers w lines =
     (moment : ℕ) (line : Line) → slice_get lines moment ≡ Some line → (name : Name)
     → Becomes (state_at w lines moment) line (state_at w lines (suc moment)).objects name
+
+-- from a moment to a later one: an object that still stands has kept its type, its code and its parameters, and one that has gone
+-- does not come again
+pub record NamesLast (w : WorldValue) (lines : List Line) : Type 0 where
+  pub kinds : (early late : ℕ) (name : Name) (before after : Object) → early ≤ late
+      → there (state_at w lines early).objects name ≡ Some before → there (state_at w lines late).objects name ≡ Some after → IsSameKind before after
+  pub gone : (early late : ℕ) (name : Name) → early ≤ late → name.0 < (state_at w lines early).next_name.0
+      → there (state_at w lines early).objects name ≡ None → there (state_at w lines late).objects name ≡ None

@@ -189,8 +189,3 @@ IsWritable s inc c (EntryOf name index) = ((makes_object c ≡ true) × (name �
 pub record IsWrittenBy (s : State) (inc : Inc) (c : Call) (t : State) : Type 0 where
   pub entries : (p : Place) → Wrote s inc (standing s p) (way s inc c p) (standing t p)
   pub places : (p : Place) → IsSome (way s inc c p) → IsWritable s inc (Some c) p
-
--- what a line can have written, everywhere: the same upper bound, by which nothing comes but by its way and a place may become
--- empty
-abbrev pub IsWrittenByLine : State → Line → State → Type 0
-IsWrittenByLine s line t = (p : Place) → Wrote s line.inc (standing s p) (line_way s line p) (standing t p)

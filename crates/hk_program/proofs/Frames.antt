@@ -1,5 +1,6 @@
 -- What a turn and a reply leave of the frames of a process: frames of the world, and how many.
-use Rattle.std.specs.Prelude.{◌≡◌, ℕ, zero, suc, ◌+◌, ◌<◌, ◌≤◌, ◌==◌, List, [], ◌∷◌, length, Bool, true, false, Option, Some, None, nat_lt, slice_get, slice_set, IfSome, refl, if◌then◌else◌}
+use Rattle.std.specs.Prelude.{◌≡◌, ℕ, zero, suc, ◌+◌, ◌<◌, ◌≤◌, ◌==◌, List, [], ◌∷◌, length, Bool, true, false, Option, Some, None, nat_lt, slice_get, slice_set, IfSome, refl}
+use Rattle.std.specs.Prelude.{if◌then◌else◌}
 use Rattle.std.specs.List.{AllByRecursion}
 use Rattle.std.proofs.Common.{arith, ◌∙◌}
 use Rattle.std.proofs.lemmas.Bool.Decides.{nat_tests}
@@ -15,7 +16,8 @@ use Rattle.hk_model.specs.declared.instructions.Instr.TheVariants as instr
 use Rattle.hk_model.specs.declared.world.Code.{Code}
 use Rattle.hk_model.specs.Limits.{local_limit}
 use Rattle.hk_model.specs.WorldValue.{WorldValue, IsInstr, IsCode}
-use Rattle.hk_model.specs.Control.{Context, Meaning, Calls, Local, meaning, here, next_from, next, after, frames_after, behind, with_word, steps_of, step_over, go_to, operand, target_register}
+use Rattle.hk_model.specs.Control.{Context, Meaning, Calls, Local, meaning, here, next_from, next, after, frames_after, behind, with_word, steps_of, step_over, go_to, operand}
+use Rattle.hk_model.specs.Control.{target_register}
 use Rattle.hk_model.proofs.Standing.{on_cond}
 use Rattle.hk_program.specs.Contexts.{IsFrame, AreFrames}
 
@@ -108,12 +110,14 @@ kept_frames w (call.Leave give) Done [] h = h
 kept_frames w (call.Leave give) Done (f ∷ rest) h = h.1
 kept_frames w c reply frames h = h
 
-code_frames : (w : WorldValue) (c : Call) (reply : Reply) (code : Option ℕ) (frames : Context) → IfSome code (λ n. n < length w.codes) → AreFrames w frames → AreFrames w (frames_after c reply code frames)
+code_frames : (w : WorldValue) (c : Call) (reply : Reply) (code : Option ℕ) (frames : Context) → IfSome code (λ n. n < length w.codes) → AreFrames w frames
+    → AreFrames w (frames_after c reply code frames)
 code_frames w c reply None frames g h = kept_frames w c reply frames h
 code_frames w c reply (Some n) frames g h = ((g, omega arith), h)
 
 -- a reply leaves frames of the world, where an entered code is one of the world
-pub after_frames : (w : WorldValue) (frames : Context) (c : Call) (reply : Reply) (code : Option ℕ) → IfSome code (λ n. n < length w.codes) → AreFrames w frames → AreFrames w (after w frames c reply code)
+pub after_frames : (w : WorldValue) (frames : Context) (c : Call) (reply : Reply) (code : Option ℕ) → IfSome code (λ n. n < length w.codes) → AreFrames w frames
+    → AreFrames w (after w frames c reply code)
 unfolding after
 after_frames w [] c reply code g h = tt
 after_frames w (f ∷ rest) c reply code g h = code_frames w c reply code (behind w f reply ∷ rest) g (behind_frame w f reply h.0, h.1)

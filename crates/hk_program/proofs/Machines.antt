@@ -42,7 +42,8 @@ pub after_snoc : (w : WorldValue) (m : Machine) (lines : List Line) (line : Line
 after_snoc w m [] line = refl
 after_snoc w m (x ∷ lines) line = after_snoc w (moved w m x.cpu) lines line
 
-steps_more : (w : WorldValue) (m : Machine) (lines : List Line) (line : Line) → AreSteps w m lines → line_of w (after_lines w m lines) line.cpu ≡ Some line → AreSteps w m (lines ++ line ∷ [])
+steps_more : (w : WorldValue) (m : Machine) (lines : List Line) (line : Line) → AreSteps w m lines → line_of w (after_lines w m lines) line.cpu ≡ Some line
+    → AreSteps w m (lines ++ line ∷ [])
 steps_more w m [] line h e = (e, tt)
 steps_more w m (x ∷ lines) line h e = (h.0, steps_more w (moved w m x.cpu) lines line h.1 e)
 
@@ -51,7 +52,8 @@ pub record IsLonger (w : WorldValue) (lines : List Line) (line : Line) (new : Ma
   pub steps : AreStepsOf w (lines ++ line ∷ [])
   pub is : new ≡ after_lines w (opened w) (lines ++ line ∷ [])
 
-pub steps_snoc : (w : WorldValue) (lines : List Line) (m : Machine) (cpu : Cpu) (line : Line) (new : Machine) → AreStepsOf w lines → m ≡ after_lines w (opened w) lines → step w m cpu ≡ Some (line, new) → IsLonger w lines line new
+pub steps_snoc : (w : WorldValue) (lines : List Line) (m : Machine) (cpu : Cpu) (line : Line) (new : Machine) → AreStepsOf w lines → m ≡ after_lines w (opened w) lines
+    → step w m cpu ≡ Some (line, new) → IsLonger w lines line new
 steps_snoc w lines m cpu line new h is e = record {
   steps = steps_more w (opened w) lines line h (subst (λ (k : Machine). line_of w k line.cpu ≡ Some line) is there);
   is = sym goes ∙ ap (λ (k : Machine). moved w k line.cpu) is ∙ sym (after_snoc w (opened w) lines line);
@@ -99,11 +101,13 @@ pub sound_frames : (w : WorldValue) (m : Machine) (proc : Proc) → IsSound w m 
 sound_frames w m proc h = (context_fits w m proc (sound_kept w m h)).0
 
 -- the code of an entered procedure is one of the world
-pub sound_code : (w : WorldValue) (m : Machine) (proc : Proc) (c : Call) (reply : Reply) → IsSound w m → IfSome (entered_code m.state (process m.state proc).current c reply) (λ code. code < length w.codes)
+pub sound_code : (w : WorldValue) (m : Machine) (proc : Proc) (c : Call) (reply : Reply) → IsSound w m
+    → IfSome (entered_code m.state (process m.state proc).current c reply) (λ code. code < length w.codes)
 sound_code w m proc c reply h = entered_is_code w m.state (process m.state proc).current c reply (sound_kept w m h).regular
 
 -- and there is room for its frame
-pub sound_room : (w : WorldValue) (m : Machine) (proc : Proc) (c : Call) → IsSound w m → IfSome (entered_code m.state (process m.state proc).current c (rule m.state proc c).0) (λ code. length (context_of m proc) < 64)
+pub sound_room : (w : WorldValue) (m : Machine) (proc : Proc) (c : Call) → IsSound w m
+    → IfSome (entered_code m.state (process m.state proc).current c (rule m.state proc c).0) (λ code. length (context_of m proc) < 64)
 sound_room w m proc c h = by (entered_code m.state (process m.state proc).current c (rule m.state proc c).0) (entered_room m.state proc c)
   where
     by : (o : Option ℕ) → IfSome o (λ code. depth m.state proc < depth_limit) → IfSome o (λ code. length (context_of m proc) < 64)
@@ -164,7 +168,8 @@ context_there (x ∷ xs) (suc p) zero new h = refl
 context_there (x ∷ xs) (suc p) (suc q) new h = context_there xs p q new (λ e. h (ap suc e))
 
 -- nor does a step of another processor change the context of the process that this one runs
-pub other_context : (w : WorldValue) (m : Machine) (cpu other : Cpu) (proc : Proc) → (cpu.0 ≡ other.0 → ⊥) → runner m.state cpu ≡ Some proc → context_of (moved w m other) proc ≡ context_of m proc
+pub other_context : (w : WorldValue) (m : Machine) (cpu other : Cpu) (proc : Proc) → (cpu.0 ≡ other.0 → ⊥) → runner m.state cpu ≡ Some proc
+    → context_of (moved w m other) proc ≡ context_of m proc
 other_context w m cpu other proc apart here =
     moved_by w m other (λ k. context_of k proc ≡ context_of m proc) refl (record {
       none = tt;

@@ -21,12 +21,16 @@ use Rattle.hk_model.proofs.Steps.{proc_line, given_to}
 -- what is to hold of a step, by the kinds of events
 pub record ByEvent (w : WorldValue) (m : Machine) (cpu : Cpu) (Q : Option (Line × Machine) → Type 0) : Type 0 where
   pub none : Q None
-  pub calls : (proc : Proc) (c : Call) (frames : Context) → may_step m.state ≡ true → runner m.state cpu ≡ Some proc → next w (context_of m proc) ≡ (Do c, frames) → Q (Some (event w m cpu proc (Do c, frames)))
-  pub halts : (proc : Proc) (frames : Context) → may_step m.state ≡ true → runner m.state cpu ≡ Some proc → next w (context_of m proc) ≡ (Halt, frames) → Q (Some (event w m cpu proc (Halt, frames)))
-  pub dispatches : (first : Proc) (rest : List Proc) → may_step m.state ≡ true → m.state.ready ≡ first ∷ rest → Q (Some (proc_line m.state cpu first what.Dispatch Done, record m { state = given_to m.state cpu first rest }))
+  pub calls : (proc : Proc) (c : Call) (frames : Context) → may_step m.state ≡ true → runner m.state cpu ≡ Some proc → next w (context_of m proc) ≡ (Do c, frames)
+      → Q (Some (event w m cpu proc (Do c, frames)))
+  pub halts : (proc : Proc) (frames : Context) → may_step m.state ≡ true → runner m.state cpu ≡ Some proc → next w (context_of m proc) ≡ (Halt, frames)
+      → Q (Some (event w m cpu proc (Halt, frames)))
+  pub dispatches : (first : Proc) (rest : List Proc) → may_step m.state ≡ true → m.state.ready ≡ first ∷ rest
+      → Q (Some (proc_line m.state cpu first what.Dispatch Done, record m { state = given_to m.state cpu first rest }))
 
 module _ (w : WorldValue) (m : Machine) (cpu : Cpu) (Q : Option (Line × Machine) → Type 0) (each : ByEvent w m cpu Q) where
-  of_process : (proc : Proc) (todo : Todo × Context) → may_step m.state ≡ true → runner m.state cpu ≡ Some proc → next w (context_of m proc) ≡ todo → Q (Some (event w m cpu proc todo))
+  of_process : (proc : Proc) (todo : Todo × Context) → may_step m.state ≡ true → runner m.state cpu ≡ Some proc → next w (context_of m proc) ≡ todo
+      → Q (Some (event w m cpu proc todo))
   of_process proc (Do c, frames) may r e = each.calls proc c frames may r e
   of_process proc (Halt, frames) may r e = each.halts proc frames may r e
 

@@ -23,7 +23,7 @@ module _ {T E : Type 0} (stands : T → List E → Type 0) (owner : E → ℕ) (
       → Fits owner (list ++ more) seats top u
   fits_longer list more top number u mine other h = record {
     goes_on = goes_further owner u.number u.seen list more h.goes_on (λ k d l is. other (sym is ∙ mine k d l));
-    told = λ k d l. prefix_longer _ _ more (h.told k d l);
+    lists_told = λ k d l. prefix_longer _ _ more (h.lists_told k d l);
     known = omega (arith, h.known, length-append list more);
     seats_are = h.seats_are;
     below = h.below;
@@ -43,7 +43,7 @@ module _ {T E : Type 0} (stands : T → List E → Type 0) (owner : E → ℕ) (
         tt,
         record {
           list = list;
-          held = 0;
+          held_count = 0;
           maker = r.maker;
           holder = 0;
           top = r.top;
@@ -60,7 +60,7 @@ module _ {T E : Type 0} (stands : T → List E → Type 0) (owner : E → ℕ) (
           fits = each_set (λ i u. 0 < u.weight → Fits owner list seats r.top u) s.views id w
               (λ _. record {
                 goes_on = goes_nowhere owner v.number list;
-                told = subst (λ l. All (λ t. IsPrefix t l) v.told) (sym grown) (λ i d l. prefix_longer _ _ more (fit.told i d l));
+                lists_told = subst (λ l. All (λ t. IsPrefix t l) v.lists_told) (sym grown) (λ i d l. prefix_longer _ _ more (fit.lists_told i d l));
                 known = (let l = fit.known in let e : length list ≡ length r.list + length more = ap length grown ∙ length-append r.list more in omega arith);
                 seats_are = fit.seats_are;
                 below = fit.below;

@@ -32,7 +32,7 @@ module _ {T E : Type 0} (stands : T → List E → Type 0) (owner : E → ℕ) (
         (λ is. true≢false (sym h ∙ (ap (λ (y : View E). y.holds) (one_there s.views i other z u is e there) ∙ free'))),
       ) in record {
         list = r.list;
-        held = r.held;
+        held_count = r.held_count;
         maker = sit.0;
         holder = r.holder;
         top = r.top;
@@ -42,8 +42,8 @@ module _ {T E : Type 0} (stands : T → List E → Type 0) (owner : E → ℕ) (
         away = r.away;
         seated = sit.1;
         holding = record {
-          each = each_set (λ i z. z.holds ≡ true → HoldsTurn r.list r.held r.holder i z) mid other spent_view (λ no. absurd (true≢false (sym no)))
-              (λ j z _ e. each_set (λ i z. z.holds ≡ true → HoldsTurn r.list r.held r.holder i z) s.views id w (λ h. absurd (true≢false (sym h ∙ free)))
+          each = each_set (λ i z. z.holds ≡ true → HoldsTurn r.list r.held_count r.holder i z) mid other spent_view (λ no. absurd (true≢false (sym no)))
+              (λ j z _ e. each_set (λ i z. z.holds ≡ true → HoldsTurn r.list r.held_count r.holder i z) s.views id w (λ h. absurd (true≢false (sym h ∙ free)))
               (λ k y _ f. r.holding.each k y f) j z e);
           someone =
               λ h. let k = r.holding.someone h in let out = apart_from r.holder k.0 k.1 k.2
@@ -55,9 +55,9 @@ module _ {T E : Type 0} (stands : T → List E → Type 0) (owner : E → ℕ) (
               goes_on =
                   goes_longer_if owner v.number v.seen u.seen r.list mine.goes_on (prefix_of_goes owner u.number u.seen r.list theirs.goes_on)
                   (nat_lt (length v.seen) (length u.seen)) refl;
-              told =
-                  All-cons (λ (t : List E). IsPrefix t r.list) v.seen (u.seen ∷ v.told) (prefix_of_goes owner v.number v.seen r.list mine.goes_on)
-                  (All-cons (λ (t : List E). IsPrefix t r.list) u.seen v.told (prefix_of_goes owner u.number u.seen r.list theirs.goes_on) mine.told);
+              lists_told =
+                  All-cons (λ (t : List E). IsPrefix t r.list) v.seen (u.seen ∷ v.lists_told) (prefix_of_goes owner v.number v.seen r.list mine.goes_on)
+                  (All-cons (λ (t : List E). IsPrefix t r.list) u.seen v.lists_told (prefix_of_goes owner u.number u.seen r.list theirs.goes_on) mine.lists_told);
               known = max-le mine.known theirs.known;
               seats_are = mine.seats_are;
               below = mine.below;

@@ -21,7 +21,7 @@ module _ {T E : Type 0} (stands : T → List E → Type 0) (owner : E → ℕ) (
       → Fits owner r.list seats r.top w → Rule record { words = set s.words 0 (get_or s.words 0 0); homes = s.homes; views = set s.views id w }
   view_change_keeps_rule s r id v w at number weighs made holds found some_weight fits = record {
     list = r.list;
-    held = r.held;
+    held_count = r.held_count;
     maker = r.maker;
     holder = r.holder;
     top = r.top;
@@ -31,7 +31,7 @@ module _ {T E : Type 0} (stands : T → List E → Type 0) (owner : E → ℕ) (
     away = r.away;
     seated = seated_set seats r.top r.maker s.views id v w at number weighs made some_weight r.seated;
     holding = record {
-      each = each_set (λ i u. u.holds ≡ true → HoldsTurn r.list r.held r.holder i u) s.views id w
+      each = each_set (λ i u. u.holds ≡ true → HoldsTurn r.list r.held_count r.holder i u) s.views id w
           (λ h. let k = r.holding.each id v at (sym holds ∙ h) in (k.0, k.1, found ∙ k.2, omega arith)) (λ j u _ e. r.holding.each j u e);
       someone = λ h. let k = r.holding.someone h in dite (ℕ_discrete r.holder id)
           (λ is. (

@@ -16,8 +16,10 @@ pub returns-then-not-is_empty-clause-counted : goal.returns-then-not-is_empty-cl
 returns-then-not-is_empty-clause-counted c =
     let spare : List Name = c.args.spare.now.keys in
     let all : List (Name × Object) = c.insert.new.objects.entries in
-    let left : c.retain.new.self.entries ≡ of_set (passing c.args.name (is_none_of spare)) all = filter_same_pairs _ (λ (e : Name × Object). passing c.args.name (is_none_of spare) e.0) _ (λ k v b w f' t. search rules) _ _ c.retain.ensures.filtered in
-    let moved = parted_moved c.insert.new.counts c.release_spare.new.counts (passing c.args.name (is_none_of spare)) (goes c.args.name spare) all (λ m. refl) c.release_spare.ensures in
+    let left : c.retain.new.self.entries ≡ of_set (passing c.args.name (is_none_of spare)) all =
+    filter_same_pairs _ (λ (e : Name × Object). passing c.args.name (is_none_of spare) e.0) _ (λ k v b w f' t. search rules) _ _ c.retain.ensures.filtered in
+    let moved =
+    parted_moved c.insert.new.counts c.release_spare.new.counts (passing c.args.name (is_none_of spare)) (goes c.args.name spare) all (λ m. refl) c.release_spare.ensures in
     subst (λ (es : List (Name × Object)). Moved c.args.counts.now c.release_spare.new.counts (inner_names es) (inner_names c.args.objects.now.entries)) (sym left)
     (through c.args.counts.now c.insert.new.counts c.release_spare.new.counts (inner_names c.args.objects.now.entries) (inner_names all) (inner_names (of_set (passing c.args.name (is_none_of spare)) all)) c.in_ok-insert.ensures.counted moved)
 
