@@ -24,7 +24,7 @@ use Rattle.hk_model.specs.declared.lines.Line.{Line}
 use Rattle.hk_model.specs.Labels.{between, first, is_digit, is_lower, is_word, same_text}
 use Rattle.hk_format.specs.Pieces.{Piece, Word, Upper, Dash, Number, Path, piece_of, is_piece, is_index, spell, spell_index, is_number, value, is_upper}
 use Rattle.hk_format.specs.Operands.{path_piece, slot_piece, rights_piece, rights_set_piece}
-use Rattle.hk_format.specs.RightsTexts.{rights_of, rights_text}
+use Rattle.hk_format.specs.RightsTexts.{rights_spelled, rights_text}
 use Rattle.hk_format.specs.Syntax.{IsRightsText}
 use Rattle.hk_format.specs.LineReading.{inc_bound, widened, wide_pieces, halves}
 use Rattle.hk_format.specs.AuditLines.{arrow, call_pieces, what_pieces, full_word, reply_pieces, event_pieces}
@@ -35,8 +35,9 @@ use Rattle.hk_format.proofs.ItemsGood.{rights_good}
 use Rattle.hk_format.proofs.LineAgain.{same_is}
 use Rattle.hk_format.proofs.PieceAgain.{is_name_byte, names_bytes, digits_number, value_decimal, number_again, number_large, piece_again}
 use Rattle.hk_format.proofs.RightsAgain.{rights_again}
-use Rattle.hk_audit.specs.Seen.{is_numeral, numeral_of, is_index_numeral, indices_of, path_of, rights_spelled, seen}
-use Rattle.hk_audit.proofs.DigitTexts.{numeral_text}
+use Rattle.hk_text.specs.Numerals.{is_numeral, numeral_of}
+use Rattle.hk_audit.specs.Seen.{is_index_numeral, indices_of, path_of, canonical_rights, seen}
+use Rattle.hk_text.proofs.NumeralTexts.{numeral_decimal, numeral_again}
 use Rattle.hk_audit.proofs.Spelled.{same_self}
 use Rattle.hk_audit.proofs.SeenForms.{seen_numeral, seen_path_of, seen_spelled}
 use Rattle.hk_audit.proofs.LinesAgain.{right_among}
@@ -51,20 +52,6 @@ pub record Clear (p : Piece) : Type 0 where
   pub wide : widened (spell p) (piece_of (spell p)) ≡ Ok p
 
 -- numbers
-
-zero_text : decimal 0 ≡ 48 ∷ []
-zero_text = numeral_text (48 ∷ []) refl (omega arith)
-
-pub numeral_decimal : (n : ℕ) → n < 2 ^ 64 → is_numeral (decimal n) ≡ true
-numeral_decimal zero h = rw zero_text refl
-numeral_decimal (suc n) h = go (decimal (suc n)) (digits_number (suc n) h) (first_decimal (suc n) (omega arith) h)
-  where
-    go : (ds : List ℕ) → is_number ds ≡ true → 48 < get_or ds 0 0 → is_numeral ds ≡ true
-    go [] k e = absurd (false≢true k)
-    go (d ∷ ds) k e = let other : eqb d 48 ≡ false = grind (arith, nat_tests) in rw (k, other) refl
-
-pub numeral_again : (n : ℕ) → n < 2 ^ 64 → numeral_of (decimal n) ≡ Some n
-numeral_again n h = rw (numeral_decimal n h, value_decimal n h, lt-ltb n inc_bound h) refl
 
 digits_of : (n : ℕ) → n < 2 ^ 64 → list_all is_digit (decimal n) ≡ true
 digits_of n h = (and_parts (is_digit (first (decimal n))) (list_all is_digit (decimal n)) (digits_number n h)).1
@@ -175,7 +162,7 @@ rights_piece_good t h = go (same_text t (codes "-")) h
 pub clear_rights : (w : ℕ) → IsRightsWord w → Clear (rights_set_piece w)
 clear_rights w word =
     let text = spelled_rights (rights_text w) in
-    let spelled : rights_spelled (rights_text w) ≡ Some w = rw (rights_again w word, same_self (rights_text w)) refl in
+    let spelled : canonical_rights (rights_text w) ≡ Some w = rw (rights_again w word, same_self (rights_text w)) refl in
     record {
       seen = ap seen text ∙ seen_spelled (rights_text w) w spelled;
       plain = rw text (rights_plain (rights_text w) (rights_good w word));
@@ -186,7 +173,7 @@ IsClearName : ℕ → Type 0
 IsClearName n = (seen (name_of n) ≡ Upper (name_of n)) × (list_all is_plain (name_of n) ≡ true) × (is_upper (name_of n) ≡ true)
 
 all_clear : AllByRecursion IsClearName right_numbers
-unfolding IsClearName seen right_table right_numbers number_named name_of rights_of rights_text
+unfolding IsClearName seen right_table right_numbers number_named name_of rights_spelled rights_text
 all_clear = ((refl, refl, refl), ((refl, refl, refl), ((refl, refl, refl), ((refl, refl, refl), ((refl, refl, refl), ((refl, refl, refl), ((refl, refl, refl), ((refl, refl, refl), ((refl, refl, refl), ((refl, refl, refl), ((refl, refl, refl), ((refl, refl, refl), ((refl, refl, refl), ((refl, refl, refl), ((refl, refl, refl), ((refl, refl, refl), ((refl, refl, refl), ((refl, refl, refl), ((refl, refl, refl), tt)))))))))))))))))))
 
 clear_right : (n : ℕ) → IsTrue (is_right n) → Clear (Upper (name_of n))

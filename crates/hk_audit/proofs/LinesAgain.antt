@@ -24,7 +24,7 @@ use Rattle.hk_format.specs.Pieces.{Piece, Word, Upper, Dash, Number}
 use Rattle.hk_format.specs.Operands.{path_piece, slot_piece, rights_set_piece}
 use Rattle.hk_format.specs.declared.causes.ParseCause.{ParseCause}
 use Rattle.hk_format.specs.Reading.{Reads, ◌>>=◌, onward, taken, wanted, at_most, end}
-use Rattle.hk_format.specs.RightsTexts.{rights_of, rights_text}
+use Rattle.hk_format.specs.RightsTexts.{rights_spelled, rights_text}
 use Rattle.hk_format.specs.Forms.{as_word, as_number_below}
 use Rattle.hk_format.specs.LineReading.{is_number_index, index_number, as_path, as_any_slot, as_rights_set, as_right, as_word32, as_full, what_of, reply_line, event_line, line_with, inc_bound}
 use Rattle.hk_format.specs.AuditLines.{what_pieces, full_word, reply_pieces, event_pieces}
@@ -55,12 +55,12 @@ below_again : (bound n : ℕ) → n < bound → as_number_below bound (Number n)
 below_again bound n h = rw (lt-ltb n bound h) refl
 
 rights_set_again : (w : ℕ) → IsRightsWord w → as_rights_set (rights_set_piece w) ≡ Ok w
-unfolding rights_of
+unfolding rights_spelled
 rights_set_again w word = go (same_text (rights_text w) (codes "-")) refl (rights_again w word)
   where
-    go : (b : Bool) → same_text (rights_text w) (codes "-") ≡ b → rights_of (rights_text w) ≡ Some w → as_rights_set (cond b Dash (Upper (rights_text w))) ≡ Ok w
+    go : (b : Bool) → same_text (rights_text w) (codes "-") ≡ b → rights_spelled (rights_text w) ≡ Some w → as_rights_set (cond b Dash (Upper (rights_text w))) ≡ Ok w
     go true e k =
-        let zero : ◌≡◌ {A = Option ℕ} (Some 0) (Some w) = ap rights_of (sym (same_is (rights_text w) (codes "-") e)) ∙ k in
+        let zero : ◌≡◌ {A = Option ℕ} (Some 0) (Some w) = ap rights_spelled (sym (same_is (rights_text w) (codes "-") e)) ∙ k in
         let same : 0 ≡ w = cc in ap Ok same
     go false e k = rw k refl
 

@@ -17,7 +17,7 @@ use Rattle.hk_model.specs.declared.lines.Line.{Line}
 use Rattle.hk_model.specs.Labels.{between, same_text}
 use Rattle.hk_format.specs.Pieces.{Piece, Word, Upper, Dash, Number, Path, piece_of, is_number, is_piece, is_index, value, spell}
 use Rattle.hk_format.specs.Reading.{Found, Reads}
-use Rattle.hk_format.specs.RightsTexts.{rights_of}
+use Rattle.hk_format.specs.RightsTexts.{rights_spelled}
 use Rattle.hk_format.specs.Forms.{as_number_below, slot_numbered}
 use Rattle.hk_format.specs.LineReading.{inc_bound, is_number_index, index_number, set_found, as_path, as_any_slot, as_rights_set, as_right, as_word32, event_line, reply_line, line_with, widened, wide_pieces, Halves, halves, kept, read_by, applied, from_halves, guess, if_spelled, read_body}
 use Rattle.hk_format.specs.Texts.{piece_onto}
@@ -171,7 +171,7 @@ rights_value (Word u) x e = cc
 rights_value (Number n) x e = cc
 rights_value (Path steps) x e = cc
 rights_value Dash x e = let same : 0 ≡ x = cc in subst IsRightsWord same refl
-rights_value (Upper u) x e = rights_word u x (rw (found_some (rights_of u) x e) refl)
+rights_value (Upper u) x e = rights_word u x (rw (found_some (rights_spelled u) x e) refl)
 
 right_value : (p : Piece) (x : ℕ) → as_right p ≡ Ok x → IsTrue (is_right x)
 right_value (Word u) x e = cc

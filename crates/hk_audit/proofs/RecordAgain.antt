@@ -17,13 +17,13 @@ use Rattle.hk_format.specs.Texts.{is_line, is_none, ended_line, lines_of, spell_
 use Rattle.hk_format.specs.Spelling.{script_lines}
 use Rattle.hk_format.specs.Canonical.{canon, syntax_of}
 use Rattle.hk_format.specs.Verbs.{all_verbs}
-use Rattle.hk_format.specs.RightsTexts.{rights_of, rights_text}
+use Rattle.hk_format.specs.RightsTexts.{rights_spelled, rights_text}
 use Rattle.hk_format.specs.AuditLines.{arrow, event_pieces, reply_pieces, line_body}
 use Rattle.hk_format.specs.LineReading.{read_body}
 use Rattle.hk_format.specs.LineRanges.{IsLine}
 use Rattle.hk_format.specs.Worlds.{Refused, world, world_of}
 use Rattle.hk_format.specs.Records.{record_word, end_text, lines_text, record_text}
-use Rattle.hk_format.specs.Audits.{Audited, audit, audit_cut, audited, cut, cut_at_record, end_of, events, events_from, is_record, line_before}
+use Rattle.hk_format.specs.Audits.{Audited, audit, audit_cut, audited, cut, cut_at_record, end_spelled, events, events_from, is_record, line_before}
 use Rattle.hk_format.proofs.Cutting.{all_both, all_joined, all_weaker, none_of, split_at}
 use Rattle.hk_format.proofs.LineAgain.{same_is}
 use Rattle.hk_format.proofs.LinesGood.{lines_good}
@@ -84,7 +84,7 @@ audit_lines_unbroken (l ∷ lines) h = and_from _ _ (line_unbroken l h.0) (audit
 
 -- an end line is no audit line
 end_unread : (e : End) → read_body (end_text e) ≡ None
-unfolding piece_of all_verbs right_table right_numbers name_of number_named rights_text rights_of line_body read_body
+unfolding piece_of all_verbs right_table right_numbers name_of number_named rights_text rights_spelled line_body read_body
 end_unread end.Done = refl
 end_unread end.Stuck = refl
 end_unread end.Limit = refl
@@ -96,7 +96,7 @@ not_end l h e = go (same_text (line_body l) (end_text e)) refl
     go false s = refl
     go true s = let read = (read_body_is (end_text e) l).1 (h, same_is (line_body l) (end_text e) s) in let none = end_unread e in absurd (cc)
 
-no_end : (l : Line) → IsLine l → None ≡ end_of (line_body l)
+no_end : (l : Line) → IsLine l → None ≡ end_spelled (line_body l)
 no_end l h = rw (not_end l h end.Done, not_end l h end.Stuck, not_end l h end.Limit) refl
 
 -- what stands behind the line `record` tells the lines and the end word

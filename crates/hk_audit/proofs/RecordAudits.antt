@@ -7,11 +7,11 @@ use Rattle.hk_format.specs.Texts.{lines_of}
 use Rattle.hk_format.specs.Worlds.{Refused, world, world_of}
 use Rattle.hk_format.specs.Loading.{◌>>=◌}
 use Rattle.hk_format.specs.Audits.{Events, Audited, audit, audit_cut, audited, cut, cut_at_record, events_behind}
-use Rattle.hk_audit.specs.declared.record_errors.RecordError.{RecordError}
-use Rattle.hk_audit.specs.declared.record_errors.RecordError.TheVariants as read_error
+use Rattle.hk_format.specs.declared.errors.ReadError.{ReadError}
+use Rattle.hk_format.specs.declared.errors.ReadError.TheVariants as read_error
 use Rattle.hk_audit.specs.RecordCuts.{texts_of, behind_first}
 use Rattle.hk_audit.specs.RecordEvents.{GivesEvents}
-use Rattle.hk_audit.specs.RecordRefusals.{IsRefused}
+use Rattle.hk_format.specs.Outcomes.{IsRefused}
 
 -- the script, and what stands behind it
 pub record Parted (bytes script behind : List ℕ) : Type 0 where
@@ -40,7 +40,7 @@ behind_given : (bytes script behind : List ℕ) (w : WorldValue) → Parted byte
 behind_given bytes script behind w h good =
     audit_is bytes script behind h ∙ ap (λ r. r >>= behind_world script behind) (sym (world_is script) ∙ good)
 
-pub behind_refused : (bytes script behind : List ℕ) (w : WorldValue) (number : ℕ) (e : RecordError) → Parted bytes script behind → world script ≡ Ok w → number ≡ length (lines_of script)
+pub behind_refused : (bytes script behind : List ℕ) (w : WorldValue) (number : ℕ) (e : (ReadError Cause)) → Parted bytes script behind → world script ≡ Ok w → number ≡ length (lines_of script)
     → GivesEvents (Err e) (events_behind (number + 1) (behind_first behind)) → (line : ℕ) (cause : Cause) → e ≡ read_error.Refused line cause → audit bytes ≡ Err (line, cause)
 behind_refused bytes script behind w number read_error.NoMemory h good count given line cause e = absurd (cc)
 behind_refused bytes script behind w number (read_error.Refused at why) h good count given line cause e =
@@ -56,7 +56,7 @@ record_given bytes script behind w number found h good count given =
     behind_given bytes script behind w h good ∙ ap (λ r. r >>= λ found. Ok (audited w found)) (sym first ∙ given)
 
 -- an answer that is an error of a part
-pub of_error : {X : Type 0} (r : Result X RecordError) (e : RecordError) (given : Result Audited Refused) → IsErrAnd r (λ error. error ≡ e) → ((line : ℕ) (cause : Cause) → e ≡ read_error.Refused line cause → given ≡ Err (line, cause))
+pub of_error : {X : Type 0} (r : Result X (ReadError Cause)) (e : (ReadError Cause)) (given : Result Audited Refused) → IsErrAnd r (λ error. error ≡ e) → ((line : ℕ) (cause : Cause) → e ≡ read_error.Refused line cause → given ≡ Err (line, cause))
     → (line : ℕ) (cause : Cause) → IsRefused r line cause → given ≡ Err (line, cause)
 of_error (Ok x) e given h f line cause r = absurd h
 of_error (Err error) e given h f line cause r = let same : error ≡ read_error.Refused line cause = cc in f line cause (sym h ∙ same)

@@ -23,21 +23,13 @@ use Rattle.hk_format.specs.AuditLines.{full_word}
 use Rattle.hk_format.specs.LineRanges.{IsPathValue, IsAnySlot}
 use Rattle.hk_model.specs.WorldValue.{IsWord32}
 use Rattle.hk_format.proofs.LineAgain.{same_is}
-use Rattle.hk_audit.specs.Seen.{is_numeral, numeral_of, is_index_numeral, indices_of, path_of, rights_spelled, seen}
-use Rattle.hk_audit.proofs.DigitTexts.{numeral_text}
+use Rattle.hk_text.specs.Numerals.{is_numeral, numeral_of}
+use Rattle.hk_audit.specs.Seen.{is_index_numeral, indices_of, path_of, canonical_rights, seen}
+use Rattle.hk_text.proofs.NumeralTexts.{numeral_text, numeral_is}
 use Rattle.hk_audit.proofs.Spelled.{named_row}
 use Rattle.hk_audit.proofs.SeenForms.{spelled_is, seen_numeral, path_refused, several_taken, below_refused, word32_refused, slot_refused, rights_taken, rights_refused, right_taken, right_refused, seen_word, word_refused, not_word}
 use Rattle.hk_audit.proofs.Clear.{spelled_rights}
 use Rattle.hk_audit.proofs.Sound.{Fits, Forms, verb_is}
-
--- a number is of one text
-pub numeral_is : (t : List ℕ) (n : ℕ) → numeral_of t ≡ Some n → decimal n ≡ t
-numeral_is t n e = go (is_numeral t) (ltb (value t) inc_bound) refl refl e
-  where
-    go : (a b : Bool) → is_numeral t ≡ a → ltb (value t) inc_bound ≡ b → cond (a && b) (Some (value t)) None ≡ Some n → decimal n ≡ t
-    go true true j k h = let same : value t ≡ n = cc in subst (λ (m : ℕ). decimal m ≡ t) same (numeral_text t j (ltb-true (value t) inc_bound k))
-    go true false j k h = absurd (let none : None ≡ Some n = h in cc)
-    go false b j k h = absurd (let none : None ≡ Some n = h in cc)
 
 below_fits : (bound : ℕ) → bound ≤ 18446744073709551616 → Fits seen true ℕ (as_number_below bound) Number (λ n. n < bound)
 below_fits bound most = record { fits = all }
@@ -141,9 +133,9 @@ rights_fits : Fits seen true ℕ as_rights_set rights_set_piece IsRightsWord
 rights_fits = record { fits = all }
   where
     all : (t : List ℕ) (x : ℕ) → as_rights_set (seen t) ≡ Ok x → IsRightsWord x × (spell (rights_set_piece x) ≡ t)
-    all t x h = go (rights_spelled t) refl
+    all t x h = go (canonical_rights t) refl
       where
-        go : (o : Option ℕ) → rights_spelled t ≡ o → IsRightsWord x × (spell (rights_set_piece x) ≡ t)
+        go : (o : Option ℕ) → canonical_rights t ≡ o → IsRightsWord x × (spell (rights_set_piece x) ≡ t)
         go (Some w) e =
             let both : Ok w ≡ Ok x = sym (rights_taken t w e) ∙ h in
             let same : w ≡ x = cc in

@@ -14,14 +14,15 @@ use Rattle.hk_format.specs.Verbs.{verb_word, all_verbs}
 use Rattle.hk_model.specs.Labels.{between, first, is_lower, is_capital, is_digit, same_text}
 use Rattle.hk_format.specs.Pieces.{Piece, Word, Upper, Dash, Number, Path, value, is_upper}
 use Rattle.hk_format.specs.Operands.{rights_piece}
-use Rattle.hk_format.specs.RightsTexts.{rights_of, rights_text}
+use Rattle.hk_format.specs.RightsTexts.{rights_spelled, rights_text}
 use Rattle.hk_format.specs.Syntax.{IsRightsText}
 use Rattle.hk_format.specs.Forms.{as_verb, verb_found, as_number_below, as_word, slot_numbered}
 use Rattle.hk_format.specs.LineReading.{inc_bound, as_word32, as_any_slot, is_number_index, index_number, as_path, as_rights_set, as_right, set_found}
 use Rattle.hk_format.proofs.ItemsGood.{rights_good}
 use Rattle.hk_format.proofs.LineAgain.{same_is}
 use Rattle.hk_format.proofs.LoadGood.{rights_word}
-use Rattle.hk_audit.specs.Seen.{is_numeral, numeral_of, is_index_numeral, indices_of, path_of, if_canonical, rights_spelled, nothing, seen_rights, seen_path, seen_number, seen}
+use Rattle.hk_text.specs.Numerals.{is_numeral, numeral_of}
+use Rattle.hk_audit.specs.Seen.{is_index_numeral, indices_of, path_of, if_canonical, canonical_rights, nothing, seen_rights, seen_path, seen_number, seen}
 use Rattle.hk_audit.proofs.Spelled.{named_row}
 
 -- by cases on what a text spells
@@ -44,9 +45,9 @@ not_number form t word upper dash path e = rw e (by_path (path_of t))
     by_path (Some p) = path (map Fixed p)
     by_path None = go (is_lower (first t))
       where
-        go : (b : Bool) → form (cond b (Word t) (seen_rights t (rights_spelled t))) ≡ Err UnknownWord
+        go : (b : Bool) → form (cond b (Word t) (seen_rights t (canonical_rights t))) ≡ Err UnknownWord
         go true = word t
-        go false = by_rights (rights_spelled t)
+        go false = by_rights (canonical_rights t)
 
 -- a form that takes no rights and no word, of what is no number and no path
 pub not_path : {A : Type 0} (form : Piece → Result A ParseCause) (t : List ℕ) → ((x : List ℕ) → form (Word x) ≡ Err UnknownWord) → ((x : List ℕ) → form (Upper x) ≡ Err UnknownWord)
@@ -62,9 +63,9 @@ not_path form t word upper dash e f = rw (e, f) (go (is_lower (first t)))
         go false = upper t
     by_rights None = upper []
 
-    go : (b : Bool) → form (cond b (Word t) (seen_rights t (rights_spelled t))) ≡ Err UnknownWord
+    go : (b : Bool) → form (cond b (Word t) (seen_rights t (canonical_rights t))) ≡ Err UnknownWord
     go true = word t
-    go false = by_rights (rights_spelled t)
+    go false = by_rights (canonical_rights t)
 
 -- a number
 pub seen_numeral : (t : List ℕ) (n : ℕ) → numeral_of t ≡ Some n → seen t ≡ Number n
@@ -140,14 +141,14 @@ seen_path_of t p e f = rw (e, f) refl
 -- what the canonical spelling of a set is known to be
 pub record IsSpelling (t : List ℕ) (w : ℕ) : Type 0 where
   pub text : rights_text w ≡ t
-  pub meant : rights_of t ≡ Some w
+  pub meant : rights_spelled t ≡ Some w
   pub word : IsRightsWord w
   pub good : IsRightsText t
 
-pub spelled_is : (t : List ℕ) (w : ℕ) → rights_spelled t ≡ Some w → IsSpelling t w
-spelled_is t w e = go (rights_of t) refl e
+pub spelled_is : (t : List ℕ) (w : ℕ) → canonical_rights t ≡ Some w → IsSpelling t w
+spelled_is t w e = go (rights_spelled t) refl e
   where
-    go : (o : Option ℕ) → rights_of t ≡ o → if_canonical t o ≡ Some w → IsSpelling t w
+    go : (o : Option ℕ) → rights_spelled t ≡ o → if_canonical t o ≡ Some w → IsSpelling t w
     go None k h = absurd (let none : None ≡ Some w = h in cc)
     go (Some r) k h = by (same_text (rights_text r) t) refl h
       where
@@ -172,7 +173,7 @@ first_upper t h = go (same_text t (codes "-")) refl h
     go true e k = let same = same_is t (codes "-") e in rw same (refl, refl)
     go false e k = capital t k
 
-pub seen_spelled : (t : List ℕ) (w : ℕ) → rights_spelled t ≡ Some w → seen t ≡ rights_piece t
+pub seen_spelled : (t : List ℕ) (w : ℕ) → canonical_rights t ≡ Some w → seen t ≡ rights_piece t
 unfolding seen
 seen_spelled t w e =
     let known = spelled_is t w e in
@@ -180,12 +181,12 @@ seen_spelled t w e =
     let none = no_digit t first.0 in
     rw (none.0, none.1, first.1, e) refl
 
-none_meant : rights_of [] ≡ None
-unfolding rights_of number_named right_table
+none_meant : rights_spelled [] ≡ None
+unfolding rights_spelled number_named right_table
 none_meant = refl
 
-pub rights_taken : (t : List ℕ) (w : ℕ) → rights_spelled t ≡ Some w → as_rights_set (seen t) ≡ Ok w
-unfolding rights_of
+pub rights_taken : (t : List ℕ) (w : ℕ) → canonical_rights t ≡ Some w → as_rights_set (seen t) ≡ Ok w
+unfolding rights_spelled
 rights_taken t w e = rw (seen_spelled t w e) (go (same_text t (codes "-")) refl)
   where
     known : IsSpelling t w
@@ -193,12 +194,12 @@ rights_taken t w e = rw (seen_spelled t w e) (go (same_text t (codes "-")) refl)
 
     go : (b : Bool) → same_text t (codes "-") ≡ b → as_rights_set (cond b Dash (Upper t)) ≡ Ok w
     go true k =
-        let meant : ◌≡◌ {A = Option ℕ} (rights_of (codes "-")) (Some w) = sym (ap rights_of (same_is t (codes "-") k)) ∙ known.meant in
+        let meant : ◌≡◌ {A = Option ℕ} (rights_spelled (codes "-")) (Some w) = sym (ap rights_spelled (same_is t (codes "-") k)) ∙ known.meant in
         let zero : ◌≡◌ {A = Option ℕ} (Some 0) (Some w) = meant in
         let same : 0 ≡ w = cc in ap Ok same
     go false k = rw known.meant refl
 
-pub rights_refused : (t : List ℕ) → rights_spelled t ≡ None → as_rights_set (seen t) ≡ Err UnknownWord
+pub rights_refused : (t : List ℕ) → canonical_rights t ≡ None → as_rights_set (seen t) ≡ Err UnknownWord
 unfolding seen
 rights_refused t e = by_number (numeral_of t)
   where
@@ -220,7 +221,7 @@ IsSeen : Row → Type 0
 IsSeen row = seen row.0 ≡ Upper row.0
 
 all_seen : AllByRecursion IsSeen right_table
-unfolding IsSeen seen right_table right_numbers number_named name_of rights_of rights_text
+unfolding IsSeen seen right_table right_numbers number_named name_of rights_spelled rights_text
 all_seen = (refl, (refl, (refl, (refl, (refl, (refl, (refl, (refl, (refl, (refl, (refl, (refl, (refl, (refl, (refl, (refl, (refl, (refl, (refl, tt)))))))))))))))))))
 
 pub seen_right : (t : List ℕ) (n : ℕ) → number_named t ≡ Some n → seen t ≡ Upper t
@@ -252,9 +253,9 @@ right_refused t e = by_number (numeral_of t)
     by_path (Some p) = refl
     by_path None = go (is_lower (first t))
       where
-        go : (b : Bool) → as_right (cond b (Word t) (seen_rights t (rights_spelled t))) ≡ Err UnknownWord
+        go : (b : Bool) → as_right (cond b (Word t) (seen_rights t (canonical_rights t))) ≡ Err UnknownWord
         go true = refl
-        go false = by_rights (rights_spelled t)
+        go false = by_rights (canonical_rights t)
 
     by_number : (o : Option ℕ) → as_right (seen_number t o) ≡ Err UnknownWord
     by_number (Some n) = refl
@@ -276,7 +277,7 @@ not_word form t upper dash path number h = by_number (numeral_of t)
 
     by_path : (o : Option (List ℕ)) → form (seen_path t o) ≡ Err UnknownWord
     by_path (Some p) = path (map Fixed p)
-    by_path None = rw h (by_rights (rights_spelled t))
+    by_path None = rw h (by_rights (canonical_rights t))
 
     by_number : (o : Option ℕ) → form (seen_number t o) ≡ Err UnknownWord
     by_number (Some n) = number n

@@ -4,6 +4,5 @@ pub mod Names
 pub mod Refusals
 pub mod Events
 pub mod Halves
-pub mod RecordRefusals
 pub mod RecordCuts
 pub mod RecordEvents

@@ -7,16 +7,8 @@ use Rattle.hk_model.specs.Labels.{between, first, is_lower, same_text}
 use Rattle.hk_model.specs.Limits.{index_bound, path_limit}
 use Rattle.hk_format.specs.Pieces.{Piece, Word, Upper, Number, Path, is_number, value}
 use Rattle.hk_format.specs.Operands.{rights_piece}
-use Rattle.hk_format.specs.RightsTexts.{rights_of, rights_text}
-use Rattle.hk_format.specs.LineReading.{inc_bound}
-
--- a number without a leading zero
-abbrev pub is_numeral : List ℕ → Bool
-is_numeral t = is_number t && (not (first t == 48) || length t == 1)
-
--- the number that a text spells, below 2 ^ 64
-abbrev pub numeral_of : List ℕ → Option ℕ
-numeral_of t = if is_numeral t && nat_lt (value t) inc_bound then Some (value t) else None
+use Rattle.hk_format.specs.RightsTexts.{rights_spelled, rights_text}
+use Rattle.hk_text.specs.Numerals.{is_numeral, numeral_of}
 
 -- a number that an index of a path can be
 abbrev pub is_index_numeral : List ℕ → Bool
@@ -36,8 +28,8 @@ if_canonical t (Some rights) = if same_text (rights_text rights) t then Some rig
 if_canonical t None = None
 
 -- the set of rights that a text spells
-abbrev pub rights_spelled : List ℕ → Option ℕ
-rights_spelled t = if_canonical t (rights_of t)
+abbrev pub canonical_rights : List ℕ → Option ℕ
+canonical_rights t = if_canonical t (rights_spelled t)
 
 -- what no form takes
 abbrev pub nothing : Piece
@@ -51,7 +43,7 @@ seen_rights t None = nothing
 -- a path, or else a word, rights or nothing
 abbrev pub seen_path : List ℕ → Option (List ℕ) → Piece
 seen_path t (Some path) = Path (map Fixed path)
-seen_path t None = if is_lower (first t) then Word t else seen_rights t (rights_spelled t)
+seen_path t None = if is_lower (first t) then Word t else seen_rights t (canonical_rights t)
 
 -- a number, or something else
 abbrev pub seen_number : List ℕ → Option ℕ → Piece

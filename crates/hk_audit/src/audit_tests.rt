@@ -3,7 +3,8 @@
 
 ghost use Rattle.std.specs.Prelude.{◌<◌, ◌^◌, length};
 
-use crate::{Audit, RecordError, read_record, read_world};
+use crate::{Audit, RecordError, read_record};
+use hk_load::read_world;
 use hk_format::{Cause, LoadCause, ParseCause, TextCause};
 use hk_model::{Cpu, End, Inc, Line, Proc, Reply, What, World};
 use std::alloc::Global;

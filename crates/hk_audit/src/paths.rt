@@ -4,9 +4,9 @@ ghost use Rattle.std.specs.Prelude.{◌≡◌, Some, None, if◌then◌else◌};
 ghost use Rattle.hk_format.specs.Pieces.{value};
 ghost use Rattle.hk_audit.specs.Seen.{is_index_numeral, path_of};
 
-use crate::numerals::numeral;
 use crate::parts::Parts;
 use hk_model::Path;
+use hk_text::numeral;
 
 /// The path whose indices points join in the text. None where they are not two to eight numbers
 /// below 65,536.

@@ -4,8 +4,8 @@ ghost use Rattle.std.specs.Prelude.{◌≡◌, ◌==◌, false, Some, None, map,
 ghost use Rattle.std.specs.List.{filter, join_with_byte, slice_split};
 ghost use Rattle.hk_rights.specs.Rights.{has, IsRightsWord, name_of, number_named, right_numbers};
 ghost use Rattle.hk_model.specs.Labels.{same_text};
-ghost use Rattle.hk_format.specs.RightsTexts.{rights_of, rights_text, union_of};
-ghost use Rattle.hk_audit.specs.Seen.{rights_spelled};
+ghost use Rattle.hk_format.specs.RightsTexts.{rights_spelled, rights_text, union_of};
+ghost use Rattle.hk_audit.specs.Seen.{canonical_rights};
 ghost use Rattle.hk_audit.specs.Names.{same_texts};
 
 use crate::parts::Parts;
@@ -13,7 +13,7 @@ use hk_rights::{Right, Rights};
 
 /// The set of which the text is the canonical spelling, if there is one.
 pub fn rights_in(text: &[u8]) -> Option<Rights>
-    ensures { result ≡ rights_spelled text.now }
+    ensures { result ≡ canonical_rights text.now }
 {
     let rights = rights_meant(text)?;
     if is_spelling(rights, text) {
@@ -24,9 +24,9 @@ pub fn rights_in(text: &[u8]) -> Option<Rights>
 }
 
 // The set that the text means, in any spelling.
-#[tactic(auto, unfolding(hk_format::specs::RightsTexts::rights_of))]
+#[tactic(auto, unfolding(hk_format::specs::RightsTexts::rights_spelled))]
 fn rights_meant(text: &[u8]) -> Option<Rights>
-    ensures { result ≡ rights_of text.now }
+    ensures { result ≡ rights_spelled text.now }
 {
     if text == b"-".as_slice() {
         return Some(Rights::none());

@@ -1,9 +1,9 @@
 -- An incarnation is under a call as its caller is, but for the call itself; what a line enters and returns to.
-use Rattle.std.proofs.Common.{◌≡◌, ℕ, List, Bool, true, false, cond, Option, Some, None, refl, sym, ◌∙◌, ap, subst, arith}
+use Rattle.std.proofs.Common.{◌≡◌, ℕ, List, Bool, true, false, cond, Option, Some, None, sym, ◌∙◌, ap, subst, arith}
 use Rattle.std.specs.Prelude.{IsTrue, is_some, not, ◌⊎◌}
 use mathlib.Core.Logic.{inl, inr}
-use Rattle.std.specs.Option.{unwrap_or, option_and_then}
-use Rattle.std.specs.Map.{lookup, remove_entry}
+use Rattle.std.specs.Option.{option_and_then}
+use Rattle.std.specs.Map.{remove_entry}
 use Rattle.std.proofs.lemmas.Bool.{true≢false, false≢true}
 use Rattle.hk_model.specs.declared.names.Inc.{Inc}
 use Rattle.hk_model.specs.declared.names.Slot.{Slot}
@@ -12,7 +12,7 @@ use Rattle.hk_model.specs.declared.calls.Call.TheVariants as call
 use Rattle.hk_model.specs.declared.lines.Line.{Line}
 use Rattle.hk_model.specs.declared.objects.Incarnation.{Incarnation}
 use Rattle.hk_rights.specs.Rights.{has, unconf_right}
-use Rattle.hk_model.specs.State.{State, object, incarnation, same_inc, no_incarnation}
+use Rattle.hk_model.specs.State.{State, object, incarnation, same_inc}
 use Rattle.hk_model.specs.Places.{Place, SlotOf, EntryOf, rights_of, found, named_by}
 use Rattle.hk_model.specs.Lines.{done_call, enters_call, leaves_call}
 use Rattle.hk_model.specs.Ways.{Way, Inherited, call_way, way, line_way}
@@ -20,9 +20,9 @@ use Rattle.hk_model.proofs.Standing.{inc_laws}
 use Rattle.hk_model.proofs.NumbersRise.{NumbersRise}
 use Rattle.hk_model.proofs.CallPlaces.{GoesTo}
 use Rattle.hk_model.proofs.Activations.{look_up, Activation, activation, activations_in}
-use Rattle.hk_model.proofs.ActivationLists.{activation_live, activations_apart, left_found, halted_found}
+use Rattle.hk_model.proofs.ActivationLists.{activations_apart, left_found}
 use Rattle.hk_model.proofs.Stacks.{lived_before, caller_found}
-use Rattle.hk_model.proofs.Turns.{Turn, Still, Enter, Leave, Halt}
+use Rattle.hk_model.proofs.Turns.{Turn}
 use Rattle.hk_model.proofs.UnderLemmas.{some_is, is_some_of}
 use Rattle.hk_confine.proofs.Hands.{Calls}
 use Rattle.hk_confine.proofs.Doings.{IsEntered, HasDoneThat, call_way_calls, entered_called}

@@ -65,7 +65,8 @@ pub fn changes_law(world: &World, lines: &[Line])
 
 /// What the list of changes has (`docs/RULES.md`, "Changes and their reasons"): an item for a
 /// confined call, a line and an object exactly where the line is by an incarnation under that call
-/// and changes that object, so where the confinement law speaks of them.
+/// and changes that object, so where the confinement law speaks of them. The items stand by rising
+/// line, and for one line by rising number of the call; so none stands twice.
 ///
 /// `lines` are steps of `world` from its opening on, in the order of the history.
 pub fn listed_changes_law(world: &World, lines: &[Line])

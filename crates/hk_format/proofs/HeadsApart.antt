@@ -6,7 +6,7 @@ use Rattle.hk_format.specs.declared.syntax.Head.{Head}
 use Rattle.hk_format.specs.declared.syntax.Head.TheVariants.{LimitIs, TypeIs, ObjectIs, SemaphoreIs, ProcedureIs, CodeIs, ProcessIs}
 use Rattle.hk_format.specs.declared.syntax.Item.{Item}
 use Rattle.hk_model.specs.Labels.{are_apart}
-use Rattle.hk_format.specs.Canonical.{kernel_names}
+use Rattle.hk_format.specs.Names.{kernel_names}
 use Rattle.hk_format.specs.Grammar.{Seen, nothing_seen, is_new, noted}
 use Rattle.hk_format.specs.Syntax.{AreItems, IsHead, IsSyntax}
 use Rattle.hk_format.specs.Loading.{object_label, code_label}

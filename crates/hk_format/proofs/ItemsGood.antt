@@ -32,7 +32,8 @@ use Rattle.hk_model.specs.Labels.{same_text, is_word, is_word_byte, is_name, is_
 use Rattle.hk_model.specs.WorldValue.{WorldValue, IsWorld, IsObject, IsTypeOrAny, IsEntry, IsParam, IsKind, IsCode, IsTask, IsInstr, IsMaking, IsWord32}
 use Rattle.hk_format.specs.RightsTexts.{rights_text}
 use Rattle.hk_format.specs.Pieces.{is_upper, is_names, is_upper_byte}
-use Rattle.hk_format.specs.Canonical.{spoken, object_text, code_text, kind_text, part, item, entry_body, entry_parts, param_parts, number_bytes, words_from, word_lines, label_text, making_text, written_of, jumps_to, code_parts, object_item, kind_item, code_item, task_item, syntax_of}
+use Rattle.hk_format.specs.Names.{spoken, object_text, code_text}
+use Rattle.hk_format.specs.Canonical.{kind_text, part, item, entry_body, entry_parts, param_parts, number_bytes, words_from, word_lines, label_text, making_text, written_of, jumps_to, code_parts, object_item, kind_item, code_item, task_item, syntax_of}
 use Rattle.hk_format.specs.Grammar.{Seen, nothing_seen, is_among, is_new, noted}
 use Rattle.hk_format.specs.Syntax.{IsWordText, IsTypeText, IsRightsText, IsMakingText, IsWritten, IsHead, IsEntryBody, IsWordsLine, Belongs, AreParts, AreItems, IsSyntax}
 use Rattle.hk_format.proofs.RightsAgain.{word_of, word_again}

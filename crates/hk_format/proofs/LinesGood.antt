@@ -44,7 +44,8 @@ use Rattle.hk_format.specs.RightsTexts.{rights_text}
 use Rattle.hk_format.specs.Verbs.{verb_word, verb_piece}
 use Rattle.hk_format.specs.Operands.{register_piece, slot_piece, operand_piece, steps_piece, route_piece, type_piece, rights_piece, argument_pieces}
 use Rattle.hk_format.specs.Spelling.{written_pieces, body_pieces, head_pieces, has_parts, end_line, item_lines, script_lines}
-use Rattle.hk_format.specs.Canonical.{spoken, object_text, code_text, kind_text, part, item, entry_body, entry_parts, param_parts, number_bytes, words_from, word_parts, label_text, written_of, jumps_to, code_parts, object_item, kind_item, code_item, task_item, limit_items, syntax_of}
+use Rattle.hk_format.specs.Names.{spoken, object_text, code_text}
+use Rattle.hk_format.specs.Canonical.{kind_text, part, item, entry_body, entry_parts, param_parts, number_bytes, words_from, word_parts, label_text, written_of, jumps_to, code_parts, object_item, kind_item, code_item, task_item, limit_items, syntax_of}
 use Rattle.hk_format.specs.Syntax.{IsTypeText}
 use Rattle.hk_format.proofs.NamesAgain.{type_object}
 use Rattle.hk_format.proofs.LoadAgain.{plain_general}

@@ -24,9 +24,10 @@ use Rattle.hk_model.specs.declared.world.Code.{Code}
 use Rattle.hk_model.specs.declared.world.Task.{Task}
 use Rattle.hk_model.specs.Targets.{is_general}
 use Rattle.hk_model.specs.WorldValue.{WorldValue, world_value, IsWorld, IsCode, IsEntry, IsKind, IsParam, IsPlainType, IsTask, IsType}
-use Rattle.hk_format.specs.Canonical.{Spoken, spoken, kernel_names, part, item, entry_parts, param_parts, number_bytes, words_from, word_lines, word_parts, code_parts, object_item, kind_item, code_item, task_item, syntax_of}
+use Rattle.hk_format.specs.Names.{Names, spoken, kernel_names, kernel_flags}
+use Rattle.hk_format.specs.Canonical.{part, item, entry_parts, param_parts, number_bytes, words_from, word_lines, word_parts, code_parts, object_item, kind_item, code_item, task_item, syntax_of}
 use Rattle.hk_format.specs.Syntax.{placed_parts, placed_item, placed, lines_taken}
-use Rattle.hk_format.specs.Loading.{Names, Contents, contents, used, room, contents_of, Counts, counts, counted, with_object, labels_from, instrs_of, names_of, kernel_flags, object_label, is_type_head, code_label, item_of, items_of, load}
+use Rattle.hk_format.specs.Loading.{Contents, contents, used, room, contents_of, Counts, counts, counted, with_object, labels_from, instrs_of, names_of, object_label, is_type_head, code_label, item_of, items_of, load}
 use Rattle.hk_format.proofs.NamesAgain.{Known, is_type_object, type_again, code_again, entry_again, param_again}
 use Rattle.hk_format.proofs.CodesAgain.{Finds, finds_all, instrs_again, within_all}
 
@@ -145,12 +146,12 @@ sections f w none = go (eqb w.limit 10000)
     go true = simp (map-append, filter_map-append)
     go false = rw (none w.limit) (simp (map-append, filter_map-append))
 
-record HeadAgain (s : Spoken) (label : List ℕ) (k : Kind) : Type 0 where
+record HeadAgain (s : Names) (label : List ℕ) (k : Kind) : Type 0 where
   named : object_label (kind_item s label k).head ≡ Some label
   typed : is_type_head (kind_item s label k).head ≡ Some (is_type_object (record { label = label; kind = k }))
   coded : code_label (kind_item s label k).head ≡ None
 
-head_again : (s : Spoken) (label : List ℕ) (k : Kind) → HeadAgain s label k
+head_again : (s : Names) (label : List ℕ) (k : Kind) → HeadAgain s label k
 unfolding is_type_object
 head_again s label kind.TypeObject = record { named = refl; typed = refl; coded = refl }
 head_again s label (kind.Plain of words entries) = record { named = refl; typed = refl; coded = refl }

@@ -25,9 +25,10 @@ use Rattle.hk_model.specs.declared.world.Kind.TheVariants as kind
 use Rattle.hk_format.specs.declared.causes.LoadCause.{LoadCause}
 use Rattle.hk_format.specs.declared.causes.LoadCause.TheVariants.{UnknownName, WrongPart, TooMany, BadRights}
 use Rattle.hk_model.specs.Labels.{same_text}
-use Rattle.hk_format.specs.RightsTexts.{rights_of, right_of, both, union_of}
+use Rattle.hk_format.specs.RightsTexts.{rights_spelled, right_of, both, union_of}
 use Rattle.hk_model.specs.WorldValue.{WorldValue, IsEntry, IsParam, IsObject, IsType, IsTypeOrAny, IsTypeKind}
-use Rattle.hk_format.specs.Loading.{Refused, Names, ◌>>=◌, ◌>>◌, found, unless, limited, permitted, onto, object_named, type_named, kind_named, some_name, code_named, rights_named, name_numbered, kernel_flags, entry_of, param_of, parameter, held_entry, place, to_limit}
+use Rattle.hk_format.specs.Names.{Names, kernel_flags}
+use Rattle.hk_format.specs.Loading.{Refused, ◌>>=◌, ◌>>◌, found, unless, limited, permitted, onto, object_named, type_named, kind_named, some_name, code_named, rights_named, name_numbered, entry_meant, param_of, parameter, held_entry, place, to_limit}
 use Rattle.hk_format.proofs.NamesAgain.{is_type_object}
 
 -- a test that passed, and what came before it
@@ -99,8 +100,8 @@ union_word (t ∷ ts) r h = go (right_of t) refl (union_of ts) refl h (λ s e. u
 
 -- what a text of rights means is a set of rights
 pub rights_word : (t : List ℕ) (r : ℕ) → rights_named t ≡ Ok r → IsRightsWord r
-unfolding rights_of
-rights_word t r h = go (same_text t (codes "-")) (same_text t (codes "ALL")) (found_ok (rights_of t) BadRights r h)
+unfolding rights_spelled
+rights_word t r h = go (same_text t (codes "-")) (same_text t (codes "ALL")) (found_ok (rights_spelled t) BadRights r h)
   where
     go : (a b : Bool) → cond a (Some 0) (cond b (Some all_rights) (union_of (slice_split (λ c. c == 43) t))) ≡ Some r → IsRightsWord r
     go true b k = let same : 0 ≡ r = cc in subst IsRightsWord same refl
@@ -171,7 +172,7 @@ code_loaded {w} {names} fit t n h = go (place names.codes t) refl (found_ok (opt
 
 -- single lines
 
-pub entry_loaded : {w : WorldValue} {names : Names} → NamesFit w names → (body : Body) (e : Entry) → entry_of names body ≡ Ok e → IsEntry w e
+pub entry_loaded : {w : WorldValue} {names : Names} → NamesFit w names → (body : Body) (e : Entry) → entry_meant names body ≡ Ok e → IsEntry w e
 entry_loaded {w} {names} fit (CapEntry object rights) e h =
     let a = bind_ok (object_named names object) (λ n. rights_named rights >>= (λ r. Ok (held_entry n r))) e h in
     let b = bind_ok (rights_named rights) (λ r. Ok (held_entry a.0 r)) e a.2 in
@@ -186,7 +187,7 @@ entry_loaded {w} {names} fit (CreateEntry of give) e h =
     let b = bind_ok (rights_named give) (λ g. Ok (Form (template.Create (name_numbered a.0) g))) e a.2 in
     moved (IsEntry w) (Form (template.Create (name_numbered a.0) b.0)) e b.2 (type_loaded fit of a.0 a.1, rights_word give b.0 b.1)
 entry_loaded {w} fit EmptyEntry e h = moved (IsEntry w) Empty e h tt
-entry_loaded {w} fit b e h = moved (IsEntry w) Empty e h tt
+entry_loaded {w} fit _ e h = cc
 
 pub param_loaded : {w : WorldValue} {names : Names} → NamesFit w names → (kind check give : List ℕ) (p : Param) → param_of names kind check give ≡ Ok p → IsParam w p
 param_loaded {w} {names} fit kind check give p h =

@@ -21,8 +21,9 @@ use Rattle.hk_model.specs.Labels.{same_text, is_lower, is_name, is_word, is_regi
 use Rattle.hk_model.specs.WorldValue.{WorldValue, IsWorld, IsObject, IsType, IsTypeOrAny, IsTypeKind, IsEntry, IsParam}
 use Rattle.hk_format.specs.RightsTexts.{rights_text}
 use Rattle.hk_rights.specs.Rights.{IsRightsWord}
-use Rattle.hk_format.specs.Canonical.{spoken, kernel_names, object_text, code_text, kind_text, entry_body}
-use Rattle.hk_format.specs.Loading.{Names, object_named, type_named, kind_named, code_named, rights_named, kernel_flags, entry_of, param_of, place}
+use Rattle.hk_format.specs.Names.{Names, kernel_names, kernel_flags, is_type_kind, spoken, object_text, code_text}
+use Rattle.hk_format.specs.Canonical.{kind_text, entry_body}
+use Rattle.hk_format.specs.Loading.{object_named, type_named, kind_named, code_named, rights_named, entry_meant, param_of, place}
 use Rattle.hk_format.proofs.RightsAgain.{rights_again}
 
 pub same_self : (xs : List ℕ) → same_text xs xs ≡ true
@@ -86,15 +87,9 @@ names_front : (xs ys : List (List ℕ)) → AllByRecursion (λ l. IsTrue (is_nam
 names_front [] ys h = tt
 names_front (x ∷ xs) ys h = (h.0, names_front xs ys h.1)
 
--- of a label's object: it is a type
+-- the object is a type
 unfoldable pub is_type_object : Born → Bool
-is_type_object born = kind_type born.kind
-  where
-    kind_type : Kind → Bool
-    kind_type kind.TypeObject = true
-    kind_type (kind.Plain of words entries) = false
-    kind_type (kind.Semaphore count) = false
-    kind_type (kind.Procedure code params entries) = false
+is_type_object born = is_type_kind born.kind
 
 -- what a world's names are in both directions
 pub record Known (w : WorldValue) (names : Names) : Type 0 where
@@ -186,7 +181,7 @@ code_again {w} k n h =
 pub rights_found : (r : ℕ) → IsRightsWord r → rights_named (rights_text r) ≡ Ok r
 rights_found r h = rw (rights_again r h)
 
-pub entry_again : {w : WorldValue} {names : Names} → Known w names → (e : Entry) → IsEntry w e → entry_of names (entry_body (spoken w) e) ≡ Ok e
+pub entry_again : {w : WorldValue} {names : Names} → Known w names → (e : Entry) → IsEntry w e → entry_meant names (entry_body (spoken w) e) ≡ Ok e
 entry_again k Empty h = refl
 entry_again k (Held cap) h = rw (object_again k cap.name h.0, rights_found cap.rights h.1)
 entry_again k (Form (template.Amplify of check give)) h = rw (kind_again k of h.0, rights_found check h.1, rights_found give h.2)

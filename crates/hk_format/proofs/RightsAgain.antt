@@ -9,7 +9,7 @@ use Rattle.hk_rights.proofs.Sets.{has-zero, has-pow, has-bit_or, same_rights}
 use Rattle.hk_rights.proofs.Words.{HasAll-all_rights}
 use Rattle.hk_rights.proofs.Table.{has-all_rights, right_numbers-is_right}
 use Rattle.hk_model.specs.Labels.{same_text}
-use Rattle.hk_format.specs.RightsTexts.{rights_text, rights_of, right_of, union_of}
+use Rattle.hk_format.specs.RightsTexts.{rights_text, rights_spelled, right_of, union_of}
 use Rattle.hk_format.proofs.Cutting.{split_joined}
 use Rattle.hk_format.proofs.LineAgain.{same_is}
 
@@ -44,8 +44,8 @@ names_free [] h = refl
 names_free (n ∷ ns) h = and_from _ _ h.0.1 (names_free ns h.1)
 
 -- names of rights, joined, are read as the set of these rights
-listed : (ns : List ℕ) (w : ℕ) → AllByRecursion IsKnown ns → word_of ns ≡ w → (w ≡ 0 → ⊥) → rights_of (join_with_byte 43 (map name_of ns)) ≡ Some w
-unfolding IsKnown word_of rights_of right_table number_named
+listed : (ns : List ℕ) (w : ℕ) → AllByRecursion IsKnown ns → word_of ns ≡ w → (w ≡ 0 → ⊥) → rights_spelled (join_with_byte 43 (map name_of ns)) ≡ Some w
+unfolding IsKnown word_of rights_spelled right_table number_named
 listed [] w h e some = absurd (some (sym e))
 listed (n ∷ ns) w h e some = go (same_text (join_with_byte 43 (map name_of (n ∷ ns))) (codes "-")) refl (same_text (join_with_byte 43 (map name_of (n ∷ ns))) (codes "ALL")) refl
   where
@@ -89,20 +89,20 @@ word_again w word = same_rights (word_of (filter (has w) right_numbers)) w (λ n
     only n true e = rw (← has-all_rights n) (rw (HasAll-all_rights w word n e) refl)
     only n false e = and_none (is_right n)
 
-none_read : rights_of (codes "-") ≡ Some 0
-unfolding rights_of
+none_read : rights_spelled (codes "-") ≡ Some 0
+unfolding rights_spelled
 none_read = refl
 
-all_read : rights_of (codes "ALL") ≡ Some all_rights
-unfolding rights_of
+all_read : rights_spelled (codes "ALL") ≡ Some all_rights
+unfolding rights_spelled
 all_read = refl
 
 -- the canonical spelling of a set means this set
-pub rights_again : (w : ℕ) → IsRightsWord w → rights_of (rights_text w) ≡ Some w
+pub rights_again : (w : ℕ) → IsRightsWord w → rights_spelled (rights_text w) ≡ Some w
 unfolding rights_text
 rights_again w word = go (w == 0) refl (w == all_rights) refl
   where
-    go : (a : Bool) → (w == 0) ≡ a → (b : Bool) → (w == all_rights) ≡ b → rights_of (cond a (codes "-") (cond b (codes "ALL") (join_with_byte 43 (map name_of (filter (has w) right_numbers))))) ≡ Some w
+    go : (a : Bool) → (w == 0) ≡ a → (b : Bool) → (w == all_rights) ≡ b → rights_spelled (cond a (codes "-") (cond b (codes "ALL") (join_with_byte 43 (map name_of (filter (has w) right_numbers))))) ≡ Some w
     go true k b l = none_read ∙ ap Some (sym (eqb-true w 0 k))
     go false k true l = all_read ∙ ap Some (sym (eqb-true w all_rights l))
     go false k false l = listed (filter (has w) right_numbers) w (known_kept (has w) right_numbers all_known) (word_again w word) (eqb-false w 0 k)

@@ -12,7 +12,8 @@ use Rattle.hk_format.specs.declared.causes.LoadCause.{LoadCause}
 use Rattle.hk_model.specs.WorldValue.{WorldValue, IsEntry, IsParam, IsWord32}
 use Rattle.hk_format.specs.Syntax.{Belongs, AreParts, IsWordsLine}
 use Rattle.hk_format.specs.Grammar.{noted_label}
-use Rattle.hk_format.specs.Loading.{Refused, Names, limited, permitted, onto, entry_of, param_of, Contents, contents, more_words, one_param, one_entry, Used, used, Room, contents_of, content_onto, at_line}
+use Rattle.hk_format.specs.Names.{Names}
+use Rattle.hk_format.specs.Loading.{Refused, limited, permitted, onto, entry_meant, param_of, Contents, contents, more_words, one_param, one_entry, Used, used, Room, contents_of, content_onto, at_line}
 use Rattle.hk_format.proofs.LoadGood.{onto_ok, limited_ok, permitted_ok, moved, NamesFit, entry_loaded, param_loaded}
 
 -- the lines of an object, a procedure or a process
@@ -42,11 +43,11 @@ pub record WithinLimits (r : Room) (u : Used) : Type 0 where
   pub params : u.params ≤ 8
   pub entries : u.entries ≤ r.entries
 
-entry_more : {w : WorldValue} {names : Names} → NamesFit w names → (r : Room) (u : Used) (line : ℕ) (b : Body) (rest : Result Contents Refused) (c : Contents) → onto one_entry line (limited (ltb u.entries r.entries) (permitted r.listed (entry_of names b))) rest ≡ Ok c → ((d : Contents) → u.entries < r.entries → rest ≡ Ok d → ContentsLoaded w r (used u.words u.params (u.entries + 1)) d) → ContentsLoaded w r u c
+entry_more : {w : WorldValue} {names : Names} → NamesFit w names → (r : Room) (u : Used) (line : ℕ) (b : Body) (rest : Result Contents Refused) (c : Contents) → onto one_entry line (limited (ltb u.entries r.entries) (permitted r.listed (entry_meant names b))) rest ≡ Ok c → ((d : Contents) → u.entries < r.entries → rest ≡ Ok d → ContentsLoaded w r (used u.words u.params (u.entries + 1)) d) → ContentsLoaded w r u c
 entry_more {w} {names} fit r u line b rest c e more =
-    let a = onto_ok one_entry line (limited (ltb u.entries r.entries) (permitted r.listed (entry_of names b))) rest c e in
-    let l = limited_ok (ltb u.entries r.entries) (permitted r.listed (entry_of names b)) a.0 a.2 in
-    let p = permitted_ok r.listed (entry_of names b) a.0 l.0 in
+    let a = onto_ok one_entry line (limited (ltb u.entries r.entries) (permitted r.listed (entry_meant names b))) rest c e in
+    let l = limited_ok (ltb u.entries r.entries) (permitted r.listed (entry_meant names b)) a.0 a.2 in
+    let p = permitted_ok r.listed (entry_meant names b) a.0 l.0 in
     let below = ltb-true u.entries r.entries l.1 in
     let d = more a.1 below a.3 in
     let few = d.few_entries in

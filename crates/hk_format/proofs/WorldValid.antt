@@ -23,7 +23,8 @@ use Rattle.hk_model.specs.Targets.{DATA, is_general}
 use Rattle.hk_model.specs.WorldValue.{WorldValue, world_value, IsWorld, IsKind, IsCode, IsTask, IsType, IsPlainType, labels}
 use Rattle.hk_format.specs.Syntax.{AreItems, AreParts, IsHead, IsSyntax}
 use Rattle.hk_format.specs.Grammar.{Seen, nothing_seen, is_among, is_new, noted}
-use Rattle.hk_format.specs.Loading.{Refused, Names, unless, limited, type_named, code_named, name_numbered, names_of, object_label, is_type_head, code_label, Contents, used, room, contents_of, labels_from, instrs_of, Counts, counts, counted, object_fits, with_limit, with_object, with_code, with_task, at_line, plain_type, loaded, item_of, put_item, items_of, load, ◌>>=◌, ◌>>◌}
+use Rattle.hk_format.specs.Names.{Names}
+use Rattle.hk_format.specs.Loading.{Refused, unless, limited, type_named, code_named, name_numbered, names_of, object_label, is_type_head, code_label, Contents, used, room, contents_of, labels_from, instrs_of, Counts, counts, counted, object_fits, with_limit, with_object, with_code, with_task, at_line, plain_type, loaded, item_of, put_item, items_of, load, ◌>>=◌, ◌>>◌}
 use Rattle.hk_format.proofs.NamesAgain.{is_type_object}
 use Rattle.hk_format.proofs.LoadGood.{bind_ok, then_ok, limited_ok, unless_ok, moved, NamesFit, type_loaded, code_loaded}
 use Rattle.hk_format.proofs.ItemsLoaded.{code_loaded_whole}

@@ -17,7 +17,7 @@ use Rattle.hk_format.specs.declared.syntax.Written.TheVariants as written
 use Rattle.hk_format.specs.declared.syntax.Head.{Head}
 use Rattle.hk_format.specs.declared.syntax.Head.TheVariants.{LimitIs, TypeIs, ObjectIs, SemaphoreIs, ProcedureIs, CodeIs, ProcessIs}
 use Rattle.hk_format.specs.declared.syntax.Body.{Body}
-use Rattle.hk_format.specs.declared.syntax.Body.TheVariants.{WordsAre, CapEntry, AmplifyEntry, CreateEntry, ParamIs, LabelIs, StepIs}
+use Rattle.hk_format.specs.declared.syntax.Body.TheVariants.{WordsAre, EmptyEntry, CapEntry, AmplifyEntry, CreateEntry, ParamIs, LabelIs, StepIs}
 use Rattle.hk_format.specs.declared.syntax.Part.{Part}
 use Rattle.hk_format.specs.declared.syntax.Item.{Item}
 use Rattle.hk_model.specs.declared.world.Kind.{Kind}
@@ -27,9 +27,9 @@ use Rattle.hk_format.specs.declared.causes.LoadCause.TheVariants.{UnknownName, W
 use Rattle.hk_model.specs.Labels.{same_text}
 use Rattle.hk_model.specs.Limits.{object_limit, word_limit, entry_limit, slot_limit, param_limit, code_limit, process_limit, usual_limit}
 use Rattle.hk_model.specs.Targets.{DATA, kernel_types, is_general}
-use Rattle.hk_format.specs.RightsTexts.{rights_of}
+use Rattle.hk_format.specs.RightsTexts.{rights_spelled}
 use Rattle.hk_model.specs.WorldValue.{WorldValue, world_value}
-use Rattle.hk_format.specs.Canonical.{kernel_names}
+use Rattle.hk_format.specs.Names.{Names, kernel_names, kernel_flags}
 
 -- a line and its cause
 abbrev pub Refused : Type 0
@@ -58,15 +58,6 @@ found None cause = Err cause
 
 -- the names that the heads declare, wherever they stand
 
--- what heads declare, wherever they stand
-pub record Names : Type 0 where
-  -- of the objects by their numbers: the kernel types, and then those of the script
-  pub objects : List (List ℕ)
-  -- which of the objects are types
-  pub types : List Bool
-  -- of the codes by their numbers
-  pub codes : List (List ℕ)
-
 -- the label of an object's head
 abbrev pub object_label : Head → Option (List ℕ)
 object_label (TypeIs name) = Some name
@@ -87,10 +78,6 @@ is_type_head _ = None
 abbrev pub code_label : Head → Option (List ℕ)
 code_label (CodeIs name) = Some name
 code_label _ = None
-
--- the kernel types are types
-abbrev pub kernel_flags : List Bool
-kernel_flags = map (λ name. true) kernel_names
 
 -- the names that these heads declare
 abbrev pub names_of : List Head → Names
@@ -139,7 +126,7 @@ code_named names t = found (option_map to_limit (place names.codes t)) UnknownNa
 
 -- a set of rights
 abbrev pub rights_named : List ℕ → Result ℕ LoadCause
-rights_named t = found (rights_of t) BadRights
+rights_named t = found (rights_spelled t) BadRights
 
 -- single lines: UnknownName and BadRights from the left
 
@@ -147,22 +134,26 @@ rights_named t = found (rights_of t) BadRights
 abbrev pub held_entry : ℕ → ℕ → Entry
 held_entry n rights = Held (record { name = name_numbered n; rights = rights })
 
--- an entry line
-abbrev pub entry_of : Names → Body → Result Entry LoadCause
-entry_of names (CapEntry object rights) = do
+-- an entry line. No other line stands in a list.
+abbrev pub entry_meant : Names → Body → Result Entry LoadCause
+entry_meant names (CapEntry object rights) = do
   n ← object_named names object
   r ← rights_named rights
   Ok (held_entry n r)
-entry_of names (AmplifyEntry kind check give) = do
+entry_meant names (AmplifyEntry kind check give) = do
   of ← kind_named names kind
   c ← rights_named check
   g ← rights_named give
   Ok (Form (template.Amplify of c g))
-entry_of names (CreateEntry of give) = do
+entry_meant names (CreateEntry of give) = do
   n ← type_named names of
   g ← rights_named give
   Ok (Form (template.Create (name_numbered n) g))
-entry_of names _ = Ok Empty
+entry_meant names EmptyEntry = Ok Empty
+entry_meant names (WordsAre words) = Err WrongPart
+entry_meant names (ParamIs kind check give) = Err WrongPart
+entry_meant names (LabelIs label) = Err WrongPart
+entry_meant names (StepIs step) = Err WrongPart
 
 -- a parameter template
 abbrev pub parameter : Option Name → ℕ → ℕ → Param
@@ -246,7 +237,7 @@ content_onto names r u line (WordsAre words) rest =
 content_onto names r u line (ParamIs kind check give) rest =
     onto one_param line (limited (nat_lt u.params param_limit) (param_of names kind check give)) (rest (used u.words (u.params + 1) u.entries))
 content_onto names r u line body rest =
-    onto one_entry line (limited (nat_lt u.entries r.entries) (permitted r.listed (entry_of names body))) (rest (used u.words u.params (u.entries + 1)))
+    onto one_entry line (limited (nat_lt u.entries r.entries) (permitted r.listed (entry_meant names body))) (rest (used u.words u.params (u.entries + 1)))
 
 -- what the lines give, behind lines that have given so many
 abbrev pub contents_of : Names → Room → Used → List Part → Result Contents Refused

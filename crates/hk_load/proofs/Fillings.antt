@@ -8,7 +8,8 @@ use Rattle.hk_model.specs.declared.entries.Param.{Param}
 use Rattle.hk_format.specs.declared.syntax.Body.{Body}
 use Rattle.hk_format.specs.declared.syntax.Body.TheVariants.{WordsAre, EmptyEntry, CapEntry, AmplifyEntry, CreateEntry, ParamIs, LabelIs, StepIs}
 use Rattle.hk_format.specs.declared.syntax.Part.{Part}
-use Rattle.hk_format.specs.Loading.{Refused, Names, Contents, Used, Room, contents, used, limited, permitted, entry_of, param_of, onto, more_words, one_param, one_entry, content_onto, contents_of, at_line, ◌>>=◌}
+use Rattle.hk_format.specs.Names.{Names}
+use Rattle.hk_format.specs.Loading.{Refused, Contents, Used, Room, contents, used, limited, permitted, entry_meant, param_of, onto, more_words, one_param, one_entry, content_onto, contents_of, at_line, ◌>>=◌}
 use Rattle.hk_load.specs.Filling.{used_by, added, after}
 
 after_words : (c : Contents) (words : List ℕ) (line : ℕ) (rest : Result Contents Refused) → after c (onto more_words line (Ok words) rest) ≡ after (contents (c.words ++ words) c.params c.entries) rest
@@ -45,12 +46,12 @@ entry_onto c (Err cause) line rest = refl
 added_onto : (names : Names) (r : Room) (c : Contents) (line : ℕ) (body : Body) (rest : Used → Result Contents Refused) → after c (content_onto names r (used_by c) line body rest) ≡ (at_line line (added names r c body) >>= (λ (d : Contents). after d (rest (used_by d))))
 added_onto names r c line (WordsAre words) rest = words_onto c words line rest (leb (length c.words + length words) 4096)
 added_onto names r c line (ParamIs kind check give) rest = param_onto c (param_of names kind check give) line rest (ltb (length c.params) 8)
-added_onto names r c line EmptyEntry rest = entry_onto c (limited (ltb (length c.entries) r.entries) (permitted r.listed (entry_of names EmptyEntry))) line rest
-added_onto names r c line (CapEntry object rights) rest = entry_onto c (limited (ltb (length c.entries) r.entries) (permitted r.listed (entry_of names (CapEntry object rights)))) line rest
-added_onto names r c line (AmplifyEntry kind check give) rest = entry_onto c (limited (ltb (length c.entries) r.entries) (permitted r.listed (entry_of names (AmplifyEntry kind check give)))) line rest
-added_onto names r c line (CreateEntry of give) rest = entry_onto c (limited (ltb (length c.entries) r.entries) (permitted r.listed (entry_of names (CreateEntry of give)))) line rest
-added_onto names r c line (LabelIs label) rest = entry_onto c (limited (ltb (length c.entries) r.entries) (permitted r.listed (entry_of names (LabelIs label)))) line rest
-added_onto names r c line (StepIs step) rest = entry_onto c (limited (ltb (length c.entries) r.entries) (permitted r.listed (entry_of names (StepIs step)))) line rest
+added_onto names r c line EmptyEntry rest = entry_onto c (limited (ltb (length c.entries) r.entries) (permitted r.listed (entry_meant names EmptyEntry))) line rest
+added_onto names r c line (CapEntry object rights) rest = entry_onto c (limited (ltb (length c.entries) r.entries) (permitted r.listed (entry_meant names (CapEntry object rights)))) line rest
+added_onto names r c line (AmplifyEntry kind check give) rest = entry_onto c (limited (ltb (length c.entries) r.entries) (permitted r.listed (entry_meant names (AmplifyEntry kind check give)))) line rest
+added_onto names r c line (CreateEntry of give) rest = entry_onto c (limited (ltb (length c.entries) r.entries) (permitted r.listed (entry_meant names (CreateEntry of give)))) line rest
+added_onto names r c line (LabelIs label) rest = entry_onto c (limited (ltb (length c.entries) r.entries) (permitted r.listed (entry_meant names (LabelIs label)))) line rest
+added_onto names r c line (StepIs step) rest = entry_onto c (limited (ltb (length c.entries) r.entries) (permitted r.listed (entry_meant names (StepIs step)))) line rest
 
 -- the next line, with those behind it
 pub line_turn : (names : Names) (r : Room) (c : Contents) (parts : List Part) (at : ℕ) (p : Part) → at < length parts → p ≡ get_or parts at p → after c (contents_of names r (used_by c) (drop at parts)) ≡ (at_line p.line (added names r c p.body) >>= (λ (d : Contents). after d (contents_of names r (used_by d) (drop (at + 1) parts))))

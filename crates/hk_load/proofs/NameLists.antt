@@ -10,7 +10,8 @@ use Rattle.indexmap.specs.IndexSet.{insert_key}
 use Rattle.hk_format.specs.declared.causes.LoadCause.TheVariants.{UnknownName}
 use Rattle.hk_model.specs.Labels.{same_text}
 use Rattle.hk_format.specs.Grammar.{is_among}
-use Rattle.hk_format.specs.Loading.{Names, place, found, to_limit, object_named, type_named, code_named}
+use Rattle.hk_format.specs.Names.{Names}
+use Rattle.hk_format.specs.Loading.{place, found, to_limit, object_named, type_named, code_named}
 use Rattle.hk_load.specs.Naming.{names_seen, with_object, with_code}
 
 -- where a key stands is where its text stands

@@ -10,7 +10,8 @@ use Rattle.hk_format.specs.declared.syntax.Item.{Item}
 use Rattle.hk_model.specs.Labels.{same_text, are_apart}
 use Rattle.hk_format.specs.Grammar.{is_among}
 use Rattle.hk_format.specs.Syntax.{IsSyntax}
-use Rattle.hk_format.specs.Loading.{Names, names_of, object_label, is_type_head, code_label}
+use Rattle.hk_format.specs.Names.{Names}
+use Rattle.hk_format.specs.Loading.{names_of, object_label, is_type_head, code_label}
 use Rattle.hk_format.proofs.HeadsApart.{objects_apart, codes_apart}
 use Rattle.hk_load.specs.Naming.{names, with_head, names_from, IsNewHead}
 use Rattle.hk_load.proofs.NameLists.{or_parts}

@@ -14,7 +14,8 @@ use Rattle.hk_model.specs.declared.world.Kind.TheVariants as kind
 use Rattle.hk_model.specs.Limits.{entry_limit, slot_limit, code_limit, process_limit, usual_limit}
 use Rattle.hk_model.specs.Targets.{DATA}
 use Rattle.hk_model.specs.WorldValue.{WorldValue, world_value}
-use Rattle.hk_format.specs.Loading.{Names, Refused, Counts, counts, object_fits, at_line, unless, limited, plain_type, code_named, name_numbered, room, used, contents_of, labels_from, instrs_of, ◌>>=◌, ◌>>◌}
+use Rattle.hk_format.specs.Names.{Names}
+use Rattle.hk_format.specs.Loading.{Refused, Counts, counts, object_fits, at_line, unless, limited, plain_type, code_named, name_numbered, room, used, contents_of, labels_from, instrs_of, ◌>>=◌, ◌>>◌}
 use Rattle.hk_load.specs.declared.items.Loaded.{Loaded}
 
 -- what items have given

@@ -15,6 +15,7 @@ use Rattle.hk_model.specs.Confinement.{IsConfinedCall, IsChange}
 use Rattle.hk_model.specs.Changes.{Beginning, BareChange, confined_by, confined_calls, calls_over, bare_changes_by, bare_changes, bare_change, ListsChanges}
 use Rattle.hk_model.proofs.Members.{Has, has_from, contains_from, has_filtered, has_filter, has_mapped, has_map}
 use Rattle.hk_model.proofs.Collected.{IsAdded, told_has, told_adds}
+use Rattle.hk_model.proofs.ChangesInOrder.{changes_in_order}
 use Rattle.hk_model.proofs.EventCounts.{events_are}
 use Rattle.hk_model.proofs.Steps.{first_steps, after_next}
 
@@ -193,7 +194,10 @@ is_listed w lines steps k moment call name (c, h) =
 
 -- in every history
 pub lists_changes : (w : WorldValue) (lines : List Line) → AreStepsOf w lines → ListsChanges w lines
-lists_changes w lines steps k moment call name = (
-  (λ h. listed_is w lines steps k moment call name (has_from (bare_changes w lines) (bare_change k call moment name) h)),
-  (λ h. contains_from (bare_changes w lines) (bare_change k call moment name) (is_listed w lines steps k moment call name h)),
-)
+lists_changes w lines steps = record {
+  exactly = λ k moment call name. (
+    λ h. listed_is w lines steps k moment call name (has_from (bare_changes w lines) (bare_change k call moment name) h),
+    λ h. contains_from (bare_changes w lines) (bare_change k call moment name) (is_listed w lines steps k moment call name h),
+  );
+  in_order = changes_in_order w lines steps;
+}

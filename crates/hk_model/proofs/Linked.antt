@@ -39,7 +39,7 @@ Linked fs cur = (i : Inc) (x : Activation) → look_up i fs ≡ Some x → (slic
 
 -- ---- lists
 
-look_up_left : (fs gs : List (Inc × Activation)) (i : Inc) (x : Activation) → look_up i fs ≡ Some x → look_up i (fs ++ gs) ≡ Some x
+pub look_up_left : (fs gs : List (Inc × Activation)) (i : Inc) (x : Activation) → look_up i fs ≡ Some x → look_up i (fs ++ gs) ≡ Some x
 look_up_left [] gs i x h = absurd (cc)
 look_up_left (e ∷ fs) gs i x h = by (same_inc i e.0) h (look_up_left fs gs i x)
   where
@@ -67,11 +67,11 @@ set_there (c ∷ cur) zero (suc q) n h = refl
 set_there (c ∷ cur) (suc p) zero n h = refl
 set_there (c ∷ cur) (suc p) (suc q) n h = set_there cur p q n (λ e. h (ap suc e))
 
-some_same : {A : Type 0} {x y : A} → ◌≡◌ {A = Option A} (Some x) (Some y) → x ≡ y
+pub some_same : {A : Type 0} {x y : A} → ◌≡◌ {A = Option A} (Some x) (Some y) → x ≡ y
 some_same h = cc
 
 -- of an activation that is found the incarnation is
-found_incarnation : (es : List (Inc × Incarnation)) (i : Inc) (y : Activation) → look_up i (activations_in es) ≡ Some y → (x : Incarnation) × ((lookup (same_inc i) es ≡ Some x) × (activation x ≡ y))
+pub found_incarnation : (es : List (Inc × Incarnation)) (i : Inc) (y : Activation) → look_up i (activations_in es) ≡ Some y → (x : Incarnation) × ((lookup (same_inc i) es ≡ Some x) × (activation x ≡ y))
 found_incarnation [] i y h = absurd (cc)
 found_incarnation (e ∷ es) i y h = by (same_inc i e.0) h (found_incarnation es i y)
   where
@@ -249,7 +249,7 @@ current_is s proc k h = by s.processes proc.0 h
     by (p ∷ ps) zero g = some_same g
     by (p ∷ ps) (suc n) g = by ps n g
 
-found_activation : (es : List (Inc × Incarnation)) (i : Inc) (x : Incarnation) → lookup (same_inc i) es ≡ Some x → look_up i (activations_in es) ≡ Some (activation x)
+pub found_activation : (es : List (Inc × Incarnation)) (i : Inc) (x : Incarnation) → lookup (same_inc i) es ≡ Some x → look_up i (activations_in es) ≡ Some (activation x)
 found_activation es i x h =
     activation_live es i (ap is_some h) ∙ ap (λ (o : Option Incarnation). Some (activation (unwrap_or o no_incarnation))) h
 

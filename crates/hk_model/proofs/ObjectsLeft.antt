@@ -35,7 +35,7 @@ use Rattle.hk_model.specs.Targets.{SEMAPHORE, PROCEDURE, PROCESS, LNS, is_genera
 use Rattle.hk_model.specs.Rule.{Outcome, outcome, settled, answered, can_be_created, plain_object, copied, room_made, leave_to, token_given, get_word, put_word, add_word, word_count, load_entry, store_entry, append_entry, erase_entry, drop_slot, restrict_slot, look, make_template, create_object, merge_cap, copy_object, enter_procedure, leave, take_token, give_token}
 use Rattle.hk_model.specs.Processors.{ended}
 use Rattle.hk_model.specs.Places.{cap_of, cap_found, entry_given}
-use Rattle.hk_model.specs.Lines.{done_by, done_call, changed_by, changes_path, makes_object}
+use Rattle.hk_model.specs.Lines.{done_call, changed_by, changes_path, makes_object}
 use Rattle.hk_model.specs.Effects.{there, IsSameKind, IsNoProcedure, IsMadeObject, lets_go, Becomes, Stays, Goes, Changes, IsNew}
 use Rattle.hk_model.proofs.TestLemmas.{then_is, and_is, unless_is, create_form_is}
 use Rattle.hk_model.proofs.Standing.{on_ordering, name_same, name_laws}

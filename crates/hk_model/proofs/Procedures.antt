@@ -24,6 +24,7 @@ use Rattle.hk_model.proofs.ObjectsLeft.{ObjectsGiven, leaves_each}
 use Rattle.hk_model.proofs.KindsStay.{given_each, opening_objects}
 use Rattle.hk_model.proofs.NamesGiven.{numbered_holds}
 use Rattle.hk_model.proofs.Linked.{currents_at}
+use Rattle.hk_model.proofs.CallersLive.{callers_at}
 
 -- a procedure has a code
 abbrev HasCode : Object → Type 0
@@ -94,4 +95,4 @@ codes_at w lines world steps moment =
     (state_kept (λ s. ObjectsGiven s × ProceduresHaveCodes s) codes_each w (opened w) (take moment lines) (first_steps w (opened w) lines moment steps) (opening_objects w, opening_codes w world)).1
 
 pub shapes_are : (w : WorldValue) (lines : List Line) → IsWorld w → AreStepsOf w lines → AreShapes w lines
-shapes_are w lines world steps = record { codes = codes_at w lines world steps; currents = currents_at w lines steps }
+shapes_are w lines world steps = record { codes = codes_at w lines world steps; currents = currents_at w lines steps; callers = callers_at w lines steps }

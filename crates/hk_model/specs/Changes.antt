@@ -1,6 +1,6 @@
 -- The changes under confined calls, each with its reason. docs/RULES.md, "Changes and their reasons".
-use Rattle.std.specs.Prelude.{◌≡◌, ◌↔◌, ℕ, ◌+◌, Bool, true, false, IsTrue, List, [], ◌∷◌, ◌++◌, length, Some, None, map, filter}
-use Rattle.std.specs.List.{flat_map, Contains}
+use Rattle.std.specs.Prelude.{◌≡◌, ◌↔◌, ◌⊎◌, ℕ, ◌+◌, ◌<◌, Bool, true, false, IsTrue, List, [], ◌∷◌, ◌++◌, length, Some, None, map, filter}
+use Rattle.std.specs.List.{AllByRecursion, flat_map, Contains}
 use Rattle.std.specs.Ordering.{nat_cmp, is_le}
 use Rattle.std.specs.Cmp.Lexicographic.{slice_cmp}
 use Rattle.hk_model.specs.declared.names.Name.{Name}
@@ -107,9 +107,18 @@ AreChanges w lines changes = AreExplained w lines (bare_changes w lines) changes
 abbrev pub bare_change : ℕ → Inc → ℕ → Name → BareChange
 bare_change k call moment name = record { moment = moment; under = record { call = call; moment = k }; object = name }
 
+-- a change stands before another: by line, and then by call
+abbrev pub IsBefore : BareChange → BareChange → Type 0
+IsBefore a b = (a.moment < b.moment) ⊎ ((a.moment ≡ b.moment) × (a.under.call.0 < b.under.call.0))
+
+-- each stands before all that come later
+abbrev pub AreInOrder : List BareChange → Type 0
+AreInOrder [] = Unit {0}
+AreInOrder (change ∷ later) = AllByRecursion (IsBefore change) later × AreInOrder later
+
 -- the list has an item for a confined call, a line and an object exactly where the line is by an incarnation under the call and
--- changes the object
-abbrev pub ListsChanges : WorldValue → List Line → Type 0
-ListsChanges w lines =
-    (k moment : ℕ) (call : Inc) (name : Name)
-    → Contains (bare_changes w lines) (bare_change k call moment name) ↔ (IsConfinedCall w lines k call × IsChange w lines k call moment name)
+-- changes the object; it is in order, and so has no item twice
+pub record ListsChanges (w : WorldValue) (lines : List Line) : Type 0 where
+  pub exactly : (k moment : ℕ) (call : Inc) (name : Name)
+      → Contains (bare_changes w lines) (bare_change k call moment name) ↔ (IsConfinedCall w lines k call × IsChange w lines k call moment name)
+  pub in_order : AreInOrder (bare_changes w lines)

@@ -10,6 +10,7 @@ pub mod entries;
 pub mod frames;
 pub mod instructions;
 pub mod kernel;
+pub mod limits;
 pub mod lines;
 pub mod lists;
 pub mod names;

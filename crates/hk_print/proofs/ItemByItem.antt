@@ -12,7 +12,8 @@ use Rattle.hk_model.specs.declared.world.Code.{Code}
 use Rattle.hk_model.specs.declared.world.Task.{Task}
 use Rattle.hk_model.specs.WorldValue.{WorldValue}
 use Rattle.hk_format.specs.Spelling.{item_lines}
-use Rattle.hk_format.specs.Canonical.{canon, spoken, limit_items, object_item, code_item, task_item, syntax_of}
+use Rattle.hk_format.specs.Names.{spoken}
+use Rattle.hk_format.specs.Canonical.{canon, limit_items, object_item, code_item, task_item, syntax_of}
 use Rattle.hk_print.specs.ItemTexts.{line_text, item_text}
 
 items_text : (items : List Item) → flat_map line_text (flat_map item_lines items) ≡ flat_map item_text items

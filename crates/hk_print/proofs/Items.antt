@@ -10,8 +10,9 @@ use Rattle.hk_model.specs.declared.entries.Param.{Param}
 use Rattle.hk_format.specs.declared.syntax.Head.{Head}
 use Rattle.hk_format.specs.declared.syntax.Part.{Part}
 use Rattle.hk_format.specs.Spelling.{has_parts, head_pieces, body_pieces, end_line}
-use Rattle.hk_format.specs.Canonical.{Spoken, item, part, entry_body, entry_parts, param_body, param_parts}
-use Rattle.hk_print.specs.ItemTexts.{line_text, body_text, parts_text, entry_text, param_text, item_text}
+use Rattle.hk_format.specs.Names.{Names}
+use Rattle.hk_format.specs.Canonical.{item, part, entry_body, entry_parts, param_body, param_parts}
+use Rattle.hk_print.specs.ItemTexts.{line_text, body_text, parts_text, entry_line, param_line, item_text}
 
 -- the head, the lines, `end`
 pub item_spelled : (head : Head) (parts : List Part) → has_parts head ≡ true → item_text (item head parts) ≡ line_text (head_pieces head) ++ (parts_text parts ++ codes "end\n")
@@ -20,10 +21,10 @@ item_spelled head parts has = rw has (ap (λ (t : List ℕ). line_text (head_pie
 pub parts_joined : (xs ys : List Part) → parts_text (xs ++ ys) ≡ parts_text xs ++ parts_text ys
 parts_joined xs ys = flat_map-append (λ (p : Part). body_text p.body) xs ys
 
-pub entries_spelled : (s : Spoken) (entries : List Entry) → parts_text (entry_parts s entries) ≡ flat_map (entry_text s) entries
+pub entries_spelled : (s : Names) (entries : List Entry) → parts_text (entry_parts s entries) ≡ flat_map (entry_line s) entries
 entries_spelled s entries = flat_map-map (λ (p : Part). body_text p.body) (λ (e : Entry). part (entry_body s e)) entries
 
-pub params_spelled : (s : Spoken) (params : List Param) → parts_text (param_parts s params) ≡ flat_map (param_text s) params
+pub params_spelled : (s : Names) (params : List Param) → parts_text (param_parts s params) ≡ flat_map (param_line s) params
 params_spelled s params = flat_map-map (λ (p : Part). body_text p.body) (λ (p : Param). part (param_body s p)) params
 
 -- an item is written once its head, its lines and `end` are

@@ -4,8 +4,8 @@ ghost use Rattle.std.specs.Prelude.{◌≡◌, ◌++◌, OnOk, string_bytes};
 ghost use Rattle.std.specs.List.{AllByRecursion, flat_map};
 ghost use Rattle.hk_model.specs.WorldValue.{IsEntry, IsParam};
 ghost use Rattle.hk_model.specs.declared.entries.Entry.TheVariants.{Form};
-ghost use Rattle.hk_format.specs.Canonical.{spoken};
-ghost use Rattle.hk_print.specs.ItemTexts.{entry_text, param_text};
+ghost use Rattle.hk_format.specs.Names.{spoken};
+ghost use Rattle.hk_print.specs.ItemTexts.{entry_line, param_line};
 
 use crate::labels::{kind_label, object_label};
 use crate::rights::rights_text;
@@ -20,7 +20,7 @@ pub(crate) fn write_entries(
     entries: &[Entry],
 ) -> Result<(), NoMemory>
     requires { AllByRecursion (IsEntry world.now) entries.now }
-    ensures { OnOk result (string_bytes out.new ≡ string_bytes out.old ++ flat_map (entry_text (spoken world.now)) entries.now) }
+    ensures { OnOk result (string_bytes out.new ≡ string_bytes out.old ++ flat_map (entry_line (spoken world.now)) entries.now) }
 {
     for entry in entries {
         write_entry(alloc, out, world, *entry)?;
@@ -32,7 +32,7 @@ pub(crate) fn write_entries(
 
 fn write_entry(alloc: Global, out: &mut String, world: &World, entry: Entry) -> Result<(), NoMemory>
     requires { IsEntry world.now entry }
-    ensures { OnOk result (string_bytes out.new ≡ string_bytes out.old ++ entry_text (spoken world.now) entry) }
+    ensures { OnOk result (string_bytes out.new ≡ string_bytes out.old ++ entry_line (spoken world.now) entry) }
 {
     match entry {
         Entry::Empty => out.push_str("empty\n")?,
@@ -55,7 +55,7 @@ fn write_template(
     template: Template,
 ) -> Result<(), NoMemory>
     requires { IsEntry world.now (Form template) }
-    ensures { OnOk result (string_bytes out.new ≡ string_bytes out.old ++ entry_text (spoken world.now) (Form template)) }
+    ensures { OnOk result (string_bytes out.new ≡ string_bytes out.old ++ entry_line (spoken world.now) (Form template)) }
 {
     match template {
         Template::Amplify { of, check, give } => {
@@ -81,7 +81,7 @@ pub(crate) fn write_params(
     params: &[Param],
 ) -> Result<(), NoMemory>
     requires { AllByRecursion (IsParam world.now) params.now }
-    ensures { OnOk result (string_bytes out.new ≡ string_bytes out.old ++ flat_map (param_text (spoken world.now)) params.now) }
+    ensures { OnOk result (string_bytes out.new ≡ string_bytes out.old ++ flat_map (param_line (spoken world.now)) params.now) }
 {
     for param in params {
         write_param(alloc, out, world, *param)?;
@@ -93,7 +93,7 @@ pub(crate) fn write_params(
 
 fn write_param(alloc: Global, out: &mut String, world: &World, param: Param) -> Result<(), NoMemory>
     requires { IsParam world.now param }
-    ensures { OnOk result (string_bytes out.new ≡ string_bytes out.old ++ param_text (spoken world.now) param) }
+    ensures { OnOk result (string_bytes out.new ≡ string_bytes out.old ++ param_line (spoken world.now) param) }
 {
     let kind = kind_label(world, param.of);
     let check = rights_text(alloc, param.check)?;

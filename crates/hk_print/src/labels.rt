@@ -2,7 +2,8 @@
 
 ghost use Rattle.std.specs.Prelude.{◌≡◌, ◌+◌, ◌<◌, ◌≤◌, [], length, slice_index_or};
 ghost use Rattle.hk_model.specs.WorldValue.{IsObject, IsTypeOrAny};
-ghost use Rattle.hk_format.specs.Canonical.{spoken, object_text, code_text, kind_text};
+ghost use Rattle.hk_format.specs.Names.{spoken, object_text, code_text};
+ghost use Rattle.hk_format.specs.Canonical.{kind_text};
 
 use hk_model::{Name, World};
 

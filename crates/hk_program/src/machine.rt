@@ -15,12 +15,10 @@ ghost use Rattle.hk_program.specs.Machines.{IsSound};
 use crate::carrying::carry_out;
 use crate::context::Context;
 use crate::running::next;
+use hk_model::limits::CPU_LIMIT;
 use hk_model::{Call, Cpu, Inc, Kernel, Line, NoMemory, Proc, Reply, Task, What, World};
 use std::alloc::Global;
 use std::marker::Model;
-
-// How many processors there are.
-const CPU_LIMIT: u8 = 16;
 
 /// A kernel with the control of each process of its world (`docs/RULES.md`, "Steps of
 /// processors"). Contracts see the state of the kernel and the frames of each process.

@@ -16,9 +16,10 @@ use Rattle.hk_format.specs.Forms.{as_verb, verb_found, as_route}
 use Rattle.hk_text.specs.declared.pieces.Piece.{Piece}
 use Rattle.hk_text.specs.declared.pieces.PieceKind.TheVariants as kind
 use Rattle.hk_text.specs.Views.{seen, text_of, path_read}
-use Rattle.hk_script.specs.declared.errors.LineError.{LineError}
-use Rattle.hk_script.specs.declared.errors.LineError.TheVariants as line_error
-use Rattle.hk_script.specs.Outcomes.{Reads, Gives}
+use Rattle.hk_format.specs.declared.errors.LineError.{LineError}
+use Rattle.hk_format.specs.declared.errors.LineError.TheVariants as line_error
+use Rattle.hk_format.specs.Outcomes.{Gives}
+use Rattle.hk_script.specs.Outcomes.{Reads}
 use Rattle.hk_script.specs.Paths.{cut_points}
 
 -- a verb, by the bytes of the piece
@@ -28,7 +29,7 @@ verb_line source p before after bytes o e word same h =
     rw (e, word) (rw (← found))
 
 -- what a form gives, behind the piece
-pub reads_taken : {X : Type 0} (r : Result X LineError) (left : List piece.Piece) (given : Result X ParseCause) → Gives (λ x. x) r given → Reads (λ x. x) r left (taken given left)
+pub reads_taken : {X : Type 0} (r : Result X (LineError ParseCause)) (left : List piece.Piece) (given : Result X ParseCause) → Gives (λ x. x) r given → Reads (λ x. x) r left (taken given left)
 reads_taken (Ok x) left given h = rw h
 reads_taken (Err (line_error.Bad cause)) left given h = rw h
 reads_taken (Err line_error.NoMemory) left given h = tt
@@ -43,7 +44,7 @@ path_spelled ts h = go (is_path ts) (list_any is_too_large ts) h
     go false large h = absurd (false≢true h)
 
 -- a path, by the bytes of the piece
-pub path_line : (source : List ℕ) (p : Piece) (before after : List piece.Piece) (bytes : List ℕ) (r : Result Route LineError) → before ≡ seen source p ∷ after → p.kind ≡ kind.Path → bytes ≡ text_of source p → IsTrue (is_piece (seen source p)) → Gives (λ x. x) r (as_route (piece.Path (map index_of (cut_points bytes)))) → Reads (λ x. x) r after (wanted as_route before)
+pub path_line : (source : List ℕ) (p : Piece) (before after : List piece.Piece) (bytes : List ℕ) (r : Result Route (LineError ParseCause)) → before ≡ seen source p ∷ after → p.kind ≡ kind.Path → bytes ≡ text_of source p → IsTrue (is_piece (seen source p)) → Gives (λ x. x) r (as_route (piece.Path (map index_of (cut_points bytes)))) → Reads (λ x. x) r after (wanted as_route before)
 path_line source p before after bytes r e path same spelled h =
     let whole = path_spelled (cut_points (text_of source p)) (rw path at spelled) in
     rw (e, path, whole) (reads_taken r after (as_route (piece.Path (map index_of (cut_points (text_of source p))))) (rw same at h))

@@ -11,9 +11,9 @@ use Rattle.hk_format.specs.declared.syntax.Body.TheVariants.{WordsAre}
 use Rattle.hk_format.specs.declared.syntax.Written.{Written}
 use Rattle.hk_format.specs.declared.syntax.Written.TheVariants as written
 use Rattle.hk_format.specs.declared.syntax.Verb.TheVariants as verb
-use Rattle.hk_script.specs.declared.errors.LineError.{LineError}
-use Rattle.hk_script.specs.declared.errors.LineError.TheVariants as line_error
-use Rattle.hk_script.specs.Outcomes.{Fails}
+use Rattle.hk_format.specs.declared.errors.LineError.{LineError}
+use Rattle.hk_format.specs.declared.errors.LineError.TheVariants as line_error
+use Rattle.hk_format.specs.Outcomes.{Fails}
 use Rattle.hk_model.specs.Limits.{slot_limit}
 use Rattle.hk_format.specs.Pieces.{Piece, Word, Upper, Dash, Number, Path}
 use Rattle.hk_format.specs.Texts.{is_none}
@@ -118,19 +118,19 @@ pub call_begun : (before middle after : List Piece) (proc : Route) (into : Slot)
 call_begun before middle after proc into h k = rw (h, slot_wanted middle after into k)
 
 -- a first slot that is refused
-pub call_bad : (before middle : List Piece) (proc : Route) (e : LineError) → wanted as_route before ≡ Ok (proc, middle) → Fails e (wanted as_slot middle) → Fails e (instruction_of verb.Call before)
+pub call_bad : (before middle : List Piece) (proc : Route) (e : (LineError ParseCause)) → wanted as_route before ≡ Ok (proc, middle) → Fails e (wanted as_slot middle) → Fails e (instruction_of verb.Call before)
 call_bad before [] proc line_error.NoMemory h k = tt
 call_bad before (p ∷ ps) proc line_error.NoMemory h k = tt
 call_bad before [] proc (line_error.Bad cause) h k = let same : cause ≡ Missing = cc in rw (h, same)
 call_bad before (p ∷ ps) proc (line_error.Bad cause) h k = rw (h, slot_cause p ps cause k)
 
 -- a later slot that is refused
-pub slots_bad : (proc : Route) (done : List ℕ) (into room : ℕ) (e : LineError) (pieces : List Piece) → is_none pieces ≡ false → Fails e (wanted as_slot pieces) → Fails e (slots_on proc done into room pieces)
+pub slots_bad : (proc : Route) (done : List ℕ) (into room : ℕ) (e : (LineError ParseCause)) (pieces : List Piece) → is_none pieces ≡ false → Fails e (wanted as_slot pieces) → Fails e (slots_on proc done into room pieces)
 slots_bad proc done into room line_error.NoMemory pieces some h = tt
 slots_bad proc done into room (line_error.Bad cause) pieces some h = slots_refused proc done into room cause pieces some h
 
 -- a word that is refused
-pub words_bad : (done : List ℕ) (e : LineError) (pieces : List Piece) → is_none pieces ≡ false → Fails e (wanted as_number pieces) → Fails e (words_on done pieces)
+pub words_bad : (done : List ℕ) (e : (LineError ParseCause)) (pieces : List Piece) → is_none pieces ≡ false → Fails e (wanted as_number pieces) → Fails e (words_on done pieces)
 words_bad done line_error.NoMemory pieces some h = tt
 words_bad done (line_error.Bad cause) pieces some h = words_refused done cause pieces some h
 
@@ -140,7 +140,7 @@ left_shorter form [] left x h = cc
 left_shorter form (p ∷ ps) left x h = rw (left_behind (form p) ps x left h) (omega arith)
 
 -- an answer that fails, and the same answer
-pub fails_same : {X : Type 0} (e : LineError) (one other : Result X ParseCause) → Fails e one → one ≡ other → Fails e other
+pub fails_same : {X : Type 0} (e : (LineError ParseCause)) (one other : Result X ParseCause) → Fails e one → one ≡ other → Fails e other
 fails_same e one other h same = rw (← same) h
 
 -- one argument more

@@ -1,5 +1,6 @@
 -- What was read of a script, line by line.
 use Rattle.std.proofs.Common.{◌≡◌, ℕ, true, cond, List, [], ◌∷◌, map, not, Ok, Err}
+use Rattle.hk_format.specs.declared.causes.ParseCause.{ParseCause}
 use Rattle.hk_format.specs.declared.causes.ParseCause.TheVariants.{Repeated}
 use Rattle.hk_format.specs.declared.syntax.Body.{Body}
 use Rattle.std.specs.List.{list_all}
@@ -12,13 +13,13 @@ use Rattle.hk_text.specs.declared.pieces.Piece.{Piece}
 use Rattle.hk_text.specs.declared.text.TextLine.{TextLine}
 use Rattle.hk_text.specs.Views.{seen, line_seen}
 use Rattle.hk_text.proofs.PiecesGood.{is_good, text_good}
-use Rattle.hk_script.specs.declared.errors.LineError.{LineError}
-use Rattle.hk_script.specs.declared.errors.LineError.TheVariants as line_error
-use Rattle.hk_script.specs.Outcomes.{Fails}
+use Rattle.hk_format.specs.declared.errors.LineError.{LineError}
+use Rattle.hk_format.specs.declared.errors.LineError.TheVariants as line_error
+use Rattle.hk_format.specs.Outcomes.{Fails}
 use Rattle.hk_script.specs.Readings.{MatchNewLabel}
 
 -- a line whose label is not new
-pub label_bad : (e : LineError) (new labels : List (List ℕ)) (body : Body) (given : Read) → MatchNewLabel (Err e) new labels body → Fails e (cond (not (is_new_label labels body)) (Err Repeated) (Ok given))
+pub label_bad : (e : (LineError ParseCause)) (new labels : List (List ℕ)) (body : Body) (given : Read) → MatchNewLabel (Err e) new labels body → Fails e (cond (not (is_new_label labels body)) (Err Repeated) (Ok given))
 label_bad (line_error.Bad cause) new labels body given h = rw (h.0, h.1)
 label_bad line_error.NoMemory new labels body given h = tt
 

@@ -9,9 +9,9 @@ use Rattle.hk_format.specs.declared.causes.TextCause.TheVariants.{BadToken, Numb
 use Rattle.hk_model.specs.Labels.{between}
 use Rattle.hk_script.specs.Lines.{index_in}
 use Rattle.hk_script.specs.Paths.{AreIndices, cut_points, route_on}
-use Rattle.hk_script.specs.Outcomes.{Fails, Gives}
-use Rattle.hk_script.specs.declared.errors.LineError.{LineError}
-use Rattle.hk_script.specs.declared.errors.LineError.TheVariants as line_error
+use Rattle.hk_format.specs.Outcomes.{Fails, Gives}
+use Rattle.hk_format.specs.declared.errors.LineError.{LineError}
+use Rattle.hk_format.specs.declared.errors.LineError.TheVariants as line_error
 use mathlib.Core.List.{append_assoc, append-nil}
 use Rattle.hk_format.specs.declared.causes.ParseCause.{ParseCause}
 use Rattle.hk_format.specs.declared.causes.ParseCause.TheVariants.{OutOfRange}
@@ -91,7 +91,7 @@ route_refused done bound i is cause h = go (is_index_below bound i) h
     go false h = let same : cause ≡ OutOfRange = cc in rw same
 
 -- the same for an answer
-pub route_fails : (done : List Index) (bound : ℕ) (i : Index) (is : List Index) (e : LineError) → Fails e (index_in bound i) → Fails e (route_on done bound (i ∷ is))
+pub route_fails : (done : List Index) (bound : ℕ) (i : Index) (is : List Index) (e : (LineError ParseCause)) → Fails e (index_in bound i) → Fails e (route_on done bound (i ∷ is))
 route_fails done bound i is (line_error.Bad cause) h = route_refused done bound i is cause h
 route_fails done bound i is line_error.NoMemory h = tt
 
@@ -121,9 +121,9 @@ pub route_later : (text : List ℕ) (done : List Index) (bound len : ℕ) (j : I
 route_later text done bound len j place more h = rw (cut_more text len place more) (route_turn done bound (index_of (take len text)) j (map index_of (cut_points (drop (len + 1) text))) h)
 
 -- an index that is refused
-pub route_bad : (text : List ℕ) (done : List Index) (bound len : ℕ) (e : LineError) → len ≡ position_or_len (λ b. eqb b 46) text → Fails e (index_in bound (index_of (take len text))) → Fails e (route_on done bound (map index_of (cut_points text)))
+pub route_bad : (text : List ℕ) (done : List Index) (bound len : ℕ) (e : (LineError ParseCause)) → len ≡ position_or_len (λ b. eqb b 46) text → Fails e (index_in bound (index_of (take len text))) → Fails e (route_on done bound (map index_of (cut_points text)))
 route_bad text done bound len e place h = rw (cut_turn (λ b. eqb b 46) text, ← place) (route_fails done bound (index_of (take len text)) (map index_of (cond (ltb len (length text)) (cut_points (drop (len + 1) text)) [])) e h)
 
 -- the path of all indices
-pub path_given : (text : List ℕ) (none : List Index) (r : Result Route LineError) → none ≡ [] → Gives (λ x. x) r (route_on none 64 (map index_of (cut_points text))) → Gives (λ x. x) r (as_route (Path (map index_of (cut_points text))))
+pub path_given : (text : List ℕ) (none : List Index) (r : Result Route (LineError ParseCause)) → none ≡ [] → Gives (λ x. x) r (route_on none 64 (map index_of (cut_points text))) → Gives (λ x. x) r (as_route (Path (map index_of (cut_points text))))
 path_given text none r e h = rw (← route_cut text) (rw e at h)

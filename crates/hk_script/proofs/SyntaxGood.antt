@@ -129,7 +129,7 @@ script_lines_good (l ∷ ls) h =
     header_good l.0 (header l.1) (items_from ls (between_items [] nothing_seen)) (lines_good ls (between_items [] nothing_seen) (and_parts (is_good l) (list_all is_good ls) h).1 (tt, refl))
 
 -- the items of a text are a syntax
-script_good : (source : List ℕ) (ls : Lines) (items : List Item) → text source ≡ Ok ls → script ls ≡ Ok items → IsSyntax items
+pub script_good : (source : List ℕ) (ls : Lines) (items : List Item) → text source ≡ Ok ls → script ls ≡ Ok items → IsSyntax items
 script_good source ls items h k = subst (λ o. IfOk o IsSyntax) k (script_lines_good ls (text_good source ls h))
 
 -- the same where all lines were read one after another

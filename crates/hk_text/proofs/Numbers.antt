@@ -14,8 +14,9 @@ use Rattle.hk_format.specs.declared.causes.TextCause.TheVariants as causes
 use Rattle.hk_model.specs.Labels.{is_digit, first}
 use Rattle.hk_format.specs.Pieces.{Number, is_number, is_too_large, number_of, value}
 
-own : IsNumeralModel (λ ds. list_all is_digit ds ≡ true) value
-own = numerals_by_value (λ ds. list_all is_digit ds ≡ true) (record {
+-- digits, by their value
+pub digits_model : IsNumeralModel (λ ds. list_all is_digit ds ≡ true) value
+digits_model = numerals_by_value (λ ds. list_all is_digit ds ≡ true) (record {
   empty = refl;
   parts = λ c cs h. let k = and_parts (is_digit c) (list_all is_digit cs) h in (grind (arith, nat_tests), k.1);
   more = λ c cs r h. and_from (is_digit c) (list_all is_digit cs) (grind (arith, nat_tests)) h;
@@ -23,7 +24,7 @@ own = numerals_by_value (λ ds. list_all is_digit ds ≡ true) (record {
 
 pub number_utf8 : (t : List ℕ) → is_number t ≡ true → IsUtf8 t
 number_utf8 [] h = absurd (false≢true h)
-number_utf8 (d ∷ ds) h = IsUtf8-from_ascii (d ∷ ds) (IsAscii-from_digits (d ∷ ds) (own.to (d ∷ ds) (and_parts (is_digit d) (list_all is_digit (d ∷ ds)) h).1))
+number_utf8 (d ∷ ds) h = IsUtf8-from_ascii (d ∷ ds) (IsAscii-from_digits (d ∷ ds) (digits_model.to (d ∷ ds) (and_parts (is_digit d) (list_all is_digit (d ∷ ds)) h).1))
 
 -- digits that are no number of 32 bits
 pub too_large : {E : Type 0} (t : List ℕ) (e : E) → is_number t ≡ true → ParsesUnsigned {E = E} 32 10 t (Err e) → is_too_large t ≡ true
@@ -31,7 +32,7 @@ too_large [] e h k = absurd (false≢true h)
 too_large (d ∷ ds) e h k =
     let parts = and_parts (is_digit d) (list_all is_digit (d ∷ ds)) h in
     let plus : without_leading_plus (d ∷ ds) ≡ d ∷ ds = without_leading_plus_none (d ∷ ds) (λ same. grind (arith, nat_tests)) in
-    let large : (value (d ∷ ds) < 2 ^ 32) → ⊥ = λ small. k (rw plus ((omega arith, own.to (d ∷ ds) parts.1), small)) in
+    let large : (value (d ∷ ds) < 2 ^ 32) → ⊥ = λ small. k (rw plus ((omega arith, digits_model.to (d ∷ ds) parts.1), small)) in
     let test : ltb 0xffffffff (value (d ∷ ds)) ≡ true = lt-ltb _ _ (omega arith) in
     and_from (is_number (d ∷ ds)) (ltb 0xffffffff (value (d ∷ ds))) h test
 

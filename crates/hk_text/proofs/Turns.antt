@@ -13,11 +13,11 @@ use Rattle.hk_format.specs.Texts.{Lines, is_blank, is_none, pieces_of, piece_ont
 use Rattle.hk_text.specs.declared.pieces.Piece.{Piece}
 use Rattle.hk_text.specs.declared.pieces.PieceKind.{PieceKind}
 use Rattle.hk_text.specs.Views.{kind_piece, seen, texts_of, line_seen}
-use Rattle.hk_text.specs.Outcomes.{FailsLine, error_on}
-use Rattle.hk_text.specs.declared.errors.TextError.TheVariants.{Refused}
+use Rattle.hk_format.specs.Outcomes.{Fails, error_on}
+use Rattle.hk_format.specs.declared.errors.ReadError.TheVariants.{Refused}
 use Rattle.hk_text.specs.declared.text.TextLine.{TextLine}
-use Rattle.hk_text.specs.declared.errors.LineError.{LineError}
-use Rattle.hk_text.specs.declared.errors.LineError.TheVariants as line_error
+use Rattle.hk_format.specs.declared.errors.LineError.{LineError}
+use Rattle.hk_format.specs.declared.errors.LineError.TheVariants as line_error
 
 -- pieces that were read, before those that the rest gives
 abbrev pub after_front : List piece.Piece → Result (List piece.Piece) TextCause → Result (List piece.Piece) TextCause
@@ -158,7 +158,7 @@ pub line_refused : (source : List ℕ) (start n len : ℕ) (front : Lines) (caus
 line_refused source start n len front cause all inside place read h = sym (rw read at (line_turn source start n len front all inside place h))
 
 -- the answer of a line that fails
-pub line_fails : (n : ℕ) (e : LineError) (whole : Result Lines (ℕ × TextCause)) (read : Result (List piece.Piece) TextCause) → FailsLine e read → ((cause : TextCause) → read ≡ Err cause → whole ≡ Err (n, cause)) → (line : ℕ) (cause : TextCause) → error_on n e ≡ Refused line cause → whole ≡ Err (line, cause)
+pub line_fails : (n : ℕ) (e : (LineError TextCause)) (whole : Result Lines (ℕ × TextCause)) (read : Result (List piece.Piece) TextCause) → Fails e read → ((cause : TextCause) → read ≡ Err cause → whole ≡ Err (n, cause)) → (line : ℕ) (cause : TextCause) → error_on n e ≡ Refused line cause → whole ≡ Err (line, cause)
 line_fails n (line_error.Bad bad) whole read h all line cause e = cc (all bad h)
 line_fails n line_error.NoMemory whole read h all line cause e = cc
 

@@ -20,6 +20,7 @@ use Rattle.hk_model.specs.Descent.{DescentLaw}
 use Rattle.hk_model.specs.Marks.{EnvironmentLaw}
 use Rattle.hk_model.specs.Confinement.{ConfinementLaw, ClosedCallLaw}
 use Rattle.hk_model.specs.Kept.{KeptLaw}
+use Rattle.hk_bound.specs.Bounds.{BoundLaw}
 use Rattle.hk_format.specs.Worlds.{world}
 use Rattle.hk_format.specs.Canonical.{canon}
 use Rattle.hk_format.specs.Records.{record_text}
@@ -50,13 +51,14 @@ pub data IsRunOf (words : List (List ℕ)) (w : WorldValue) (lines : List Line) 
   alone : IsRun words → IsWholeRun w lines end → IsRunOf words w lines end
   shared : (cpus : ℕ) → IsRunOn words cpus → IsRunBy w cpus lines end → IsRunOf words w lines end
 
--- the laws of protection over these lines, and that of kept objects
+-- the laws of protection over these lines, that of kept objects, and that of the static bound
 pub record IsLawful (w : WorldValue) (lines : List Line) : Type 0 where
   pub descent : DescentLaw w lines
   pub environment : EnvironmentLaw w lines
   pub confinement : ConfinementLaw w lines
   pub closed_call : ClosedCallLaw w lines
   pub kept : KeptLaw w lines
+  pub bound : BoundLaw w w lines
 
 -- the status of a run that ended so
 abbrev pub status_of : End → ℕ

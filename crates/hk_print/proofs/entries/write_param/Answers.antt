@@ -1,6 +1,7 @@
 use Rattle.std.proofs.Common.{◌≡◌, ◌++◌, ◌∷◌, [], ◌∙◌, sym, ap, List, ℕ, string_bytes, rules}
 use Rattle.std.specs.Prelude.{codes}
-use Rattle.hk_format.specs.Canonical.{spoken, kind_text}
+use Rattle.hk_format.specs.Names.{spoken}
+use Rattle.hk_format.specs.Canonical.{kind_text}
 use Rattle.hk_format.specs.RightsTexts.{rights_text}
 use Rattle.hk_print.proofs.Pieces.{param_spelled}
 use Rattle.hk_print.proofs.entries.write_param.Goals as goal

@@ -1,7 +1,8 @@
 use Rattle.std.proofs.Common.{◌≡◌, ◌++◌, ◌∷◌, [], ◌∙◌, sym, ap, refl, List, ℕ, string_bytes, rules}
 use Rattle.std.specs.Prelude.{codes}
 use Rattle.hk_format.specs.declared.syntax.Head.TheVariants.{ProcessIs}
-use Rattle.hk_format.specs.Canonical.{spoken, code_text, entry_parts}
+use Rattle.hk_format.specs.Names.{spoken, code_text}
+use Rattle.hk_format.specs.Canonical.{entry_parts}
 use Rattle.hk_print.specs.ItemTexts.{parts_text}
 use Rattle.hk_print.proofs.Items.{item_written, entries_spelled}
 use Rattle.hk_print.proofs.Pieces.{process_spelled}

@@ -1,6 +1,6 @@
 use Rattle.std.proofs.Common.{◌∙◌, ap}
 use Rattle.hk_format.specs.Grammar.{is_among}
-use Rattle.hk_format.specs.Loading.{Names}
+use Rattle.hk_format.specs.Names.{Names}
 use Rattle.hk_load.specs.Naming.{with_object}
 use Rattle.hk_load.proofs.NameLists.{objects_more}
 use Rattle.hk_load.proofs.names.Declared.add_object.Goals as goal

@@ -1,13 +1,14 @@
-//! Numbers without leading zeros (`docs/FORMATS.md`, "Audit lines and records").
+//! Numbers without leading zeros (`docs/FORMATS.md`, "Audit lines and records" and "Statuses and
+//! outputs").
 
 ghost use Rattle.std.specs.Prelude.{◌≡◌, IsTrue, Some, None, nat_lt, if◌then◌else◌};
-ghost use Rattle.std.specs.List.{list_all};
-ghost use Rattle.hk_model.specs.Labels.{is_digit};
 ghost use Rattle.hk_format.specs.Pieces.{is_number, value};
 ghost use Rattle.hk_format.specs.LineReading.{inc_bound};
-ghost use Rattle.hk_audit.specs.Seen.{numeral_of};
+ghost use Rattle.hk_text.specs.Numerals.{numeral_of};
 
-/// The number that the text spells. None where it spells none, or where 64 bits do not hold it.
+use crate::bytes::are_digits;
+
+/// The number that the text spells in digits without a leading zero. None where it spells none, or where 64 bits do not hold it.
 pub fn numeral(text: &[u8]) -> Option<u64>
     ensures { result ≡ numeral_of text.now }
 {
@@ -18,13 +19,6 @@ pub fn numeral(text: &[u8]) -> Option<u64>
         return None;
     }
     number(text)
-}
-
-// Whether all bytes are digits.
-fn are_digits(text: &[u8]) -> bool
-    ensures { result ≡ list_all is_digit text.now }
-{
-    text.iter().all(|byte| b'0' <= *byte && *byte <= b'9')
 }
 
 // The number that digits stand for, if 64 bits hold it.

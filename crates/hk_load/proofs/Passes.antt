@@ -12,14 +12,9 @@ use Rattle.hk_format.specs.Grammar.{script}
 use Rattle.hk_format.specs.Loading.{load}
 use Rattle.hk_model.specs.WorldValue.{WorldValue}
 use Rattle.hk_format.specs.Worlds.{world, pass, parsed, loaded}
-use Rattle.hk_text.specs.declared.errors.TextError.{TextError}
-use Rattle.hk_text.specs.declared.errors.TextError.TheVariants as text_error
-use Rattle.hk_script.specs.declared.errors.ParseError.{ParseError}
-use Rattle.hk_script.specs.declared.errors.ParseError.TheVariants as parse_error
-use Rattle.hk_load.specs.declared.errors.LoadError.{LoadError}
-use Rattle.hk_load.specs.declared.errors.LoadError.TheVariants as load_error
-use Rattle.hk_audit.specs.declared.record_errors.RecordError.{RecordError}
-use Rattle.hk_audit.specs.RecordRefusals.{IsRefused, of_text, of_parse, of_load}
+use Rattle.hk_format.specs.declared.errors.ReadError.{ReadError}
+use Rattle.hk_format.specs.declared.errors.ReadError.TheVariants as read_error
+use Rattle.hk_format.specs.Outcomes.{IsRefused, with_cause}
 
 -- behind the first pass
 at_lines : (bytes : List ℕ) (lines : Lines) → text bytes ≡ Ok lines → world bytes ≡ parsed lines
@@ -45,23 +40,23 @@ world_is bytes lines items w h g f = at_items bytes lines items h g ∙ ap (λ r
 
 -- what each pass that refuses says of the whole
 
-pub of_text_error : (bytes : List ℕ) (result : Result WorldValue RecordError) (e : TextError) → IsErrAnd result (λ error. error ≡ of_text e) → ((line : ℕ) (cause : TextCause) → e ≡ text_error.Refused line cause → text bytes ≡ Err (line, cause))
+pub of_text_error : (bytes : List ℕ) (result : Result WorldValue (ReadError Cause)) (e : (ReadError TextCause)) → IsErrAnd result (λ error. error ≡ with_cause OfText e) → ((line : ℕ) (cause : TextCause) → e ≡ read_error.Refused line cause → text bytes ≡ Err (line, cause))
     → (line : ℕ) (cause : Cause) → IsRefused result line cause → world bytes ≡ Err (line, cause)
 of_text_error bytes (Ok w) e h f line cause r = absurd h
-of_text_error bytes (Err error) (text_error.Refused at why) h f line cause r =
+of_text_error bytes (Err error) (read_error.Refused at why) h f line cause r =
     let a : at ≡ line = cc in let b : OfText why ≡ cause = cc in text_refused bytes at why (f at why refl) ∙ rw (a, b) refl
-of_text_error bytes (Err error) text_error.NoMemory h f line cause r = absurd (cc)
+of_text_error bytes (Err error) read_error.NoMemory h f line cause r = absurd (cc)
 
-pub of_parse_error : (bytes : List ℕ) (lines : Lines) (result : Result WorldValue RecordError) (e : ParseError) → text bytes ≡ Ok lines → IsErrAnd result (λ error. error ≡ of_parse e)
-    → ((line : ℕ) (cause : ParseCause) → e ≡ parse_error.Refused line cause → script lines ≡ Err (line, cause)) → (line : ℕ) (cause : Cause) → IsRefused result line cause → world bytes ≡ Err (line, cause)
+pub of_parse_error : (bytes : List ℕ) (lines : Lines) (result : Result WorldValue (ReadError Cause)) (e : (ReadError ParseCause)) → text bytes ≡ Ok lines → IsErrAnd result (λ error. error ≡ with_cause OfParse e)
+    → ((line : ℕ) (cause : ParseCause) → e ≡ read_error.Refused line cause → script lines ≡ Err (line, cause)) → (line : ℕ) (cause : Cause) → IsRefused result line cause → world bytes ≡ Err (line, cause)
 of_parse_error bytes lines (Ok w) e t h f line cause r = absurd h
-of_parse_error bytes lines (Err error) (parse_error.Refused at why) t h f line cause r =
+of_parse_error bytes lines (Err error) (read_error.Refused at why) t h f line cause r =
     let a : at ≡ line = cc in let b : OfParse why ≡ cause = cc in parse_refused bytes lines at why t (f at why refl) ∙ rw (a, b) refl
-of_parse_error bytes lines (Err error) parse_error.NoMemory t h f line cause r = absurd (cc)
+of_parse_error bytes lines (Err error) read_error.NoMemory t h f line cause r = absurd (cc)
 
-pub of_load_error : (bytes : List ℕ) (lines : Lines) (items : List Item) (result : Result WorldValue RecordError) (e : LoadError) → text bytes ≡ Ok lines → script lines ≡ Ok items → IsErrAnd result (λ error. error ≡ of_load e)
-    → ((line : ℕ) (cause : LoadCause) → e ≡ load_error.Refused line cause → load items ≡ Err (line, cause)) → (line : ℕ) (cause : Cause) → IsRefused result line cause → world bytes ≡ Err (line, cause)
+pub of_load_error : (bytes : List ℕ) (lines : Lines) (items : List Item) (result : Result WorldValue (ReadError Cause)) (e : (ReadError LoadCause)) → text bytes ≡ Ok lines → script lines ≡ Ok items → IsErrAnd result (λ error. error ≡ with_cause OfLoad e)
+    → ((line : ℕ) (cause : LoadCause) → e ≡ read_error.Refused line cause → load items ≡ Err (line, cause)) → (line : ℕ) (cause : Cause) → IsRefused result line cause → world bytes ≡ Err (line, cause)
 of_load_error bytes lines items (Ok w) e t p h f line cause r = absurd h
-of_load_error bytes lines items (Err error) (load_error.Refused at why) t p h f line cause r =
+of_load_error bytes lines items (Err error) (read_error.Refused at why) t p h f line cause r =
     let a : at ≡ line = cc in let b : OfLoad why ≡ cause = cc in load_refused bytes lines items at why t p (f at why refl) ∙ rw (a, b) refl
-of_load_error bytes lines items (Err error) load_error.NoMemory t p h f line cause r = absurd (cc)
+of_load_error bytes lines items (Err error) read_error.NoMemory t p h f line cause r = absurd (cc)

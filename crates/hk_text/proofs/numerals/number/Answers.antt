@@ -1,7 +1,7 @@
 use Rattle.std.proofs.Common.{rules}
 use Rattle.hk_text.proofs.Numbers.{number_utf8}
-use Rattle.hk_audit.proofs.DigitTexts.{too_large}
-use Rattle.hk_audit.proofs.numerals.number.Goals as goal
+use Rattle.hk_text.proofs.NumeralTexts.{too_large}
+use Rattle.hk_text.proofs.numerals.number.Goals as goal
 
 pub returns-in-Err-parse : goal.returns-in-Err-parse
 returns-in-Err-parse c = rw (too_large c.args.text.now c.in-Err-parse.field-0 c.requires (search (rules, c.in-Err-parse.ensures)))

@@ -1,0 +1,6 @@
+mod WayShown
+mod OpeningStays
+mod Bounded
+mod Kept
+mod Opened
+mod Law
