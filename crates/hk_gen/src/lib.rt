@@ -15,6 +15,7 @@ ghost use Rattle.hk_model.specs.Generated.{generate};
 use crate::contents::objects;
 use crate::processes::processes;
 use crate::steps::codes;
+use hk_model::limits::EVENT_LIMIT;
 use hk_model::{NoMemory, World};
 use std::alloc::Global;
 
@@ -28,5 +29,5 @@ pub fn generate(alloc: Global, count: u32) -> Result<World, NoMemory>
     let objects = objects(alloc)?;
     let codes = codes(alloc)?;
     let processes = processes(alloc, count)?;
-    Ok(World::new(1_000_000, objects, codes, processes))
+    Ok(World::new(EVENT_LIMIT, objects, codes, processes))
 }
