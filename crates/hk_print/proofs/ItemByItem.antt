@@ -14,11 +14,11 @@ use Rattle.hk_model.specs.WorldValue.{WorldValue}
 use Rattle.hk_format.specs.Spelling.{item_lines}
 use Rattle.hk_format.specs.Names.{spoken}
 use Rattle.hk_format.specs.Canonical.{canon, limit_items, object_item, code_item, task_item, syntax_of}
-use Rattle.hk_print.specs.ItemTexts.{line_text, item_text}
+use Rattle.hk_print.specs.ItemTexts.{pieces_line, item_text}
 
-items_text : (items : List Item) → flat_map line_text (flat_map item_lines items) ≡ flat_map item_text items
+items_text : (items : List Item) → flat_map pieces_line (flat_map item_lines items) ≡ flat_map item_text items
 items_text [] = refl
-items_text (i ∷ is) = flat_map-append line_text (item_lines i) (flat_map item_lines is) ∙ ap (λ (t : List ℕ). item_text i ++ t) (items_text is)
+items_text (i ∷ is) = flat_map-append pieces_line (item_lines i) (flat_map item_lines is) ∙ ap (λ (t : List ℕ). item_text i ++ t) (items_text is)
 
 -- the header, the limit, the objects, the codes, the processes
 pub canon_is : (w : WorldValue)

@@ -25,7 +25,7 @@ head_of_good verb.Type = takes IsName IsHead _ _ name_forms (λ name a. end_good
 head_of_good verb.Object = takes IsName IsHead _ _ name_forms (λ name a. takes IsTypeText IsHead _ _ type_forms (λ of b. end_good IsHead (ObjectIs name of) (a, b)))
 head_of_good verb.Semaphore =
     takes IsName IsHead _ _ name_forms (λ name a. takes (IsBetween 0 token_limit) IsHead _ _ (number_in_forms 0 token_limit)
-        (λ count b. end_good IsHead (SemaphoreIs name count) (a, b.1)))
+    (λ count b. end_good IsHead (SemaphoreIs name count) (a, b.1)))
 head_of_good verb.Procedure = takes IsName IsHead _ _ name_forms (λ name a. takes IsWordText IsHead _ _ word_forms (λ code b. end_good IsHead (ProcedureIs name code) (a, b)))
 head_of_good verb.Code = takes IsName IsHead _ _ name_forms (λ name a. end_good IsHead (CodeIs name) a)
 head_of_good verb.Process = takes IsName IsHead _ _ name_forms (λ name a. takes IsWordText IsHead _ _ word_forms (λ code b. end_good IsHead (ProcessIs name code) (a, b)))
@@ -41,7 +41,7 @@ entry_good P fits verb.Cap =
     takes IsTypeText P _ _ type_forms (λ object a. takes IsRightsText P _ _ rights_forms (λ rights b. end_good P (CapEntry object rights) (fits (CapEntry object rights) (a, b))))
 entry_good P fits verb.Amplify =
     takes IsTypeText P _ _ type_forms (λ kind a. takes IsRightsText P _ _ rights_forms (λ check b. takes IsRightsText P _ _ rights_forms
-        (λ give c. end_good P (AmplifyEntry kind check give) (fits (AmplifyEntry kind check give) (a, b, c)))))
+    (λ give c. end_good P (AmplifyEntry kind check give) (fits (AmplifyEntry kind check give) (a, b, c)))))
 entry_good P fits verb.Create =
     takes IsTypeText P _ _ type_forms (λ of a. takes IsRightsText P _ _ rights_forms (λ give b. end_good P (CreateEntry of give) (fits (CreateEntry of give) (a, b))))
 entry_good P fits _ = unknown_good P
@@ -63,14 +63,14 @@ of_procedure name code _ h = absurd h
 object_good : (name of : List ℕ) (v : Verb) → Good (Belongs (ObjectIs name of)) (object_part v)
 object_good name of verb.Words =
     takes IsWord32 (Belongs (ObjectIs name of)) _ _ number_forms (λ first a. bind_good (AllByRecursion IsWord32) (Belongs (ObjectIs name of)) _ _
-        (each_good IsWord32 as_number number_forms) (λ more b. end_good (Belongs (ObjectIs name of)) (WordsAre (first ∷ more)) (a, b)))
+    (each_good IsWord32 as_number number_forms) (λ more b. end_good (Belongs (ObjectIs name of)) (WordsAre (first ∷ more)) (a, b)))
 object_good name of v = entry_good (Belongs (ObjectIs name of)) (of_object name of) v
 
 procedure_good : (name code : List ℕ) (v : Verb) → Good (Belongs (ProcedureIs name code)) (procedure_part v)
 procedure_good name code verb.Param =
     takes IsTypeText (Belongs (ProcedureIs name code)) _ _ type_forms (λ kind a. takes IsRightsText (Belongs (ProcedureIs name code)) _ _ rights_forms
-        (λ check b. takes IsRightsText (Belongs (ProcedureIs name code)) _ _ rights_forms (λ give c. end_good (Belongs (ProcedureIs name code)) (ParamIs kind check give)
-        (a, b, c))))
+    (λ check b. takes IsRightsText (Belongs (ProcedureIs name code)) _ _ rights_forms (λ give c. end_good (Belongs (ProcedureIs name code)) (ParamIs kind check give)
+    (a, b, c))))
 procedure_good name code v = entry_good (Belongs (ProcedureIs name code)) (of_procedure name code) v
 
 step_good : (name : List ℕ) (r : Reads Written) → Good IsWritten r → Good (Belongs (CodeIs name)) (step_part r)

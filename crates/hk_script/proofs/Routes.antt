@@ -27,7 +27,7 @@ route_rest done (i ∷ is) = go (is_index_below index_bound i) (route_rest (done
   where
     go : (b : Bool) → route_on (done ++ i ∷ []) index_bound is ≡ cond (list_all (is_index_below index_bound) is) (Ok (route_of ((done ++ i ∷ []) ++ is))) (Err OutOfRange)
         → cond b (route_on (done ++ i ∷ []) index_bound is) (Err OutOfRange) ≡ cond (b && list_all (is_index_below index_bound) is) (Ok (route_of (done ++ i ∷ is)))
-            (Err OutOfRange)
+        (Err OutOfRange)
     go true h = rw append_assoc at h
     go false h = refl
 
@@ -78,7 +78,7 @@ cut_more text len place more =
 pub route_cut : (text : List ℕ) → route_on [] slot_limit (map index_of (cut_points text)) ≡ as_route (Path (map index_of (cut_points text)))
 route_cut text =
     rw (cut_turn (λ b. eqb b 46) text) (route_whole (map index_of (cond (ltb (position_or_len (λ b. eqb b 46) text) (length text))
-        (cut_points (drop (position_or_len (λ b. eqb b 46) text + 1) text)) [])) (index_of (take (position_or_len (λ b. eqb b 46) text) text)))
+    (cut_points (drop (position_or_len (λ b. eqb b 46) text + 1) text)) [])) (index_of (take (position_or_len (λ b. eqb b 46) text) text)))
 
 -- an index in its range, before others
 pub route_turn : (done : List Index) (bound : ℕ) (i j : Index) (is : List Index) → index_in bound i ≡ Ok j → route_on done bound (i ∷ is) ≡ route_on (done ++ j ∷ []) index_bound is
@@ -114,7 +114,7 @@ others_after text len more =
     let size-1 = length-drop 1 (drop len text) in
     let whole : take (length text - len) (drop len text) ≡ drop len text = take_all (length text - len) (drop len text) (omega arith) in
     let others : take (length (drop len text) - 1) (drop 1 (drop len text)) ≡ drop 1 (drop len text) =
-        take_all (length (drop len text) - 1) (drop 1 (drop len text)) (omega arith) in
+    take_all (length (drop len text) - 1) (drop 1 (drop len text)) (omega arith) in
     rw (whole, others) (drop-drop 1 len text)
 
 -- the texts behind the first point
@@ -139,7 +139,7 @@ pub route_bad : (text : List ℕ) (done : List Index) (bound len : ℕ) (e : (Li
     → Fails e (index_in bound (index_of (take len text))) → Fails e (route_on done bound (map index_of (cut_points text)))
 route_bad text done bound len e place h =
     rw (cut_turn (λ b. eqb b 46) text, ← place) (route_fails done bound (index_of (take len text))
-        (map index_of (cond (ltb len (length text)) (cut_points (drop (len + 1) text)) [])) e h)
+    (map index_of (cond (ltb len (length text)) (cut_points (drop (len + 1) text)) [])) e h)
 
 -- the path of all indices
 pub path_given : (text : List ℕ) (none : List Index) (r : Result Route (LineError ParseCause)) → none ≡ [] → Gives (λ x. x) r (route_on none 64 (map index_of (cut_points text)))

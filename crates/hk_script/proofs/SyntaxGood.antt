@@ -82,7 +82,7 @@ head_placed items seen unclosed line head h k m = go (has_parts head)
 
     go : (b : Bool)
         → ReadGood (cond b (record { items = items; seen = noted seen head; unclosed = Some (record { item = item_at line head []; labels = [] }) })
-            (between_items (items ++ item_at line head [] ∷ []) (noted seen head)))
+        (between_items (items ++ item_at line head [] ∷ []) (noted seen head)))
     go true = (added, noted_so, refl)
     go false = (added, noted_so)
 
@@ -99,11 +99,18 @@ part_joined r o line None h k = (h.0, h.1)
 part_joined r o line (Some body) h k = go (is_new_label o.labels body) refl
   where
     go : (b : Bool) → is_new_label o.labels body ≡ b
-        → IfOk (cond (not b) (Err Repeated) (Ok (record { items = r.items; seen = r.seen; unclosed =
-            Some (record { item = with_part o.item line body; labels = noted_label o.labels body }) }))) ReadGood
-    go true e =
-        (item_longer nothing_seen r.items o.item line body h.0 k (rw h.2 at e), h.1 ∙ (noted_added nothing_seen r.items o.item
-            ∙ sym (noted_added nothing_seen r.items (with_part o.item line body))), rw (labels_added [] o.item.parts line body, ← h.2))
+        → IfOk (cond (not b) (Err Repeated) (Ok (record {
+          items = r.items;
+          seen = r.seen;
+          unclosed =
+              Some (record { item = with_part o.item line body; labels = noted_label o.labels body });
+        }))) ReadGood
+    go true e = (
+      item_longer nothing_seen r.items o.item line body h.0 k (rw h.2 at e),
+      h.1 ∙ (noted_added nothing_seen r.items o.item
+          ∙ sym (noted_added nothing_seen r.items (with_part o.item line body))),
+      rw (labels_added [] o.item.parts line body, ← h.2),
+    )
     go false e = tt
 
 -- what was found on a line is put to what was read
@@ -142,7 +149,7 @@ script_lines_good : (ls : Lines) → list_all is_good ls ≡ true → IfOk (scri
 script_lines_good [] h = tt
 script_lines_good (l ∷ ls) h =
     header_good l.0 (header l.1) (items_from ls (between_items [] nothing_seen)) (lines_good ls (between_items [] nothing_seen) (and_parts (is_good l) (list_all is_good ls) h).1
-        (tt, refl))
+    (tt, refl))
 
 -- the items of a text are a syntax
 pub script_good : (source : List ℕ) (ls : Lines) (items : List Item) → text source ≡ Ok ls → script ls ≡ Ok items → IsSyntax items

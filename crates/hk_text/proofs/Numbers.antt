@@ -45,7 +45,7 @@ number_by_value t o h k =
   where
     go : (number digits large : Bool) → number ≡ true → digits ≡ true → (o : Option ℕ) → o ≡ cond (number && large) None (Some (value t))
         → MatchOption o (cond (not digits) (Err causes.BadToken) (cond large (Err causes.NumberTooLarge) (Ok (Number (value t)))) ≡ Err causes.NumberTooLarge)
-            (λ n. cond (not digits) (Err causes.BadToken) (cond large (Err causes.NumberTooLarge) (Ok (Number (value t)))) ≡ Ok (Number n))
+        (λ n. cond (not digits) (Err causes.BadToken) (cond large (Err causes.NumberTooLarge) (Ok (Number (value t)))) ≡ Ok (Number n))
     go true true true h k o e = rw e refl
     go true true false h k o e = rw e refl
     go false digits large h k o e = absurd (false≢true h)

@@ -54,12 +54,12 @@ word_good : (t : List ℕ)
     → GoodPiece (cond (is_lower (first t)) (formed (is_word t) (Word t)) (cond (is_capital (first t)) (formed (is_upper t) (Upper t)) (formed (is_dash t) Dash)))
 word_good t =
     chosen (is_lower (first t)) (formed (is_word t) (Word t)) (cond (is_capital (first t)) (formed (is_upper t) (Upper t)) (formed (is_dash t) Dash))
-        (formed_good (is_word t) (Word t) (λ h. h)) (named_good t)
+    (formed_good (is_word t) (Word t) (λ h. h)) (named_good t)
 
 plain_good : (t : List ℕ) → GoodPiece (plain_of t)
 plain_good t =
     chosen (is_digit (first t)) (number_of t) (cond (is_lower (first t)) (formed (is_word t) (Word t))
-        (cond (is_capital (first t)) (formed (is_upper t) (Upper t)) (formed (is_dash t) Dash))) (number_good t) (word_good t)
+    (cond (is_capital (first t)) (formed (is_upper t) (Upper t)) (formed (is_dash t) Dash))) (number_good t) (word_good t)
 
 pub register_below : (t : List ℕ) → is_register t ≡ true → ltb (register_of t) 8 ≡ true
 register_below [] h = absurd (false≢true h)

@@ -41,7 +41,7 @@ cut_turn p (x ∷ xs) = go (p x) (cut_turn p xs)
 
     go : (b : Bool) → slice_split p xs ≡ take (position_or_len p xs) xs ∷ cond (ltb (position_or_len p xs) (length xs)) (slice_split p (drop (position_or_len p xs + 1) xs)) []
         → cond b ([] ∷ slice_split p xs) (onto_first x (slice_split p xs)) ≡ take (cond (not b) (1 + position_or_len p xs) 0) (x ∷ xs) ∷ cond
-            (ltb (cond (not b) (1 + position_or_len p xs) 0) (length (x ∷ xs))) (slice_split p (drop (cond (not b) (1 + position_or_len p xs) 0 + 1) (x ∷ xs))) []
+        (ltb (cond (not b) (1 + position_or_len p xs) 0) (length (x ∷ xs))) (slice_split p (drop (cond (not b) (1 + position_or_len p xs) 0 + 1) (x ∷ xs))) []
     go true e = let some : ltb 0 (length (x ∷ xs)) ≡ true = lt-ltb _ _ (omega arith) in rw some
     go false e =
         let one : 1 + position_or_len p xs ≡ suc (position_or_len p xs) = omega arith in
@@ -59,8 +59,8 @@ texts_turn xs =
   where
     go : (some more : Bool) → ltb (position_or_len is_blank xs) (length xs) ≡ more
         → cond some (take (position_or_len is_blank xs) xs ∷ filter (λ t. not (is_none t)) (cond more (slice_split is_blank (drop (position_or_len is_blank xs + 1) xs)) []))
-            (filter (λ t. not (is_none t)) (cond more (slice_split is_blank (drop (position_or_len is_blank xs + 1) xs)) []))
-            ≡ cond some (take (position_or_len is_blank xs) xs ∷ []) [] ++ texts_of (drop (position_or_len is_blank xs + 1) xs)
+        (filter (λ t. not (is_none t)) (cond more (slice_split is_blank (drop (position_or_len is_blank xs + 1) xs)) []))
+        ≡ cond some (take (position_or_len is_blank xs) xs ∷ []) [] ++ texts_of (drop (position_or_len is_blank xs + 1) xs)
     go true true e = refl
     go false true e = refl
     go true false e = let low = ltb-false _ _ e in rw (drop_all (position_or_len is_blank xs + 1) xs (omega arith))
@@ -150,7 +150,7 @@ lines_turn (b ∷ bs) h =
     go : (more : Bool) → ltb (position_or_len (λ c. eqb c 10) (b ∷ bs)) (length (b ∷ bs)) ≡ more → (rest : List (List ℕ))
         → slice_split (λ c. eqb c 10) (drop (position_or_len (λ c. eqb c 10) (b ∷ bs) + 1) (b ∷ bs)) ≡ rest
         → without_last_empty (take (position_or_len (λ c. eqb c 10) (b ∷ bs)) (b ∷ bs) ∷ cond more rest [])
-            ≡ take (position_or_len (λ c. eqb c 10) (b ∷ bs)) (b ∷ bs) ∷ without_last_empty rest
+        ≡ take (position_or_len (λ c. eqb c 10) (b ∷ bs)) (b ∷ bs) ∷ without_last_empty rest
     go true e [] k = absurd (let turn = cut_turn (λ c. eqb c 10) (drop (position_or_len (λ c. eqb c 10) (b ∷ bs) + 1) (b ∷ bs)) in cc)
     go true e (r ∷ rs) k = refl
     go false e rest k =

@@ -17,4 +17,4 @@ loop-line-init c = record {
 pub invariant_of-result : goal.invariant_of-result
 invariant_of-result c =
     read_good c.args.source.now c.args.lines.now c.in-Some.others.now c.loop-line.line-index (read_of c.loop-line.reading) c.in_ok-items.items c.requires c.loop-line.invariant.read
-        (omega (arith, c.loop-line-test.false)) c.in_ok-items.ensures
+    (omega (arith, c.loop-line-test.false)) c.in_ok-items.ensures

@@ -10,7 +10,7 @@ use Rattle.hk_text.proofs.text.lines.Goals.{then-not-is_empty+in_ok-push-in-Ok, 
 pub returns-in-Err-clause-refused : goal.returns-in-Err-clause-refused
 returns-in-Err-clause-refused c line cause h =
     let refused = λ (bad : _) (read : _). line_refused c.args.bytes.now c.loop-start.start c.loop-start.number c.first_of-len.result
-        (map (line_seen c.args.bytes.now) c.loop-start.lines) bad _ (omega arith) c.first_of-len.ensures.place read c.loop-start.invariant.rest in
+    (map (line_seen c.args.bytes.now) c.loop-start.lines) bad _ (omega arith) c.first_of-len.ensures.place read c.loop-start.invariant.rest in
     line_fails c.loop-start.number c.in-Err.error _ _ c.in-Err.ensures.value refused line cause (cc (c.on_line.ensures, h))
 
 pub overflow_add-number : goal.overflow_add-number

@@ -9,7 +9,7 @@ use Rattle.hk_text.proofs.text.pieces_between.Goals.{then-len-gt0+in_ok-kind+in_
 pub returns-in_err-kind-clause-value : goal.returns-in_err-kind-clause-value
 returns-in_err-kind-clause-value c =
     let refused = turn_refused c.args.source.now c.loop-at.at c.args.end c.first_blank-len.result _ c.in_err-kind.field-0.0 _ c.first_blank-len.ensures.place
-        (omega arith) c.first_blank-len.ensures.within c.in_err-kind.ensures c.loop-at.invariant.rest in
+    (omega arith) c.first_blank-len.ensures.within c.in_err-kind.ensures c.loop-at.invariant.rest in
     let p = err_from_is_err_and c.from_residual.result c.from_residual.ensures.1 in
     rw (p.1, p.2) refused
 

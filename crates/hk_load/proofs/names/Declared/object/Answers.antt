@@ -9,4 +9,5 @@ returns-in-Some c =
 
 pub returns-in-None : goal.returns-in-None
 returns-in-None c =
-    object_gives c.self.inside.objects.entries c.self.inside.codes.keys c.args.self.now c.args.name.now c.as_str.result.now None c.self.view_is c.as_str.ensures c.in-None.ensures.index
+    object_gives c.self.inside.objects.entries c.self.inside.codes.keys c.args.self.now c.args.name.now c.as_str.result.now None c.self.view_is c.as_str.ensures
+        c.in-None.ensures.index
