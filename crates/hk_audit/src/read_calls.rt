@@ -212,7 +212,7 @@ impl<'a> Parts<'a> {
     {
         let of = self.path()?;
         let kind = self.verb()?;
-        self.template_of(of, kind)
+        self.template_call(of, kind)
     }
 
     /// `amplify CHECK GIVE INTO` or `create GIVE INTO`
@@ -223,11 +223,11 @@ impl<'a> Parts<'a> {
             Verb::Amplify => {
                 let check = self.rights()?;
                 let give = self.rights()?;
-                self.template_end(of, Making::Amplify { check, give })
+                self.template_call_end(of, Making::Amplify { check, give })
             }
             Verb::Create => {
                 let give = self.rights()?;
-                self.template_end(of, Making::Create { give })
+                self.template_call_end(of, Making::Create { give })
             }
             _ => Err(ParseCause::UnknownWord),
         }
