@@ -139,9 +139,8 @@ impl<K: Kernel> Machine<K> {
     }
 }
 
-/// The context of each process as it begins, by the numbers of the processes: its code's first
-/// instruction in one frame (`docs/RULES.md`, "Control of a process"). NoMemory is want of memory.
-pub fn beginnings(alloc: Global, tasks: &[Task]) -> Result<Vec<Context>, NoMemory>
+// The context of each process as it begins.
+fn beginnings(alloc: Global, tasks: &[Task]) -> Result<Vec<Context>, NoMemory>
     ensures { IfOk result (λ contexts. contexts.items ≡ map (λ (t : Task). new_frame t.code ∷ []) tasks.now) }
 {
     let mut contexts = Vec::with_capacity(alloc, tasks.len())?;

@@ -13,7 +13,7 @@ use crate::book::Book;
 use crate::naming::Naming;
 use hk_model::{Kernel, NoMemory, Task, World};
 use hk_procs::Noted;
-use hk_program::{Context, beginnings};
+use hk_program::Context;
 use hk_turn::{Pass, Turns};
 use std::alloc::Global;
 use std::marker::PhantomData;
@@ -94,8 +94,8 @@ fn places(alloc: Global, tasks: &[Task]) -> Result<Vec<Option<Context>>, NoMemor
     ensures { IfOk result (λ contexts. contexts.items ≡ map (λ (t : Task). Some (new_frame t.code ∷ [])) tasks.now) }
 {
     let mut places = Vec::with_capacity(alloc, tasks.len())?;
-    for context in beginnings(alloc, tasks)? {
-        places.push(Some(context))?;
+    for task in tasks {
+        places.push(Some(Context::new(alloc, task.code)?))?;
     }
     Ok(places)
 }
