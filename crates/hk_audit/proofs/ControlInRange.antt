@@ -22,7 +22,8 @@ use Rattle.hk_model.specs.declared.world.Code.{Code}
 use Rattle.hk_model.specs.Limits.{local_limit, slot_limit, slot_bound, index_bound}
 use Rattle.hk_model.specs.WorldValue.{WorldValue, IsWorld, IsWord32, IsIndex, IsOperand, IsRoute, IsSlotOrNone, BeginsAtSlot, IsInstr, IsCode}
 use Rattle.hk_format.specs.LineRanges.{IsPathValue, IsAnySlotOrNone, IsCall, IsReply}
-use Rattle.hk_model.specs.Control.{Context, new_frame, operand, index_of, path_of, Meaning, Calls, Local, step_over, go_to, meaning, steps_of, here, next_from, next, target_register, with_word, behind, frames_after, after}
+use Rattle.hk_model.specs.Control.{Context, new_frame, operand, index_of, indices_spelled, Meaning, Calls, Local, step_over, go_to, meaning, steps_of, here, next_from, next}
+use Rattle.hk_model.specs.Control.{target_register, with_word, behind, frames_after, after}
 use Rattle.hk_audit.proofs.Every.{every_set, every_or, every_at, every_mapped}
 
 -- its registers hold words
@@ -46,7 +47,7 @@ index_in : (f : Frame) (i : Index) → IsIndex i → index_of f i < index_bound
 index_in f (Fixed n) g = g
 index_in f (ByReg r) g = omega arith
 
-path_in : (f : Frame) (route : Route) → IsRoute route → IsPathValue (path_of f route)
+path_in : (f : Frame) (route : Route) → IsRoute route → IsPathValue (indices_spelled f route)
 path_in f route h =
     let same = length-map route.at (index_of f) in
     (by route.at h.0, let few = h.1 in omega arith, every_mapped IsIndex (λ index. index < index_bound) (index_of f) (index_in f) route.at h.2)
@@ -115,7 +116,8 @@ abbrev pub TodoIn : Todo → Type 0
 TodoIn (Do c) = IsCall c
 TodoIn Halt = Unit {0}
 
-next_from_in : (len budget : ℕ) (steps : List Instr) (f : Frame) (m : Meaning) → AllByRecursion (IsInstr len) steps → FrameIn f → MeaningIn m → TodoIn (next_from budget steps f m).0 × FrameIn (next_from budget steps f m).1
+next_from_in : (len budget : ℕ) (steps : List Instr) (f : Frame) (m : Meaning) → AllByRecursion (IsInstr len) steps → FrameIn f → MeaningIn m
+    → TodoIn (next_from budget steps f m).0 × FrameIn (next_from budget steps f m).1
 unfolding next_from
 next_from_in len zero steps f (Calls c) all h g = (g, h)
 next_from_in len (suc budget) steps f (Calls c) all h g = (g, h)

@@ -43,7 +43,8 @@ unbroken : (t : List ℕ) → list_all (λ b. not (b == 10)) t ≡ true → is_u
 unbroken t h = ap not (none_of (λ b. not (b == 10)) (λ b. b == 10) (λ b k. grind arith) t h)
 
 -- texts, each with a line feed behind it, are cut there
-texts_ended : {X : Type 0} (text : X → List ℕ) (xs : List X) (rest : List ℕ) → list_all (λ x. is_unbroken (text x)) xs ≡ true → texts_of (flat_map (λ x. ended_line (text x)) xs ++ rest) ≡ map text xs ++ texts_of rest
+texts_ended : {X : Type 0} (text : X → List ℕ) (xs : List X) (rest : List ℕ) → list_all (λ x. is_unbroken (text x)) xs ≡ true
+    → texts_of (flat_map (λ x. ended_line (text x)) xs ++ rest) ≡ map text xs ++ texts_of rest
 texts_ended text [] rest h = refl
 texts_ended text (x ∷ xs) rest h =
     let parts = and_parts (is_unbroken (text x)) (list_all (λ y. is_unbroken (text y)) xs) h in
@@ -76,7 +77,8 @@ unfolding line_body
 line_unbroken l h =
     let event = (clear_texts (event_pieces l) (clear_event l h)).unbroken in
     let reply = (clear_texts (reply_pieces l.reply) (clear_reply l.reply h.reply)).unbroken in
-    unbroken (line_body l) (all_joined (λ b. not (b == 10)) 32 (map spell (event_pieces l) ++ arrow ∷ map spell (reply_pieces l.reply)) (all_both (list_all (λ b. not (b == 10))) (map spell (event_pieces l)) (arrow ∷ map spell (reply_pieces l.reply)) event (and_from _ _ refl reply)) refl)
+    unbroken (line_body l) (all_joined (λ b. not (b == 10)) 32 (map spell (event_pieces l) ++ arrow ∷ map spell (reply_pieces l.reply))
+        (all_both (list_all (λ b. not (b == 10))) (map spell (event_pieces l)) (arrow ∷ map spell (reply_pieces l.reply)) event (and_from _ _ refl reply)) refl)
 
 audit_lines_unbroken : (lines : List Line) → AllByRecursion IsLine lines → list_all (λ l. is_unbroken (line_body l)) lines ≡ true
 audit_lines_unbroken [] h = refl
@@ -105,7 +107,8 @@ events_told [] end.Done n h = refl
 events_told [] end.Stuck n h = refl
 events_told [] end.Limit n h = refl
 events_told (l ∷ []) e n h = line_told (line_body l) (end_text e) ([] ∷ []) l (no_end l h.0) (h.0, refl) n ∙ ap (line_before l) (events_told [] e (n + 1) tt)
-events_told (l ∷ k ∷ lines) e n h = line_told (line_body l) (line_body k) (map line_body lines ++ end_text e ∷ [] ∷ []) l (no_end l h.0) (h.0, refl) n ∙ ap (line_before l) (events_told (k ∷ lines) e (n + 1) h.1)
+events_told (l ∷ k ∷ lines) e n h =
+    line_told (line_body l) (line_body k) (map line_body lines ++ end_text e ∷ [] ∷ []) l (no_end l h.0) (h.0, refl) n ∙ ap (line_before l) (events_told (k ∷ lines) e (n + 1) h.1)
 
 -- the script is what stands before the first line `record`
 cut_there : (ts more : List (List ℕ)) → list_all (λ t. not (is_record t)) ts ≡ true → cut_at_record (ts ++ record_word ∷ more) ≡ cut ts (Some more)
@@ -146,11 +149,13 @@ canon_world w h =
     ap world_of (sym lines) ∙ world_again w h
 
 -- the whole
-record_texts : (w : WorldValue) (lines : List Line) (e : End) → IsWorld w → AllByRecursion IsLine lines → texts_of (record_text w lines e) ≡ canon_lines w ++ record_word ∷ (map line_body lines ++ end_text e ∷ [] ∷ [])
+record_texts : (w : WorldValue) (lines : List Line) (e : End) → IsWorld w → AllByRecursion IsLine lines
+    → texts_of (record_text w lines e) ≡ canon_lines w ++ record_word ∷ (map line_body lines ++ end_text e ∷ [] ∷ [])
 unfolding record_text
 record_texts w lines e h g =
     canon_texts w (ended_line record_word ++ (lines_text lines ++ ended_line (end_text e))) h
-    ∙ ap (λ (ts : List (List ℕ)). canon_lines w ++ record_word ∷ ts) (texts_ended line_body lines (ended_line (end_text e)) (audit_lines_unbroken lines g) ∙ ap (λ (ts : List (List ℕ)). map line_body lines ++ ts) (last e))
+    ∙ ap (λ (ts : List (List ℕ)). canon_lines w ++ record_word ∷ ts) (texts_ended line_body lines (ended_line (end_text e)) (audit_lines_unbroken lines g)
+        ∙ ap (λ (ts : List (List ℕ)). map line_body lines ++ ts) (last e))
   where
     last : (e : End) → texts_of (ended_line (end_text e)) ≡ end_text e ∷ [] ∷ []
     last end.Done = refl
@@ -167,7 +172,8 @@ record_again w lines e h g =
     ∙ rw (canon_world w h, events_told lines e (length (canon_lines w) + 1 + 1) all) refl
 
 -- so the text tells them
-pub record_is_of_one : (w v : WorldValue) (lines more : List Line) (e f : End) → IsWorld w → IsWorld v → All IsLine lines → All IsLine more → record_text w lines e ≡ record_text v more f → (w ≡ v) × (lines ≡ more) × (e ≡ f)
+pub record_is_of_one : (w v : WorldValue) (lines more : List Line) (e f : End) → IsWorld w → IsWorld v → All IsLine lines → All IsLine more
+    → record_text w lines e ≡ record_text v more f → (w ≡ v) × (lines ≡ more) × (e ≡ f)
 record_is_of_one w v lines more e f h k g i same =
     let both : Ok (audited w (events lines e)) ≡ Ok (audited v (events more f)) = sym (record_again w lines e h g) ∙ ap audit same ∙ record_again v more f k i in
     (ap (world_in w) both, ap (lines_in lines) both, ap (end_in e) both)

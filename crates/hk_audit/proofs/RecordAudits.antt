@@ -17,7 +17,8 @@ use Rattle.hk_format.specs.Outcomes.{IsRefused}
 pub record Parted (bytes script behind : List ℕ) : Type 0 where
   pub cut_is : cut_at_record (texts_of bytes) ≡ cut (lines_of script) (behind_first behind)
 
-pub parted : (bytes script behind : List ℕ) (k : ℕ) → cut_at_record (texts_of bytes) ≡ cut (lines_of (take k bytes)) (behind_first (drop k bytes)) → script ≡ take k bytes → behind ≡ drop k bytes → Parted bytes script behind
+pub parted : (bytes script behind : List ℕ) (k : ℕ) → cut_at_record (texts_of bytes) ≡ cut (lines_of (take k bytes)) (behind_first (drop k bytes)) → script ≡ take k bytes
+    → behind ≡ drop k bytes → Parted bytes script behind
 parted bytes script behind k e front back = record { cut_is = rw (front, back) e }
 
 audit_is : (bytes script behind : List ℕ) → Parted bytes script behind → audit bytes ≡ audit_cut (cut (lines_of script) (behind_first behind))
@@ -40,7 +41,8 @@ behind_given : (bytes script behind : List ℕ) (w : WorldValue) → Parted byte
 behind_given bytes script behind w h good =
     audit_is bytes script behind h ∙ ap (λ r. r >>= behind_world script behind) (sym (world_is script) ∙ good)
 
-pub behind_refused : (bytes script behind : List ℕ) (w : WorldValue) (number : ℕ) (e : (ReadError Cause)) → Parted bytes script behind → world script ≡ Ok w → number ≡ length (lines_of script)
+pub behind_refused : (bytes script behind : List ℕ) (w : WorldValue) (number : ℕ) (e : (ReadError Cause)) → Parted bytes script behind → world script ≡ Ok w
+    → number ≡ length (lines_of script)
     → GivesEvents (Err e) (events_behind (number + 1) (behind_first behind)) → (line : ℕ) (cause : Cause) → e ≡ read_error.Refused line cause → audit bytes ≡ Err (line, cause)
 behind_refused bytes script behind w number read_error.NoMemory h good count given line cause e = absurd (cc)
 behind_refused bytes script behind w number (read_error.Refused at why) h good count given line cause e =
@@ -49,14 +51,16 @@ behind_refused bytes script behind w number (read_error.Refused at why) h good c
     let first = ap (λ n. events_behind (n + 1) (behind_first behind)) count in
     behind_given bytes script behind w h good ∙ ap (λ r. r >>= λ found. Ok (audited w found)) (sym first ∙ given) ∙ rw (a, b) refl
 
-pub record_given : (bytes script behind : List ℕ) (w : WorldValue) (number : ℕ) (found : Events) → Parted bytes script behind → world script ≡ Ok w → number ≡ length (lines_of script)
+pub record_given : (bytes script behind : List ℕ) (w : WorldValue) (number : ℕ) (found : Events) → Parted bytes script behind → world script ≡ Ok w
+    → number ≡ length (lines_of script)
     → events_behind (number + 1) (behind_first behind) ≡ Ok found → audit bytes ≡ Ok (audited w found)
 record_given bytes script behind w number found h good count given =
     let first = ap (λ n. events_behind (n + 1) (behind_first behind)) count in
     behind_given bytes script behind w h good ∙ ap (λ r. r >>= λ found. Ok (audited w found)) (sym first ∙ given)
 
 -- an answer that is an error of a part
-pub of_error : {X : Type 0} (r : Result X (ReadError Cause)) (e : (ReadError Cause)) (given : Result Audited Refused) → IsErrAnd r (λ error. error ≡ e) → ((line : ℕ) (cause : Cause) → e ≡ read_error.Refused line cause → given ≡ Err (line, cause))
+pub of_error : {X : Type 0} (r : Result X (ReadError Cause)) (e : (ReadError Cause)) (given : Result Audited Refused) → IsErrAnd r (λ error. error ≡ e)
+    → ((line : ℕ) (cause : Cause) → e ≡ read_error.Refused line cause → given ≡ Err (line, cause))
     → (line : ℕ) (cause : Cause) → IsRefused r line cause → given ≡ Err (line, cause)
 of_error (Ok x) e given h f line cause r = absurd h
 of_error (Err error) e given h f line cause r = let same : error ≡ read_error.Refused line cause = cc in f line cause (sym h ∙ same)

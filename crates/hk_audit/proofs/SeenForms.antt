@@ -1,5 +1,6 @@
 -- What the forms take of the piece that a text spells.
-use Rattle.std.proofs.Common.{◌≡◌, ℕ, ◌<◌, ◌≤◌, ◌==◌, Bool, true, false, cond, eqb, ltb, List, [], ◌∷◌, length, map, refl, sym, ap, subst, ◌∙◌, arith, ◌&&◌, ◌||◌, Option, Some, None, Result, Ok, Err}
+use Rattle.std.proofs.Common.{◌≡◌, ℕ, ◌<◌, ◌≤◌, ◌==◌, Bool, true, false, cond, eqb, ltb, List, [], ◌∷◌, length, map, refl, sym, ap, subst, ◌∙◌, arith, ◌&&◌, ◌||◌, Option, Some}
+use Rattle.std.proofs.Common.{None, Result, Ok, Err}
 use Rattle.std.specs.Prelude.{codes, find}
 use Rattle.std.specs.List.{AllByRecursion, list_all, slice_split, onto_first}
 use Rattle.std.proofs.lemmas.Bool.{and_parts, and_from, false≢true, lt-ltb, le-ltb, le-leb, lt-leb, ltb-true}
@@ -22,16 +23,17 @@ use Rattle.hk_format.proofs.ItemsGood.{rights_good}
 use Rattle.hk_format.proofs.LineAgain.{same_is}
 use Rattle.hk_format.proofs.LoadGood.{rights_word}
 use Rattle.hk_text.specs.Numerals.{is_numeral, numeral_of}
-use Rattle.hk_audit.specs.Seen.{is_index_numeral, indices_of, path_of, if_canonical, canonical_rights, nothing, seen_rights, seen_path, seen_number, seen}
+use Rattle.hk_audit.specs.TextPieces.{is_index_numeral, indices_of, indices_spelled, if_canonical, canonical_rights, nothing, seen_rights, seen_path, seen_number, seen}
 use Rattle.hk_audit.proofs.Spelled.{named_row}
 
 -- by cases on what a text spells
 
 -- a form that takes no rights, no path and no word, of what is no number
-pub not_number : {A : Type 0} (form : Piece → Result A ParseCause) (t : List ℕ) → ((x : List ℕ) → form (Word x) ≡ Err UnknownWord) → ((x : List ℕ) → form (Upper x) ≡ Err UnknownWord)
+pub not_number : {A : Type 0} (form : Piece → Result A ParseCause) (t : List ℕ) → ((x : List ℕ) → form (Word x) ≡ Err UnknownWord)
+    → ((x : List ℕ) → form (Upper x) ≡ Err UnknownWord)
     → form Dash ≡ Err UnknownWord → ((x : List Index) → form (Path x) ≡ Err UnknownWord) → numeral_of t ≡ None → form (seen t) ≡ Err UnknownWord
 unfolding seen
-not_number form t word upper dash path e = rw e (by_path (path_of t))
+not_number form t word upper dash path e = rw e (by_path (indices_spelled t))
   where
     by_rights : (o : Option ℕ) → form (seen_rights t o) ≡ Err UnknownWord
     by_rights (Some w) = go (same_text t (codes "-"))
@@ -51,7 +53,7 @@ not_number form t word upper dash path e = rw e (by_path (path_of t))
 
 -- a form that takes no rights and no word, of what is no number and no path
 pub not_path : {A : Type 0} (form : Piece → Result A ParseCause) (t : List ℕ) → ((x : List ℕ) → form (Word x) ≡ Err UnknownWord) → ((x : List ℕ) → form (Upper x) ≡ Err UnknownWord)
-    → form Dash ≡ Err UnknownWord → numeral_of t ≡ None → path_of t ≡ None → form (seen t) ≡ Err UnknownWord
+    → form Dash ≡ Err UnknownWord → numeral_of t ≡ None → indices_spelled t ≡ None → form (seen t) ≡ Err UnknownWord
 unfolding seen
 not_path form t word upper dash e f = rw (e, f) (go (is_lower (first t)))
   where
@@ -77,7 +79,7 @@ seen_numeral t n e = rw e refl
 no_numeral : (t : List ℕ) → is_digit (first t) ≡ false → is_numeral t ≡ false
 no_numeral t h = rw h refl
 
-pub no_digit : (t : List ℕ) → is_digit (first t) ≡ false → (numeral_of t ≡ None) × (path_of t ≡ None)
+pub no_digit : (t : List ℕ) → is_digit (first t) ≡ false → (numeral_of t ≡ None) × (indices_spelled t ≡ None)
 no_digit t h = (rw (no_numeral t h) refl, parts t h)
   where
     bad : (x : List ℕ) (xs : List (List ℕ)) → is_digit (first x) ≡ false → indices_of (x ∷ xs) ≡ None
@@ -87,7 +89,7 @@ no_digit t h = (rw (no_numeral t h) refl, parts t h)
         go true = refl
         go false = refl
 
-    parts : (u : List ℕ) → is_digit (first u) ≡ false → path_of u ≡ None
+    parts : (u : List ℕ) → is_digit (first u) ≡ false → indices_spelled u ≡ None
     parts [] k = bad [] [] refl
     parts (b ∷ bs) k = cut (eqb b 46) (slice_split (λ c. eqb c 46) bs)
       where
@@ -104,10 +106,11 @@ seen_word t h =
     rw (none.0, none.1, h) refl
 
 -- a path
-pub path_taken : (t : List ℕ) (p : List ℕ) → path_of t ≡ Some p → as_path (Path (map Fixed p)) ≡ Ok p
+pub path_taken : (t : List ℕ) (p : List ℕ) → indices_spelled t ≡ Some p → as_path (Path (map Fixed p)) ≡ Ok p
 path_taken t p e = go (slice_split (λ b. b == 46) t) e
   where
-    numbers : (ts : List (List ℕ)) → list_all is_index_numeral ts ≡ true → (list_all is_number_index (map Fixed (map value ts)) ≡ true) × (map index_number (map Fixed (map value ts)) ≡ map value ts)
+    numbers : (ts : List (List ℕ)) → list_all is_index_numeral ts ≡ true
+        → (list_all is_number_index (map Fixed (map value ts)) ≡ true) × (map index_number (map Fixed (map value ts)) ≡ map value ts)
     numbers [] h = (refl, refl)
     numbers (x ∷ xs) h =
         let parts = and_parts (is_index_numeral x) (list_all is_index_numeral xs) h in
@@ -132,7 +135,7 @@ path_taken t p e = go (slice_split (λ b. b == 46) t) e
             none true h = absurd (let none : None ≡ Some p = h in cc)
             none false h = absurd (let none : None ≡ Some p = h in cc)
 
-pub seen_path_of : (t : List ℕ) (p : List ℕ) → numeral_of t ≡ None → path_of t ≡ Some p → seen t ≡ Path (map Fixed p)
+pub seen_path_of : (t : List ℕ) (p : List ℕ) → numeral_of t ≡ None → indices_spelled t ≡ Some p → seen t ≡ Path (map Fixed p)
 unfolding seen
 seen_path_of t p e f = rw (e, f) refl
 
@@ -213,7 +216,7 @@ rights_refused t e = by_number (numeral_of t)
 
     by_number : (o : Option ℕ) → as_rights_set (seen_number t o) ≡ Err UnknownWord
     by_number (Some n) = refl
-    by_number None = by_path (path_of t)
+    by_number None = by_path (indices_spelled t)
 
 -- a right
 
@@ -259,11 +262,12 @@ right_refused t e = by_number (numeral_of t)
 
     by_number : (o : Option ℕ) → as_right (seen_number t o) ≡ Err UnknownWord
     by_number (Some n) = refl
-    by_number None = by_path (path_of t)
+    by_number None = by_path (indices_spelled t)
 
 -- what is no word
 pub not_word : {A : Type 0} (form : Piece → Result A ParseCause) (t : List ℕ) → ((x : List ℕ) → form (Upper x) ≡ Err UnknownWord)
-    → form Dash ≡ Err UnknownWord → ((x : List Index) → form (Path x) ≡ Err UnknownWord) → ((n : ℕ) → form (Number n) ≡ Err UnknownWord) → is_lower (first t) ≡ false → form (seen t) ≡ Err UnknownWord
+    → form Dash ≡ Err UnknownWord → ((x : List Index) → form (Path x) ≡ Err UnknownWord) → ((n : ℕ) → form (Number n) ≡ Err UnknownWord) → is_lower (first t) ≡ false
+        → form (seen t) ≡ Err UnknownWord
 unfolding seen
 not_word form t upper dash path number h = by_number (numeral_of t)
   where
@@ -281,7 +285,7 @@ not_word form t upper dash path number h = by_number (numeral_of t)
 
     by_number : (o : Option ℕ) → form (seen_number t o) ≡ Err UnknownWord
     by_number (Some n) = number n
-    by_number None = by_path (path_of t)
+    by_number None = by_path (indices_spelled t)
 
 -- the forms of numbers, of what is none
 
@@ -294,10 +298,10 @@ word32_refused t e = not_number as_word32 t (λ x. refl) (λ x. refl) refl (λ x
 pub slot_refused : (t : List ℕ) → numeral_of t ≡ None → as_any_slot (seen t) ≡ Err UnknownWord
 slot_refused t e = not_number as_any_slot t (λ x. refl) (λ x. refl) refl (λ x. refl) e
 
-pub path_refused : (t : List ℕ) → numeral_of t ≡ None → path_of t ≡ None → as_path (seen t) ≡ Err UnknownWord
+pub path_refused : (t : List ℕ) → numeral_of t ≡ None → indices_spelled t ≡ None → as_path (seen t) ≡ Err UnknownWord
 path_refused t e f = not_path as_path t (λ x. refl) (λ x. refl) refl e f
 
-pub several_taken : (t : List ℕ) (p : List ℕ) → numeral_of t ≡ None → path_of t ≡ Some p → as_path (seen t) ≡ Ok p
+pub several_taken : (t : List ℕ) (p : List ℕ) → numeral_of t ≡ None → indices_spelled t ≡ Some p → as_path (seen t) ≡ Ok p
 several_taken t p e f = rw (seen_path_of t p e f) (path_taken t p f)
 
 pub word_refused : (t : List ℕ) → is_lower (first t) ≡ false → as_word (seen t) ≡ Err UnknownWord

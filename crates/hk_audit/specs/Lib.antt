@@ -1,4 +1,4 @@
-pub mod Seen
+pub mod TextPieces
 pub mod Left
 pub mod Names
 pub mod Refusals

@@ -52,8 +52,11 @@ inherited_lacks : (e x : Entry) → x ≡ inherited true e → (cap : Cap) → x
 inherited_lacks Empty x h cap g = absurd (cc)
 inherited_lacks (Form form) x h cap g = absurd (cc)
 inherited_lacks (Held old) x h cap g =
-    let same : confined_rights old.rights ≡ cap.rights = rights_same (sym h ∙ g) in
-    (λ r. confined_lacks old.rights modify_right refl (ap (λ n. has n modify_right) same ∙ r), λ r. confined_lacks old.rights unconf_right refl (ap (λ n. has n unconf_right) same ∙ r))
+    let same : confined_rights old.rights ≡ cap.rights = rights_same (sym h ∙ g) in (
+      λ r. confined_lacks old.rights modify_right refl (ap (λ n. has n modify_right) same ∙ r),
+      λ r. confined_lacks old.rights unconf_right refl
+          (ap (λ n. has n unconf_right) same ∙ r),
+    )
   where
     rights_same : {a b : Cap} → Held a ≡ Held b → a.rights ≡ b.rights
     rights_same e = ap rights_held e
@@ -112,7 +115,8 @@ module _ (w : WorldValue) (lines : List Line) (h : AreStepsOf w lines) (k : ℕ)
   done : HasDoneThat before c.line.inc (done_call c.line) start.incarnations
   done = subst (λ n. HasDoneThat before c.line.inc (done_call c.line) (state_at w lines n).incarnations) (sym c.moment)
       (subst (λ (m : Machine). HasDoneThat before c.line.inc (done_call c.line) m.state.incarnations) (sym (after_next w (opened w) lines c.earlier c.line c.is))
-      (moved_holds (λ s l t. HasDoneThat s l.inc (done_call l) t.incarnations) done_each w (machine_at w lines c.earlier) c.line (line_steps w (opened w) lines c.earlier c.line h c.is)))
+      (moved_holds (λ s l t. HasDoneThat s l.inc (done_call l) t.incarnations) done_each w (machine_at w lines c.earlier) c.line
+      (line_steps w (opened w) lines c.earlier c.line h c.is)))
 
   pub steps_then : AreSteps w (machine_at w lines k) (drop k lines)
   steps_then = later_steps w (opened w) lines k h
@@ -137,7 +141,8 @@ module _ (w : WorldValue) (lines : List Line) (h : AreStepsOf w lines) (k : ℕ)
   -- the callers of those who live
   pub first_family : Family under top start
   first_family i j x g called apart =
-      by (found_last (activations_in before.incarnations) before.next_inc i (record { proc = c.line.proc; caller = Some c.line.inc }) x (subst (λ fs. look_up i fs ≡ Some x) (enters_turn before c.line start begun.turn c.enters).activations g))
+      by (found_last (activations_in before.incarnations) before.next_inc i (record { proc = c.line.proc; caller = Some c.line.inc }) x
+      (subst (λ fs. look_up i fs ≡ Some x) (enters_turn before c.line start begun.turn c.enters).activations g))
     where
       by : (look_up i (activations_in before.incarnations) ≡ Some x) ⊎ ((i ≡ before.next_inc) × (record { proc = c.line.proc; caller = Some c.line.inc } ≡ x)) → under i ≡ under j
       by (inl a) =
@@ -173,7 +178,8 @@ module _ (w : WorldValue) (lines : List Line) (h : AreStepsOf w lines) (k : ℕ)
         nothing none = inr (λ cap there. absurd (cc))
 
         by_slot : (b : Bool) → b ≡ true → (flag : Bool) → flag ≡ true
-            → Wrote before c.line.inc (standing before (SlotOf top n)) (cond b (Some (call_way (named_by before c.line.inc path) flag args (object before (named_by before c.line.inc path)).params n)) None) (standing start (SlotOf top n))
+            → Wrote before c.line.inc (standing before (SlotOf top n))
+            (cond b (Some (call_way (named_by before c.line.inc path) flag args (object before (named_by before c.line.inc path)).params n)) None) (standing start (SlotOf top n))
             → FirstOf (Some (call.Enter path args into)) n
         by_slot true q true r (inl none) = nothing none
         by_slot true q true r (inr wrote) =

@@ -86,11 +86,14 @@ entered_calls s inc path args into after done (SlotOf i n) v e = by (same_inc i 
     here = call_way (named_by s inc path) (not (has (rights_held (found s inc path)) unconf_right)) args (object s (named_by s inc path)).params n
 
     by : (b : Bool)
-        → ◌≡◌ {A = Option Way} (cond b (Some (call_way (named_by s inc path) (not (has (rights_held (found s inc path)) unconf_right)) args (object s (named_by s inc path)).params n)) None) (Some v) → Calls s inc v
+        → ◌≡◌ {A = Option Way} (cond b (Some (call_way (named_by s inc path) (not (has (rights_held (found s inc path)) unconf_right)) args
+        (object s (named_by s inc path)).params n)) None) (Some v)
+        → Calls s inc v
     by true f =
         let same : here ≡ v = cc in
         subst (Calls s inc) same
-        (call_way_calls s inc (named_by s inc path) (not (has (rights_held (found s inc path)) unconf_right)) (entered_called s inc path after done) args (object s (named_by s inc path)).params n)
+        (call_way_calls s inc (named_by s inc path) (not (has (rights_held (found s inc path)) unconf_right)) (entered_called s inc path after done) args
+        (object s (named_by s inc path)).params n)
     by false f = absurd (cc)
 
 -- what is inherited comes from a procedure that the line has called

@@ -86,7 +86,8 @@ numbers_later w lines n d h =
 
 -- ---- from the beginning of a confined call on
 
-module _ (w : WorldValue) (lines : List Line) (h : AreStepsOf w lines) (world : IsWorld w) (k : ℕ) (top : Inc) (c : IsConfinedCall w lines k top) (M U : ℕ → Name → Type 0) (rules : AreReaches (state_at w lines) (is_made_under w lines k top) (parameters w lines k top) k M U) where
+module _ (w : WorldValue) (lines : List Line) (h : AreStepsOf w lines) (world : IsWorld w) (k : ℕ) (top : Inc) (c : IsConfinedCall w lines k top) (M U : ℕ → Name → Type 0)
+    (rules : AreReaches (state_at w lines) (is_made_under w lines k top) (parameters w lines k top) k M U) where
   abbrev under : Inc → Bool
   under = is_under w lines k top
 

@@ -117,8 +117,11 @@ module _ (s : State) (inc : Inc) (G : Name → ℕ → Type 0) (g : Gets s inc G
   merged_gets : (slot : ℕ) (form : Param) (x : Entry) → IsMerged s (standing s (SlotOf inc slot)) form x → Holds G x
   merged_gets slot form x h =
       let old : G h.cap.name h.cap.rights = held_gets slot h.cap h.held in
-      let less : Less h.new.rights h.cap.rights =
-      (λ k. merged_has h.cap (object s h.cap.name).of form h.step h.new modify_right h.merges refl refl k, λ k. merged_has h.cap (object s h.cap.name).of form h.step h.new unconf_right h.merges refl refl k) in
+      let less : Less h.new.rights h.cap.rights = (
+        λ k. merged_has h.cap (object s h.cap.name).of form h.step h.new modify_right h.merges refl refl k,
+        λ k. merged_has h.cap (object s h.cap.name).of form h.step h.new
+            unconf_right h.merges refl refl k,
+      ) in
       let same : h.new.name ≡ h.cap.name = (merged_is h.cap (object s h.cap.name).of form h.step h.new h.merges).same in
       subst (Holds G) (sym h.is) (subst (λ (n : Name). G n h.new.rights) (sym same) (g.weaker h.cap.name h.cap.rights h.new.rights old less))
 

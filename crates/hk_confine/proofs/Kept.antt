@@ -93,7 +93,8 @@ module _ (under : Inc → Bool) (made : Name → Bool) (M U : Name → Type 0) (
       reached x index cap got h m (inl is) = closed.handed x index cap (got is).0 h m
       reached x index cap got h m (inr is) = other x index cap h is m
 
-  module _ (M' U' : Name → Type 0) (m_up : (x : Name) → M x → M' x) (u_up : (x : Name) → U x → U' x) (line : Line) (t : State) (later : Closed made M' U' t) (writes : LineWrites s line t)
+  module _ (M' U' : Name → Type 0) (m_up : (x : Name) → M x → M' x) (u_up : (x : Name) → U x → U' x) (line : Line) (t : State) (later : Closed made M' U' t)
+      (writes : LineWrites s line t)
       (calls : (p : Place) (v : Way) → line_way s line p ≡ Some v → Calls s line.inc v)
       (child : enters_call (done_call line) ≡ true → under s.next_inc ≡ under line.inc)
       (maker : makes_object (done_call line) ≡ true → made s.next_name ≡ under line.inc)
@@ -121,7 +122,12 @@ module _ (under : Inc → Bool) (made : Name → Bool) (M U : Name → Type 0) (
         → ((makes_object (done_call line) ≡ true) × (x ≡ s.next_name)) ⊎ ((rights : ℕ) × G x rights × (has rights modify_right ≡ true))
     listed_by G g x n (inl e) = inl e
     listed_by G g x n (inr m) =
-        inr (m.cap.rights, subst (λ (y : Name). G y m.cap.rights) (sym m.same) (walk_gets s line.inc G g m.path (Held m.cap) m.leads), Within-has MODIFY m.cap.rights modify_right m.allowed refl refl)
+        inr (
+          m.cap.rights,
+          subst (λ (y : Name). G y m.cap.rights) (sym m.same) (walk_gets s line.inc G g m.path (Held m.cap) m.leads),
+          Within-has MODIFY m.cap.rights
+              modify_right m.allowed refl refl,
+        )
 
     still : (H : Name → ℕ → Type 0) (p : Place) → (standing t p ≡ Empty) ⊎ (standing t p ≡ standing s p) → Holds H (standing s p) → Holds H (standing t p)
     still H p (inl e) h = subst (Holds H) (sym e) tt

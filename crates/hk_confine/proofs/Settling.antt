@@ -189,7 +189,8 @@ module _ (w : WorldValue) (m : Machine) (lines : List Line) (steps : AreSteps w 
 
         whole : is_one_of s.next_inc (told under_by w m lines (call ∷ [])) ≡ is_one_of s.next_inc (under_then (suc j))
         whole =
-            under_exact (suc j) s.next_inc (subst (λ (n : Machine). HasNumber s.next_inc n.state) (sym (after_next w m lines j line is)) (let n = (enters_turn s line t (known_from j line is).turn enters).next in omega (arith, n)))
+            under_exact (suc j) s.next_inc (subst (λ (n : Machine). HasNumber s.next_inc n.state) (sym (after_next w m lines j line is))
+            (let n = (enters_turn s line t (known_from j line is).turn enters).next in omega (arith, n)))
 
         last : under_then (suc j) ≡ under_by s line t (under_then j)
         last = told_last under_by w m lines j line (call ∷ []) is

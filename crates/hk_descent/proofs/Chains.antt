@@ -49,7 +49,11 @@ module _ (w : WorldValue) (s : State) (inc : Inc) (chains : Place → Chain) (be
   way_descends p (Stored slot) x h = from_place p (SlotOf inc slot) x (rw h.0 (Reduces-self (standing s (SlotOf inc slot))))
   way_descends p (Lessened slot keep) x h = from_place p (SlotOf inc slot) x (rw (h.held, h.is) (refl, Within-and h.cap.rights keep))
   way_descends p (Merged slot form) x h =
-      rw (h.held, h.is) (merged_is h.cap (object s h.cap.name).of form h.step h.new h.merges, subst (λ e. Descends w e (chains (SlotOf inc slot))) h.held (before (SlotOf inc slot)))
+      rw (h.held, h.is) (
+        merged_is h.cap (object s h.cap.name).of form h.step h.new h.merges,
+        subst (λ e. Descends w e (chains (SlotOf inc slot))) h.held
+            (before (SlotOf inc slot)),
+      )
   way_descends p (Inherited procedure index confined) x h = from_place p (EntryOf procedure index) x (rw h (inherited_reduces confined (standing s (EntryOf procedure index))))
   way_descends p (Copied path index) x h =
       from_place p (EntryOf (named_by s inc path) index) x (rw (leads_named s inc path h.cap h.leads, h.is) (copied_reduces h.cap.rights (standing s (EntryOf h.cap.name index))))

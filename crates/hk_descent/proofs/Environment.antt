@@ -33,7 +33,12 @@ safe_each : (call : Inc) (p : ℕ) → EachStep (λ s line t. (g : Place → Boo
 safe_each call p =
     each_more (λ s line t. Sound s → LineKnown s line t)
     (λ s line t. (g : Place → Bool) (us : List Inc) → Safe call p s g us → Safe call p t (mark s line t g) (under_by s line t us))
-    (λ s line t h g us k. let known = h k.0 in (known.after, under_turn call p us s line t k.0.rises known.turn k.0.stacked k.1, line_marks s line t g us known.writes k.2)) known_each
+    (λ s line t h g us k. let known = h k.0 in (
+      known.after,
+      under_turn call p us s line t k.0.rises known.turn k.0.stacked k.1,
+      line_marks s line t g us
+          known.writes k.2,
+    )) known_each
 
 -- ---- the beginning of the call
 
@@ -75,7 +80,8 @@ ends : (w : WorldValue) (lines : List Line) (k : ℕ) (call : Inc) (slot moment 
 ends w lines k call slot moment p safe = record {
   under = λ q h. by q (safe.2 q h);
   gone = λ gone q. false_from_ne_true (marks w lines k call slot moment q)
-      (λ h. true≢false (sym (marked_lives call p (state_at w lines moment) (marks w lines k call slot moment) (under_after w (machine_at w lines k) (drop k (take moment lines)) call) safe q h) ∙ gone));
+      (λ h. true≢false (sym (marked_lives call p (state_at w lines moment) (marks w lines k call slot moment)
+      (under_after w (machine_at w lines k) (drop k (take moment lines)) call) safe q h) ∙ gone));
 }
   where
     by : (q : Place) → IsMarked (under_after w (machine_at w lines k) (drop k (take moment lines)) call) (state_at w lines moment) q → IsSlotUnder w lines k call moment q

@@ -73,8 +73,11 @@ module _ (us : List Inc) (s : State) (inc : Inc) (marks : Place → Bool) (m : A
   writes_marked (Walked path) x k h = walk_marked path x k h
   writes_marked (Stored slot) x k h = let g = m (SlotOf inc slot) k in (g.0, subst NoEnv (sym h.0) g.1)
   writes_marked (Lessened slot keep) x k h =
-      let g = m (SlotOf inc slot) k in
-      (g.0, subst NoEnv (sym h.is) (reduces_no_env (Held h.cap) (Held (record h.cap { rights = bit_and h.cap.rights keep })) (subst NoEnv h.held g.1) (refl, Within-and h.cap.rights keep)))
+      let g = m (SlotOf inc slot) k in (
+        g.0,
+        subst NoEnv (sym h.is) (reduces_no_env (Held h.cap) (Held (record h.cap { rights = bit_and h.cap.rights keep })) (subst NoEnv h.held g.1)
+            (refl, Within-and h.cap.rights keep)),
+      )
   writes_marked (Merged slot form) x k h =
       let g = m (SlotOf inc slot) k in
       (g.0, subst NoEnv (sym h.is) (merged_no_env h.cap (object s h.cap.name).of form h.step h.new h.merges (subst NoEnv h.held g.1)))
@@ -141,6 +144,7 @@ line_marks s line t marks us h m p k =
     by None e (inr same) full marked = stays us (under_by s line t us) s t p (under_stays s line t us) (m p marked) same
     by (Some v) e (inr writes) full marked =
         landed us s line.inc marks m (under_by s line t us) t p
-        (lands us s line.inc marks m (done_call line) (under_by s line t us) (under_stays s line t us line.inc) (entered_is_under s line t us) v (standing t p) p marked writes full (h.goes p v e))
+        (lands us s line.inc marks m (done_call line) (under_by s line t us) (under_stays s line t us line.inc) (entered_is_under s line t us) v (standing t p) p marked
+        writes full (h.goes p v e))
         (writes_marked us s line.inc marks m v (standing t p) marked writes).1
         full

@@ -38,8 +38,8 @@ label_found all [] n line t low high few used =
     let first : same_text (label_text t) (label_text n) ≡ true = rw same (same_self (label_text n)) in
     rw (here, first) (ap (λ (x : ℕ). Some (label_at x)) (sym same))
 label_found all (i ∷ is) n line t low high few used =
-    ⊎_elim equal (λ other. later (λ same. other (sym same)) (list_any (jumps_to n) all)
-    (λ l. label_found all is (n + 1) l t (differs other) (omega arith) (omega arith) used)) (cases_eq n t)
+    ⊎_elim equal (λ other. later (λ same. other (sym same)) (list_any (jumps_to n) all) (λ l. label_found all is (n + 1) l t (differs other) (omega arith) (omega arith) used))
+    (cases_eq n t)
   where
     differs : (n ≡ t → ⊥) → n + 1 ≤ t
     differs other = grind arith
@@ -52,8 +52,8 @@ label_found all (i ∷ is) n line t low high few used =
 
     later : (t ≡ n → ⊥) → (b : Bool)
         → ((l : ℕ) → find (λ (x : Label). same_text (label_text t) x.text) (labels_from (n + 1) (placed_parts l (code_parts all (n + 1) is))) ≡ Some (label_at t))
-        → find (λ (x : Label). same_text (label_text t) x.text)
-        (labels_from n (placed_parts line (cond b (part (LabelIs (label_text n)) ∷ []) [] ++ part (StepIs (written_of i)) ∷ code_parts all (n + 1) is))) ≡ Some (label_at t)
+        → find (λ (x : Label). same_text (label_text t) x.text) (labels_from n (placed_parts line
+        (cond b (part (LabelIs (label_text n)) ∷ []) [] ++ part (StepIs (written_of i)) ∷ code_parts all (n + 1) is))) ≡ Some (label_at t)
     later other true rest = rw (label_other t n (omega arith) (omega arith) other) (rest (line + 1 + 1))
     later other false rest = rest (line + 1)
 

@@ -1,8 +1,8 @@
 -- What a form takes of a piece that some text spells is spelled by this piece alone.
-use Rattle.std.proofs.Common.{◌≡◌, ℕ, zero, suc, ◌+◌, ◌-◌, ◌≤◌, ◌==◌, Bool, true, false, cond, eqb, ltb, List, [], ◌∷◌, length, refl, sym, ap, subst, ◌∙◌, arith, ◌&&◌, ◌||◌}
+use Rattle.std.proofs.Common.{◌≡◌, ℕ, ◌+◌, ◌-◌, ◌==◌, Bool, true, false, cond, eqb, ltb, List, [], ◌∷◌, refl, sym, ap, subst, ◌∙◌, arith, ◌&&◌}
 use Rattle.std.proofs.Common.{Option, Some, None, Result, Ok, Err}
 use Rattle.std.specs.Prelude.{codes}
-use Rattle.std.specs.List.{list_all, find}
+use Rattle.std.specs.List.{find}
 use Rattle.std.proofs.lemmas.Bool.{and_parts, false≢true, eqb-true}
 use Rattle.std.proofs.lemmas.Bool.Decides.{nat_tests}
 use Rattle.hk_model.specs.declared.names.Slot.{Slot}
@@ -11,10 +11,10 @@ use Rattle.hk_model.specs.declared.instructions.Index.TheVariants.{Fixed, ByReg}
 use Rattle.hk_model.specs.declared.instructions.Operand.{Operand}
 use Rattle.hk_model.specs.declared.instructions.Operand.TheVariants as operand
 use Rattle.hk_model.specs.declared.instructions.Route.{Route}
-use Rattle.hk_model.specs.Labels.{between, is_word, is_register, is_name, is_lower, is_capital, same_text, first}
+use Rattle.hk_model.specs.Labels.{between, is_word, is_register, is_name, is_lower, is_capital, same_text}
 use Rattle.hk_format.specs.declared.causes.ParseCause.{ParseCause}
 use Rattle.hk_format.specs.declared.syntax.Verb.{Verb}
-use Rattle.hk_format.specs.Pieces.{Piece, Word, Upper, Dash, Number, Path, is_piece, is_upper, is_names, is_index, register_of, register_text}
+use Rattle.hk_format.specs.Pieces.{Piece, Word, Upper, Dash, Number, Path, is_piece, is_upper, is_names, register_of, register_text}
 use Rattle.hk_format.specs.Verbs.{verb_word, verb_piece, all_verbs}
 use Rattle.hk_format.specs.Operands.{register_piece, slot_piece, operand_piece, route_piece, type_piece, rights_piece}
 use Rattle.hk_format.specs.Forms.{as_verb, verb_found, as_word, as_name, as_type, as_rights, as_number, as_number_in, as_number_below, as_slot, slot_numbered, as_register}

@@ -1,10 +1,9 @@
 -- Lines are read as items exactly where these are in form and in range and the lines spell them.
-use Rattle.std.proofs.Common.{◌≡◌, ℕ, ◌+◌, ◌==◌, Bool, true, false, cond, List, [], ◌∷◌, ◌++◌, length, map, refl, sym, ap, subst, ◌∙◌, ◌&&◌, not, Option, Some, None, Result, Ok}
-use Rattle.std.proofs.Common.{Err, IsTrue}
+use Rattle.std.proofs.Common.{◌≡◌, ℕ, Bool, true, false, cond, List, [], ◌∷◌, ◌++◌, map, refl, sym, ap, subst, ◌∙◌, not, Option, Some, None, Ok}
+use Rattle.std.proofs.Common.{Err}
 use Rattle.std.specs.List.{list_all, flat_map}
 use Rattle.std.proofs.lemmas.Bool.{and_parts}
 use mathlib.Core.List.{append_assoc, append-nil}
-use Rattle.hk_format.specs.declared.causes.ParseCause.{ParseCause}
 use Rattle.hk_format.specs.declared.causes.ParseCause.TheVariants.{Repeated}
 use Rattle.hk_format.specs.declared.syntax.Verb.TheVariants as verb
 use Rattle.hk_format.specs.declared.syntax.Head.{Head}
@@ -15,13 +14,13 @@ use Rattle.hk_format.specs.declared.syntax.Item.{Item}
 use Rattle.hk_format.specs.Pieces.{Piece, is_piece}
 use Rattle.hk_format.specs.Texts.{Lines}
 use Rattle.hk_format.specs.Reading.{Found}
-use Rattle.hk_format.specs.Grammar.{Seen, nothing_seen, is_new, noted, is_new_label, noted_label, Open, Read, item_at, part_at, between_items, in_item, placed_head, begun}
-use Rattle.hk_format.specs.Grammar.{with_part, joined, and_then, next_line, after_line, Refused, closed, go_on, items_from, header, after_header, script, head_line, part_line}
+use Rattle.hk_format.specs.Grammar.{GivenNames, nothing_seen, is_new, noted, is_new_label, noted_label, item_at, part_at, between_items, in_item, placed_head, begun}
+use Rattle.hk_format.specs.Grammar.{with_part, joined, and_then, go_on, items_from, header, after_header, script, head_line, part_line}
 use Rattle.hk_format.specs.Spelling.{has_parts, head_pieces, body_pieces, end_line, header_line}
 use Rattle.hk_format.specs.Syntax.{AreParts, AreItems, IsSyntax}
-use Rattle.hk_format.specs.ItemLines.{numbered_part, numbered_parts, numbered_item, AreLinesOf}
+use Rattle.hk_format.specs.ItemLines.{numbered_part, numbered_item, AreLinesOf}
 use Rattle.hk_format.proofs.LineAgain.{part_again, head_again, end_again, verb_again}
-use Rattle.hk_format.proofs.ExactReaders.{AreSpelled, found_pieces, head_exact, part_exact, header_exact}
+use Rattle.hk_format.proofs.ExactReaders.{AreSpelled, head_exact, part_exact, header_exact}
 
 -- an item with the line of its end, without that line
 abbrev item_of : Item × ℕ → Item
@@ -29,10 +28,10 @@ item_of placed = placed.0
 
 -- lines that spell items are read as these
 
-parts_read : (items : List Item) (seen : Seen) (line : ℕ) (head : Head) (before : List Part) (labels : List (List ℕ)) (end : ℕ) (ps : List Part) (rest : Lines)
+parts_read : (items : List Item) (seen : GivenNames) (line : ℕ) (head : Head) (before : List Part) (labels : List (List ℕ)) (end : ℕ) (ps : List Part) (rest : Lines)
     → AreParts head labels ps
-    → items_from (map numbered_part ps ++ (end, end_line) ∷ rest) (in_item items seen (item_at line head before) labels) ≡ items_from rest
-    (between_items (items ++ item_at line head (before ++ ps) ∷ []) seen)
+    → items_from (map numbered_part ps ++ (end, end_line) ∷ rest) (in_item items seen (item_at line head before) labels)
+    ≡ items_from rest (between_items (items ++ item_at line head (before ++ ps) ∷ []) seen)
 parts_read items seen line head before labels end [] rest h = rw (end_again, append-nil)
 parts_read items seen line head before labels end (p ∷ ps) rest h =
     let more = parts_read items seen line head (before ++ part_at p.line p.body ∷ []) (noted_label labels p.body) end ps rest h.2 in
@@ -49,7 +48,7 @@ no_parts (ProcedureIs name code) (p ∷ ps) e h = cc
 no_parts (CodeIs name) (p ∷ ps) e h = cc
 no_parts (ProcessIs name code) (p ∷ ps) e h = cc
 
-items_read : (done : List Item) (seen : Seen) (placed : List (Item × ℕ)) → AreItems seen (map item_of placed)
+items_read : (done : List Item) (seen : GivenNames) (placed : List (Item × ℕ)) → AreItems seen (map item_of placed)
     → items_from (flat_map numbered_item placed) (between_items done seen) ≡ Ok (done ++ map item_of placed)
 items_read done seen [] h = rw append-nil
 items_read done seen (x ∷ placed) h = rw (head_again x.0.head h.0, h.1) (go (has_parts x.0.head) refl (λ d. items_read d (noted seen x.0.head) placed h.3))
@@ -68,8 +67,8 @@ items_read done seen (x ∷ placed) h = rw (head_again x.0.head h.0, h.1) (go (h
 script_read : (lines : Lines) (items : List Item) → IsSyntax items → AreLinesOf lines items → script lines ≡ Ok items
 script_read lines items h l =
     let syntax : AreItems nothing_seen (map item_of l.placed) = subst (λ (is : List Item). AreItems nothing_seen is) (sym l.same) h in
-    let read : script ((l.first, header_line) ∷ flat_map numbered_item l.placed) ≡ Ok (map item_of l.placed) = rw (verb_again verb.Hydra)
-    (items_read [] nothing_seen l.placed syntax) in
+    let read : script ((l.first, header_line) ∷ flat_map numbered_item l.placed) ≡ Ok (map item_of l.placed) =
+    rw (verb_again verb.Hydra) (items_read [] nothing_seen l.placed syntax) in
     ap script l.spelled ∙ read ∙ ap Ok l.same
 
 -- lines that are read as items spell these
@@ -95,12 +94,12 @@ record Inside (lines : Lines) (done : List Item) (o : Item) (items : List Item) 
 -- both, from any state on
 abbrev Told : Lines → Type 0
 Told lines =
-    ((done : List Item) (seen : Seen) (items : List Item) → items_from lines (between_items done seen) ≡ Ok items → Between lines done items)
-    × ((done : List Item) (seen : Seen) (o : Item) (labels : List (List ℕ)) (items : List Item) → items_from lines (in_item done seen o labels) ≡ Ok items
+    ((done : List Item) (seen : GivenNames) (items : List Item) → items_from lines (between_items done seen) ≡ Ok items → Between lines done items)
+    × ((done : List Item) (seen : GivenNames) (o : Item) (labels : List (List ℕ)) (items : List Item) → items_from lines (in_item done seen o labels) ≡ Ok items
     → Inside lines done o items)
 
 -- a head, and then what follows it
-head_told : (line : ℕ) (ps : List Piece) (lines : Lines) → AreSpelled ps → Told lines → (done : List Item) (seen : Seen) (items : List Item)
+head_told : (line : ℕ) (ps : List Piece) (lines : Lines) → AreSpelled ps → Told lines → (done : List Item) (seen : GivenNames) (items : List Item)
     → go_on line (and_then (head_line ps) (begun (between_items done seen) line)) (λ next. items_from lines next) ≡ Ok items → Between ((line, ps) ∷ lines) done items
 head_told line ps lines s told done seen items h = go (head_line ps) refl h
   where
@@ -134,7 +133,8 @@ head_told line ps lines s told done seen items h = go (head_line ps) refl h
     go (Err cause) e l = cc
 
 -- a line inside an item, and then what follows it
-part_told : (line : ℕ) (ps : List Piece) (lines : Lines) → AreSpelled ps → Told lines → (done : List Item) (seen : Seen) (o : Item) (labels : List (List ℕ)) (items : List Item)
+part_told : (line : ℕ) (ps : List Piece) (lines : Lines) → AreSpelled ps → Told lines
+    → (done : List Item) (seen : GivenNames) (o : Item) (labels : List (List ℕ)) (items : List Item)
     → go_on line (and_then (part_line o.head ps) (joined (in_item done seen o labels) (record { item = o; labels = labels }) line)) (λ next. items_from lines next) ≡ Ok items
     → Inside ((line, ps) ∷ lines) done o items
 part_told line ps lines s told done seen o labels items h = go (part_line o.head ps) refl h

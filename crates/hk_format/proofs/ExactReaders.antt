@@ -1,5 +1,5 @@
 -- The lines that a reader takes spell what it gives.
-use Rattle.std.proofs.Common.{◌≡◌, ℕ, zero, suc, ◌==◌, Bool, true, false, List, [], ◌∷◌, map, refl, sym, ap, subst, ◌∙◌, ◌&&◌, Option, Some, None, Result, Ok, Err}
+use Rattle.std.proofs.Common.{◌≡◌, ℕ, zero, suc, true, List, [], ◌∷◌, map, refl, sym, ap, subst, ◌∙◌, Option, Some, None, Result, Ok, Err}
 use Rattle.std.specs.List.{list_all}
 use Rattle.std.proofs.lemmas.Bool.{and_parts}
 use Rattle.hk_model.specs.declared.names.Slot.{Slot}
@@ -16,16 +16,16 @@ use Rattle.hk_format.specs.declared.syntax.Written.TheVariants as written
 use Rattle.hk_format.specs.declared.syntax.Head.{Head}
 use Rattle.hk_format.specs.declared.syntax.Head.TheVariants.{LimitIs, TypeIs, ObjectIs, SemaphoreIs, ProcedureIs, CodeIs, ProcessIs}
 use Rattle.hk_format.specs.declared.syntax.Body.{Body}
-use Rattle.hk_format.specs.declared.syntax.Body.TheVariants.{WordsAre, EmptyEntry, CapEntry, AmplifyEntry, CreateEntry, ParamIs, LabelIs, StepIs}
+use Rattle.hk_format.specs.declared.syntax.Body.TheVariants.{WordsAre, StepIs}
 use Rattle.hk_format.specs.Pieces.{Piece, Number, is_piece}
 use Rattle.hk_format.specs.Verbs.{verb_piece}
-use Rattle.hk_format.specs.Operands.{slot_piece, optional_slot, argument_pieces, route_piece}
+use Rattle.hk_format.specs.Operands.{slot_piece, argument_pieces, route_piece}
 use Rattle.hk_format.specs.Reading.{Found, Reads, ◌>>=◌, onward, taken, wanted, each, at_most, end, unknown}
-use Rattle.hk_format.specs.Forms.{as_verb, as_number, as_number_below, as_slot, slot_numbered}
+use Rattle.hk_format.specs.Forms.{as_number, as_number_below, as_slot, slot_numbered}
 use Rattle.hk_format.specs.WrittenLines.{before_last, last_of, template_end, template_of, instruction_of}
 use Rattle.hk_format.specs.Grammar.{header, header_of, head_of, head_line, entry_of, object_part, procedure_part, step_part, code_part, body_of, some_part, part_of, part_line}
 use Rattle.hk_format.specs.Spelling.{written_pieces, body_pieces, head_pieces, end_line, header_line}
-use Rattle.hk_format.proofs.ExactForms.{ExactForm, taken_is, number_exact, number_in_exact, version_exact, number_below_exact, slot_exact, word_exact, name_exact, type_exact}
+use Rattle.hk_format.proofs.ExactForms.{ExactForm, number_exact, number_in_exact, version_exact, number_below_exact, slot_exact, word_exact, name_exact, type_exact}
 use Rattle.hk_format.proofs.ExactForms.{rights_exact, verb_exact, register_exact, operand_exact, route_exact}
 
 -- pieces that some text spells

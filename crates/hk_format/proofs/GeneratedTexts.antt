@@ -16,7 +16,9 @@ use Rattle.hk_format.specs.Canonical.{canon, task_item}
 -- the part that all of them have
 abbrev pub generated_head : List ℕ
 generated_head =
-    codes "hydra 1\nlimit 1000000\nobject total DATA\nwords 0\nend\nsemaphore lock 1\nprocedure bump cbump\nparam DATA GETDATA+PUTDATA GETDATA+PUTDATA+MODIFY\nend\ncode cbump\ngetdata 0 0 r1\nadd r1 1\nputdata 0 0 r1\nend\ncode main\nlabel l0\np 2\ncall 0 1 3\nv 2\nadd r0 1\niflt r0 100 l0\nend\n"
+    codes "hydra 1\nlimit 1000000\nobject total DATA\nwords 0\nend\nsemaphore lock 1\nprocedure bump cbump\n"
+    ++ codes "param DATA GETDATA+PUTDATA GETDATA+PUTDATA+MODIFY\nend\ncode cbump\ngetdata 0 0 r1\nadd r1 1\nputdata 0 0 r1\nend\n"
+    ++ codes "code main\nlabel l0\np 2\ncall 0 1 3\nv 2\nadd r0 1\niflt r0 100 l0\nend\n"
 
 -- a process, by the text of its number
 abbrev pub generated_process : List ℕ → List ℕ

@@ -36,7 +36,7 @@ use Rattle.hk_format.specs.Pieces.{is_upper, is_names, is_upper_byte}
 use Rattle.hk_format.specs.Names.{spoken, object_text, code_text}
 use Rattle.hk_format.specs.Canonical.{kind_text, part, item, entry_body, entry_parts, param_parts, number_bytes, words_from, word_lines, label_text, making_text, written_of}
 use Rattle.hk_format.specs.Canonical.{jumps_to, code_parts, object_item, kind_item, code_item, task_item, syntax_of}
-use Rattle.hk_format.specs.Grammar.{Seen, nothing_seen, is_among, is_new, noted}
+use Rattle.hk_format.specs.Grammar.{GivenNames, nothing_seen, is_among, is_new, noted}
 use Rattle.hk_format.specs.Syntax.{IsWordText, IsTypeText, IsRightsText, IsMakingText, IsWritten, IsHead, IsEntryBody, IsWordsLine, Belongs, AreParts, AreItems, IsSyntax}
 use Rattle.hk_format.proofs.RightsAgain.{word_of, word_again}
 use Rattle.hk_format.proofs.NamesAgain.{type_object}
@@ -113,9 +113,6 @@ pub all_back : {X : Type 0} (P : X → Type 0) (xs ys : List X) → AllByRecursi
 all_back P [] ys h = h
 all_back P (x ∷ xs) ys h = all_back P xs ys h.1
 
-pub object_labels : WorldValue → List (List ℕ)
-object_labels w = map (λ (b : Born). b.label) w.objects
-
 typed_names : (ls : List (List ℕ)) → AllByRecursion (λ l. IsTrue (is_name l)) ls → AllByRecursion IsTypeText ls
 typed_names [] h = tt
 typed_names (l ∷ ls) h = (or_left (is_word l) (is_upper l) (name_word l h.0), typed_names ls h.1)
@@ -125,21 +122,16 @@ object_good w h n there =
     let own = map (λ (b : Born). b.label) w.objects in
     let rest = map (λ (c : Code). c.label) w.codes ++ map (λ (t : Task). t.label) w.tasks in
     let size : length (spoken w).objects ≡ 7 + length w.objects = rw length-map (omega arith) in
-    all_at IsTypeText (spoken w).objects n.0 [] (
-      refl,
-      (
-        refl,
-        (refl, (refl, (refl, (refl, (refl, typed_names own (all_front (λ l. IsTrue (is_name l)) own rest h.names)))))),
-      ),
-    ) (omega arith)
+    all_at IsTypeText (spoken w).objects n.0 [] (refl, (refl, (refl, (refl, (refl, (refl, (refl, typed_names own (all_front (λ l. IsTrue (is_name l)) own rest h.names))))))))
+    (omega arith)
 
 pub code_good : (w : WorldValue) → IsWorld w → (n : ℕ) → n < length w.codes → IsWordText (code_text (spoken w) n)
 code_good w h n there =
     let own = map (λ (b : Born). b.label) w.objects in
     let codes = map (λ (c : Code). c.label) w.codes in
     let tasks = map (λ (t : Task). t.label) w.tasks in
-    name_word (code_text (spoken w) n) (all_at (λ l. IsTrue (is_name l)) codes n []
-    (all_front (λ l. IsTrue (is_name l)) codes tasks (all_back (λ l. IsTrue (is_name l)) own (codes ++ tasks) h.names)) (rw length-map there))
+    name_word (code_text (spoken w) n) (all_at (λ l. IsTrue (is_name l)) codes n [] (all_front (λ l. IsTrue (is_name l)) codes tasks
+    (all_back (λ l. IsTrue (is_name l)) own (codes ++ tasks) h.names)) (rw length-map there))
 
 pub kind_good : (w : WorldValue) → IsWorld w → (of : Option Name) → IsTypeOrAny w of → IsTypeText (kind_text (spoken w) of)
 kind_good w h None k = refl
@@ -193,10 +185,6 @@ params_good : (w : WorldValue) → IsWorld w → (name code : List ℕ) (ps : Li
 params_good w h name code [] rest k after = after
 params_good w h name code (p ∷ ps) rest k after =
     ((kind_good w h p.of k.0.0, rights_good p.check k.0.1, rights_good p.give k.0.2), refl, params_good w h name code ps rest k.1 after)
-
--- lines of words, each with one number at least
-LinesOf : List (List ℕ) → Type 0
-LinesOf lines = AllByRecursion IsWordsLine lines
 
 -- the first of these lines goes on behind a number
 GoesOn : List (List ℕ) → Type 0
@@ -340,7 +328,7 @@ apart_seen (n ∷ ns) t ts h =
         right true b k = absurd (false≢true (sym k))
         right false b k = k
 
-pub seen_so : List (List ℕ) → Bool → Seen
+pub seen_so : List (List ℕ) → Bool → GivenNames
 seen_so names limited = record { names = names; limited = limited }
 
 object_item_good : (w : WorldValue) → IsWorld w → (label : List ℕ) (k : Kind) → IsTrue (is_name label) → IsKind w k
@@ -350,8 +338,8 @@ object_item_good w h label (kind.Semaphore count) name k = ((name, k), tt)
 object_item_good w h label (kind.Plain of words entries) name k = (
   (name, object_good w h of (type_object w of (plain_general w of entries k.0).0)),
   words_good label (object_text (spoken w) of) (word_lines words)
-      (entry_parts (spoken w) entries) (word_lines_good words k.2)
-      (entries_good w h (ObjectIs label (object_text (spoken w) of)) (object_takes w label (object_text (spoken w) of)) entries k.4),
+      (entry_parts (spoken w) entries) (word_lines_good words k.2) (entries_good w h (ObjectIs label (object_text (spoken w) of))
+      (object_takes w label (object_text (spoken w) of)) entries k.4),
 )
 object_item_good w h label (kind.Procedure code params entries) name k = (
   (name, code_good w h code k.0),
@@ -360,8 +348,8 @@ object_item_good w h label (kind.Procedure code params entries) name k = (
 )
 
 object_seen : (w : WorldValue) (names : List (List ℕ)) (limited : Bool) (label : List ℕ) (k : Kind) → is_among names label ≡ false
-    → (IsTrue (is_new (seen_so names limited) (kind_item (spoken w) label k).head))
-    × (noted (seen_so names limited) (kind_item (spoken w) label k).head ≡ seen_so (names ++ label ∷ []) limited)
+    → (IsTrue (is_new (seen_so names limited) (kind_item (spoken w) label k).head)) × (noted (seen_so names limited) (kind_item (spoken w) label k).head
+    ≡ seen_so (names ++ label ∷ []) limited)
 unfolding seen_so
 object_seen w names limited label kind.TypeObject e = (rw e refl, refl)
 object_seen w names limited label (kind.Plain of words entries) e = (rw e refl, refl)
@@ -387,9 +375,9 @@ codes_good names limited (c ∷ cs) rest ls k named apart after =
     let new = apart_seen names c.label (map (λ (d : Code). d.label) cs ++ ls) apart in (
       named.0,
       rw new refl,
-      steps_good c.label c.steps c.steps 0 [] tt (let few = k.0.0 in omega arith) (all_written (length c.steps) c.steps k.0.0 k.0.1),
-      codes_good
-          (names ++ c.label ∷ []) limited cs rest ls k.1 named.1 (rw append_assoc apart) after,
+      steps_good c.label c.steps c.steps 0 [] tt (let few =
+          k.0.0 in omega arith) (all_written (length c.steps) c.steps k.0.0 k.0.1),
+      codes_good (names ++ c.label ∷ []) limited cs rest ls k.1 named.1 (rw append_assoc apart) after,
     )
 
 tasks_good : (w : WorldValue) → IsWorld w → (names : List (List ℕ)) (limited : Bool) (ts : List Task) → AllByRecursion (IsTask w) ts
@@ -401,8 +389,8 @@ tasks_good w h names limited (t ∷ ts) k named apart =
     let new = apart_seen names t.label (map (λ (s : Task). s.label) ts) apart in (
       (named.0, code_good w h t.code k.0.0),
       rw new refl,
-      entries_good w h (ProcessIs t.label (code_text (spoken w) t.code)) (process_takes w t.label (code_text (spoken w) t.code))
-          t.slots k.0.2,
+      entries_good w h (ProcessIs t.label (code_text (spoken w) t.code))
+          (process_takes w t.label (code_text (spoken w) t.code)) t.slots k.0.2,
       tasks_good w h (names ++ t.label ∷ []) limited ts k.1 named.1 (rw append_assoc apart),
     )
 
@@ -426,12 +414,12 @@ syntax_good w h = go (w.limit == 10000)
     all : (limited : Bool) → AreItems (seen_so [] limited) (map (object_item (spoken w)) w.objects ++ (map code_item w.codes ++ map (task_item (spoken w)) w.tasks))
     all limited =
         objects_good w h [] limited w.objects (map code_item w.codes ++ map (task_item (spoken w)) w.tasks) (coded ++ tasked) h.kinds
-        (all_front (λ l. IsTrue (is_name l)) own (coded ++ tasked) h.names) h.apart
-        (λ more apart. codes_good more limited w.codes (map (task_item (spoken w)) w.tasks) tasked h.codes_are (all_front (λ l. IsTrue (is_name l)) coded tasked named) apart
+        (all_front (λ l. IsTrue (is_name l)) own (coded ++ tasked) h.names) h.apart (λ more apart. codes_good more limited w.codes
+        (map (task_item (spoken w)) w.tasks) tasked h.codes_are (all_front (λ l. IsTrue (is_name l)) coded tasked named) apart
         (λ most apart. tasks_good w h most limited w.tasks h.tasks_are (all_back (λ l. IsTrue (is_name l)) coded tasked named) apart))
 
     go : (b : Bool)
-        → AreItems nothing_seen (cond b [] (item (LimitIs w.limit) [] ∷ [])
-        ++ (map (object_item (spoken w)) w.objects ++ (map code_item w.codes ++ map (task_item (spoken w)) w.tasks)))
+        → AreItems nothing_seen (cond b [] (item (LimitIs w.limit) [] ∷ []) ++ (map (object_item (spoken w)) w.objects
+        ++ (map code_item w.codes ++ map (task_item (spoken w)) w.tasks)))
     go true = all false
     go false = ((h.some_events, h.few_events), refl, tt, all true)

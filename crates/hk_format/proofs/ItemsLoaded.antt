@@ -41,8 +41,8 @@ LabelsWithin len labels = AllByRecursion (λ (l : Label). l.place ≤ len) label
 target_within : (len : ℕ) (labels : List Label) (t : List ℕ) (n : ℕ) → LabelsWithin len labels → target labels t ≡ Ok n → n ≤ len
 unfolding LabelsWithin
 target_within len labels t n within h =
-    go (find (λ (l : Label). same_text t l.text) labels) (among labels within)
-    (found_ok (option_map (λ (l : Label). to_limit l.place) (find (λ (l : Label). same_text t l.text) labels)) UnknownName n h)
+    go (find (λ (l : Label). same_text t l.text) labels) (among labels within) (found_ok (option_map (λ (l : Label). to_limit l.place)
+    (find (λ (l : Label). same_text t l.text) labels)) UnknownName n h)
   where
     IsWithin : Option Label → Type 0
     IsWithin None = Unit {0}
@@ -148,8 +148,8 @@ steps_loaded len n labels (p ∷ ps) is few h e = go p.body h.0 e (λ m js k f. 
         (record {
           few = omega arith;
           places = subst (λ (m : ℕ). LabelsWithin m (labels_from (n + 1) ps)) size r.places;
-          good = λ w.
-              (instr_loaded len labels step a.0 w k b.0, r.good w);
+          good =
+              λ w. (instr_loaded len labels step a.0 w k b.0, r.good w);
         })
     go (WordsAre words) k f rest = absurd k
     go EmptyEntry k f rest = absurd k

@@ -233,10 +233,6 @@ rights_short r word = go (same_text (rights_text r) (codes "-")) (rights_good r 
     go true k = record { piece = refl; short = omega arith }
     go false k = record { piece = k; short = let size = rights_size r in omega arith }
 
-verb_small : (v : Verb) → leb (length (verb_word v)) 9 ≡ true
-verb_small verb.Hydra = refl
-verb_small _ = refl
-
 verb_word_good : (v : Verb) → is_word (verb_word v) ≡ true
 verb_word_good verb.Hydra = refl
 verb_word_good _ = refl
@@ -248,8 +244,16 @@ label_size : (w : WorldValue) → AllByRecursion (λ l. IsTrue (is_name l)) (map
     → length (object_text (spoken w) n) ≤ 32
 label_size w named n there =
     let size : length (spoken w).objects ≡ 7 + length w.objects = rw length-map (omega arith) in
-    all_at (λ l. length l ≤ 32) (spoken w).objects n.0 []
-    (omega arith, (omega arith, (omega arith, (omega arith, (omega arith, (omega arith, (omega arith, each (map (λ (b : Born). b.label) w.objects) named))))))) (omega arith)
+    all_at (λ l. length l ≤ 32) (spoken w).objects n.0 [] (
+      omega arith,
+      (
+        omega arith,
+        (
+          omega arith,
+          (omega arith, (omega arith, (omega arith, (omega arith, each (map (λ (b : Born). b.label) w.objects) named)))),
+        ),
+      ),
+    ) (omega arith)
   where
     each : (ls : List (List ℕ)) → AllByRecursion (λ l. IsTrue (is_name l)) ls → AllByRecursion (λ l. length l ≤ 32) ls
     each [] h = tt
@@ -278,8 +282,8 @@ entry_line_good w h Empty k = refl
 entry_line_good w h (Held held) k =
     few_good (and_short (verb_short verb.Cap) (and_short (object_short w h held.name k.0) (and_short (rights_short held.rights k.1) none_short))) (omega arith)
 entry_line_good w h (Form (template.Amplify of check give)) k =
-    few_good (and_short (verb_short verb.Amplify) (and_short (kind_short w h of k.0)
-    (and_short (rights_short check k.1) (and_short (rights_short give k.2) none_short)))) (omega arith)
+    few_good (and_short (verb_short verb.Amplify) (and_short (kind_short w h of k.0) (and_short (rights_short check k.1) (and_short (rights_short give k.2) none_short))))
+    (omega arith)
 entry_line_good w h (Form (template.Create of give)) k =
     few_good (and_short (verb_short verb.Create) (and_short (object_short w h of (type_object w of k.0)) (and_short (rights_short give k.1) none_short))) (omega arith)
 
@@ -295,9 +299,8 @@ param_lines_good : (w : WorldValue) → IsWorld w → (ps : List Param) → AllB
 unfolding LinesAreGood
 param_lines_good w h [] k = refl
 param_lines_good w h (p ∷ ps) k =
-    and_from _ _ (few_good (and_short (verb_short verb.Param)
-    (and_short (kind_short w h p.of k.0.0) (and_short (rights_short p.check k.0.1) (and_short (rights_short p.give k.0.2) none_short)))) (omega arith))
-    (param_lines_good w h ps k.1)
+    and_from _ _ (few_good (and_short (verb_short verb.Param) (and_short (kind_short w h p.of k.0.0)
+    (and_short (rights_short p.check k.0.1) (and_short (rights_short p.give k.0.2) none_short)))) (omega arith)) (param_lines_good w h ps k.1)
 
 -- the bytes of numbers, each with the space before it
 numbers_size : List ℕ → ℕ
@@ -407,12 +410,11 @@ instr_line_good len (instr.Restrict slot keep) few h =
 instr_line_good len (instr.Look of reg) few h =
     few_good (and_short (verb_short verb.Look) (and_short (route_short of h.0) (and_short (register_short reg h.1) none_short))) (omega arith)
 instr_line_good len (instr.MakeTemplate of (making.Amplify check give) into) few h =
-    few_good (and_short (verb_short verb.Template) (and_short (route_short of h.0)
-    (and_short (verb_short verb.Amplify) (and_short (rights_short check (h.1).0)
-    (and_short (rights_short give (h.1).1) (and_short (slot_short into h.2) none_short)))))) (omega arith)
+    few_good (and_short (verb_short verb.Template) (and_short (route_short of h.0) (and_short (verb_short verb.Amplify)
+    (and_short (rights_short check (h.1).0) (and_short (rights_short give (h.1).1) (and_short (slot_short into h.2) none_short)))))) (omega arith)
 instr_line_good len (instr.MakeTemplate of (making.Create give) into) few h =
-    few_good (and_short (verb_short verb.Template) (and_short (route_short of h.0)
-    (and_short (verb_short verb.Create) (and_short (rights_short give h.1) (and_short (slot_short into h.2) none_short))))) (omega arith)
+    few_good (and_short (verb_short verb.Template) (and_short (route_short of h.0) (and_short (verb_short verb.Create)
+    (and_short (rights_short give h.1) (and_short (slot_short into h.2) none_short))))) (omega arith)
 instr_line_good len (instr.Create by into) few h =
     few_good (and_short (verb_short verb.Create) (and_short (route_short by h.0) (and_short (slot_short into h.1) none_short))) (omega arith)
 instr_line_good len (instr.Merge with slot into) few h =
@@ -432,11 +434,11 @@ instr_line_good len (instr.AddReg reg by) few h =
 instr_line_good len (instr.Goto to) few h =
     few_good (and_short (verb_short verb.Goto) (and_short (word_short (label_text to) (label_word to (omega arith))) none_short)) (omega arith)
 instr_line_good len (instr.IfEq left right to) few h =
-    few_good (and_short (verb_short verb.IfEq) (and_short (operand_short left h.0)
-    (and_short (operand_short right h.1) (and_short (word_short (label_text to) (label_word to (let k = h.2 in omega arith))) none_short)))) (omega arith)
+    few_good (and_short (verb_short verb.IfEq) (and_short (operand_short left h.0) (and_short (operand_short right h.1)
+    (and_short (word_short (label_text to) (label_word to (let k = h.2 in omega arith))) none_short)))) (omega arith)
 instr_line_good len (instr.IfLess left right to) few h =
-    few_good (and_short (verb_short verb.IfLess) (and_short (operand_short left h.0)
-    (and_short (operand_short right h.1) (and_short (word_short (label_text to) (label_word to (let k = h.2 in omega arith))) none_short)))) (omega arith)
+    few_good (and_short (verb_short verb.IfLess) (and_short (operand_short left h.0) (and_short (operand_short right h.1)
+    (and_short (word_short (label_text to) (label_word to (let k = h.2 in omega arith))) none_short)))) (omega arith)
 instr_line_good len (instr.IfDenied to) few h =
     few_good (and_short (verb_short verb.IfDenied) (and_short (word_short (label_text to) (label_word to (omega arith))) none_short)) (omega arith)
 
@@ -480,12 +482,12 @@ unfolding LinesAreGood
 object_lines_good w h label kind.TypeObject name k =
     item_lines_good (TypeIs label) [] (few_good (and_short (verb_short verb.Type) (and_short (name_short label name) none_short)) (omega arith)) refl
 object_lines_good w h label (kind.Semaphore count) name k =
-    item_lines_good (SemaphoreIs label count) [] (few_good
-    (and_short (verb_short verb.Semaphore) (and_short (name_short label name) (and_short (number_short count (omega arith)) none_short))) (omega arith)) refl
+    item_lines_good (SemaphoreIs label count) [] (few_good (and_short (verb_short verb.Semaphore)
+    (and_short (name_short label name) (and_short (number_short count (omega arith)) none_short))) (omega arith)) refl
 object_lines_good w h label (kind.Plain of words entries) name k =
     item_lines_good (ObjectIs label (object_text (spoken w) of)) (word_parts words ++ entry_parts (spoken w) entries)
-    (few_good (and_short (verb_short verb.Object) (and_short (name_short label name)
-    (and_short (object_short w h of (type_object w of (plain_general w of entries k.0).0)) none_short))) (omega arith))
+    (few_good (and_short (verb_short verb.Object) (and_short (name_short label name) (and_short
+    (object_short w h of (type_object w of (plain_general w of entries k.0).0)) none_short))) (omega arith))
     (all_append (λ (p : Part). is_line (body_pieces p.body)) (word_parts words) (entry_parts (spoken w) entries) (words_good words k.2) (entry_lines_good w h entries k.4))
 object_lines_good w h label (kind.Procedure code params entries) name k =
     item_lines_good (ProcedureIs label (code_text (spoken w) code)) (param_parts (spoken w) params ++ entry_parts (spoken w) entries)
@@ -520,8 +522,7 @@ tasks_lines : (w : WorldValue) → IsWorld w → (ts : List Task) → AllByRecur
     → list_all is_line (flat_map item_lines (map (task_item (spoken w)) ts)) ≡ true
 tasks_lines w h [] k named = refl
 tasks_lines w h (t ∷ ts) k named =
-    line_onto (task_item (spoken w) t) (map (task_item (spoken w)) ts)
-    (item_lines_good (ProcessIs t.label (code_text (spoken w) t.code)) (entry_parts (spoken w) t.slots)
+    line_onto (task_item (spoken w) t) (map (task_item (spoken w)) ts) (item_lines_good (ProcessIs t.label (code_text (spoken w) t.code)) (entry_parts (spoken w) t.slots)
     (few_good (and_short (verb_short verb.Process) (and_short (name_short t.label named.0) (and_short (code_short w h t.code k.0.0) none_short))) (omega arith))
     (entry_lines_good w h t.slots k.0.2)) (tasks_lines w h ts k.1 named.1)
 

@@ -74,8 +74,8 @@ lines_joined (w ∷ ws) = words_joined 5 (w ∷ ws)
 
 words_again : (names : Names) (listed : Bool) (bound n line : ℕ) (lines : List (List ℕ)) (rest : List Part) (c : Contents) → n + length (concat lines) ≤ 4096
     → ((m l : ℕ) → contents_of names (room listed bound) (used m 0 0) (placed_parts l rest) ≡ Ok c)
-    → contents_of names (room listed bound) (used n 0 0) (placed_parts line (map (λ ws. part (WordsAre ws)) lines ++ rest)) ≡ Ok
-    (contents (concat lines ++ c.words) c.params c.entries)
+    → contents_of names (room listed bound) (used n 0 0) (placed_parts line (map (λ ws. part (WordsAre ws)) lines ++ rest))
+    ≡ Ok (contents (concat lines ++ c.words) c.params c.entries)
 words_again names listed bound n line [] rest c few after = after n line
 words_again names listed bound n line (ws ∷ more) rest c few after =
     let len = length-append ws (concat more) in
@@ -91,9 +91,8 @@ plain_general w of entries (inr (inr declared)) = (inr declared, let above = dec
 
 plain_again : {w : WorldValue} {names : Names} → Known w names → (line : ℕ) (of : Name) (words : List ℕ) (entries : List Entry) → IsKind w (kind.Plain of words entries)
     → contents_of names (room (not (eqb of.0 1)) 256) (used 0 0 0) (placed_parts line (word_parts words ++ entry_parts (spoken w) entries)) ≡ Ok (contents words [] entries)
-plain_again {w} {names} k line of words entries h =
-    words_again names (not (eqb of.0 1)) 256 0 line (word_lines words) (entry_parts (spoken w) entries) (contents [] [] entries) (let few = h.1 in rw lines_joined (omega arith))
-    (λ m l. of_entries (eqb of.0 1) refl entries h.0 h.3 h.4 m l) ∙ rw (lines_joined, append-nil)
+plain_again {w} {names} k line of words entries h = words_again names (not (eqb of.0 1)) 256 0 line (word_lines words) (entry_parts (spoken w) entries) (contents [] [] entries)
+    (let few = h.1 in rw lines_joined (omega arith)) (λ m l. of_entries (eqb of.0 1) refl entries h.0 h.3 h.4 m l) ∙ rw (lines_joined, append-nil)
   where
     of_entries : (b : Bool) → eqb of.0 1 ≡ b → (es : List Entry) → IsPlainType w of es → length es ≤ 256 → AllByRecursion (IsEntry w) es → (m l : ℕ)
         → contents_of names (room (not b) 256) (used m 0 0) (placed_parts l (entry_parts (spoken w) es)) ≡ Ok (contents [] [] es)
@@ -135,7 +134,8 @@ objects_again {w} {names} k n line (o ∷ os) rest v few h after =
       here.loaded,
       here.counts,
       objects_again k (n + 1) (line + lines_taken (object_item (spoken w) o)) os rest v (omega arith) h.1
-          (λ l. let more : n + length (o ∷ os) ≡ n + 1 + length os = omega arith in rw more at (after l)),
+          (λ l. let more : n + length (o ∷ os) ≡ n + 1 + length os =
+          omega arith in rw more at (after l)),
     )
 
 codes_again : (names : Names) (o n line : ℕ) (cs : List Code) (rest : List Item) (v : WorldValue) → n + length cs ≤ 4096 → AllByRecursion IsCode cs
@@ -146,13 +146,14 @@ codes_again names o n line (c ∷ cs) rest v few h after =
     let all = c.steps in
     let labels = labels_from 0 (placed_parts (line + 1) (code_parts all 0 all)) in
     let finds : Finds all labels = finds_all all (line + 1) h.0.0 in
-    let steps : instrs_of labels 0 (placed_parts (line + 1) (code_parts all 0 all)) ≡ Ok all = instrs_again all labels finds 0 (line + 1) all (within_all all) h.0.1
-    (let most = h.0.0 in omega arith) in
+    let steps : instrs_of labels 0 (placed_parts (line + 1) (code_parts all 0 all)) ≡ Ok all =
+    instrs_again all labels finds 0 (line + 1) all (within_all all) h.0.1 (let most = h.0.0 in omega arith) in
     rw (
       lt-ltb n 4096 (omega arith),
       steps,
       codes_again names o (n + 1) (line + lines_taken (code_item c)) cs rest v (omega arith) h.1
-          (λ l. let more : n + length (c ∷ cs) ≡ n + 1 + length cs = omega arith in rw more at (after l)),
+          (λ l. let more : n + length (c ∷ cs) ≡ n + 1 + length cs =
+          omega arith in rw more at (after l)),
     )
 
 tasks_again : {w : WorldValue} {names : Names} → Known w names → (o c n line : ℕ) (ts : List Task) → n + length ts ≤ 256 → AllByRecursion (IsTask w) ts
@@ -162,9 +163,9 @@ tasks_again {w} k o c n line (t ∷ ts) few h =
     rw (
       code_again k t.code h.0.0,
       lt-ltb n 256 (omega arith),
-      entries_again k 64 0 0 0 (line + 1) t.slots h.0.2 (let most = h.0.1 in omega arith),
-      tasks_again k o c (n + 1)
-          (line + lines_taken (task_item (spoken w) t)) ts (omega arith) h.1,
+      entries_again k 64 0 0 0 (line + 1) t.slots h.0.2 (let most =
+          h.0.1 in omega arith),
+      tasks_again k o c (n + 1) (line + lines_taken (task_item (spoken w) t)) ts (omega arith) h.1,
     )
 
 -- names
@@ -195,8 +196,8 @@ sections f w none = go (eqb w.limit 10000)
   where
     go : (b : Bool)
         → filter_map f (map (λ (i : Item). i.head) (cond b [] (item (LimitIs w.limit) [] ∷ [])
-        ++ (map (object_item (spoken w)) w.objects ++ (map code_item w.codes ++ map (task_item (spoken w)) w.tasks)))) ≡ filter_map f
-        (map (λ (i : Item). i.head) (map (object_item (spoken w)) w.objects))
+        ++ (map (object_item (spoken w)) w.objects ++ (map code_item w.codes ++ map (task_item (spoken w)) w.tasks))))
+        ≡ filter_map f (map (λ (i : Item). i.head) (map (object_item (spoken w)) w.objects))
         ++ (filter_map f (map (λ (i : Item). i.head) (map code_item w.codes)) ++ filter_map f (map (λ (i : Item). i.head) (map (task_item (spoken w)) w.tasks)))
     go true = simp (map-append, filter_map-append)
     go false = rw (none w.limit) (simp (map-append, filter_map-append))
@@ -216,34 +217,31 @@ head_again s label (kind.Procedure code params entries) = record { named = refl;
 known : (w : WorldValue) → IsWorld w → Known w (names_of (heads_of w))
 known w h = record {
   objects =
-      ap (λ (t : List (List ℕ)). kernel_names ++ t) (sections object_label w (λ n. refl)
-      ∙ rw (
+      ap (λ (t : List (List ℕ)). kernel_names ++ t) (sections object_label w (λ n. refl) ∙ rw (
         labels_all object_label (object_item (spoken w)) (λ (o : Born). o.label) (λ o. (head_again (spoken w) o.label o.kind).named) w.objects,
-        labels_none object_label
-            code_item (λ c. refl) w.codes,
+        labels_none object_label code_item (λ c. refl) w.codes,
         labels_none object_label (task_item (spoken w)) (λ t. refl) w.tasks,
       ) (append-nil _));
   types =
-      ap (λ (t : List Bool). kernel_flags ++ t) (sections is_type_head w (λ n. refl)
-      ∙ rw (
-        labels_all is_type_head (object_item (spoken w)) is_type_object (λ o. (head_again (spoken w) o.label o.kind).typed) w.objects,
-        labels_none is_type_head code_item
-            (λ c. refl) w.codes,
+      ap (λ (t : List Bool). kernel_flags ++ t) (sections is_type_head w (λ n. refl) ∙ rw (
+        labels_all is_type_head (object_item (spoken w)) is_type_object
+            (λ o. (head_again (spoken w) o.label o.kind).typed) w.objects,
+        labels_none is_type_head code_item (λ c. refl) w.codes,
         labels_none is_type_head (task_item (spoken w)) (λ t. refl) w.tasks,
       ) (append-nil _));
   codes =
-      sections code_label w (λ n. refl) ∙ rw (
+      sections code_label w (λ n. refl)
+      ∙ rw (
         labels_none code_label (object_item (spoken w)) (λ o. (head_again (spoken w) o.label o.kind).coded) w.objects,
-        labels_all code_label
-            code_item (λ (c : Code). c.label) (λ c. refl) w.codes,
+        labels_all code_label code_item (λ (c : Code). c.label) (λ c. refl) w.codes,
         labels_none code_label (task_item (spoken w)) (λ t. refl) w.tasks,
       ) (append-nil _);
   world = h;
 }
 
 sections_again : (w : WorldValue) (names : Names) → Known w names → (line : ℕ)
-    → items_of names (counts 0 0 0) (placed line (map (object_item (spoken w)) w.objects ++ (map code_item w.codes ++ map (task_item (spoken w)) w.tasks))) ≡ Ok
-    (world_value 10000 w.objects w.codes w.tasks)
+    → items_of names (counts 0 0 0) (placed line (map (object_item (spoken w)) w.objects ++ (map code_item w.codes ++ map (task_item (spoken w)) w.tasks)))
+    ≡ Ok (world_value 10000 w.objects w.codes w.tasks)
 sections_again w names k line =
     let h = k.world in
     let few_objects : 0 + length w.objects ≤ 65529 = (let few = h.few_objects in omega arith) in

@@ -139,8 +139,8 @@ type_flagged w n there flag = go (ltb n 7) refl
     declared : 7 ≤ n → ((born : Born) × (n - 7 < length w.objects) × (slice_get w.objects (n - 7) ≡ Some born) × (get_or w.objects (n - 7) born ≡ born))
         → IsType w (name_numbered n)
     declared above at =
-        let flagged : is_type_object at.0 ≡ true = ap is_type_object (sym at.3) ∙ sym (get_or-map is_type_object w.objects (n - 7) at.0 false at.1) ∙ sym
-        (get_or-append_right kernel_flags (map is_type_object w.objects) 7 n false refl above) ∙ flag in
+        let flagged : is_type_object at.0 ≡ true = ap is_type_object (sym at.3) ∙ sym (get_or-map is_type_object w.objects (n - 7) at.0 false at.1)
+        ∙ sym (get_or-append_right kernel_flags (map is_type_object w.objects) 7 n false refl above) ∙ flag in
         inr (record { born = at.0; above = above; there = at.2; is_type = type_kind at.0 flagged })
 
     either : 7 ≤ n

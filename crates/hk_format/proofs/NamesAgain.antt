@@ -89,8 +89,7 @@ kernel_apart ls h apart =
       no_kernel 68 (codes "ATA") ls refl h,
       no_kernel 85 (codes "NIVERSAL") ls refl h,
       no_kernel 83 (codes "EMAPHORE") ls refl h,
-      no_kernel
-          80 (codes "ROCEDURE") ls refl h,
+      no_kernel 80 (codes "ROCEDURE") ls refl h,
       no_kernel 80 (codes "ROCESS") ls refl h,
       no_kernel 76 (codes "NS") ls refl h,
     ) apart
@@ -159,8 +158,8 @@ flag_again : (w : WorldValue) (n : Name) → IsType w n → get_or (kernel_flags
 flag_again w n (inl low) = flag_low (map is_type_object w.objects) n.0 low
 flag_again w n (inr declared) =
     let there = there_at w.objects (n.0 - 7) declared.born declared.there in
-    get_or-append_right kernel_flags (map is_type_object w.objects) 7 n.0 false refl declared.above ∙ get_or-map is_type_object w.objects (n.0 - 7) declared.born false there.0 ∙ ap
-    is_type_object there.1 ∙ type_flag declared.born declared.is_type
+    get_or-append_right kernel_flags (map is_type_object w.objects) 7 n.0 false refl declared.above ∙ get_or-map is_type_object w.objects (n.0 - 7) declared.born false there.0
+    ∙ ap is_type_object there.1 ∙ type_flag declared.born declared.is_type
 
 pub type_again : {w : WorldValue} {names : Names} → Known w names → (n : Name) → IsType w n → type_named names (object_text (spoken w) n) ≡ Ok n.0
 type_again {w} k n h = rw (object_again k n (type_object w n h), k.types, flag_again w n h)

@@ -14,10 +14,6 @@ use Rattle.hk_format.specs.Pieces.{Piece, Word, Upper, Dash, Number, Path, is_na
 use Rattle.hk_format.specs.Pieces.{spell, spell_index, is_piece, is_index}
 use Rattle.hk_format.proofs.Cutting.{all_both, none_of, split_joined, any_both}
 
--- a byte that stands in words, uppers and numbers
-abbrev pub is_letter : ℕ → Bool
-is_letter b = is_lower b || is_capital b || is_digit b || eqb b 95 || eqb b 43
-
 pub digits_number : (n : ℕ) → n < 2 ^ 64 → is_number (decimal n) ≡ true
 digits_number = decimal_by_steps (λ n ds. is_number ds ≡ true) (λ n h. grind (arith, nat_tests)) (λ n ds h k. step n ds k)
   where

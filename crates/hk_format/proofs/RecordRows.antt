@@ -2,23 +2,15 @@
 use Rattle.std.specs.Prelude.{◌≡◌, ℕ, List, [], ◌∷◌, ◌++◌, refl, codes, Some, None, Ok, Err}
 use Rattle.std.specs.Fmt.{digits}
 use Rattle.hk_rights.specs.Rights.{right_table, right_numbers, name_of, number_named}
-use Rattle.hk_model.specs.declared.entries.Entry.TheVariants.{Held}
-use Rattle.hk_model.specs.declared.instructions.Index.TheVariants.{Fixed}
-use Rattle.hk_model.specs.declared.instructions.Instr.TheVariants as instr
-use Rattle.hk_model.specs.declared.instructions.Operand.TheVariants as operand
-use Rattle.hk_model.specs.declared.world.Kind.TheVariants as kind
 use Rattle.hk_model.specs.declared.calls.Call.TheVariants as call
 use Rattle.hk_model.specs.declared.calls.Refusal.TheVariants as refused
-use Rattle.hk_model.specs.declared.calls.Reply.{Reply}
 use Rattle.hk_model.specs.declared.calls.Reply.TheVariants as reply
 use Rattle.hk_model.specs.declared.calls.What8.TheVariants.{Slots}
-use Rattle.hk_model.specs.declared.lines.What.{What}
 use Rattle.hk_model.specs.declared.lines.What.TheVariants as what
 use Rattle.hk_model.specs.declared.lines.Line.{Line}
 use Rattle.hk_model.specs.declared.lines.End.TheVariants as end
 use Rattle.hk_format.specs.declared.causes.Cause.TheVariants.{OfParse, BadLine}
 use Rattle.hk_format.specs.declared.causes.ParseCause.TheVariants.{UnknownWord, Missing, Extra}
-use Rattle.hk_model.specs.WorldValue.{WorldValue, world_value}
 use Rattle.hk_model.proofs.ReadingWorld.{line, reading, reading_lines}
 use Rattle.hk_format.specs.RightsTexts.{rights_text, rights_spelled}
 use Rattle.hk_format.specs.Pieces.{piece_of}
@@ -56,8 +48,8 @@ unfolding piece_of all_verbs digits right_table right_numbers name_of number_nam
 restricted_again = refl
 
 -- a call with two arguments
-called_again : read_body (codes "15 255 7 call 1.65535 2 3 4 -> full slots") ≡ Some
-    (line 15 255 7 (what.Call (call.Enter (1 ∷ 65535 ∷ []) (2 ∷ 3 ∷ []) (record { 0 = 4 }))) (reply.No (refused.Full Slots)))
+called_again : read_body (codes "15 255 7 call 1.65535 2 3 4 -> full slots") ≡ Some (line 15 255 7 (what.Call (call.Enter (1 ∷ 65535 ∷ []) (2 ∷ 3 ∷ []) (record { 0 = 4 })))
+    (reply.No (refused.Full Slots)))
 unfolding piece_of all_verbs digits right_table right_numbers name_of number_named rights_text rights_spelled line_body read_body
 called_again = refl
 

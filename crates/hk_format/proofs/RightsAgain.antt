@@ -91,11 +91,11 @@ listed (n ∷ ns) w h e some = go (same_text (join_with_byte 43 (map name_of (n 
     go : (a : Bool) → same_text (join_with_byte 43 (map name_of (n ∷ ns))) (codes "-") ≡ a → (b : Bool) → same_text (join_with_byte 43 (map name_of (n ∷ ns))) (codes "ALL") ≡ b
         → cond a (Some 0) (cond b (Some all_rights) (union_of (slice_split (λ c. c == 43) (join_with_byte 43 (map name_of (n ∷ ns)))))) ≡ Some w
     go true k b l =
-        absurd (let same = same_is (join_with_byte 43 (map name_of (n ∷ ns))) (codes "-") k in let bad : union_of (slice_split (λ c. c == 43) (codes "-")) ≡ Some w = rw same at
-        union in let none : None ≡ Some w = bad in cc)
+        absurd (let same = same_is (join_with_byte 43 (map name_of (n ∷ ns))) (codes "-") k in let bad : union_of (slice_split (λ c. c == 43) (codes "-")) ≡ Some w =
+        rw same at union in let none : None ≡ Some w = bad in cc)
     go false k true l =
-        absurd (let same = same_is (join_with_byte 43 (map name_of (n ∷ ns))) (codes "ALL") l in let bad : union_of (slice_split (λ c. c == 43) (codes "ALL")) ≡ Some w = rw same at
-        union in let none : None ≡ Some w = bad in cc)
+        absurd (let same = same_is (join_with_byte 43 (map name_of (n ∷ ns))) (codes "ALL") l in let bad : union_of (slice_split (λ c. c == 43) (codes "ALL")) ≡ Some w =
+        rw same at union in let none : None ≡ Some w = bad in cc)
     go false k false l = union
 
 kept_has : (w n : ℕ) (ns : List ℕ) → has (word_of (filter (has w) ns)) n ≡ (list_any (λ k. k == n) ns && has w n)

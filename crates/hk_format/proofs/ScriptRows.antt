@@ -20,6 +20,7 @@ use Rattle.hk_format.specs.Verbs.{all_verbs}
 use Rattle.hk_format.specs.Worlds.{world}
 use Rattle.hk_format.specs.Canonical.{canon}
 use Rattle.hk_model.specs.Generated.{generate}
+use Rattle.hk_format.proofs.GeneratedTexts.{generated_head, generated_process}
 
 -- one DATA object, whose words a loop reads until there is none
 abbrev pub counting : WorldValue
@@ -33,12 +34,15 @@ counting = world_value 10000
     (record { label = codes "a"; code = 0; slots = Held (record { name = record { 0 = 7 }; rights = 0x101 }) ∷ [] } ∷ [])
 
 -- its canonical script has a label for each place that a jump goes to, and rights in rising order
-counting_canon : canon counting ≡ codes "hydra 1\nobject d DATA\nwords 1 2 3\nend\ncode main\nlabel l0\ngetdata 0 r1 r2\nifdenied l4\nadd r1 1\ngoto l0\nlabel l4\nend\nprocess a main\ncap d GETDATA+MODIFY\nend\n"
+counting_canon : canon counting ≡ codes "hydra 1\nobject d DATA\nwords 1 2 3\nend\ncode main\nlabel l0\ngetdata 0 r1 r2\nifdenied l4\nadd r1 1\ngoto l0\n"
+    ++ codes "label l4\nend\nprocess a main\ncap d GETDATA+MODIFY\nend\n"
 unfolding digits right_table right_numbers name_of rights_text canon
 counting_canon = refl
 
 -- the same world is read from a script with comments, blanks, leading zeros and rights in any order
-counting_read : world (codes "# cells\nhydra 1\n\nlimit 010000\nobject d DATA   # a cell\n  words 1\n  words 2 3\nend\nprocess a main\n  cap d MODIFY+GETDATA+GETDATA\nend\ncode main\nlabel top\n  getdata 0 r1 r2\n  ifdenied out\n  add r1 1\n  goto top\nlabel out\nend\n") ≡ Ok counting
+counting_read : world (codes "# cells\nhydra 1\n\nlimit 010000\nobject d DATA   # a cell\n  words 1\n  words 2 3\nend\nprocess a main\n"
+    ++ codes "  cap d MODIFY+GETDATA+GETDATA\nend\ncode main\nlabel top\n  getdata 0 r1 r2\n  ifdenied out\n  add r1 1\n  goto top\n"
+    ++ codes "label out\nend\n") ≡ Ok counting
 unfolding piece_of all_verbs right_table number_named rights_spelled world
 counting_read = refl
 
@@ -103,20 +107,12 @@ unfolding piece_of all_verbs right_table number_named rights_spelled world
 all_and_more = refl
 
 -- the ninth parameter of a procedure
-nine_parameters : world (codes "hydra 1\nprocedure p c\nparam any - -\nparam any - -\nparam any - -\nparam any - -\nparam any - -\nparam any - -\nparam any - -\nparam any - -\nparam any - -\nend\ncode c\nend\n") ≡ Err (11, OfLoad bad_load.TooMany)
+nine_parameters : world (codes "hydra 1\nprocedure p c\nparam any - -\nparam any - -\nparam any - -\nparam any - -\nparam any - -\nparam any - -\n"
+    ++ codes "param any - -\nparam any - -\nparam any - -\nend\ncode c\nend\n") ≡ Err (11, OfLoad bad_load.TooMany)
 unfolding piece_of all_verbs right_table number_named rights_spelled world
 nine_parameters = refl
 
 -- generated worlds
-
--- the part that all of them have
-abbrev generated_head : List ℕ
-generated_head =
-    codes "hydra 1\nlimit 1000000\nobject total DATA\nwords 0\nend\nsemaphore lock 1\nprocedure bump cbump\nparam DATA GETDATA+PUTDATA GETDATA+PUTDATA+MODIFY\nend\ncode cbump\ngetdata 0 0 r1\nadd r1 1\nputdata 0 0 r1\nend\ncode main\nlabel l0\np 2\ncall 0 1 3\nv 2\nadd r0 1\niflt r0 100 l0\nend\n"
-
--- a process, by the text of its number
-abbrev generated_process : List ℕ → List ℕ
-generated_process number = codes "process w" ++ (number ++ codes " main\ncap bump A0\ncap total GETDATA+PUTDATA+MODIFY\ncap lock MODIFY+A0+A1\nend\n")
 
 -- of one process
 generated_one : canon (generate 1) ≡ generated_head ++ generated_process (codes "0")

@@ -1,12 +1,11 @@
 -- A call has the text of the instruction that makes it.
-use Rattle.std.proofs.Common.{◌≡◌, ℕ, refl, ap, ◌∙◌, subst}
+use Rattle.std.proofs.Common.{◌≡◌, refl, subst}
 use Rattle.hk_model.specs.declared.calls.Call.{Call}
-use Rattle.hk_model.specs.declared.calls.Call.TheVariants as call
 use Rattle.hk_model.specs.declared.entries.Making.TheVariants as making
 use Rattle.hk_model.specs.declared.frames.Frame.{Frame}
 use Rattle.hk_model.specs.declared.instructions.Instr.{Instr}
 use Rattle.hk_model.specs.declared.instructions.Instr.TheVariants as instr
-use Rattle.hk_model.specs.Control.{Meaning, Calls, Local, meaning}
+use Rattle.hk_model.specs.Control.{Calls, meaning}
 use Rattle.hk_format.specs.StepTexts.{HasTextOf}
 
 -- the instruction makes the call, which so has its text

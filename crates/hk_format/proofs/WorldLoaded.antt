@@ -60,17 +60,25 @@ entry_more {w} {names} fit r u line b rest c e more =
       few_params = d.few_params;
       params = d.params;
       few_entries = omega arith;
-      entries = (entry_loaded fit b a.0 p.0, d.entries);
+      entries =
+          (entry_loaded fit b a.0 p.0, d.entries);
       none = λ off. absurd (false≢true (sym off ∙ p.1));
     })
 
 pub contents_loaded : {w : WorldValue} {names : Names} → NamesFit w names → (r : Room) (u : Used) (ps : List Part) (c : Contents) → WithinLimits r u
     → AllByRecursion (λ (p : Part). WordsIn p.body) ps → contents_of names r u ps ≡ Ok c → ContentsLoaded w r u c
 unfolding WordsIn
-contents_loaded {w} fit r u [] c within h e =
-    moved (ContentsLoaded w r u) (contents [] [] []) c e
-    (let a = within.words in let b = within.params in let d = within.entries in record
-    { few_words = omega arith; words = tt; few_params = omega arith; params = tt; few_entries = omega arith; entries = tt; none = λ off. refl })
+contents_loaded {w} fit r u [] c within h e = moved (ContentsLoaded w r u) (contents [] [] []) c e
+    (let a = within.words in let b = within.params in let d = within.entries in record {
+      few_words = omega arith;
+      words = tt;
+      few_params = omega arith;
+      params = tt;
+      few_entries =
+          omega arith;
+      entries = tt;
+      none = λ off. refl;
+    })
 contents_loaded {w} {names} fit r u (p ∷ ps) c within h e = go p.body h.0 e (λ v d l f. contents_loaded fit r v ps d l h.1 f)
   where
     counted_on : (d : Contents) → u.entries < r.entries → ((v : Used) (x : Contents) → WithinLimits r v → contents_of names r v ps ≡ Ok x → ContentsLoaded w r v x)
@@ -92,7 +100,8 @@ contents_loaded {w} {names} fit r u (p ∷ ps) c within h e = go p.body h.0 e (�
         subst (ContentsLoaded w r u) a.4 (record {
           few_words = omega arith;
           words = all_both IsWord32 a.0 a.1.words (subst (AllByRecursion IsWord32) same k) d.words;
-          few_params = d.few_params;
+          few_params =
+              d.few_params;
           params = d.params;
           few_entries = d.few_entries;
           entries = d.entries;
@@ -108,7 +117,8 @@ contents_loaded {w} {names} fit r u (p ∷ ps) c within h e = go p.body h.0 e (�
           few_words = d.few_words;
           words = d.words;
           few_params = omega arith;
-          params = (param_loaded fit kind check give a.0 l.0, d.params);
+          params =
+              (param_loaded fit kind check give a.0 l.0, d.params);
           few_entries = d.few_entries;
           entries = d.entries;
           none = d.none;

@@ -1,4 +1,4 @@
--- A script that is loaded gives a world that can be run.
+-- A script that is head_loaded gives a world that can be run.
 use Rattle.std.proofs.Common.{◌≡◌, ℕ, ◌+◌, ◌<◌, ◌≤◌, inl, inr, ◌==◌, ◌&&◌, ◌||◌, not, Bool, true, false, ltb, eqb, List, [], ◌∷◌, ◌++◌, length, map, refl, sym, ap, ◌∙◌, subst}
 use Rattle.std.proofs.Common.{arith, Ok, Err, Result}
 use Rattle.std.specs.Prelude.{IsTrue}
@@ -23,11 +23,11 @@ use Rattle.hk_model.specs.Labels.{same_text, is_name, are_apart}
 use Rattle.hk_model.specs.Targets.{DATA, is_general}
 use Rattle.hk_model.specs.WorldValue.{WorldValue, world_value, IsWorld, IsKind, IsCode, IsTask, IsType, IsPlainType, labels}
 use Rattle.hk_format.specs.Syntax.{AreItems, AreParts, IsHead, IsSyntax}
-use Rattle.hk_format.specs.Grammar.{Seen, nothing_seen, is_among, is_new, noted}
+use Rattle.hk_format.specs.Grammar.{GivenNames, nothing_seen, is_among, is_new, noted}
 use Rattle.hk_format.specs.Names.{Names}
 use Rattle.hk_format.specs.Loading.{Refused, unless, limited, type_named, code_named, name_numbered, names_of, object_label, is_type_head, code_label, Contents, used, room}
 use Rattle.hk_format.specs.Loading.{contents_of, labels_from, instrs_of, Counts, counts, counted, object_fits, with_limit, with_object, with_code, with_task, at_line, plain_type}
-use Rattle.hk_format.specs.Loading.{loaded, item_of, put_item, items_of, load, ◌>>=◌, ◌>>◌}
+use Rattle.hk_format.specs.Loading.{head_loaded, item_of, put_item, items_of, load, ◌>>=◌, ◌>>◌}
 use Rattle.hk_format.proofs.NamesAgain.{is_type_object}
 use Rattle.hk_format.proofs.LoadGood.{bind_ok, then_ok, limited_ok, unless_ok, moved, NamesFit, type_loaded, code_loaded}
 use Rattle.hk_format.proofs.ItemsLoaded.{code_loaded_whole}
@@ -52,7 +52,7 @@ Puts names n parts (ProcessIs name code) put =
 same_put : (f g : WorldValue → WorldValue) → ◌≡◌ {A = Result (WorldValue → WorldValue) Refused} (Ok f) (Ok g) → g ≡ f
 same_put f g h = let e : f ≡ g = cc in sym e
 
-puts : (names : Names) (n : Counts) (line : ℕ) (parts : List Part) (head : Head) (put : WorldValue → WorldValue) → loaded names n line parts head ≡ Ok put
+puts : (names : Names) (n : Counts) (line : ℕ) (parts : List Part) (head : Head) (put : WorldValue → WorldValue) → head_loaded names n line parts head ≡ Ok put
     → Puts names n parts head put
 unfolding Puts
 puts names n line parts (LimitIs limit) put h = same_put (with_limit limit) put h
@@ -60,23 +60,21 @@ puts names n line parts (TypeIs name) put h =
     let a = then_ok (at_line line (unless (object_fits n) TooMany)) (Ok (with_object name kind.TypeObject)) put h in
     (unless_ok (object_fits n) TooMany a.0 (at_line_ok line (unless (object_fits n) TooMany) a.0 a.1), same_put (with_object name kind.TypeObject) put a.2)
 puts names n line parts (ObjectIs name of) put h =
-    let a = bind_ok (at_line line (limited (object_fits n) (plain_type names of)))
-    (λ t. contents_of names (room (not (t == DATA)) 256) (used 0 0 0) parts >>= (λ c. Ok (with_object name (kind.Plain (name_numbered t) c.words c.entries)))) put h in
-    let b = bind_ok (contents_of names (room (not (a.0 == DATA)) 256) (used 0 0 0) parts)
-    (λ c. Ok (with_object name (kind.Plain (name_numbered a.0) c.words c.entries))) put a.2 in (
+    let a = bind_ok (at_line line (limited (object_fits n) (plain_type names of))) (λ t. contents_of names (room (not (t == DATA)) 256) (used 0 0 0) parts >>=
+    (λ c. Ok (with_object name (kind.Plain (name_numbered t) c.words c.entries)))) put h in
+    let b = bind_ok (contents_of names (room (not (a.0 == DATA)) 256) (used 0 0 0) parts) (λ c. Ok (with_object name (kind.Plain (name_numbered a.0) c.words c.entries))) put a.2 in (
       a.0,
       b.0,
       at_line_ok line (limited (object_fits n) (plain_type names of)) a.0 a.1,
       b.1,
-      same_put
-          (with_object name (kind.Plain (name_numbered a.0) (b.0).words (b.0).entries)) put b.2,
+      same_put (with_object name (kind.Plain (name_numbered a.0) (b.0).words (b.0).entries)) put b.2,
     )
 puts names n line parts (SemaphoreIs name count) put h =
     let a = then_ok (at_line line (unless (object_fits n) TooMany)) (Ok (with_object name (kind.Semaphore count))) put h in
     (unless_ok (object_fits n) TooMany a.0 (at_line_ok line (unless (object_fits n) TooMany) a.0 a.1), same_put (with_object name (kind.Semaphore count)) put a.2)
 puts names n line parts (ProcedureIs name code) put h =
-    let a = bind_ok (at_line line (limited (object_fits n) (code_named names code)))
-    (λ k. contents_of names (room true 256) (used 0 0 0) parts >>= (λ c. Ok (with_object name (kind.Procedure k c.params c.entries)))) put h in
+    let a = bind_ok (at_line line (limited (object_fits n) (code_named names code))) (λ k. contents_of names (room true 256) (used 0 0 0) parts >>=
+    (λ c. Ok (with_object name (kind.Procedure k c.params c.entries)))) put h in
     let b = bind_ok (contents_of names (room true 256) (used 0 0 0) parts) (λ c. Ok (with_object name (kind.Procedure a.0 c.params c.entries))) put a.2 in
     (a.0, b.0, at_line_ok line (limited (object_fits n) (code_named names code)) a.0 a.1, b.1, same_put (with_object name (kind.Procedure a.0 (b.0).params (b.0).entries)) put b.2)
 puts names n line parts (CodeIs name) put h =
@@ -84,8 +82,8 @@ puts names n line parts (CodeIs name) put h =
     let b = bind_ok (instrs_of (labels_from 0 parts) 0 parts) (λ steps. Ok (with_code name steps)) put a.2 in
     (b.0, unless_ok (ltb n.codes 4096) TooMany a.0 (at_line_ok line (unless (ltb n.codes 4096) TooMany) a.0 a.1), b.1, same_put (with_code name b.0) put b.2)
 puts names n line parts (ProcessIs name code) put h =
-    let a = bind_ok (at_line line (limited (ltb n.tasks 256) (code_named names code)))
-    (λ k. contents_of names (room true 64) (used 0 0 0) parts >>= (λ c. Ok (with_task name k c.entries))) put h in
+    let a = bind_ok (at_line line (limited (ltb n.tasks 256) (code_named names code))) (λ k. contents_of names (room true 64) (used 0 0 0) parts >>=
+    (λ c. Ok (with_task name k c.entries))) put h in
     let b = bind_ok (contents_of names (room true 64) (used 0 0 0) parts) (λ c. Ok (with_task name a.0 c.entries)) put a.2 in
     (a.0, b.0, at_line_ok line (limited (ltb n.tasks 256) (code_named names code)) a.0 a.1, b.1, same_put (with_task name a.0 (b.0).entries) put b.2)
 
@@ -186,11 +184,11 @@ unfolding Puts
 front {w} fit n parts (LimitIs limit) put r h k p = record {
   room = r;
   valid =
-      λ u v. subst (λ (f : WorldValue → WorldValue). Valid w n (f u)) (sym p)
-      (record {
+      λ u v. subst (λ (f : WorldValue → WorldValue). Valid w n (f u)) (sym p) (record {
         some_events = let some = h.0 in omega arith;
         few_events = h.1;
-        few_objects = v.few_objects;
+        few_objects =
+            v.few_objects;
         few_codes = v.few_codes;
         few_tasks = v.few_tasks;
         kinds = v.kinds;
@@ -203,14 +201,15 @@ front {w} fit n parts (TypeIs name) put r h k p =
     record {
       room = record { objects = omega arith; codes = r.codes; tasks = r.tasks };
       valid =
-          λ u v. subst (λ (f : WorldValue → WorldValue). Valid w n (f u)) (sym p.1)
-          (let few = v.few_objects in record {
+          λ u v. subst (λ (f : WorldValue → WorldValue). Valid w n (f u)) (sym p.1) (let few = v.few_objects in
+          record {
             some_events = v.some_events;
             few_events = v.few_events;
             few_objects = omega arith;
             few_codes = v.few_codes;
             few_tasks = v.few_tasks;
-            kinds = (tt, v.kinds);
+            kinds =
+                (tt, v.kinds);
             codes_are = v.codes_are;
             tasks_are = v.tasks_are;
           });
@@ -220,14 +219,15 @@ front {w} fit n parts (SemaphoreIs name count) put r h k p =
     record {
       room = record { objects = omega arith; codes = r.codes; tasks = r.tasks };
       valid =
-          λ u v. subst (λ (f : WorldValue → WorldValue). Valid w n (f u)) (sym p.1)
-          (let few = v.few_objects in record {
+          λ u v. subst (λ (f : WorldValue → WorldValue). Valid w n (f u)) (sym p.1) (let few = v.few_objects in
+          record {
             some_events = v.some_events;
             few_events = v.few_events;
             few_objects = omega arith;
             few_codes = v.few_codes;
             few_tasks = v.few_tasks;
-            kinds = (h.1, v.kinds);
+            kinds =
+                (h.1, v.kinds);
             codes_are = v.codes_are;
             tasks_are = v.tasks_are;
           });
@@ -248,14 +248,15 @@ front {w} {names} fit n parts (ObjectIs name of) put r h k p =
     record {
       room = record { objects = omega arith; codes = r.codes; tasks = r.tasks };
       valid =
-          λ u v. subst (λ (f : WorldValue → WorldValue). Valid w n (f u)) (sym p.4)
-          (let few = v.few_objects in record {
+          λ u v. subst (λ (f : WorldValue → WorldValue). Valid w n (f u)) (sym p.4) (let few = v.few_objects in
+          record {
             some_events = v.some_events;
             few_events = v.few_events;
             few_objects = omega arith;
             few_codes = v.few_codes;
             few_tasks = v.few_tasks;
-            kinds = (here, v.kinds);
+            kinds =
+                (here, v.kinds);
             codes_are = v.codes_are;
             tasks_are = v.tasks_are;
           });
@@ -270,14 +271,15 @@ front {w} {names} fit n parts (ProcedureIs name code) put r h k p =
     record {
       room = record { objects = omega arith; codes = r.codes; tasks = r.tasks };
       valid =
-          λ u v. subst (λ (f : WorldValue → WorldValue). Valid w n (f u)) (sym p.4)
-          (let few = v.few_objects in record {
+          λ u v. subst (λ (f : WorldValue → WorldValue). Valid w n (f u)) (sym p.4) (let few = v.few_objects in
+          record {
             some_events = v.some_events;
             few_events = v.few_events;
             few_objects = omega arith;
             few_codes = v.few_codes;
             few_tasks = v.few_tasks;
-            kinds = (here, v.kinds);
+            kinds =
+                (here, v.kinds);
             codes_are = v.codes_are;
             tasks_are = v.tasks_are;
           });
@@ -288,14 +290,15 @@ front {w} fit n parts (CodeIs name) put r h k p =
     record {
       room = record { objects = r.objects; codes = omega arith; tasks = r.tasks };
       valid =
-          λ u v. subst (λ (f : WorldValue → WorldValue). Valid w n (f u)) (sym p.3)
-          (let few = v.few_codes in record {
+          λ u v. subst (λ (f : WorldValue → WorldValue). Valid w n (f u)) (sym p.3) (let few = v.few_codes in
+          record {
             some_events = v.some_events;
             few_events = v.few_events;
             few_objects = v.few_objects;
             few_codes = omega arith;
             few_tasks = v.few_tasks;
-            kinds = v.kinds;
+            kinds =
+                v.kinds;
             codes_are = (here, v.codes_are);
             tasks_are = v.tasks_are;
           });
@@ -309,30 +312,32 @@ front {w} {names} fit n parts (ProcessIs name code) put r h k p =
     record {
       room = record { objects = r.objects; codes = r.codes; tasks = omega arith };
       valid =
-          λ u v. subst (λ (f : WorldValue → WorldValue). Valid w n (f u)) (sym p.4)
-          (let few = v.few_tasks in record {
+          λ u v. subst (λ (f : WorldValue → WorldValue). Valid w n (f u)) (sym p.4) (let few = v.few_tasks in
+          record {
             some_events = v.some_events;
             few_events = v.few_events;
             few_objects = v.few_objects;
             few_codes = v.few_codes;
             few_tasks = omega arith;
-            kinds = v.kinds;
+            kinds =
+                v.kinds;
             codes_are = v.codes_are;
             tasks_are = (here, v.tasks_are);
           });
     }
 
-valid : {w : WorldValue} {names : Names} → NamesFit w names → (n : Counts) (seen : Seen) (is : List Item) (v : WorldValue) → Room n → AreItems seen is → items_of names n is ≡ Ok v
-    → Valid w n v
-valid {w} fit n seen [] v r h e =
-    moved (Valid w n) (world_value 10000 [] [] []) v e (let a = r.objects in let b = r.codes in let c = r.tasks in record {
+valid : {w : WorldValue} {names : Names} → NamesFit w names → (n : Counts) (seen : GivenNames) (is : List Item) (v : WorldValue) → Room n → AreItems seen is
+    → items_of names n is ≡ Ok v → Valid w n v
+valid {w} fit n seen [] v r h e = moved (Valid w n) (world_value 10000 [] [] []) v e (let a = r.objects in let b = r.codes in let c = r.tasks in
+    record {
       some_events = omega arith;
       few_events = omega arith;
       few_objects = omega arith;
       few_codes = omega arith;
       few_tasks = omega arith;
       kinds = tt;
-      codes_are = tt;
+      codes_are =
+          tt;
       tasks_are = tt;
     })
 valid {w} {names} fit n seen (i ∷ is) v r h e =
@@ -420,7 +425,7 @@ task_labels : WorldValue → List (List ℕ)
 task_labels w = map (λ (t : Task). t.label) w.tasks
 
 -- the label that an item puts in front of those of its kind
-labelled_front : (names : Names) (n : Counts) (parts : List Part) (head : Head) (put : WorldValue → WorldValue) (seen : Seen) (u : WorldValue) → IsHead head
+labelled_front : (names : Names) (n : Counts) (parts : List Part) (head : Head) (put : WorldValue → WorldValue) (seen : GivenNames) (u : WorldValue) → IsHead head
     → IsTrue (is_new seen head) → Puts names n parts head put → Labelled (noted seen head).names (labels u) → Labelled seen.names (labels (put u))
 unfolding Puts own_labels code_labels task_labels
 labelled_front names n parts (LimitIs limit) put seen u h new p l = subst (λ (f : WorldValue → WorldValue). Labelled seen.names (labels (f u))) (sym p) l
@@ -443,14 +448,14 @@ labelled_front names n parts (ProcessIs name code) put seen u h new p l =
     let after : (own ++ coded) ++ name ∷ tasked ≡ own ++ (coded ++ name ∷ tasked) = append_assoc own coded (name ∷ tasked) in
     subst (λ (f : WorldValue → WorldValue). Labelled seen.names (labels (f u))) (sym p.4) (subst (Labelled seen.names) after put_in)
 
-labelled : (names : Names) (n : Counts) (seen : Seen) (is : List Item) (v : WorldValue) → AreItems seen is → items_of names n is ≡ Ok v → Labelled seen.names (labels v)
+labelled : (names : Names) (n : Counts) (seen : GivenNames) (is : List Item) (v : WorldValue) → AreItems seen is → items_of names n is ≡ Ok v → Labelled seen.names (labels v)
 labelled names n seen [] v h e = moved (λ (w : WorldValue). Labelled seen.names (labels w)) (world_value 10000 [] [] []) v e (record { named = tt; apart = refl; fresh = tt })
 labelled names n seen (i ∷ is) v h e =
     let a = put_ok (item_of names n i) (items_of names (counted n i.head) is) v e in
-    subst (λ (w : WorldValue). Labelled seen.names (labels w)) a.4
-    (labelled_front names n i.parts i.head a.0 seen a.1 h.0 h.1 (puts names n i.line i.parts i.head a.0 a.2) (labelled names (counted n i.head) (noted seen i.head) is a.1 h.3 a.3))
+    subst (λ (w : WorldValue). Labelled seen.names (labels w)) a.4 (labelled_front names n i.parts i.head a.0 seen a.1 h.0 h.1 (puts names n i.line i.parts i.head a.0 a.2)
+    (labelled names (counted n i.head) (noted seen i.head) is a.1 h.3 a.3))
 
--- the names that the heads declare are those of the world that is loaded
+-- the names that the heads declare are those of the world that is head_loaded
 names_fit : (is : List Item) (w : WorldValue) → Shape (map (λ (i : Item). i.head) is) w → NamesFit w (names_of (map (λ (i : Item). i.head) is))
 names_fit is w s = record {
   objects = (let size : length w.objects ≡ length (filter_map object_label (map (λ (i : Item). i.head) is)) = rw length-map at (ap length s.objects) in omega arith);
@@ -458,7 +463,7 @@ names_fit is w s = record {
   codes = (let size : length w.codes ≡ length (filter_map code_label (map (λ (i : Item). i.head) is)) = rw length-map at (ap length s.codes) in omega arith);
 }
 
--- what is loaded from the items of a script is a world that can be run
+-- what is head_loaded from the items of a script is a world that can be run
 pub loaded_world : (is : List Item) (w : WorldValue) → IsSyntax is → load is ≡ Ok w → IsWorld w
 loaded_world is w h e =
     let names = names_of (map (λ (i : Item). i.head) is) in

@@ -1,5 +1,5 @@
 -- A world as items, and its canonical script. docs/FORMATS.md, "Canonical script".
-use Rattle.std.specs.Prelude.{ℕ, ◌+◌, ◌==◌, Bool, false, List, [], ◌∷◌, ◌++◌, length, Option, Some, None, if◌then◌else◌, nat_le, map, codes, slice_index_or}
+use Rattle.std.specs.Prelude.{ℕ, ◌+◌, ◌==◌, Bool, false, List, [], ◌∷◌, ◌++◌, length, Option, if◌then◌else◌, nat_le, map}
 use Rattle.std.specs.List.{list_any, onto_first}
 use Rattle.std.specs.Fmt.{decimal}
 use Rattle.hk_model.specs.declared.names.Name.{Name}

@@ -83,21 +83,21 @@ as_word32 (Number n) = if nat_le n largest_number then Ok n else Err OutOfRange
 as_word32 _ = Err UnknownWord
 
 -- the slot behind the rights of a template, and the end of the call
-abbrev pub template_end : List ℕ → Making → Reads Call
-template_end of kind = do
+abbrev pub template_call_end : List ℕ → Making → Reads Call
+template_call_end of kind = do
   into ← wanted as_any_slot
   end (call.MakeTemplate of kind into)
 
 -- `amplify CHECK GIVE INTO` or `create GIVE INTO`, behind the path
-abbrev pub template_of : List ℕ → Verb → Reads Call
-template_of of verb.Amplify = do
+abbrev pub template_call : List ℕ → Verb → Reads Call
+template_call of verb.Amplify = do
   check ← wanted as_rights_set
   give ← wanted as_rights_set
-  template_end of (making.Amplify check give)
-template_of of verb.Create = do
+  template_call_end of (making.Amplify check give)
+template_call of verb.Create = do
   give ← wanted as_rights_set
-  template_end of (making.Create give)
-template_of of _ = unknown
+  template_call_end of (making.Create give)
+template_call of _ = unknown
 
 -- the call that begins with this word
 abbrev pub call_of : Verb → Reads Call
@@ -147,7 +147,7 @@ call_of verb.Look = do
 call_of verb.Template = do
   of ← wanted as_path
   kind ← wanted as_verb
-  template_of of kind
+  template_call of kind
 call_of verb.Create = do
   by ← wanted as_path
   into ← wanted as_any_slot

@@ -385,34 +385,34 @@ plain_type names of = do
   Ok n
 
 -- the item with this head and these lines behind it
-abbrev pub loaded : Names → Counts → ℕ → List Part → Head → Result (WorldValue → WorldValue) Refused
-loaded names n line parts (LimitIs limit) = Ok (with_limit limit)
-loaded names n line parts (TypeIs name) = do
+abbrev pub head_loaded : Names → Counts → ℕ → List Part → Head → Result (WorldValue → WorldValue) Refused
+head_loaded names n line parts (LimitIs limit) = Ok (with_limit limit)
+head_loaded names n line parts (TypeIs name) = do
   at_line line (unless (object_fits n) TooMany)
   Ok (with_object name kind.TypeObject)
-loaded names n line parts (ObjectIs name of) = do
+head_loaded names n line parts (ObjectIs name of) = do
   t ← at_line line (limited (object_fits n) (plain_type names of))
   c ← contents_of names (room (not (t == DATA)) entry_limit) (used 0 0 0) parts
   Ok (with_object name (kind.Plain (name_numbered t) c.words c.entries))
-loaded names n line parts (SemaphoreIs name count) = do
+head_loaded names n line parts (SemaphoreIs name count) = do
   at_line line (unless (object_fits n) TooMany)
   Ok (with_object name (kind.Semaphore count))
-loaded names n line parts (ProcedureIs name code) = do
+head_loaded names n line parts (ProcedureIs name code) = do
   k ← at_line line (limited (object_fits n) (code_named names code))
   c ← contents_of names (room true entry_limit) (used 0 0 0) parts
   Ok (with_object name (kind.Procedure k c.params c.entries))
-loaded names n line parts (CodeIs name) = do
+head_loaded names n line parts (CodeIs name) = do
   at_line line (unless (nat_lt n.codes code_limit) TooMany)
   steps ← instrs_of (labels_from 0 parts) 0 parts
   Ok (with_code name steps)
-loaded names n line parts (ProcessIs name code) = do
+head_loaded names n line parts (ProcessIs name code) = do
   k ← at_line line (limited (nat_lt n.tasks process_limit) (code_named names code))
   c ← contents_of names (room true slot_limit) (used 0 0 0) parts
   Ok (with_task name k c.entries)
 
 -- what an item adds to a world
 abbrev pub item_of : Names → Counts → Item → Result (WorldValue → WorldValue) Refused
-item_of names n i = loaded names n i.line i.parts i.head
+item_of names n i = head_loaded names n i.line i.parts i.head
 
 -- an item before those behind it, unless it is refused or one of them is
 abbrev pub put_item : Result (WorldValue → WorldValue) Refused → Result WorldValue Refused → Result WorldValue Refused

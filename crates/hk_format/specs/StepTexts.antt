@@ -8,47 +8,47 @@ use Rattle.hk_model.specs.declared.instructions.Instr.TheVariants as instr
 use Rattle.hk_model.specs.declared.instructions.Operand.{Operand}
 use Rattle.hk_model.specs.declared.instructions.Operand.TheVariants.{Number}
 use Rattle.hk_model.specs.declared.instructions.Route.{Route}
-use Rattle.hk_model.specs.Control.{operand, path_of, target_register, Calls, meaning}
+use Rattle.hk_model.specs.Control.{operand, path_of, target_register}
 use Rattle.hk_format.specs.Pieces.{Piece}
 use Rattle.hk_format.specs.Spelling.{written_pieces}
 use Rattle.hk_format.specs.Canonical.{written_of}
 use Rattle.hk_format.specs.AuditLines.{call_pieces}
 
 -- the operand as the number that it is worth
-abbrev pub number_of : Frame → Operand → Operand
-number_of f o = Number (operand f o)
+abbrev pub known_operand : Frame → Operand → Operand
+known_operand f o = Number (operand f o)
 
 -- the path with its indices as the numbers that they are worth
-abbrev pub route_of : Frame → Route → Route
-route_of f route = record { at = map Fixed (path_of f route) }
+abbrev pub known_route : Frame → Route → Route
+known_route f route = record { at = map Fixed (path_of f route) }
 
 -- the instruction with its operands and its path resolved
 abbrev pub resolved : Frame → Instr → Instr
-resolved f (instr.Get of at reg) = instr.Get (route_of f of) (number_of f at) reg
-resolved f (instr.Put of at word) = instr.Put (route_of f of) (number_of f at) (number_of f word)
-resolved f (instr.Add of word) = instr.Add (route_of f of) (number_of f word)
-resolved f (instr.Length of reg) = instr.Length (route_of f of) reg
-resolved f (instr.Load from into) = instr.Load (route_of f from) into
-resolved f (instr.Store list at from) = instr.Store (route_of f list) (number_of f at) from
-resolved f (instr.Append list from) = instr.Append (route_of f list) from
-resolved f (instr.Erase list at) = instr.Erase (route_of f list) (number_of f at)
+resolved f (instr.Get of at reg) = instr.Get (known_route f of) (known_operand f at) reg
+resolved f (instr.Put of at word) = instr.Put (known_route f of) (known_operand f at) (known_operand f word)
+resolved f (instr.Add of word) = instr.Add (known_route f of) (known_operand f word)
+resolved f (instr.Length of reg) = instr.Length (known_route f of) reg
+resolved f (instr.Load from into) = instr.Load (known_route f from) into
+resolved f (instr.Store list at from) = instr.Store (known_route f list) (known_operand f at) from
+resolved f (instr.Append list from) = instr.Append (known_route f list) from
+resolved f (instr.Erase list at) = instr.Erase (known_route f list) (known_operand f at)
 resolved f (instr.Drop slot) = instr.Drop slot
 resolved f (instr.Restrict slot keep) = instr.Restrict slot keep
-resolved f (instr.Look of reg) = instr.Look (route_of f of) reg
-resolved f (instr.MakeTemplate of kind into) = instr.MakeTemplate (route_of f of) kind into
-resolved f (instr.Create by into) = instr.Create (route_of f by) into
-resolved f (instr.Merge with cap into) = instr.Merge (route_of f with) cap into
-resolved f (instr.Copy of into) = instr.Copy (route_of f of) into
-resolved f (instr.Enter proc args into) = instr.Enter (route_of f proc) args into
+resolved f (instr.Look of reg) = instr.Look (known_route f of) reg
+resolved f (instr.MakeTemplate of kind into) = instr.MakeTemplate (known_route f of) kind into
+resolved f (instr.Create by into) = instr.Create (known_route f by) into
+resolved f (instr.Merge with cap into) = instr.Merge (known_route f with) cap into
+resolved f (instr.Copy of into) = instr.Copy (known_route f of) into
+resolved f (instr.Enter proc args into) = instr.Enter (known_route f proc) args into
 resolved f (instr.Leave give) = instr.Leave give
-resolved f (instr.P of) = instr.P (route_of f of)
-resolved f (instr.V of) = instr.V (route_of f of)
+resolved f (instr.P of) = instr.P (known_route f of)
+resolved f (instr.V of) = instr.V (known_route f of)
 resolved f instr.Yield = instr.Yield
-resolved f (instr.SetReg reg to) = instr.SetReg reg (number_of f to)
-resolved f (instr.AddReg reg by) = instr.AddReg reg (number_of f by)
+resolved f (instr.SetReg reg to) = instr.SetReg reg (known_operand f to)
+resolved f (instr.AddReg reg by) = instr.AddReg reg (known_operand f by)
 resolved f (instr.Goto to) = instr.Goto to
-resolved f (instr.IfEq left right to) = instr.IfEq (number_of f left) (number_of f right) to
-resolved f (instr.IfLess left right to) = instr.IfLess (number_of f left) (number_of f right) to
+resolved f (instr.IfEq left right to) = instr.IfEq (known_operand f left) (known_operand f right) to
+resolved f (instr.IfLess left right to) = instr.IfLess (known_operand f left) (known_operand f right) to
 resolved f (instr.IfDenied to) = instr.IfDenied to
 
 -- all pieces but the last

@@ -5,7 +5,8 @@ use Rattle.hk_model.specs.declared.world.Task.{Task}
 use Rattle.hk_model.specs.Generated.{generate, task, capability}
 
 -- the processes of eleven: the label of the last has two digits
-labels_of_eleven : map (λ (t : Task). t.label) (generate 11).tasks ≡ codes "w0" ∷ codes "w1" ∷ codes "w2" ∷ codes "w3" ∷ codes "w4" ∷ codes "w5" ∷ codes "w6" ∷ codes "w7" ∷ codes "w8" ∷ codes "w9" ∷ codes "w10" ∷ []
+labels_of_eleven : map (λ (t : Task). t.label) (generate 11).tasks ≡ codes "w0" ∷ codes "w1" ∷ codes "w2" ∷ codes "w3" ∷ codes "w4" ∷ codes "w5" ∷ codes "w6" ∷ codes "w7"
+    ∷ codes "w8" ∷ codes "w9" ∷ codes "w10" ∷ []
 unfolding digits generate
 labels_of_eleven = refl
 

@@ -23,7 +23,8 @@ processes_from-end n (suc k) =
     rw (more, last) (ap (λ ts. process_numbered n ∷ ts) (processes_from-end (n + 1) k))
 
 -- so it is when it is put there
-pub processes_from-put : (before after : List Task) (last : Task) (k : ℕ) → after ≡ before ++ last ∷ [] → before ≡ processes_from 0 k → last ≡ process_numbered k → after ≡ processes_from 0 (k + 1)
+pub processes_from-put : (before after : List Task) (last : Task) (k : ℕ) → after ≡ before ++ last ∷ [] → before ≡ processes_from 0 k → last ≡ process_numbered k
+    → after ≡ processes_from 0 (k + 1)
 processes_from-put before after last k put so_far is =
     let first : 0 + k ≡ k = omega arith in
     put ∙ (rw (so_far, is) (rw first at (processes_from-end 0 k)))
@@ -52,14 +53,16 @@ labels-more : (k j : ℕ) → labels (generate (k + j)) ≡ labels (generate k) 
 unfolding generate process_labels
 labels-more k j =
     let first : 0 + k ≡ k = omega arith in
-    ap (λ ls. other_labels ++ ls) (ap (map (λ (t : Task). t.label)) (rw first at (processes_from-more 0 k j)) ∙ map-append (λ (t : Task). t.label) (processes_from 0 k) (processes_from k j))
+    ap (λ ls. other_labels ++ ls) (ap (map (λ (t : Task). t.label)) (rw first at (processes_from-more 0 k j)) ∙ map-append (λ (t : Task). t.label)
+    (processes_from 0 k) (processes_from k j))
 
 -- no two of the first are the same where no two of all are
 apart_front : (xs ys : List (List ℕ)) → are_apart (xs ++ ys) ≡ true → are_apart xs ≡ true
 apart_front [] ys h = refl
 apart_front (x ∷ xs) ys h =
     let both = and_parts (not (list_any (λ u. same_text u x) (xs ++ ys))) (are_apart (xs ++ ys)) h in
-    let none : list_any (λ u. same_text u x) xs ≡ false = left (list_any (λ u. same_text u x) xs) (list_any (λ u. same_text u x) ys) (sym (list_any-append (λ u. same_text u x) xs ys) ∙ not-true _ both.0) in
+    let none : list_any (λ u. same_text u x) xs ≡ false = left (list_any (λ u. same_text u x) xs) (list_any (λ u. same_text u x) ys)
+    (sym (list_any-append (λ u. same_text u x) xs ys) ∙ not-true _ both.0) in
     and_from _ _ (rw none refl) (apart_front xs ys both.1)
   where
     left : (a b : Bool) → (a || b) ≡ false → a ≡ false
@@ -106,7 +109,8 @@ at_a_slot : (n : ℕ) → n < slot_limit → IsRoute (at_slot n)
 at_a_slot n h = (h, lit≤ tt, (omega arith, tt))
 
 -- the parts of a generated world make it
-pub world_value_lem : (objects' : List Born) (codes' : List Code) (tasks : List Task) (k : ℕ) → objects' ≡ objects → codes' ≡ code (codes "cbump") bump_steps ∷ code (codes "main") main_steps ∷ [] → tasks ≡ processes_from 0 k → world_value event_limit objects' codes' tasks ≡ generate k
+pub world_value_lem : (objects' : List Born) (codes' : List Code) (tasks : List Task) (k : ℕ) → objects' ≡ objects
+    → codes' ≡ code (codes "cbump") bump_steps ∷ code (codes "main") main_steps ∷ [] → tasks ≡ processes_from 0 k → world_value event_limit objects' codes' tasks ≡ generate k
 unfolding generate
 world_value_lem objects' codes' tasks k p q r = cc
 
@@ -134,7 +138,16 @@ generated_is_world k few = record {
   codes_are = (
     (lit≤ tt, ((at_a_slot 0 (lit< tt), lit< tt, lit< tt), ((lit< tt, lit< tt), ((at_a_slot 0 (lit< tt), lit< tt, lit< tt), tt)))),
     (
-      (lit≤ tt, (at_a_slot 2 (lit< tt), ((at_a_slot 0 (lit< tt), (lit≤ tt, (lit< tt, tt)), lit< tt), (at_a_slot 2 (lit< tt), ((lit< tt, lit< tt), ((lit< tt, lit< tt, lit≤ tt), tt)))))),
+      (
+        lit≤ tt,
+        (
+          at_a_slot 2 (lit< tt),
+          (
+            (at_a_slot 0 (lit< tt), (lit≤ tt, (lit< tt, tt)), lit< tt),
+            (at_a_slot 2 (lit< tt), ((lit< tt, lit< tt), ((lit< tt, lit< tt, lit≤ tt), tt))),
+          ),
+        ),
+      ),
       tt,
     ),
   );

@@ -62,7 +62,9 @@ activations_filter p [] = refl
 activations_filter p (e ∷ es) = by (not (e.1.proc.0 == p)) (activations_filter p es)
   where
     by : (b : Bool) → activations_in (filter (λ e. not (e.1.proc.0 == p)) es) ≡ filter (λ (e : Inc × Activation). not (e.1.proc.0 == p)) (activations_in es)
-        → activations_in (cond b (e ∷ filter (λ e. not (e.1.proc.0 == p)) es) (filter (λ e. not (e.1.proc.0 == p)) es)) ≡ cond b ((e.0, activation e.1) ∷ filter (λ (e : Inc × Activation). not (e.1.proc.0 == p)) (activations_in es)) (filter (λ (e : Inc × Activation). not (e.1.proc.0 == p)) (activations_in es))
+        → activations_in (cond b (e ∷ filter (λ e. not (e.1.proc.0 == p)) es) (filter (λ e. not (e.1.proc.0 == p)) es)) ≡ cond b
+        ((e.0, activation e.1) ∷ filter (λ (e : Inc × Activation). not (e.1.proc.0 == p)) (activations_in es))
+        (filter (λ (e : Inc × Activation). not (e.1.proc.0 == p)) (activations_in es))
     by true rest = rw rest refl
     by false rest = rest
 

@@ -39,7 +39,15 @@ modified : (s : State) (inc : Inc) (c : Call) (path : List ℕ) (types : Name �
 modified s inc c path types rights cap changes word part t other e =
     let g = target_is s inc path types rights cap t in
     let same : path ≡ other = some_same (sym changes ∙ e) in
-    record { path = path; cap = cap; changes = changes; leads = g.leads; allowed = Within-part rights MODIFY cap.rights word part g.allowed; same = ap (named_by s inc) (sym same) ∙ g.name }
+    record {
+      path = path;
+      cap = cap;
+      changes = changes;
+      leads = g.leads;
+      allowed = Within-part rights MODIFY cap.rights word part g.allowed;
+      same = ap
+          (named_by s inc) (sym same) ∙ g.name;
+    }
   where
     some_same : {x y : List ℕ} → ◌≡◌ {A = Option (List ℕ)} (Some x) (Some y) → x ≡ y
     some_same h = cc
@@ -70,7 +78,11 @@ outcome_modifies s proc inc (call.Erase list at) = search (then_is, and_is, eras
 outcome_modifies s proc inc (call.P of) =
     then_is (λ f. Modifies s inc (call.P of)) (target s inc of (is_of_type SEMAPHORE) MODIFY+A0) (λ cap. Ok (elim (nat_lt 0 (object s cap.name).count) [
       | true ↦ (Done, put_object s cap.name (record (object s cap.name) { count = (object s cap.name).count - 1 }))
-      | false ↦ (Waits, put_process (put_object s cap.name (record (object s cap.name) { waiters = (object s cap.name).waiters ++ proc ∷ [] })) proc (record (process s proc) { run = Waiting cap.name }))
+      | false ↦ (
+        Waits,
+        put_process (put_object s cap.name (record (object s cap.name) { waiters = (object s cap.name).waiters ++ proc ∷ [] })) proc
+            (record (process s proc) { run = Waiting cap.name }),
+      )
     ])) (λ cap t. modified s inc (call.P of) of (is_of_type SEMAPHORE) MODIFY+A0 cap refl refl refl t)
 outcome_modifies s proc inc (call.V of) =
     then_is (λ f. Modifies s inc (call.V of)) (target s inc of (is_of_type SEMAPHORE) MODIFY+A1) (λ cap. token_given s cap.name (object s cap.name) (object s cap.name).waiters)
@@ -193,7 +205,9 @@ enter_goes s inc path args into (SlotOf i n) w e = by (same_inc i s.next_inc) re
     here = call_way (named_by s inc path) (not (has (rights_held (found s inc path)) unconf_right)) args (object s (named_by s inc path)).params n
 
     by : (b : Bool) → same_inc i s.next_inc ≡ b
-        → ◌≡◌ {A = Option Way} (cond b (Some (call_way (named_by s inc path) (not (has (rights_held (found s inc path)) unconf_right)) args (object s (named_by s inc path)).params n)) None) (Some w) → GoesTo s inc (Some (call.Enter path args into)) w (SlotOf i n)
+        → ◌≡◌ {A = Option Way} (cond b (Some (call_way (named_by s inc path) (not (has (rights_held (found s inc path)) unconf_right)) args
+        (object s (named_by s inc path)).params n)) None) (Some w)
+        → GoesTo s inc (Some (call.Enter path args into)) w (SlotOf i n)
     by true g f =
         let same : here ≡ w = cc in
         let new : s.next_inc ≡ i = sym (inc_same i s.next_inc g) in
@@ -243,7 +257,8 @@ way_goes s inc c p w e = absurd (cc)
 -- of every call, whose state has no two incarnations of one number
 pub outcome_written : (s : State) (proc : Proc) (inc : Inc) (c : Call) → AreApart s → IfOk (outcome s proc inc c) (λ f. IsWrittenBy s inc c f.1)
 outcome_written s proc inc c h =
-    ok_more (λ f. ((p : Place) → Wrote s inc (standing s p) (way s inc c p) (standing f.1 p)) × Modifies s inc c) (λ f. IsWrittenBy s inc c f.1) (outcome s proc inc c) (λ f g. record { entries = g.0; places = call_where s inc c g.1 })
+    ok_more (λ f. ((p : Place) → Wrote s inc (standing s p) (way s inc c p) (standing f.1 p)) × Modifies s inc c) (λ f. IsWrittenBy s inc c f.1) (outcome s proc inc c)
+    (λ f g. record { entries = g.0; places = call_where s inc c g.1 })
     (ok_both (λ f. (p : Place) → Wrote s inc (standing s p) (way s inc c p) (standing f.1 p)) (λ f. Modifies s inc c) (outcome s proc inc c)
     (ok_all (λ p f. Wrote s inc (standing s p) (way s inc c p) (standing f.1 p)) (outcome s proc inc c) (λ p. outcome_wrote s proc inc c p h))
     (outcome_modifies s proc inc c))

@@ -94,7 +94,11 @@ outcome_shown s proc inc (call.Enter path args into) = search (then_is, and_is, 
 outcome_shown s proc inc (call.P of) =
     then_is (λ f. Shown s inc (call.P of)) (target s inc of (is_of_type SEMAPHORE) MODIFY+A0) (λ cap. Ok (elim (nat_lt 0 (object s cap.name).count) [
       | true ↦ (Done, put_object s cap.name (record (object s cap.name) { count = (object s cap.name).count - 1 }))
-      | false ↦ (Waits, put_process (put_object s cap.name (record (object s cap.name) { waiters = (object s cap.name).waiters ++ proc ∷ [] })) proc (record (process s proc) { run = Waiting cap.name }))
+      | false ↦ (
+        Waits,
+        put_process (put_object s cap.name (record (object s cap.name) { waiters = (object s cap.name).waiters ++ proc ∷ [] })) proc
+            (record (process s proc) { run = Waiting cap.name }),
+      )
     ])) (λ cap t. shows s inc of (is_of_type SEMAPHORE) MODIFY+A0 cap t)
 outcome_shown s proc inc (call.V of) =
     then_is (λ f. Shown s inc (call.V of)) (target s inc of (is_of_type SEMAPHORE) MODIFY+A1) (λ cap. token_given s cap.name (object s cap.name) (object s cap.name).waiters)

@@ -100,7 +100,8 @@ live_at : (w : WorldValue) (lines : List Line) (moment : ℕ) → AreStepsOf w l
 unfolding opened
 live_at w lines moment h =
     state_kept LiveState
-    (each_more (λ s line t. Sound s → LineKnown s line t) (λ s line t. LiveState s → LiveState t) (λ s line t k g. ((k g.0).after, turn_live s line t g.0.rises g.0.stacked g.1 (k g.0).turn)) known_each)
+    (each_more (λ s line t. Sound s → LineKnown s line t) (λ s line t. LiveState s → LiveState t)
+    (λ s line t k g. ((k g.0).after, turn_live s line t g.0.rises g.0.stacked g.1 (k g.0).turn)) known_each)
     w (opened w) (take moment lines) (first_steps w (opened w) lines moment h) (opening_sound w, opening_live w)
 
 -- ---- what that says of a state

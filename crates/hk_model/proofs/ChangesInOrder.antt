@@ -67,7 +67,8 @@ calls_line s line t known calls h = by (known h.0).after (next_call s line t (kn
 calls_rise : (w : WorldValue) (lines : List Line) → AreStepsOf w lines → Rising (confined_calls w lines)
 unfolding opened
 calls_rise w lines steps =
-    (told_keeps confined_by CallsSoFar (each_more (λ s line t. Sound s → LineKnown s line t) (λ s line t. (calls : List Beginning) → CallsSoFar s calls → CallsSoFar t (confined_by s line t calls)) calls_line known_each)
+    (told_keeps confined_by CallsSoFar (each_more (λ s line t. Sound s → LineKnown s line t)
+    (λ s line t. (calls : List Beginning) → CallsSoFar s calls → CallsSoFar t (confined_by s line t calls)) calls_line known_each)
     w (opened w) lines [] steps (opening_sound w, tt, tt)).1
 
 -- ---- the changes
@@ -83,7 +84,7 @@ one_line : (moment : ℕ) (name : Name) (bs : List Beginning) → Rising bs → 
 one_line moment name [] h = tt
 one_line moment name (b ∷ bs) h = (
   all_map (IsBefore (change_at moment name b)) (change_at moment name) bs
-  (all_more (λ (c : Beginning). b.call.0 < c.call.0) (λ c. IsBefore (change_at moment name b) (change_at moment name c)) (λ c g. inr (refl, g)) bs h.0),
+      (all_more (λ (c : Beginning). b.call.0 < c.call.0) (λ c. IsBefore (change_at moment name b) (change_at moment name c)) (λ c g. inr (refl, g)) bs h.0),
   one_line moment name bs h.1,
 )
 
@@ -114,7 +115,7 @@ module _ (w : WorldValue) (lines : List Line) (calls : List Beginning) (rising :
       by None = (h.0, more)
       by (Some name) = (
         in_order_append xs (map (change_at s.events name) new) h.0
-        (one_line s.events name new (rising_filter (λ (b : Beginning). is_under w lines b.moment b.call line.inc) calls rising))
+            (one_line s.events name new (rising_filter (λ (b : Beginning). is_under w lines b.moment b.call line.inc) calls rising))
             (all_more (λ (x : BareChange). x.moment < s.events) (λ x. All (IsBefore x) (map (change_at s.events name) new)) (λ x g. later_than s.events name new x g) xs h.1),
         all_append (λ (x : BareChange). x.moment < t.events) xs (map (change_at s.events name) new) more
             (all_map (λ (x : BareChange). x.moment < t.events) (change_at s.events name) new (at_line new)),
@@ -130,5 +131,6 @@ changes_in_order w lines steps =
     let calls = confined_calls w lines in
     let rising = calls_rise w lines steps in
     (told_keeps (bare_changes_by w lines calls) ChangesSoFar
-    (each_more (λ s line t. t.events ≡ s.events + 1) (λ s line t. (xs : List BareChange) → ChangesSoFar s xs → ChangesSoFar t (bare_changes_by w lines calls s line t xs)) (changes_line w lines calls rising) events_each)
+    (each_more (λ s line t. t.events ≡ s.events + 1) (λ s line t. (xs : List BareChange) → ChangesSoFar s xs → ChangesSoFar t (bare_changes_by w lines calls s line t xs))
+    (changes_line w lines calls rising) events_each)
     w (opened w) lines [] steps (tt, tt)).0

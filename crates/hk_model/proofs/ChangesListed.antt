@@ -131,7 +131,11 @@ changes_add : (w : WorldValue) (lines : List Line) (calls : List Beginning) (s :
 changes_add w lines calls s line t so_far = by (changed s line)
   where
     by : (o : Option Name)
-        → ◌≡◌ {A = List BareChange} (elim o [ None ↦ so_far | Some name ↦ so_far ++ map (λ b. record { moment = s.events; under = b; object = name }) (calls_over w lines calls line) ])
+        → ◌≡◌ {A = List BareChange} (elim o [
+          | None ↦ so_far
+          | Some name ↦ so_far ++ map (λ b. record { moment = s.events; under = b; object = name })
+              (calls_over w lines calls line)
+        ])
         (so_far ++ elim o [ None ↦ [] | Some name ↦ map (λ b. record { moment = s.events; under = b; object = name }) (calls_over w lines calls line) ])
     by None = sym (append-nil so_far)
     by (Some name) = refl
@@ -179,7 +183,8 @@ is_change w lines calls s line t b name e h under = by (changed s line) e
         (has_filter (λ (b : Beginning). is_under w lines b.moment b.call line.inc) calls b h under)
 
     by : (o : Option Name) → o ≡ Some name
-        → Has (elim o as (λ x. List BareChange) [ None ↦ [] | Some name ↦ map (λ b. record { moment = s.events; under = b; object = name }) (calls_over w lines calls line) ]) (record { moment = s.events; under = b; object = name })
+        → Has (elim o as (λ x. List BareChange) [ None ↦ [] | Some name ↦ map (λ b. record { moment = s.events; under = b; object = name }) (calls_over w lines calls line) ])
+        (record { moment = s.events; under = b; object = name })
     by None f = absurd (cc)
     by (Some other) f = let same : other ≡ name = cc in rw same here
 
@@ -187,7 +192,8 @@ is_change w lines calls s line t b name e h under = by (changed s line) e
 listed_is : (w : WorldValue) (lines : List Line) → AreStepsOf w lines → (k moment : ℕ) (call : Inc) (name : Name) → Has (bare_changes w lines) (bare_change k call moment name)
     → IsConfinedCall w lines k call × IsChange w lines k call moment name
 listed_is w lines steps k moment call name h =
-    by (told_has (bare_changes_by w lines (confined_calls w lines)) (new_changes w lines (confined_calls w lines)) (changes_add w lines (confined_calls w lines)) w (opened w) lines [] (bare_change k call moment name) h)
+    by (told_has (bare_changes_by w lines (confined_calls w lines)) (new_changes w lines (confined_calls w lines)) (changes_add w lines (confined_calls w lines)) w (opened w) lines
+    [] (bare_change k call moment name) h)
   where
     by : Has [] (bare_change k call moment name) ⊎ IsAdded (bare_changes_by w lines (confined_calls w lines)) (new_changes w lines (confined_calls w lines))
         (changes_add w lines (confined_calls w lines)) w (opened w) lines (bare_change k call moment name)
@@ -199,7 +205,13 @@ listed_is w lines steps k moment call name h =
         change_is w lines (confined_calls w lines) s a.line (moved w (after_lines w (opened w) (take a.moment lines)) a.line.cpu).state (bare_change k call moment name) a.has in
         let here : a.moment ≡ moment = sym (events_before w lines a.moment a.line steps a.is) ∙ n.moment in (
           listed_call w lines (record { call = call; moment = k }) steps n.call,
-          record { line = a.line; is = ap (slice_get lines) (sym here) ∙ a.is; under = n.under; changes = ap (λ (m : ℕ). changed (state_at w lines m) a.line) (sym here) ∙ n.changes },
+          record {
+            line = a.line;
+            is = ap (slice_get lines) (sym here) ∙ a.is;
+            under = n.under;
+            changes = ap (λ (m : ℕ). changed (state_at w lines m) a.line)
+                (sym here) ∙ n.changes;
+          },
         )
 
 -- and each such change is listed

@@ -9,7 +9,8 @@ use Rattle.hk_model.specs.Running.{Machine, moved, after_lines}
 use Rattle.hk_model.specs.Lines.{told}
 use Rattle.hk_model.proofs.Members.{Has, has_left, has_right, has_cases}
 
-module _ {X : Type 0} (add : State → Line → State → List X → List X) (new : State → Line → State → List X) (adds : (s : State) (line : Line) (t : State) (so_far : List X) → add s line t so_far ≡ so_far ++ new s line t) where
+module _ {X : Type 0} (add : State → Line → State → List X → List X) (new : State → Line → State → List X)
+    (adds : (s : State) (line : Line) (t : State) (so_far : List X) → add s line t so_far ≡ so_far ++ new s line t) where
   -- the line at a moment adds it
   pub record IsAdded (w : WorldValue) (m : Machine) (lines : List Line) (x : X) : Type 0 where
     pub moment : ℕ

@@ -116,7 +116,8 @@ line_known w lines moment line h e =
 pub given_at : (w : WorldValue) (lines : List Line) (moment : ℕ) → IsWorld w → AreStepsOf w lines → NamesGiven (state_at w lines moment)
 unfolding opened
 given_at w lines moment world h =
-    (state_kept (λ s. Sound s × NamesGiven s) (each_more (λ s line t. Sound s → LineKnown s line t) (λ s line t. Sound s × NamesGiven s → Sound t × NamesGiven t) (λ s line t k g. ((k g.0).after, given_line s line t (k g.0).writes (k g.0).next g.1)) known_each)
+    (state_kept (λ s. Sound s × NamesGiven s) (each_more (λ s line t. Sound s → LineKnown s line t) (λ s line t. Sound s × NamesGiven s → Sound t × NamesGiven t)
+    (λ s line t k g. ((k g.0).after, given_line s line t (k g.0).writes (k g.0).next g.1)) known_each)
     w (opened w) (take moment lines) (first_steps w (opened w) lines moment h) (opening_sound w, opening_given w world)).1
 
 -- ---- the beginning of a call
@@ -142,7 +143,8 @@ call_lives w lines k call h c =
     let known = line_known w lines c.earlier c.line h c.is in
     let e = enters_turn (state_at w lines c.earlier) c.line (state_at w lines (suc c.earlier)) known.turn c.enters in
     let there : is_some (look_up (state_at w lines c.earlier).next_inc (activations_in (state_at w lines (suc c.earlier)).incarnations)) ≡ true =
-    rw e.activations (found_new (activations_in (state_at w lines c.earlier).incarnations) (state_at w lines c.earlier).next_inc (record { proc = c.line.proc; caller = Some c.line.inc })) in
+    rw e.activations (found_new (activations_in (state_at w lines c.earlier).incarnations) (state_at w lines c.earlier).next_inc
+    (record { proc = c.line.proc; caller = Some c.line.inc })) in
     let lives : is_live (state_at w lines (suc c.earlier)) (state_at w lines c.earlier).next_inc ≡ true =
     found_live (state_at w lines (suc c.earlier)) (state_at w lines c.earlier).next_inc there in
     rw (c.moment, c.made) lives

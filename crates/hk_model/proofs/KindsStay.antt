@@ -118,7 +118,8 @@ pub leaves_others : (w : WorldValue) (lines : List Line) → AreStepsOf w lines 
 leaves_others w lines steps moment line at name =
     let before = after_lines w (opened w) (take moment lines) in
     subst (λ (m : Machine). Becomes before.state line m.state.objects name) (sym (after_next w (opened w) lines moment line at))
-    (moved_holds (λ s l t. ObjectsGiven s → (name : Name) → Becomes s l t.objects name) leaves_each w before line (line_steps w (opened w) lines moment line steps at) (objects_given_at w lines moment steps) name)
+    (moved_holds (λ s l t. ObjectsGiven s → (name : Name) → Becomes s l t.objects name) leaves_each w before line (line_steps w (opened w) lines moment line steps at)
+    (objects_given_at w lines moment steps) name)
 
 -- what a law keeps from line to line it keeps from a moment to a later one
 pub from_moment : (I : State → Type 0) → EachStep (λ s line t. I s → I t) → (w : WorldValue) (lines : List Line) (early late : ℕ) → AreStepsOf w lines → early ≤ late
@@ -135,8 +136,14 @@ from_moment I each w lines early late steps l h =
 kind_stays : (w : WorldValue) (lines : List Line) (early late : ℕ) (name : Name) (o x : Object) → AreStepsOf w lines → early ≤ late
     → there (state_at w lines early).objects name ≡ Some o → there (state_at w lines late).objects name ≡ Some x → IsSameKind o x
 kind_stays w lines early late name o x steps l e g =
-    (from_moment (λ s. ObjectsGiven s × IsOfKind name o s) (kind_each name o) w lines early late steps l
-    (objects_given_at w lines early steps, (objects_given_at w lines early steps name o e, λ y f. subst (λ (z : Object). IsSameKind o z) (some_object (sym e ∙ f)) (kind_self o)))).1.1 x g
+    (from_moment (λ s. ObjectsGiven s × IsOfKind name o s) (kind_each name o) w lines early late steps l (
+      objects_given_at w lines early steps,
+      (
+        objects_given_at w lines early steps name o e,
+        λ y f. subst (λ (z : Object). IsSameKind o z)
+            (some_object (sym e ∙ f)) (kind_self o),
+      ),
+    )).1.1 x g
 
 -- an object that has gone does not come again
 gone_stays : (w : WorldValue) (lines : List Line) (early late : ℕ) (name : Name) → AreStepsOf w lines → early ≤ late → name.0 < (state_at w lines early).next_name.0

@@ -101,7 +101,9 @@ module _ (at : ℕ → State) (made : Name → Bool) (moment : ℕ) (wanted : Na
   hop_moment hop from there h = by (nat_le from.moment (moment_of hop)) refl (listed_cap (at (moment_of hop)) from.name (index_of hop)) h
     where
       ends : (cap : Cap) (b c d : Bool)
-          → ◌≡◌ {A = Option Reached} (if b then (if c then Some (record { name = cap.name; modify = true; unconf = true; moment = (moment_of hop) }) else None) else (if d then Some (reached_by (moment_of hop) cap) else None)) (Some there) → there.moment ≡ (moment_of hop)
+          → ◌≡◌ {A = Option Reached} (if b then (if c then Some (record { name = cap.name; modify = true; unconf = true; moment = (moment_of hop) }) else None) else
+          (if d then Some (reached_by (moment_of hop) cap) else None)) (Some there)
+          → there.moment ≡ (moment_of hop)
       ends cap true true d h =
           let same : record { name = cap.name; modify = true; unconf = true; moment = (moment_of hop) } ≡ there = cc in sym (ap (λ (r : Reached). r.moment) same)
       ends cap true false d h = absurd (cc)
@@ -188,7 +190,8 @@ module _ (at : ℕ → State) (made : Name → Bool) (moment : ℕ) (wanted : Na
           let a = hop_moment other from next e in
           let b = rises others next there h in
           let k =
-          every_hop_holds (λ other there. elim (slice_cmp nat_cmp (hop_key hop) (hop_key other)) [ Less ↦ true | Equal ↦ least_after hops there | Greater ↦ none_after (length hops) there ]) from other next n e (omega (arith, a.0, b, l)) in
+          every_hop_holds (λ other there. elim (slice_cmp nat_cmp (hop_key hop) (hop_key other))
+          [ Less ↦ true | Equal ↦ least_after hops there | Greater ↦ none_after (length hops) there ]) from other next n e (omega (arith, a.0, b, l)) in
           rw (keys_then hop other (flat_map hop_key hops) (flat_map hop_key others)) (further later next (slice_cmp nat_cmp (hop_key hop) (hop_key other)) h k)
 
   module _ (params : List Entry) (k : ℕ) where
@@ -223,7 +226,12 @@ module _ (at : ℕ → State) (made : Name → Bool) (moment : ℕ) (wanted : Na
             shorter = first_so (list_all (λ n. list_all (λ q. if_any (none_after n) (param_reached params k q)) (below (length params))) (below (length hops))) _ h
 
             params_first : (first : Reached) → param_reached params k other ≡ Some first → follow at made others first ≡ Some r.there → length hops ≡ length others → (o : Ordering)
-                → (elim o [ Less ↦ true | Equal ↦ if_any (least_after hops) (param_reached params k other) | Greater ↦ if_any (none_after (length hops)) (param_reached params k other) ]) ≡ true
+                → (elim o [
+                  | Less ↦ true
+                  | Equal ↦ if_any (least_after hops) (param_reached params k other)
+                  | Greater ↦ if_any (none_after (length hops))
+                      (param_reached params k other)
+                ]) ≡ true
                 → is_le (ordering_then o (slice_cmp nat_cmp (flat_map hop_key hops) (flat_map hop_key others))) ≡ true
             params_first first e f s Less c = refl
             params_first first e f s Equal c = least_holds hops others first r.there s (any_holds (least_after hops) (param_reached params k other) first e c) f r.by_then good
@@ -238,7 +246,8 @@ module _ (at : ℕ → State) (made : Name → Bool) (moment : ℕ) (wanted : Na
             by_length first e f l Greater s =
                 let all : list_all (λ q. if_any (none_after (length others)) (param_reached params k q)) (below (length params)) ≡ true =
                 all_below (λ n. list_all (λ q. if_any (none_after n) (param_reached params k q)) (below (length params))) (length hops) (length others) s shorter in
-                absurd (none_holds others first r.there (any_holds (none_after (length others)) (param_reached params k other) first e (all_below (λ q. if_any (none_after (length others)) (param_reached params k q)) (length params) other l all)) f r.by_then good)
+                absurd (none_holds others first r.there (any_holds (none_after (length others)) (param_reached params k other) first e
+                (all_below (λ q. if_any (none_after (length others)) (param_reached params k q)) (length params) other l all)) f r.by_then good)
 
             by : (found : Option Reached) → param_reached params k other ≡ found → option_and_then (follow at made others) found ≡ Some r.there
                 → IsTrue (is_at_most (reach_key param hops) (reach_key other others))

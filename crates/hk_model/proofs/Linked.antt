@@ -165,7 +165,8 @@ module _ (s : State) (line : Line) (t : State) (n : NumbersRise s) (stacked : Is
       clash : (k : Inc) → ◌≡◌ {A = Option Inc} None (Some k) → ⊥
       clash k h = absurd (cc)
   after_return now (Some caller) e c = left_linked now (currents_in t.processes) (λ q other. ap (λ (l : List Inc). slice_get l q) c ∙ set_there cur p q caller other)
-      (λ k x y live by at. ap (λ (l : List Inc). slice_get l x.proc.0) c ∙ (ap (slice_get (slice_set cur p caller)) at ∙ (set_here cur p caller line.inc now ∙ (sym e ∙ (caller_of y live ∙ by)))))
+      (λ k x y live by at. ap (λ (l : List Inc). slice_get l x.proc.0) c
+      ∙ (ap (slice_get (slice_set cur p caller)) at ∙ (set_here cur p caller line.inc now ∙ (sym e ∙ (caller_of y live ∙ by)))))
 
   -- a halt
   halted_linked : Linked (filter (λ (e : Inc × Activation). not (e.1.proc.0 == p)) fs) cur
@@ -178,7 +179,13 @@ module _ (s : State) (line : Line) (t : State) (n : NumbersRise s) (stacked : Is
           → (slice_get cur x.proc.0 ≡ Some i) ⊎ CalledBy (filter (λ (e : Inc × Activation). not (e.1.proc.0 == p)) fs) i
       by other (inl c) kin = inl c
       by other (inr c) kin =
-          inr (record { callee = c.callee; called = c.called; lives = halted_keeps fs p c.callee c.called (activations_apart s n) c.lives (ap (λ (q : ℕ). q == p) (sym (kin c)) ∙ other); by = c.by })
+          inr (record {
+            callee = c.callee;
+            called = c.called;
+            lives = halted_keeps fs p c.callee c.called (activations_apart s n) c.lives
+                (ap (λ (q : ℕ). q == p) (sym (kin c)) ∙ other);
+            by = c.by;
+          })
 
   turn_linked : Turn s line t → Linked (activations_in t.incarnations) (currents_in t.processes)
   turn_linked (Still q e) = rw (q.activations, q.currents) linked
@@ -226,7 +233,8 @@ pub linked_at : (w : WorldValue) (lines : List Line) (moment : ℕ) → AreSteps
 unfolding opened
 linked_at w lines moment h =
     state_kept LinkedState
-    (each_more (λ s line t. Sound s → LineKnown s line t) (λ s line t. LinkedState s → LinkedState t) (λ s line t k g. ((k g.0).after, turn_linked s line t g.0.rises g.0.stacked g.1 (k g.0).turn)) known_each)
+    (each_more (λ s line t. Sound s → LineKnown s line t) (λ s line t. LinkedState s → LinkedState t)
+    (λ s line t k g. ((k g.0).after, turn_linked s line t g.0.rises g.0.stacked g.1 (k g.0).turn)) known_each)
     w (opened w) (take moment lines) (first_steps w (opened w) lines moment h) (opening_sound w, opening_linked w)
 
 -- ---- what that says of a state

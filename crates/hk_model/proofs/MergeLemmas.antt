@@ -20,7 +20,8 @@ others_of (Some wanted) of rights give h = (name_same wanted of h, merged_others
 -- what comes of a merge
 pub merged_is : (cap : Cap) (of : Name) (form : Param) (step : ℕ) (new : Cap) → merged cap of form step ≡ Ok new → Amplified cap form of new
 merged_is cap of form step new e = if_ok (Amplified cap form of) (merged cap of form step) new
-    (and_is (Amplified cap form of) (unless (matches form.of of) (refused.WrongType step)) (allowed cap.rights form.check step >> Ok (record { name = cap.name; rights = merged_rights cap.rights form.of form.give })) (λ u h.
+    (and_is (Amplified cap form of) (unless (matches form.of of) (refused.WrongType step))
+    (allowed cap.rights form.check step >> Ok (record { name = cap.name; rights = merged_rights cap.rights form.of form.give })) (λ u h.
     and_is (Amplified cap form of) (allowed cap.rights form.check step) (Ok (record { name = cap.name; rights = merged_rights cap.rights form.of form.give })) (λ v g.
     record {
       same = refl;

@@ -187,8 +187,11 @@ numbered_below n [] name index full = absurd (true≢false full)
 numbered_below n (o ∷ os) name index full = by (same_name name (record { 0 = n })) refl full (numbered_below (n + 1) os name index)
   where
     by : (b : Bool) → same_name name (record { 0 = n }) ≡ b
-        → is_empty (slice_index_or (unwrap_or (cond b (Some o) (lookup (same_name name) (numbered {A = Object} {B = Name} (λ k. record { 0 = k }) (n + 1) os))) no_object).entries index Empty) ≡ false
-        → (is_empty (slice_index_or (unwrap_or (lookup (same_name name) (numbered {A = Object} {B = Name} (λ k. record { 0 = k }) (n + 1) os)) no_object).entries index Empty) ≡ false → name.0 < n + 1 + length os) → name.0 < n + length (o ∷ os)
+        → is_empty (slice_index_or (unwrap_or (cond b (Some o) (lookup (same_name name) (numbered {A = Object} {B = Name} (λ k. record { 0 = k }) (n + 1) os)))
+        no_object).entries index Empty) ≡ false
+        → (is_empty (slice_index_or (unwrap_or (lookup (same_name name) (numbered {A = Object} {B = Name} (λ k. record { 0 = k }) (n + 1) os)) no_object).entries index Empty)
+        ≡ false → name.0 < n + 1 + length os)
+        → name.0 < n + length (o ∷ os)
     by true e f later = let same : name.0 ≡ n = ap (λ (x : Name). x.0) (name_same name (record { 0 = n }) e) in omega (arith, same)
     by false e f later = let r = later f in omega (arith, r)
 
@@ -198,7 +201,8 @@ bases_below w n [] h inc slot = tt
 bases_below w n (t ∷ ts) h inc slot = by (same_inc inc (record { 0 = n })) (bases_below w (n + 1) ts h.1 inc slot)
   where
     by : (b : Bool) → IsBelow (kernel_types + length w.objects) (slice_index_or (unwrap_or (lookup (same_inc inc) (bases (n + 1) ts)) no_incarnation).slots slot Empty)
-        → IsBelow (kernel_types + length w.objects) (slice_index_or (unwrap_or (cond b (Some (base_of (record { 0 = n }) t.slots)) (lookup (same_inc inc) (bases (n + 1) ts))) no_incarnation).slots slot Empty)
+        → IsBelow (kernel_types + length w.objects) (slice_index_or
+        (unwrap_or (cond b (Some (base_of (record { 0 = n }) t.slots)) (lookup (same_inc inc) (bases (n + 1) ts))) no_incarnation).slots slot Empty)
     by true later = padded_below w (slot_limit - length t.slots) t.slots h.0.2 slot
     by false later = later
 

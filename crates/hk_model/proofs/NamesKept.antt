@@ -193,18 +193,21 @@ module _ (s : State) (inc : Inc) (h : NamedStand s) where
       → storable (slice_index_or (incarnation s inc).slots from Empty) step ≡ Ok entry
       → NamedStand (put_object s c.name (record (object s c.name) { entries = slice_set (object s c.name).entries at entry }))
   stored_named path types rights at from step c entry t e =
-      changed_named path types rights c (record (object s c.name) { entries = slice_set (object s c.name).entries at entry }) t refl (all_set Names (object s c.name).entries at entry (own_list c.name) (storable_names from step entry e))
+      changed_named path types rights c (record (object s c.name) { entries = slice_set (object s c.name).entries at entry }) t refl
+      (all_set Names (object s c.name).entries at entry (own_list c.name) (storable_names from step entry e))
 
   appended_named : (path : List ℕ) (types : Name → Bool) (rights from step : ℕ) (c : Cap) (entry : Entry) → target s inc path types rights ≡ Ok c
       → storable (slice_index_or (incarnation s inc).slots from Empty) step ≡ Ok entry
       → NamedStand (put_object s c.name (record (object s c.name) { entries = (object s c.name).entries ++ entry ∷ [] }))
   appended_named path types rights from step c entry t e =
-      changed_named path types rights c (record (object s c.name) { entries = (object s c.name).entries ++ entry ∷ [] }) t refl (all_append Names (object s c.name).entries (entry ∷ []) (own_list c.name) (storable_names from step entry e, tt))
+      changed_named path types rights c (record (object s c.name) { entries = (object s c.name).entries ++ entry ∷ [] }) t refl
+      (all_append Names (object s c.name).entries (entry ∷ []) (own_list c.name) (storable_names from step entry e, tt))
 
   erased_named : (path : List ℕ) (types : Name → Bool) (rights at : ℕ) (c : Cap) → target s inc path types rights ≡ Ok c
       → NamedStand (put_object s c.name (record (object s c.name) { entries = slice_set (object s c.name).entries at Empty }))
   erased_named path types rights at c t =
-      changed_named path types rights c (record (object s c.name) { entries = slice_set (object s c.name).entries at Empty }) t refl (all_set Names (object s c.name).entries at Empty (own_list c.name) tt)
+      changed_named path types rights c (record (object s c.name) { entries = slice_set (object s c.name).entries at Empty }) t refl
+      (all_set Names (object s c.name).entries at Empty (own_list c.name) tt)
 
   -- an object is made where there is room
   module _ (room : List (Name × Object)) (r : room_made s ≡ Ok room) where
@@ -233,7 +236,8 @@ module _ (s : State) (inc : Inc) (h : NamedStand s) where
         made_named n form.1 (plain_object form.0 [] []) names.0 tt
 
     copied_named : (path : List ℕ) (n : ℕ) (c : Cap) → target s inc path is_general COPY ≡ Ok c
-        → NamedStand (put_slot (add_beside s room (plain_object (object s c.name).of (object s c.name).words (map (copied c.rights) (object s c.name).entries))) inc n (Held (record { name = s.next_name; rights = c.rights })))
+        → NamedStand (put_slot (add_beside s room (plain_object (object s c.name).of (object s c.name).words (map (copied c.rights) (object s c.name).entries))) inc n
+        (Held (record { name = s.next_name; rights = c.rights })))
     copied_named path n c t =
         let there : Stands roomy c.name = (walk_left s room gone roomy_named inc path (Held c) (target_is s inc path is_general COPY c t).leads).0 in
         let same : object roomy c.name ≡ object s c.name = object_same s room gone roomy_named c.name there in
@@ -241,7 +245,9 @@ module _ (s : State) (inc : Inc) (h : NamedStand s) where
         let of : Stands roomy (object s c.name).of = subst (λ (o : Object). Stands roomy o.of) same (type_in (Stands roomy) roomy in_room c.name there) in
         let list : InList (Stands roomy) (object s c.name).entries = subst (λ (o : Object). InList (Stands roomy) o.entries) same (list_in (Stands roomy) roomy in_room c.name) in
         made_named n c.rights (plain_object (object s c.name).of (object s c.name).words (map (copied c.rights) (object s c.name).entries)) of
-        (all_map (InEntry (Stands roomy)) (copied c.rights) (object s c.name).entries (all_more (InEntry (Stands roomy)) (λ x. InEntry (Stands roomy) (copied c.rights x)) (λ x g. reduced_in (Stands roomy) x (copied c.rights x) (copied_reduces c.rights x) g) (object s c.name).entries list))
+        (all_map (InEntry (Stands roomy)) (copied c.rights) (object s c.name).entries
+        (all_more (InEntry (Stands roomy)) (λ x. InEntry (Stands roomy) (copied c.rights x)) (λ x g. reduced_in (Stands roomy) x (copied c.rights x) (copied_reduces c.rights x) g)
+        (object s c.name).entries list))
 
   -- a procedure is entered
   arg_in : (arg : Arg) (param : Param) (step : ℕ) → Names arg.entry → IfOk (merged_arg arg param step) (λ new. Stands s new.name)
@@ -279,7 +285,9 @@ module _ (s : State) (inc : Inc) (h : NamedStand s) where
       all_append Names (map (λ (c : Cap). Held c) space.caps) (map (inherited confined) (object s c.name).entries ++ replicate rest Empty)
       (all_map Names (λ (c : Cap). Held c) space.caps (all_more (λ (c : Cap). Stands s c.name) (λ c. Names (Held c)) (λ c g. (g, tt)) space.caps caps))
       (all_append Names (map (inherited confined) (object s c.name).entries) (replicate rest Empty)
-      (all_map Names (inherited confined) (object s c.name).entries (all_more Names (λ x. Names (inherited confined x)) (λ x g. reduced_in (Stands s) x (inherited confined x) (inherited_reduces confined x) g) (object s c.name).entries (own_list c.name)))
+      (all_map Names (inherited confined) (object s c.name).entries
+      (all_more Names (λ x. Names (inherited confined x)) (λ x g. reduced_in (Stands s) x (inherited confined x) (inherited_reduces confined x) g)
+      (object s c.name).entries (own_list c.name)))
       (all_replicate Names rest Empty tt)) in
       let new = called_incarnation proc c.name inc into confined slots in
       within_named s (enter s new) (λ m k. k) (enter_in (Stands s) s new within (subst (InList (Stands s)) (sym space.is) all))
@@ -301,7 +309,8 @@ module _ (s : State) (inc : Inc) (h : NamedStand s) where
 
   returned_named : (proc : Proc) (caller : Option Inc) (into : ℕ) (c : Option Cap) → IfHeld c → NamedStand (leave_to gone_from proc caller into c)
   returned_named proc None into c g =
-      within_named s (put_process gone_from proc (record (process s proc) { run = Ended })) (λ m k. k) (put_process_in (Stands s) gone_from proc (record (process s proc) { run = Ended }) (left_in (Stands s) s inc within) tt)
+      within_named s (put_process gone_from proc (record (process s proc) { run = Ended })) (λ m k. k)
+      (put_process_in (Stands s) gone_from proc (record (process s proc) { run = Ended }) (left_in (Stands s) s inc within) tt)
   returned_named proc (Some caller) into None g =
       let new = record (process s proc) { current = caller } in
       within_named s (put_process gone_from proc new) (λ m k. k) (put_process_in (Stands s) gone_from proc new (left_in (Stands s) s inc within) (run_in (Stands s) s within proc))
@@ -332,12 +341,20 @@ module _ (s : State) (inc : Inc) (h : NamedStand s) where
   take_named proc path =
       then_is (λ f. NamedStand f.1) (target s inc path (is_of_type SEMAPHORE) MODIFY+A0) (λ c. Ok (elim (nat_lt 0 (object s c.name).count) [
         | true ↦ (Done, put_object s c.name (record (object s c.name) { count = (object s c.name).count - 1 }))
-        | false ↦ (Waits, put_process (put_object s c.name (record (object s c.name) { waiters = (object s c.name).waiters ++ proc ∷ [] })) proc (record (process s proc) { run = Waiting c.name }))
+        | false ↦ (
+          Waits,
+          put_process (put_object s c.name (record (object s c.name) { waiters = (object s c.name).waiters ++ proc ∷ [] })) proc
+              (record (process s proc) { run = Waiting c.name }),
+        )
       ])) (λ c t. by c t (nat_lt 0 (object s c.name).count))
     where
       by : (c : Cap) → target s inc path (is_of_type SEMAPHORE) MODIFY+A0 ≡ Ok c → (b : Bool) → NamedStand (elim b as (λ x. Answer × State) [
         | true ↦ (Done, put_object s c.name (record (object s c.name) { count = (object s c.name).count - 1 }))
-        | false ↦ (Waits, put_process (put_object s c.name (record (object s c.name) { waiters = (object s c.name).waiters ++ proc ∷ [] })) proc (record (process s proc) { run = Waiting c.name }))
+        | false ↦ (
+          Waits,
+          put_process (put_object s c.name (record (object s c.name) { waiters = (object s c.name).waiters ++ proc ∷ [] })) proc
+              (record (process s proc) { run = Waiting c.name }),
+        )
       ]).1
       by c t true = count_named path (is_of_type SEMAPHORE) MODIFY+A0 ((object s c.name).count - 1) c t
       by c t false =
@@ -345,12 +362,14 @@ module _ (s : State) (inc : Inc) (h : NamedStand s) where
           let u : State = put_object s c.name o in
           let new = record (process s proc) { run = Waiting c.name } in
           within_named u (put_process u proc new) (λ m k. k)
-          (put_process_in (Stands u) u proc new (named_within u (waiters_named path (is_of_type SEMAPHORE) MODIFY+A0 ((object s c.name).waiters ++ proc ∷ []) c t)) (stands_put s c.name o c.name (target_stands path (is_of_type SEMAPHORE) MODIFY+A0 c t), tt))
+          (put_process_in (Stands u) u proc new (named_within u (waiters_named path (is_of_type SEMAPHORE) MODIFY+A0 ((object s c.name).waiters ++ proc ∷ []) c t))
+          (stands_put s c.name o c.name (target_stands path (is_of_type SEMAPHORE) MODIFY+A0 c t), tt))
 
   token_named : (path : List ℕ) (c : Cap) → target s inc path (is_of_type SEMAPHORE) MODIFY+A1 ≡ Ok c → (waiters : List Proc)
       → IfOk (token_given s c.name (object s c.name) waiters) (λ f. NamedStand f.1)
   token_named path c t [] =
-      and_is (λ f. NamedStand f.1) (unless (nat_lt (object s c.name).count token_limit) (refused.Full full.Tokens)) (Ok (Done, put_object s c.name (record (object s c.name) { count = (object s c.name).count + 1 })))
+      and_is (λ f. NamedStand f.1) (unless (nat_lt (object s c.name).count token_limit) (refused.Full full.Tokens))
+      (Ok (Done, put_object s c.name (record (object s c.name) { count = (object s c.name).count + 1 })))
       (λ u g. count_named path (is_of_type SEMAPHORE) MODIFY+A1 ((object s c.name).count + 1) c t)
   token_named path c t (first ∷ rest) =
       let o = record (object s c.name) { waiters = rest } in
@@ -369,7 +388,8 @@ module _ (s : State) (inc : Inc) (h : NamedStand s) where
 
   -- every call
   pub outcome_named : (proc : Proc) (c : Call) → IfOk (outcome s proc inc c) (λ f. NamedStand f.1)
-  unfolding get_word put_word add_word word_count load_entry store_entry append_entry erase_entry drop_slot restrict_slot look make_template create_object merge_cap copy_object enter_procedure give_token
+  unfolding get_word put_word add_word word_count load_entry store_entry append_entry erase_entry drop_slot restrict_slot look make_template create_object merge_cap copy_object
+      enter_procedure give_token
   outcome_named proc (call.Get of at) = search (then_is, h)
   outcome_named proc (call.Put of at word) = search (then_is, and_is, words_named)
   outcome_named proc (call.Add of word) = search (then_is, and_is, words_named)
@@ -403,7 +423,8 @@ pub named_each : EachStep (λ s line t. NamedStand s → NamedStand t)
 named_each = record {
   calls = λ s cpu proc c r h.
       settled_keeps NamedStand s (outcome s proc (process s proc).current c) (record { each = h.each })
-      (ok_more (λ f. NamedStand f.1) (λ f. NamedStand (counted (s.events + 1) (restricted f.1))) (outcome s proc (process s proc).current c) (λ f g. behind_named f.1 (s.events + 1) g) (outcome_named s (process s proc).current h proc c));
+      (ok_more (λ f. NamedStand f.1) (λ f. NamedStand (counted (s.events + 1) (restricted f.1))) (outcome s proc (process s proc).current c)
+      (λ f g. behind_named f.1 (s.events + 1) g) (outcome_named s (process s proc).current h proc c));
   halts = λ s cpu proc r h. behind_named (ended s proc) (s.events + 1) (within_named s (ended s proc) (λ m k. k) (ended_in (Stands s) s proc (named_within s h)));
   dispatches = λ s cpu first rest r h.
       let new = record (process s first) { run = Running cpu } in

@@ -75,7 +75,7 @@ bases_of_world : (w : WorldValue) (n : ℕ) (ts : List Task) → AllByRecursion 
 bases_of_world w n [] h = tt
 bases_of_world w n (t ∷ ts) h = (
   all_append (InEntry (OfWorld w)) t.slots (replicate (slot_limit - length t.slots) Empty) (entries_of_world w t.slots h.0.2)
-  (all_replicate (InEntry (OfWorld w)) (slot_limit - length t.slots) Empty tt),
+      (all_replicate (InEntry (OfWorld w)) (slot_limit - length t.slots) Empty tt),
   bases_of_world w (n + 1) ts h.1,
 )
 
@@ -114,7 +114,8 @@ opening_within w world = record {
   slots = bases_of_world w 0 w.tasks world.tasks_are;
   runs = ready_name_nothing (OfWorld w) 0 w.tasks;
   objects = numbered_all (InObject (OfWorld w)) 0 (replicate kernel_types type_object ++ map (λ (b : Born). object_of b.kind) w.objects)
-      (all_append (InObject (OfWorld w)) (replicate kernel_types type_object) (map (λ (b : Born). object_of b.kind) w.objects) (all_replicate (InObject (OfWorld w)) kernel_types type_object (kernel_name w 0 (omega arith), tt)) (kinds_of_world w w.objects world.kinds));
+      (all_append (InObject (OfWorld w)) (replicate kernel_types type_object) (map (λ (b : Born). object_of b.kind) w.objects)
+      (all_replicate (InObject (OfWorld w)) kernel_types type_object (kernel_name w 0 (omega arith), tt)) (kinds_of_world w w.objects world.kinds));
 }
   where
     below : (a b : ℕ) → nat_lt a b ≡ true → a < b

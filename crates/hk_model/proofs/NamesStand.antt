@@ -152,7 +152,8 @@ module _ (R : Name → Type 0) where
     where
       outer : All R (outer_names s)
       outer = all_append R (flat_map (λ (e : Inc × Incarnation). flat_map entry_names e.1.slots) s.incarnations) (flat_map (λ (p : Process). run_names p.run) s.processes)
-          (all_flat R (λ (e : Inc × Incarnation). flat_map entry_names e.1.slots) s.incarnations (all_more (λ (e : Inc × Incarnation). InSlots e.1) (λ e. All R (flat_map entry_names e.1.slots)) (λ e k. all_flat R entry_names e.1.slots k) s.incarnations h.slots))
+          (all_flat R (λ (e : Inc × Incarnation). flat_map entry_names e.1.slots) s.incarnations
+          (all_more (λ (e : Inc × Incarnation). InSlots e.1) (λ e. All R (flat_map entry_names e.1.slots)) (λ e k. all_flat R entry_names e.1.slots k) s.incarnations h.slots))
           (all_flat R (λ (p : Process). run_names p.run) s.processes h.runs)
 
       listed : All R (inner s.objects)
@@ -170,7 +171,8 @@ module _ (R : Name → Type 0) where
       record {
         opening = λ n h. f n (or_left (is_opening s n) (is_among n (outer_names s ++ inner s.objects)) h);
         slots = all_more (λ (e : Inc × Incarnation). All R (flat_map entry_names e.1.slots)) (λ e. InSlots e.1) (λ e k. flat_all R entry_names e.1.slots k) s.incarnations
-            (flat_all R (λ (e : Inc × Incarnation). flat_map entry_names e.1.slots) s.incarnations (all_first R (flat_map (λ (e : Inc × Incarnation). flat_map entry_names e.1.slots) s.incarnations) (flat_map (λ (p : Process). run_names p.run) s.processes) outer));
+            (flat_all R (λ (e : Inc × Incarnation). flat_map entry_names e.1.slots) s.incarnations
+            (all_first R (flat_map (λ (e : Inc × Incarnation). flat_map entry_names e.1.slots) s.incarnations) (flat_map (λ (p : Process). run_names p.run) s.processes) outer));
         runs = flat_all R (λ (p : Process). run_names p.run) s.processes
             (all_last R (flat_map (λ (e : Inc × Incarnation). flat_map entry_names e.1.slots) s.incarnations) (flat_map (λ (p : Process). run_names p.run) s.processes) outer);
         objects = all_more (λ (e : Name × Object). All R (object_names e.1)) (λ e. InObject e.1) (λ e k. (k.0, flat_all R entry_names e.1.entries k.1)) s.objects

@@ -171,7 +171,8 @@ module _ (s : State) (inc : Inc) (name : Name) (given : ObjectsGiven s) where
       → create_form entry step ≡ Ok form → unless (can_be_created form.0) (refused.WrongType step) ≡ Ok u → room_made s ≡ Ok room
       → Left s inc (Some (call.Create path into)) (insert_entry name_cmp room s.next_name (plain_object form.0 [] [])) name
   left_created path into step entry form u room w f h r =
-      left_new (call.Create path into) room (plain_object form.0 [] []) r refl (record { of = created_of form.0 (unless_is (can_be_created form.0) (refused.WrongType step) u h); code = refl; params = refl })
+      left_new (call.Create path into) room (plain_object form.0 [] []) r refl
+      (record { of = created_of form.0 (unless_is (can_be_created form.0) (refused.WrongType step) u h); code = refl; params = refl })
       (record { give = form.1; by = ap entry_given w ∙ create_form_is entry step form f; is = refl })
 
   create_leaves : (path : List ℕ) (into : Slot) → LeavesBy (call.Create path into) (create_object s inc path into)
@@ -204,29 +205,42 @@ module _ (s : State) (inc : Inc) (name : Name) (given : ObjectsGiven s) where
   take_leaves proc path =
       then_is (λ f. Left s inc (Some (call.P path)) f.1.objects name) (target s inc path (is_of_type SEMAPHORE) MODIFY+A0) (λ c. Ok (elim (nat_lt 0 (object s c.name).count) [
         | true ↦ (Done, put_object s c.name (record (object s c.name) { count = (object s c.name).count - 1 }))
-        | false ↦ (Waits, put_process (put_object s c.name (record (object s c.name) { waiters = (object s c.name).waiters ++ proc ∷ [] })) proc (record (process s proc) { run = Waiting c.name }))
+        | false ↦ (
+          Waits,
+          put_process (put_object s c.name (record (object s c.name) { waiters = (object s c.name).waiters ++ proc ∷ [] })) proc
+              (record (process s proc) { run = Waiting c.name }),
+        )
       ])) (λ c g. by c g (nat_lt 0 (object s c.name).count))
     where
       by : (c : Cap) → target s inc path (is_of_type SEMAPHORE) MODIFY+A0 ≡ Ok c → (b : Bool) → Left s inc (Some (call.P path)) (elim b as (λ x. Answer × State) [
         | true ↦ (Done, put_object s c.name (record (object s c.name) { count = (object s c.name).count - 1 }))
-        | false ↦ (Waits, put_process (put_object s c.name (record (object s c.name) { waiters = (object s c.name).waiters ++ proc ∷ [] })) proc (record (process s proc) { run = Waiting c.name }))
+        | false ↦ (
+          Waits,
+          put_process (put_object s c.name (record (object s c.name) { waiters = (object s c.name).waiters ++ proc ∷ [] })) proc
+              (record (process s proc) { run = Waiting c.name }),
+        )
       ]).1.objects name
       by c g true =
-          left_object (call.P path) path (is_of_type SEMAPHORE) MODIFY+A0 c (record (object s c.name) { count = (object s c.name).count - 1 }) g refl (record { of = refl; code = refl; params = refl })
+          left_object (call.P path) path (is_of_type SEMAPHORE) MODIFY+A0 c (record (object s c.name) { count = (object s c.name).count - 1 }) g refl
+          (record { of = refl; code = refl; params = refl })
       by c g false =
-          left_object (call.P path) path (is_of_type SEMAPHORE) MODIFY+A0 c (record (object s c.name) { waiters = (object s c.name).waiters ++ proc ∷ [] }) g refl (record { of = refl; code = refl; params = refl })
+          left_object (call.P path) path (is_of_type SEMAPHORE) MODIFY+A0 c (record (object s c.name) { waiters = (object s c.name).waiters ++ proc ∷ [] }) g refl
+          (record { of = refl; code = refl; params = refl })
 
   token_leaves : (path : List ℕ) (c : Cap) → target s inc path (is_of_type SEMAPHORE) MODIFY+A1 ≡ Ok c → (waiters : List Proc)
       → LeavesBy (call.V path) (token_given s c.name (object s c.name) waiters)
   token_leaves path c g [] =
-      and_is (λ f. Left s inc (Some (call.V path)) f.1.objects name) (unless (nat_lt (object s c.name).count token_limit) (refused.Full full.Tokens)) (Ok (Done, put_object s c.name (record (object s c.name) { count = (object s c.name).count + 1 })))
-      (λ u h. left_object (call.V path) path (is_of_type SEMAPHORE) MODIFY+A1 c (record (object s c.name) { count = (object s c.name).count + 1 }) g refl (record { of = refl; code = refl; params = refl }))
+      and_is (λ f. Left s inc (Some (call.V path)) f.1.objects name) (unless (nat_lt (object s c.name).count token_limit) (refused.Full full.Tokens))
+      (Ok (Done, put_object s c.name (record (object s c.name) { count = (object s c.name).count + 1 })))
+      (λ u h. left_object (call.V path) path (is_of_type SEMAPHORE) MODIFY+A1 c (record (object s c.name) { count = (object s c.name).count + 1 }) g refl
+      (record { of = refl; code = refl; params = refl }))
   token_leaves path c g (first ∷ rest) =
       left_object (call.V path) path (is_of_type SEMAPHORE) MODIFY+A1 c (record (object s c.name) { waiters = rest }) g refl (record { of = refl; code = refl; params = refl })
 
   -- every call
   outcome_leaves : (proc : Proc) (c : Call) → LeavesBy c (outcome s proc inc c)
-  unfolding get_word put_word add_word word_count load_entry store_entry append_entry erase_entry drop_slot restrict_slot look make_template create_object merge_cap copy_object enter_procedure leave give_token
+  unfolding get_word put_word add_word word_count load_entry store_entry append_entry erase_entry drop_slot restrict_slot look make_template create_object merge_cap copy_object
+      enter_procedure leave give_token
   outcome_leaves proc (call.Get of at) = search (then_is, left_same)
   outcome_leaves proc (call.Put of at word) = search (then_is, and_is, left_object)
   outcome_leaves proc (call.Add of word) = search (then_is, and_is, left_object)
@@ -259,19 +273,28 @@ unfolding take_token
 take_first s proc inc path =
     then_is (λ f. f.1.first_new ≡ s.first_new) (target s inc path (is_of_type SEMAPHORE) MODIFY+A0) (λ c. Ok (elim (nat_lt 0 (object s c.name).count) [
       | true ↦ (Done, put_object s c.name (record (object s c.name) { count = (object s c.name).count - 1 }))
-      | false ↦ (Waits, put_process (put_object s c.name (record (object s c.name) { waiters = (object s c.name).waiters ++ proc ∷ [] })) proc (record (process s proc) { run = Waiting c.name }))
+      | false ↦ (
+        Waits,
+        put_process (put_object s c.name (record (object s c.name) { waiters = (object s c.name).waiters ++ proc ∷ [] })) proc
+            (record (process s proc) { run = Waiting c.name }),
+      )
     ])) (λ c g. by c (nat_lt 0 (object s c.name).count))
   where
     by : (c : Cap) (b : Bool) → (elim b as (λ x. Answer × State) [
       | true ↦ (Done, put_object s c.name (record (object s c.name) { count = (object s c.name).count - 1 }))
-      | false ↦ (Waits, put_process (put_object s c.name (record (object s c.name) { waiters = (object s c.name).waiters ++ proc ∷ [] })) proc (record (process s proc) { run = Waiting c.name }))
+      | false ↦ (
+        Waits,
+        put_process (put_object s c.name (record (object s c.name) { waiters = (object s c.name).waiters ++ proc ∷ [] })) proc
+            (record (process s proc) { run = Waiting c.name }),
+      )
     ]).1.first_new ≡ s.first_new
     by c true = refl
     by c false = refl
 
 token_first : (s : State) (name : Name) (o : Object) (waiters : List Proc) → FirstBy s (token_given s name o waiters)
 token_first s name o [] =
-    and_is (λ f. f.1.first_new ≡ s.first_new) (unless (nat_lt o.count token_limit) (refused.Full full.Tokens)) (Ok (Done, put_object s name (record o { count = o.count + 1 }))) (λ u g. refl)
+    and_is (λ f. f.1.first_new ≡ s.first_new) (unless (nat_lt o.count token_limit) (refused.Full full.Tokens))
+    (Ok (Done, put_object s name (record o { count = o.count + 1 }))) (λ u g. refl)
 token_first s name o (first ∷ rest) = refl
 
 leave_first : (s : State) (proc : Proc) (inc : Inc) (caller : Option Inc) (into : ℕ) (cap : Option Cap)
@@ -281,7 +304,8 @@ leave_first s proc inc (Some caller) into None = refl
 leave_first s proc inc (Some caller) into (Some cap) = refl
 
 pub outcome_first : (s : State) (proc : Proc) (inc : Inc) (c : Call) → FirstBy s (outcome s proc inc c)
-unfolding get_word put_word add_word word_count load_entry store_entry append_entry erase_entry drop_slot restrict_slot look make_template create_object merge_cap copy_object enter_procedure leave give_token
+unfolding get_word put_word add_word word_count load_entry store_entry append_entry erase_entry drop_slot restrict_slot look make_template create_object merge_cap copy_object
+    enter_procedure leave give_token
 outcome_first s proc inc (call.Get of at) = search (then_is)
 outcome_first s proc inc (call.Put of at word) = search (then_is, and_is)
 outcome_first s proc inc (call.Add of word) = search (then_is, and_is)

@@ -113,7 +113,8 @@ module _ (at : ℕ → State) (made : Name → Bool) (params : List Entry) (k la
         let within : t < suc last = grind (arith, nat_tests) in
         let before : nat_lt t k ≡ false = grind (arith, nat_tests) in
         or_not (nat_lt t k) (kept_at (at t)) before
-        (all_below (λ t. nat_lt t k || kept_at (at t)) (suc last) t within (second_so (list_all keeps_entry params) (list_all (λ t. nat_lt t k || kept_at (at t)) (below (suc last))) h))
+        (all_below (λ t. nat_lt t k || kept_at (at t)) (suc last) t within
+        (second_so (list_all keeps_entry params) (list_all (λ t. nat_lt t k || kept_at (at t)) (below (suc last))) h))
 
     param_kept : (param : ℕ) (cap : Cap) → slice_get params param ≡ Some (Held cap) → keeps_entry (Held cap) ≡ true
     param_kept param cap e =
@@ -132,7 +133,8 @@ module _ (at : ℕ → State) (made : Name → Bool) (params : List Entry) (k la
     entry_kept t index x cap begun l e u =
         let all = kept_then t begun e in
         let each : entries_kept (at t) x ≡ true =
-        all_among (entries_kept (at t)) us x (first_so (list_all (λ n. entries_kept (at t) (record { 0 = n })) us) (list_all (λ n. handed_kept (at t) (record { 0 = n })) ms) all) u in
+        all_among (entries_kept (at t)) us x (first_so (list_all (λ n. entries_kept (at t) (record { 0 = n })) us)
+        (list_all (λ n. handed_kept (at t) (record { 0 = n })) ms) all) u in
         all_at keeps_entry (object (at t) x).entries index (Held cap) each (entry_is (at t) x index cap l)
 
     entry_handed : (t index : ℕ) (x : Name) (cap : Cap) → k ≤ t → listed_cap (at t) x index ≡ Some cap → made cap.name ≡ true → nat_lt last t ≡ false → among ms x ≡ true
@@ -140,7 +142,8 @@ module _ (at : ℕ → State) (made : Name → Bool) (params : List Entry) (k la
     entry_handed t index x cap begun l m e u =
         let all = kept_then t begun e in
         let each : handed_kept (at t) x ≡ true =
-        all_among (handed_kept (at t)) ms x (second_so (list_all (λ n. entries_kept (at t) (record { 0 = n })) us) (list_all (λ n. handed_kept (at t) (record { 0 = n })) ms) all) u in
+        all_among (handed_kept (at t)) ms x (second_so (list_all (λ n. entries_kept (at t) (record { 0 = n })) us)
+        (list_all (λ n. handed_kept (at t) (record { 0 = n })) ms) all) u in
         when (made cap.name) (among ms cap.name && among us cap.name) (all_at keeps_handed (object (at t) x).entries index (Held cap) each (entry_is (at t) x index cap l)) m
 
     modify_of : (cap : Cap) → keeps_entry (Held cap) ≡ true → has cap.rights modify_right ≡ true → among ms cap.name ≡ true

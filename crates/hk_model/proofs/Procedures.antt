@@ -94,7 +94,8 @@ opening_codes w world name o e p =
 pub codes_at : (w : WorldValue) (lines : List Line) → IsWorld w → AreStepsOf w lines → (moment : ℕ) → ProceduresHaveCodes (state_at w lines moment)
 unfolding opened
 codes_at w lines world steps moment =
-    (state_kept (λ s. ObjectsGiven s × ProceduresHaveCodes s) codes_each w (opened w) (take moment lines) (first_steps w (opened w) lines moment steps) (opening_objects w, opening_codes w world)).1
+    (state_kept (λ s. ObjectsGiven s × ProceduresHaveCodes s) codes_each w (opened w) (take moment lines) (first_steps w (opened w) lines moment steps)
+    (opening_objects w, opening_codes w world)).1
 
 pub shapes_are : (w : WorldValue) (lines : List Line) → IsWorld w → AreStepsOf w lines → AreShapes w lines
 shapes_are w lines world steps = record { codes = codes_at w lines world steps; currents = currents_at w lines steps; callers = callers_at w lines steps }

@@ -53,16 +53,19 @@ closing_lines =
     ∷ []
 
 closing-steps : AreStepsOf closing closing_lines
-unfolding opened opening step next next_from after kept_objects get_word put_word add_word store_entry append_entry erase_entry create_object enter_procedure leave take_token give_token first_missing right_numbers right_table
+unfolding opened opening step next next_from after kept_objects get_word put_word add_word store_entry append_entry erase_entry create_object enter_procedure leave take_token
+    give_token first_missing right_numbers right_table
 closing-steps = (refl, (refl, (refl, (refl, (refl, tt)))))
 
 entry-is-reached : IsReach (state_at closing closing_lines) (is_made_under closing closing_lines 2 (inc 1)) (parameters closing closing_lines 2 (inc 1)) 2
     (λ there. there.modify) 4 (name 8) 0 (hop false 0 2 ∷ [])
-unfolding opened opening step next next_from after kept_objects get_word put_word add_word store_entry append_entry erase_entry create_object enter_procedure leave take_token give_token first_missing right_numbers right_table
+unfolding opened opening step next next_from after kept_objects get_word put_word add_word store_entry append_entry erase_entry create_object enter_procedure leave take_token
+    give_token first_missing right_numbers right_table
 entry-is-reached = record { there = record { name = name 8; modify = true; unconf = false; moment = 2 }; leads = refl; same = refl; good = refl; by_then = lit≤ tt }
 
 no-further-than-an-entry-without-unconf : IsModifiable closing closing_lines 2 (inc 1) 4 (name 7) → ⊥
-unfolding opened opening step next next_from after kept_objects get_word put_word add_word store_entry append_entry erase_entry create_object enter_procedure leave take_token give_token first_missing right_numbers right_table
+unfolding opened opening step next next_from after kept_objects get_word put_word add_word store_entry append_entry erase_entry create_object enter_procedure leave take_token
+    give_token first_missing right_numbers right_table
 no-further-than-an-entry-without-unconf = not_modifiable closing closing_lines 2 (inc 1) 4 (8 ∷ 9 ∷ []) (9 ∷ []) refl (name 7) refl
 
 -- ---- a new object of another in the list of what is reached: it was not made under the call
@@ -76,7 +79,8 @@ another = small_world
     ∷ (instr.Enter (route (1 ∷ [])) (0 ∷ []) (slot 2) ∷ [])
     ∷ (instr.Create (route (1 ∷ [])) (slot 2) ∷ instr.Store (route (0 ∷ [])) (Number 0) (slot 2) ∷ [])
     ∷ [])
-    (process 1 (cap 7 (LOAD + MODIFY + ENV + UNCONF) ∷ cap 8 A0 ∷ []) ∷ process 2 (cap 7 (STORE + MODIFY) ∷ Form (template.Create (name UNIVERSAL) (STORE + MODIFY + ENV + UNCONF)) ∷ []) ∷ [])
+    (process 1 (cap 7 (LOAD + MODIFY + ENV + UNCONF) ∷ cap 8 A0 ∷ []) ∷ process 2
+    (cap 7 (STORE + MODIFY) ∷ Form (template.Create (name UNIVERSAL) (STORE + MODIFY + ENV + UNCONF)) ∷ []) ∷ [])
 
 abbrev another_lines : List Line
 another_lines =
@@ -89,11 +93,13 @@ another_lines =
     ∷ []
 
 another-steps : AreStepsOf another another_lines
-unfolding opened opening step next next_from after kept_objects get_word put_word add_word store_entry append_entry erase_entry create_object enter_procedure leave take_token give_token first_missing right_numbers right_table
+unfolding opened opening step next next_from after kept_objects get_word put_word add_word store_entry append_entry erase_entry create_object enter_procedure leave take_token
+    give_token first_missing right_numbers right_table
 another-steps = (refl, (refl, (refl, (refl, (refl, (refl, tt))))))
 
 another's-new-object : IsModifiable another another_lines 2 (inc 2) 6 (name 9) → ⊥
-unfolding opened opening step next next_from after kept_objects get_word put_word add_word store_entry append_entry erase_entry create_object enter_procedure leave take_token give_token first_missing right_numbers right_table
+unfolding opened opening step next next_from after kept_objects get_word put_word add_word store_entry append_entry erase_entry create_object enter_procedure leave take_token
+    give_token first_missing right_numbers right_table
 another's-new-object = not_modifiable another another_lines 2 (inc 2) 6 (7 ∷ []) [] refl (name 9) refl
 
 -- ---- a call without parameters reaches nothing
@@ -116,15 +122,18 @@ bare_lines =
     ∷ []
 
 bare-steps : AreStepsOf bare bare_lines
-unfolding opened opening step next next_from after kept_objects get_word put_word add_word store_entry append_entry erase_entry create_object enter_procedure leave take_token give_token first_missing right_numbers right_table
+unfolding opened opening step next next_from after kept_objects get_word put_word add_word store_entry append_entry erase_entry create_object enter_procedure leave take_token
+    give_token first_missing right_numbers right_table
 bare-steps = (refl, (refl, (refl, tt)))
 
 no-parameter-no-modifiable-reach : IsModifiable bare bare_lines 2 (inc 1) 3 (name 7) → ⊥
-unfolding opened opening step next next_from after kept_objects get_word put_word add_word store_entry append_entry erase_entry create_object enter_procedure leave take_token give_token first_missing right_numbers right_table
+unfolding opened opening step next next_from after kept_objects get_word put_word add_word store_entry append_entry erase_entry create_object enter_procedure leave take_token
+    give_token first_missing right_numbers right_table
 no-parameter-no-modifiable-reach = not_modifiable bare bare_lines 2 (inc 1) 3 [] [] refl (name 7) refl
 
 no-parameter-no-unconfined-reach : IsUnconfined bare bare_lines 2 (inc 1) 3 (name 7) → ⊥
-unfolding opened opening step next next_from after kept_objects get_word put_word add_word store_entry append_entry erase_entry create_object enter_procedure leave take_token give_token first_missing right_numbers right_table
+unfolding opened opening step next next_from after kept_objects get_word put_word add_word store_entry append_entry erase_entry create_object enter_procedure leave take_token
+    give_token first_missing right_numbers right_table
 no-parameter-no-unconfined-reach = not_unconfined bare bare_lines 2 (inc 1) 3 [] [] refl (name 7) refl
 
 -- ---- a new object of the call, before and after it is handed over; and moments that fall
@@ -153,16 +162,19 @@ handing_lines =
     ∷ []
 
 handing-steps : AreStepsOf handing handing_lines
-unfolding opened opening step next next_from after kept_objects get_word put_word add_word store_entry append_entry erase_entry create_object enter_procedure leave take_token give_token first_missing right_numbers right_table
+unfolding opened opening step next next_from after kept_objects get_word put_word add_word store_entry append_entry erase_entry create_object enter_procedure leave take_token
+    give_token first_missing right_numbers right_table
 handing-steps = (refl, (refl, (refl, (refl, (refl, (refl, (refl, tt)))))))
 
 not-before-it-is-handed-over : IsModifiable handing handing_lines 2 (inc 1) 4 (name 10) → ⊥
-unfolding opened opening step next next_from after kept_objects get_word put_word add_word store_entry append_entry erase_entry create_object enter_procedure leave take_token give_token first_missing right_numbers right_table
+unfolding opened opening step next next_from after kept_objects get_word put_word add_word store_entry append_entry erase_entry create_object enter_procedure leave take_token
+    give_token first_missing right_numbers right_table
 not-before-it-is-handed-over = not_modifiable handing handing_lines 2 (inc 1) 4 (7 ∷ []) [] refl (name 10) refl
 
 once-it-is-handed-over : IsReach (state_at handing handing_lines) (is_made_under handing handing_lines 2 (inc 1)) (parameters handing handing_lines 2 (inc 1)) 2
     (λ there. there.modify) 5 (name 10) 0 (hop true 0 5 ∷ [])
-unfolding opened opening step next next_from after kept_objects get_word put_word add_word store_entry append_entry erase_entry create_object enter_procedure leave take_token give_token first_missing right_numbers right_table
+unfolding opened opening step next next_from after kept_objects get_word put_word add_word store_entry append_entry erase_entry create_object enter_procedure leave take_token
+    give_token first_missing right_numbers right_table
 once-it-is-handed-over = record { there = record { name = name 10; modify = true; unconf = true; moment = 5 }; leads = refl; same = refl; good = refl; by_then = lit≤ tt }
 
 -- the entry of the new object stood before, but behind a hop at moment 5 none can be made at moment 4; what the confined call
@@ -170,10 +182,12 @@ once-it-is-handed-over = record { there = record { name = name 10; modify = true
 moments-rise : reach (state_at handing handing_lines) (is_made_under handing handing_lines 2 (inc 1)) (parameters handing handing_lines 2 (inc 1)) 2 0
     (hop true 0 5 ∷ hop false 0 5 ∷ [])
     ≡ Some (record { name = name 8; modify = false; unconf = false; moment = 5 })
-unfolding opened opening step next next_from after kept_objects get_word put_word add_word store_entry append_entry erase_entry create_object enter_procedure leave take_token give_token first_missing right_numbers right_table
+unfolding opened opening step next next_from after kept_objects get_word put_word add_word store_entry append_entry erase_entry create_object enter_procedure leave take_token
+    give_token first_missing right_numbers right_table
 moments-rise = refl
 
 moments-that-fall : reach (state_at handing handing_lines) (is_made_under handing handing_lines 2 (inc 1)) (parameters handing handing_lines 2 (inc 1)) 2 0
     (hop true 0 5 ∷ hop false 0 4 ∷ []) ≡ None
-unfolding opened opening step next next_from after kept_objects get_word put_word add_word store_entry append_entry erase_entry create_object enter_procedure leave take_token give_token first_missing right_numbers right_table
+unfolding opened opening step next next_from after kept_objects get_word put_word add_word store_entry append_entry erase_entry create_object enter_procedure leave take_token
+    give_token first_missing right_numbers right_table
 moments-that-fall = refl

@@ -104,9 +104,9 @@ module _ (at : ℕ → State) (made : Name → Bool) where
           (some_if r.is.there.unconf (reached_by moment cap) r.is.good) refl g;
       handed = λ moment index x cap begun r l g. (
         hop_is_reached (λ r. r.modify) (λ r. r.modify) (hop_by.Handed index moment) x cap (handed_over moment cap) r l
-        (some_if (r.is.there.modify && made cap.name) (handed_over moment cap) (and_from r.is.there.modify (made cap.name) r.is.good g)) refl refl,
+            (some_if (r.is.there.modify && made cap.name) (handed_over moment cap) (and_from r.is.there.modify (made cap.name) r.is.good g)) refl refl,
         hop_is_reached (λ r. r.modify) (λ r. r.unconf) (hop_by.Handed index moment) x cap (handed_over moment cap) r l
-        (some_if (r.is.there.modify && made cap.name) (handed_over moment cap) (and_from r.is.there.modify (made cap.name) r.is.good g)) refl refl,
+            (some_if (r.is.there.modify && made cap.name) (handed_over moment cap) (and_from r.is.there.modify (made cap.name) r.is.good g)) refl refl,
       );
     }
 
@@ -122,7 +122,9 @@ module _ (at : ℕ → State) (made : Name → Bool) where
         where
           by_hop : (cap : Cap) → listed_cap (at (moment_of hop)) from.name (index_of hop) ≡ Some cap → from.moment ≤ (moment_of hop) → (handed m made_there u : Bool)
               → from.modify ≡ m → made cap.name ≡ made_there → from.unconf ≡ u
-              → ◌≡◌ {A = Option Reached} (if handed then (if m && made_there then Some (handed_over (moment_of hop) cap) else None) else (if u then Some (reached_by (moment_of hop) cap) else None)) (Some next) → IsIn next
+              → ◌≡◌ {A = Option Reached} (if handed then (if m && made_there then Some (handed_over (moment_of hop) cap) else None) else
+              (if u then Some (reached_by (moment_of hop) cap) else None)) (Some next)
+              → IsIn next
           by_hop cap l e true true true u p q o h =
               let same : handed_over (moment_of hop) cap ≡ next = cc in
               let b = f.begun in
@@ -167,7 +169,12 @@ module _ (at : ℕ → State) (made : Name → Bool) where
           by (Some Empty) e h = absurd (cc)
           by (Some (Form form)) e h = absurd (cc)
           by (Some (Held cap)) e h =
-              follow_is_in hops (reached_by k cap) there (record { modify = λ g. rules.param_modify param cap e g; unconf = λ g. rules.param_unconf param cap e g; begun = omega arith }) h
+              follow_is_in hops (reached_by k cap) there (record {
+                modify = λ g. rules.param_modify param cap e g;
+                unconf = λ g. rules.param_unconf param cap e
+                    g;
+                begun = omega arith;
+              }) h
 
       -- all sets that keep the rules have what is reached
       pub modifiable_is_least : (moment : ℕ) (x : Name) → IsReached at made params k (λ r. r.modify) moment x → M moment x

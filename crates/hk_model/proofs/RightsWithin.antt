@@ -92,11 +92,13 @@ lacks_env rights h g = by (first_missing-pow rights env_right refl h)
 pub merged_special : (of : Option Name) (rights give : ℕ) → Within (bit_and (merged_rights rights of give) special_rights) rights
 merged_special None rights give =
     Within-all (bit_and (bit_and give rights) special_rights) rights
-    (HasAll-trans rights (bit_and give rights) (bit_and (bit_and give rights) special_rights) (HasAll-bit_and_right give rights) (HasAll-bit_and_left (bit_and give rights) special_rights))
+    (HasAll-trans rights (bit_and give rights) (bit_and (bit_and give rights) special_rights) (HasAll-bit_and_right give rights)
+    (HasAll-bit_and_left (bit_and give rights) special_rights))
 merged_special (Some wanted) rights give =
     Within-all (bit_and (bit_or (bit_and give (all_but special_rights)) (bit_and (bit_and give special_rights) rights)) special_rights) rights (λ n h.
     by n (has-bit_and_right (bit_or (bit_and give (all_but special_rights)) (bit_and (bit_and give special_rights) rights)) special_rights n h)
-    (has-bit_or_cases (bit_and give (all_but special_rights)) (bit_and (bit_and give special_rights) rights) n (has-bit_and_left (bit_or (bit_and give (all_but special_rights)) (bit_and (bit_and give special_rights) rights)) special_rights n h)))
+    (has-bit_or_cases (bit_and give (all_but special_rights)) (bit_and (bit_and give special_rights) rights) n
+    (has-bit_and_left (bit_or (bit_and give (all_but special_rights)) (bit_and (bit_and give special_rights) rights)) special_rights n h)))
   where
     both : (n : ℕ) → (x : Bool) → has (all_but special_rights) n ≡ x → has special_rights n ≡ true → (has (all_but special_rights) n && has special_rights n) ≡ false → x ≡ false
     both n true e g none = absurd (true≢false (let k : (has (all_but special_rights) n && has special_rights n) ≡ true = rw (e, g) refl in sym k ∙ none))
@@ -115,4 +117,14 @@ merged_others wanted rights give =
     same_from_bits (bit_and (bit_or (bit_and give (all_but special_rights)) (bit_and (bit_and give special_rights) rights)) (all_but special_rights))
     (bit_and give (all_but special_rights)) (λ i.
     let apart : min (bit_at (all_but special_rights) i) (bit_at special_rights i) ≡ 0 = sym (bit_at_and (all_but special_rights) special_rights i) ∙ bit_at-zero i in
-    omega (arith, apart, bit_at_and (bit_or (bit_and give (all_but special_rights)) (bit_and (bit_and give special_rights) rights)) (all_but special_rights) i, bit_at_or (bit_and give (all_but special_rights)) (bit_and (bit_and give special_rights) rights) i, bit_at_and give (all_but special_rights) i, bit_at_and (bit_and give special_rights) rights i, bit_at_and give special_rights i))
+    omega (
+      arith,
+      apart,
+      bit_at_and (bit_or (bit_and give (all_but special_rights)) (bit_and (bit_and give special_rights) rights)) (all_but special_rights) i,
+      bit_at_or
+          (bit_and give (all_but special_rights)) (bit_and (bit_and give special_rights) rights) i,
+      bit_at_and give (all_but special_rights) i,
+      bit_at_and (bit_and give special_rights)
+          rights i,
+      bit_at_and give special_rights i,
+    ))

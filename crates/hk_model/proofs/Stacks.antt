@@ -221,12 +221,15 @@ stack_turn s line t n (Leave e) h = rw (e.activations, ap (λ (i : Inc). i.0) e.
     by : (o : Option Inc) → (incarnation s line.inc).caller ≡ o → CurrentAfter s line.proc.0 o t.processes
         → Stacked (remove_entry (same_inc line.inc) (activations_in s.incarnations)) (currents_in t.processes) s.next_inc.0
     by None o g =
-        rw g (fewer_stacked (activations_in s.incarnations) (remove_entry (same_inc line.inc) (activations_in s.incarnations)) (currents_in s.processes) s.next_inc.0 h (remove_fewer s line.inc n))
+        rw g (fewer_stacked (activations_in s.incarnations) (remove_entry (same_inc line.inc) (activations_in s.incarnations)) (currents_in s.processes) s.next_inc.0 h
+        (remove_fewer s line.inc n))
     by (Some k) o g =
-        rw g (left_stacked (activations_in s.incarnations) (remove_entry (same_inc line.inc) (activations_in s.incarnations)) (currents_in s.processes) s.next_inc.0 line.proc.0 line.inc k (activation (incarnation s line.inc)) h (remove_fewer s line.inc n) gone e.now (activation_live s.incarnations line.inc (caller_live s line.inc k o)) o)
+        rw g (left_stacked (activations_in s.incarnations) (remove_entry (same_inc line.inc) (activations_in s.incarnations)) (currents_in s.processes) s.next_inc.0 line.proc.0
+        line.inc k (activation (incarnation s line.inc)) h (remove_fewer s line.inc n) gone e.now (activation_live s.incarnations line.inc (caller_live s line.inc k o)) o)
 stack_turn s line t n (Halt e) h =
     rw (e.activations, e.currents, ap (λ (i : Inc). i.0) e.next)
-    (fewer_stacked (activations_in s.incarnations) (filter (λ (y : Inc × Activation). not (y.1.proc.0 == line.proc.0)) (activations_in s.incarnations)) (currents_in s.processes) s.next_inc.0 h (λ i x g. (halted_found (activations_in s.incarnations) line.proc.0 i x (activations_apart s n) g).0))
+    (fewer_stacked (activations_in s.incarnations) (filter (λ (y : Inc × Activation). not (y.1.proc.0 == line.proc.0)) (activations_in s.incarnations)) (currents_in s.processes)
+    s.next_inc.0 h (λ i x g. (halted_found (activations_in s.incarnations) line.proc.0 i x (activations_apart s n) g).0))
 
 -- ---- who lived before
 

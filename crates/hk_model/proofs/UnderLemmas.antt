@@ -110,7 +110,8 @@ found_old (e ∷ fs) n i f x h = by (same_inc i e.0) (found_old fs n i f x) h
     by false rest g = rest g
 
 -- those under the call, with the one that is called by one of them
-module _ (c : Inc) (p : ℕ) (us : List Inc) (fs : List (Inc × Activation)) (n inc : Inc) (proc : Proc) (y : Activation) (u : UnderCall c p us fs n.0) (below : (i : Inc) (x : Activation) → look_up i fs ≡ Some x → i.0 < n.0) (live : look_up inc fs ≡ Some y) (own : y.proc.0 ≡ proc.0) where
+module _ (c : Inc) (p : ℕ) (us : List Inc) (fs : List (Inc × Activation)) (n inc : Inc) (proc : Proc) (y : Activation) (u : UnderCall c p us fs n.0)
+    (below : (i : Inc) (x : Activation) → look_up i fs ≡ Some x → i.0 < n.0) (live : look_up inc fs ≡ Some y) (own : y.proc.0 ≡ proc.0) where
   abbrev called : Activation
   called = record { proc = proc; caller = Some inc }
 
@@ -192,7 +193,8 @@ under_turn c p us s line t n (Leave e) st u =
             absurd (cc)
 under_turn c p us s line t n (Halt e) st u =
     rw (under_still s line t us (ap enters_call e.is), e.activations, ap (λ (i : Inc). i.0) e.next)
-    (under_fewer c p us (activations_in s.incarnations) (filter (λ (y : Inc × Activation). not (y.1.proc.0 == line.proc.0)) (activations_in s.incarnations)) s.next_inc.0 u (λ i x g. (halted_found (activations_in s.incarnations) line.proc.0 i x (activations_apart s n) g).0) stays)
+    (under_fewer c p us (activations_in s.incarnations) (filter (λ (y : Inc × Activation). not (y.1.proc.0 == line.proc.0)) (activations_in s.incarnations)) s.next_inc.0 u
+    (λ i x g. (halted_found (activations_in s.incarnations) line.proc.0 i x (activations_apart s n) g).0) stays)
   where
     stays : (i : Inc) (x y : Activation) → is_one_of i us ≡ true
         → look_up i (filter (λ (y : Inc × Activation). not (y.1.proc.0 == line.proc.0)) (activations_in s.incarnations)) ≡ Some x
@@ -204,7 +206,9 @@ under_turn c p us s line t n (Halt e) st u =
         halted_keeps (activations_in s.incarnations) line.proc.0 c y (activations_apart s n) h (rw same found.1)
 under_turn c p us s line t n (Enter e) st u =
     rw (under_more s line t us e.is, e.activations, e.next)
-    (entered_under c p us (activations_in s.incarnations) s.next_inc line.inc line.proc (activation (incarnation s line.inc)) u st.below (activation_live s.incarnations line.inc e.live) (st.own line.proc.0 line.inc (activation (incarnation s line.inc)) e.now (activation_live s.incarnations line.inc e.live)) (is_one_of line.inc us) refl)
+    (entered_under c p us (activations_in s.incarnations) s.next_inc line.inc line.proc (activation (incarnation s line.inc)) u st.below
+    (activation_live s.incarnations line.inc e.live) (st.own line.proc.0 line.inc (activation (incarnation s line.inc)) e.now (activation_live s.incarnations line.inc e.live))
+    (is_one_of line.inc us) refl)
 
 -- ---- the call at its beginning
 

@@ -53,7 +53,8 @@ module _ (s : State) (P : Place → Entry → Type 0) (hops : HopLaw s P) where
       and_is (Arrives (EntryOf cap.name at)) (allowed cap.rights LOAD step) (item_at (object s cap.name).entries at (step + 1) >>= (λ next. obtained cap.rights next step)) (λ u h.
       then_is (Arrives (EntryOf cap.name at)) (item_at (object s cap.name).entries at (step + 1)) (λ next. obtained cap.rights next step) (λ next g.
       let same = item_is (object s cap.name).entries at (step + 1) next g in
-      rw same (ok_both (Reduces (standing s (EntryOf cap.name at))) (P (EntryOf cap.name at)) (obtained cap.rights (standing s (EntryOf cap.name at)) step) (obtained_reduces cap.rights (standing s (EntryOf cap.name at)) step) (hops place cap at step (allowed_is cap.rights LOAD step u h) p))))
+      rw same (ok_both (Reduces (standing s (EntryOf cap.name at))) (P (EntryOf cap.name at)) (obtained cap.rights (standing s (EntryOf cap.name at)) step)
+      (obtained_reduces cap.rights (standing s (EntryOf cap.name at)) step) (hops place cap at step (allowed_is cap.rights LOAD step u h) p))))
 
   walk_on_keeps : (place : Place) (entry : Entry) (path : List ℕ) (step : ℕ) → Arrives place entry → IfOk (walk_on s entry path step) (Arrives (end_from s place path))
   walk_on_keeps place entry [] step h = h
@@ -77,7 +78,8 @@ module _ (s : State) (P : Place → Entry → Type 0) (hops : HopLaw s P) where
 pub walk_reduces : (s : State) (inc : Inc) (path : List ℕ) (x : Entry) → walk s inc path ≡ Ok x → Reduces (standing s (walk_end s inc path)) x
 walk_reduces s inc [] x e = absurd (cc)
 walk_reduces s inc (at ∷ rest) x e =
-    (walk_keeps s (λ p y. Unit {0}) (λ place cap at step load u. ok_each (λ y. Unit {0}) (obtained cap.rights (standing s (EntryOf cap.name at)) step) (λ y. tt)) inc at rest x tt e).0
+    (walk_keeps s (λ p y. Unit {0}) (λ place cap at step load u. ok_each (λ y. Unit {0}) (obtained cap.rights (standing s (EntryOf cap.name at)) step)
+    (λ y. tt)) inc at rest x tt e).0
 
 -- the capability that a path leads to names the object that the path names
 pub leads_named : (s : State) (inc : Inc) (path : List ℕ) (cap : Cap) → LeadsTo s inc path cap → named_by s inc path ≡ cap.name
@@ -93,7 +95,8 @@ pub record IsTarget (s : State) (inc : Inc) (path : List ℕ) (types : Name → 
 target_each : (s : State) (inc : Inc) (path : List ℕ) (types : Name → Bool) (rights : ℕ) → IfOk (target s inc path types rights) (IsTarget s inc path types rights)
 target_each s inc path types rights =
     then_is (IsTarget s inc path types rights) (walk s inc path)
-    (λ entry. held entry (last_step path) >>= (λ cap. unless (types (object s cap.name).of) (refused.WrongType (last_step path)) >> (allowed cap.rights rights (last_step path) >> Ok cap))) (λ entry h.
+    (λ entry. held entry (last_step path) >>= (λ cap. unless (types (object s cap.name).of) (refused.WrongType (last_step path)) >>
+    (allowed cap.rights rights (last_step path) >> Ok cap))) (λ entry h.
     then_is (IsTarget s inc path types rights) (held entry (last_step path))
     (λ cap. unless (types (object s cap.name).of) (refused.WrongType (last_step path)) >> (allowed cap.rights rights (last_step path) >> Ok cap)) (λ cap g.
     and_is (IsTarget s inc path types rights) (unless (types (object s cap.name).of) (refused.WrongType (last_step path))) (allowed cap.rights rights (last_step path) >> Ok cap)
@@ -116,7 +119,8 @@ pub copied_reduces : (by : ℕ) (e : Entry) → Reduces e (copied by e)
 copied_reduces by Empty = tt
 copied_reduces by (Form t) = on_cond (Reduces (Form t)) (has by env_right) (Form t) Empty (λ h. refl) (λ h. tt)
 copied_reduces by (Held c) =
-    on_cond (Reduces (Held c)) (has (reduced_rights by c.rights) env_right) (Held (record c { rights = reduced_rights by c.rights })) Empty (λ h. (refl, Within-reduced by c.rights)) (λ h. tt)
+    on_cond (Reduces (Held c)) (has (reduced_rights by c.rights) env_right) (Held (record c { rights = reduced_rights by c.rights })) Empty
+    (λ h. (refl, Within-reduced by c.rights)) (λ h. tt)
 
 pub inherited_reduces : (confined : Bool) (e : Entry) → Reduces e (inherited confined e)
 inherited_reduces true Empty = tt

@@ -4,7 +4,7 @@ mod ItemByItem
 mod Items
 mod Joined
 mod Names
-mod Pieces
+pub mod Pieces
 mod Places
 mod Registers
 mod StepByStep

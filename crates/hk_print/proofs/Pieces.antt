@@ -7,7 +7,7 @@ use Rattle.hk_format.specs.declared.syntax.Head.TheVariants.{ObjectIs, Procedure
 use Rattle.hk_format.specs.Texts.{spell_line}
 use Rattle.hk_format.specs.Spelling.{head_pieces, body_pieces}
 use Rattle.hk_format.proofs.LineAgain.{same_is}
-use Rattle.hk_print.specs.ItemTexts.{line_text}
+use Rattle.hk_print.specs.ItemTexts.{pieces_line}
 use Rattle.hk_model.specs.Labels.{is_word, same_text}
 use Rattle.hk_format.specs.Pieces.{Word, Upper, Dash, spell}
 use Rattle.hk_format.specs.Operands.{type_piece, rights_piece}
@@ -42,11 +42,11 @@ param_text kind check give = rw (spelled_type kind, spelled_rights check, spelle
 
 -- the lines of heads
 
-pub object_spelled : (name of : List ℕ) → line_text (head_pieces (ObjectIs name of)) ≡ codes "object " ++ (name ++ 32 ∷ (of ++ 10 ∷ []))
+pub object_spelled : (name of : List ℕ) → pieces_line (head_pieces (ObjectIs name of)) ≡ codes "object " ++ (name ++ 32 ∷ (of ++ 10 ∷ []))
 object_spelled name of = rw (spelled_type of) (ap (λ (t : List ℕ). codes "object " ++ t) (append_assoc name (32 ∷ of) (10 ∷ [])))
 
-pub procedure_spelled : (name code : List ℕ) → line_text (head_pieces (ProcedureIs name code)) ≡ codes "procedure " ++ (name ++ 32 ∷ (code ++ 10 ∷ []))
+pub procedure_spelled : (name code : List ℕ) → pieces_line (head_pieces (ProcedureIs name code)) ≡ codes "procedure " ++ (name ++ 32 ∷ (code ++ 10 ∷ []))
 procedure_spelled name code = ap (λ (t : List ℕ). codes "procedure " ++ t) (append_assoc name (32 ∷ code) (10 ∷ []))
 
-pub process_spelled : (name code : List ℕ) → line_text (head_pieces (ProcessIs name code)) ≡ codes "process " ++ (name ++ 32 ∷ (code ++ 10 ∷ []))
+pub process_spelled : (name code : List ℕ) → pieces_line (head_pieces (ProcessIs name code)) ≡ codes "process " ++ (name ++ 32 ∷ (code ++ 10 ∷ []))
 process_spelled name code = ap (λ (t : List ℕ). codes "process " ++ t) (append_assoc name (32 ∷ code) (10 ∷ []))

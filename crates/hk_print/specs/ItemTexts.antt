@@ -13,12 +13,12 @@ use Rattle.hk_format.specs.Names.{Names, object_text}
 use Rattle.hk_format.specs.EntryTexts.{entry_text, param_text}
 
 -- a line of these pieces
-abbrev pub line_text : List Piece → List ℕ
-line_text pieces = ended_line (spell_line pieces)
+abbrev pub pieces_line : List Piece → List ℕ
+pieces_line pieces = ended_line (spell_line pieces)
 
 -- a line inside an item
 abbrev pub body_text : Body → List ℕ
-body_text body = line_text (body_pieces body)
+body_text body = pieces_line (body_pieces body)
 
 -- lines inside an item
 abbrev pub parts_text : List Part → List ℕ

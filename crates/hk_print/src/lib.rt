@@ -22,6 +22,6 @@ pub use again::canonical_is_read_again;
 pub use entries::{write_entry, write_param};
 pub use instructions::instr_text;
 pub use operands::{operand_text, register_text, route_text};
-pub use rights::rights_text;
+pub use rights::{RIGHT_NUMBERS, right_of, rights_text};
 pub use script::script_text;
 pub use spellers::{ByNumber, Speller};

@@ -78,7 +78,8 @@ amount_halted p r (e ∷ es) h = by (e.1.proc.0 == r) refl (amount_halted p r es
     of_it q p r e h g = let a : q ≡ r = grind (arith, nat_tests, e) in h (omega arith)
 
     by : (b : Bool) → (e.1.proc.0 == r) ≡ b → amount p es ≤ amount p (filter (λ (x : Inc × Activation). not (x.1.proc.0 == r)) es)
-        → amount p (e ∷ es) ≤ amount p (cond (not b) (e ∷ filter (λ (x : Inc × Activation). not (x.1.proc.0 == r)) es) (filter (λ (x : Inc × Activation). not (x.1.proc.0 == r)) es))
+        → amount p (e ∷ es) ≤ amount p (cond (not b) (e ∷ filter (λ (x : Inc × Activation). not (x.1.proc.0 == r)) es)
+        (filter (λ (x : Inc × Activation). not (x.1.proc.0 == r)) es))
     by true g a = let same = not_counted e.1.proc.0 p (amount p es) (of_it e.1.proc.0 p r g h) in omega (arith, same, a)
     by false g a =
         let more = counted_too (e.1.proc.0 == p) (amount p es) (amount p (filter (λ (x : Inc × Activation). not (x.1.proc.0 == r)) es)) 0 (omega (arith, a)) in omega (arith, more)
@@ -109,10 +110,12 @@ module _ (s : State) (line : Line) (t : State) (sound : Sound s) where
   pub still_stands : Turn s line t → done_call line ≢ None → leaves_call (done_call line) ≡ false → depth s line.proc ≤ depth t line.proc
   still_stands (Still q e) some h = let a = of_lists line.proc.0 0 (rw q.activations (omega arith)) in omega (arith, a)
   still_stands (Enter e) some h =
-      let a = of_lists line.proc.0 0 (rw (e.activations, amount_added line.proc.0 (activations_in s.incarnations) s.next_inc (record { proc = line.proc; caller = Some line.inc })) (more (line.proc.0 == line.proc.0))) in omega (arith, a)
+      let a = of_lists line.proc.0 0 (rw (e.activations, amount_added line.proc.0 (activations_in s.incarnations) s.next_inc (record { proc = line.proc; caller = Some line.inc }))
+      (more (line.proc.0 == line.proc.0))) in omega (arith, a)
     where
       more : (b : Bool)
-          → amount line.proc.0 (activations_in s.incarnations) ≤ cond b (1 + amount line.proc.0 (activations_in s.incarnations)) (amount line.proc.0 (activations_in s.incarnations)) + 0
+          → amount line.proc.0 (activations_in s.incarnations) ≤ cond b (1 + amount line.proc.0 (activations_in s.incarnations))
+          (amount line.proc.0 (activations_in s.incarnations)) + 0
       more true = omega arith
       more false = omega arith
   still_stands (Leave e) some h = absurd (true≢false (sym e.leaves ∙ h))

@@ -190,7 +190,8 @@ enter_code s codes proc inc path args into =
     let leaf = code_there s codes inc path in
     search (then_is, and_is, leaf) depth 12
 
-module _ (w : WorldValue) (m : Machine) (cpu : Cpu) (proc : Proc) (frames : Context) (kept : Kept w m) (currents : CurrentsCallNone m.state) (codes : ProceduresHaveCodes m.state) (full : IsFull m)
+module _ (w : WorldValue) (m : Machine) (cpu : Cpu) (proc : Proc) (frames : Context) (kept : Kept w m) (currents : CurrentsCallNone m.state)
+    (codes : ProceduresHaveCodes m.state) (full : IsFull m)
     (runs : runner m.state cpu ≡ Some proc) (some : 1 ≤ length (context_of m proc)) (many : length frames ≡ length (context_of m proc)) where
   abbrev s : State
   s = m.state
@@ -243,7 +244,8 @@ module _ (w : WorldValue) (m : Machine) (cpu : Cpu) (proc : Proc) (frames : Cont
       let more = one_more s (call_line (call.Enter path args into) (answered f.0)) (settled s (Ok f)).1 turn enters in
       let longer = after_entered w frames (call.Enter path args into) Done (code_found s (walk s inc path)) (omega (arith, some, many)) code in
       let few = old in
-      let same : length (after w frames (call.Enter path args into) (answered f.0) (entered_code s inc (call.Enter path args into) (answered f.0))) ≡ length (after w frames (call.Enter path args into) Done (code_found s (walk s inc path))) =
+      let same : length (after w frames (call.Enter path args into) (answered f.0) (entered_code s inc (call.Enter path args into) (answered f.0))) ≡ length
+      (after w frames (call.Enter path args into) Done (code_found s (walk s inc path))) =
       ap (λ (a : Answer). length (after w frames (call.Enter path args into) (answered a) (entered_code s inc (call.Enter path args into) (answered a)))) by.done in
       omega (arith, more, longer, few, same)
 
@@ -313,8 +315,10 @@ base_full q n (t ∷ ts) h = by (n == q) refl (base_full q (n + 1) ts)
     there_is e = grind (arith, nat_tests, e, h)
 
     by : (b : Bool) → (n == q) ≡ b
-        → (n + 1 ≤ q → amount q (activations_in (bases (n + 1) ts)) ≤ length (unwrap_or (slice_get (map (λ (t : Task). let frames : Context = new_frame t.code ∷ [] in frames) ts) (q - (n + 1))) []))
-        → cond b (1 + amount q (activations_in (bases (n + 1) ts))) (amount q (activations_in (bases (n + 1) ts))) ≤ length (unwrap_or (slice_get (map (λ (t : Task). let frames : Context = new_frame t.code ∷ [] in frames) (t ∷ ts)) (q - n)) [])
+        → (n + 1 ≤ q → amount q (activations_in (bases (n + 1) ts)) ≤ length
+        (unwrap_or (slice_get (map (λ (t : Task). let frames : Context = new_frame t.code ∷ [] in frames) ts) (q - (n + 1))) []))
+        → cond b (1 + amount q (activations_in (bases (n + 1) ts))) (amount q (activations_in (bases (n + 1) ts))) ≤ length
+        (unwrap_or (slice_get (map (λ (t : Task). let frames : Context = new_frame t.code ∷ [] in frames) (t ∷ ts)) (q - n)) [])
     by true e later =
         let same = here e in
         let zero_is : q - n ≡ 0 = omega (arith, same) in

@@ -9,7 +9,7 @@ use Rattle.hk_model.specs.declared.instructions.Route.{Route}
 use Rattle.hk_format.specs.declared.syntax.Verb.{Verb}
 use Rattle.hk_model.specs.Labels.{same_text}
 use Rattle.hk_format.specs.Pieces as piece
-use Rattle.hk_format.specs.Pieces.{index_of, path_of, is_path, is_too_large, is_piece}
+use Rattle.hk_format.specs.Pieces.{index_of, pointed_of, is_path, is_too_large, is_piece}
 use Rattle.hk_format.specs.Reading.{wanted, taken}
 use Rattle.hk_format.specs.Verbs.{verb_word, all_verbs}
 use Rattle.hk_format.specs.Forms.{as_verb, verb_found, as_route}
@@ -37,7 +37,7 @@ reads_taken (Err (line_error.Bad cause)) left given h = rw h
 reads_taken (Err line_error.NoMemory) left given h = tt
 
 -- a path that some text spells was read from its texts
-path_spelled : (ts : List (List ℕ)) → is_piece (path_read (path_of ts)) ≡ true → path_of ts ≡ Ok (piece.Path (map index_of ts))
+path_spelled : (ts : List (List ℕ)) → is_piece (path_read (pointed_of ts)) ≡ true → pointed_of ts ≡ Ok (piece.Path (map index_of ts))
 path_spelled ts h = go (is_path ts) (list_any is_too_large ts) h
   where
     go : (path large : Bool) → is_piece (path_read (cond (not path) (Err BadToken) (cond large (Err NumberTooLarge) (Ok (piece.Path (map index_of ts)))))) ≡ true

@@ -76,9 +76,8 @@ instruction_good verb.Merge =
 instruction_good verb.Copy = on_route _ (λ of a. takes IsSlot IsWritten _ _ slot_forms (λ into b. ends (written.Copy of into) (a, b)))
 instruction_good verb.Call =
     on_route _ (λ proc a. takes (IsBelow slot_limit) IsWritten _ _ (number_below_forms slot_limit)
-    (λ first b. bind_good (AtMost argument_limit (IsBelow slot_limit)) IsWritten _ _
-    (at_most_good argument_limit (IsBelow slot_limit) (as_number_below slot_limit) (number_below_forms slot_limit))
-    (λ more c. ends (written.Enter proc (before_last first more) (slot_numbered (last_of first more))) (call_good proc first more a b c))))
+    (λ first b. bind_good (AtMost argument_limit (IsBelow slot_limit)) IsWritten _ _ (at_most_good argument_limit (IsBelow slot_limit) (as_number_below slot_limit)
+    (number_below_forms slot_limit)) (λ more c. ends (written.Enter proc (before_last first more) (slot_numbered (last_of first more))) (call_good proc first more a b c))))
 instruction_good verb.Return = bind_good (IfSome IsSlot) IsWritten _ _ (optional_good IsSlot as_slot slot_forms) (λ give a. ends (written.Leave give) (leave_good give a))
 instruction_good verb.P = on_route _ (λ of a. ends (written.P of) a)
 instruction_good verb.V = on_route _ (λ of a. ends (written.V of) a)

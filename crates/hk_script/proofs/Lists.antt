@@ -93,8 +93,8 @@ slots_turn proc done into room next [] left h = cc
 slots_turn proc done into room next (p ∷ ps) left h = rw (slot_number p ps left next h, left_behind (as_slot p) ps next left h) (go (at_most room (as_number_below slot_limit) ps))
   where
     go : (r : Found (List ℕ))
-        → onward (onward r (λ xs rest. Ok (next.0 ∷ xs, rest))) (λ more. end (written.Enter proc (done ++ before_last into more) (slot_numbered (last_of into more)))) ≡ onward r
-        (λ more. end (written.Enter proc ((done ++ into ∷ []) ++ before_last next.0 more) (slot_numbered (last_of next.0 more))))
+        → onward (onward r (λ xs rest. Ok (next.0 ∷ xs, rest))) (λ more. end (written.Enter proc (done ++ before_last into more) (slot_numbered (last_of into more))))
+        ≡ onward r (λ more. end (written.Enter proc ((done ++ into ∷ []) ++ before_last next.0 more) (slot_numbered (last_of next.0 more))))
     go (Ok x) = ap (λ (args : List ℕ). end (written.Enter proc args (slot_numbered (last_of next.0 x.0))) x.1) (sym (append_assoc done (into ∷ []) (before_last next.0 x.0)))
     go (Err cause) = refl
 

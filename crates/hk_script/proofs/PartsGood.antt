@@ -40,8 +40,8 @@ entry_good P fits verb.Empty = end_good P EmptyEntry (fits EmptyEntry tt)
 entry_good P fits verb.Cap =
     takes IsTypeText P _ _ type_forms (λ object a. takes IsRightsText P _ _ rights_forms (λ rights b. end_good P (CapEntry object rights) (fits (CapEntry object rights) (a, b))))
 entry_good P fits verb.Amplify =
-    takes IsTypeText P _ _ type_forms (λ kind a. takes IsRightsText P _ _ rights_forms
-    (λ check b. takes IsRightsText P _ _ rights_forms (λ give c. end_good P (AmplifyEntry kind check give) (fits (AmplifyEntry kind check give) (a, b, c)))))
+    takes IsTypeText P _ _ type_forms (λ kind a. takes IsRightsText P _ _ rights_forms (λ check b. takes IsRightsText P _ _ rights_forms
+    (λ give c. end_good P (AmplifyEntry kind check give) (fits (AmplifyEntry kind check give) (a, b, c)))))
 entry_good P fits verb.Create =
     takes IsTypeText P _ _ type_forms (λ of a. takes IsRightsText P _ _ rights_forms (λ give b. end_good P (CreateEntry of give) (fits (CreateEntry of give) (a, b))))
 entry_good P fits _ = unknown_good P
@@ -62,16 +62,15 @@ of_procedure name code _ h = absurd h
 
 object_good : (name of : List ℕ) (v : Verb) → Good (Belongs (ObjectIs name of)) (object_part v)
 object_good name of verb.Words =
-    takes IsWord32 (Belongs (ObjectIs name of)) _ _ number_forms
-    (λ first a. bind_good (AllByRecursion IsWord32) (Belongs (ObjectIs name of)) _ _ (each_good IsWord32 as_number number_forms)
-    (λ more b. end_good (Belongs (ObjectIs name of)) (WordsAre (first ∷ more)) (a, b)))
+    takes IsWord32 (Belongs (ObjectIs name of)) _ _ number_forms (λ first a. bind_good (AllByRecursion IsWord32) (Belongs (ObjectIs name of)) _ _
+    (each_good IsWord32 as_number number_forms) (λ more b. end_good (Belongs (ObjectIs name of)) (WordsAre (first ∷ more)) (a, b)))
 object_good name of v = entry_good (Belongs (ObjectIs name of)) (of_object name of) v
 
 procedure_good : (name code : List ℕ) (v : Verb) → Good (Belongs (ProcedureIs name code)) (procedure_part v)
 procedure_good name code verb.Param =
-    takes IsTypeText (Belongs (ProcedureIs name code)) _ _ type_forms
-    (λ kind a. takes IsRightsText (Belongs (ProcedureIs name code)) _ _ rights_forms
-    (λ check b. takes IsRightsText (Belongs (ProcedureIs name code)) _ _ rights_forms (λ give c. end_good (Belongs (ProcedureIs name code)) (ParamIs kind check give) (a, b, c))))
+    takes IsTypeText (Belongs (ProcedureIs name code)) _ _ type_forms (λ kind a. takes IsRightsText (Belongs (ProcedureIs name code)) _ _ rights_forms
+    (λ check b. takes IsRightsText (Belongs (ProcedureIs name code)) _ _ rights_forms (λ give c. end_good (Belongs (ProcedureIs name code)) (ParamIs kind check give)
+    (a, b, c))))
 procedure_good name code v = entry_good (Belongs (ProcedureIs name code)) (of_procedure name code) v
 
 step_good : (name : List ℕ) (r : Reads Written) → Good IsWritten r → Good (Belongs (CodeIs name)) (step_part r)

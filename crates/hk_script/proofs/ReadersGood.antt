@@ -89,8 +89,8 @@ optional_good {A} P form good (p ∷ ps) k = go (wanted form (p ∷ ps)) (wanted
 pub each_good : {A : Type 0} (P : A → Type 0) (form : Piece → Result A ParseCause) → Forms P form → Good (AllByRecursion P) (each form)
 unfolding Good
 each_good P form good [] k = (tt, refl)
-each_good {A} P form good (p ∷ ps) k =
-    go (wanted form (p ∷ ps)) (each form ps) (wanted_good P form good (p ∷ ps) k) (each_good P form good ps (and_parts (is_piece p) (list_all is_piece ps) k).1)
+each_good {A} P form good (p ∷ ps) k = go (wanted form (p ∷ ps)) (each form ps) (wanted_good P form good (p ∷ ps) k)
+    (each_good P form good ps (and_parts (is_piece p) (list_all is_piece ps) k).1)
   where
     later : (x : A) (more : Found (List A)) → P x → Has (AllByRecursion P) more → Has (AllByRecursion P) (onward more (λ xs end. Ok (x ∷ xs, end)))
     later x (Ok xs) h m = ((h, m.0), m.1)
@@ -113,8 +113,8 @@ at_most_good {A} zero P form good (p ∷ ps) k = go (wanted form (p ∷ ps))
     go : (found : Found A) → Has (AtMost zero P) (onward found (λ x rest. Err OutOfRange))
     go (Ok x) = tt
     go (Err cause) = tt
-at_most_good {A} (suc room) P form good (p ∷ ps) k =
-    go (wanted form (p ∷ ps)) (at_most room form ps) (wanted_good P form good (p ∷ ps) k) (at_most_good room P form good ps (and_parts (is_piece p) (list_all is_piece ps) k).1)
+at_most_good {A} (suc room) P form good (p ∷ ps) k = go (wanted form (p ∷ ps)) (at_most room form ps) (wanted_good P form good (p ∷ ps) k)
+    (at_most_good room P form good ps (and_parts (is_piece p) (list_all is_piece ps) k).1)
   where
     later : (x : A) (more : Found (List A)) → P x → Has (AtMost room P) more → Has (AtMost (suc room) P) (onward more (λ xs end. Ok (x ∷ xs, end)))
     later x (Ok xs) h m = ((omega (arith, m.0.0), (h, m.0.1)), m.1)

@@ -18,7 +18,7 @@ use Rattle.hk_format.specs.declared.causes.ParseCause.TheVariants.{OutOfRange}
 use Rattle.hk_model.specs.declared.instructions.Index.{Index}
 use Rattle.hk_model.specs.declared.instructions.Route.{Route}
 use Rattle.hk_model.specs.Limits.{slot_limit, index_bound}
-use Rattle.hk_format.specs.Pieces.{Piece, Path, index_of, path_of, is_path, is_index_text, is_too_large}
+use Rattle.hk_format.specs.Pieces.{Piece, Path, index_of, pointed_of, is_path, is_index_text, is_too_large}
 use Rattle.hk_format.specs.Forms.{as_route, is_index_below, route_of}
 
 route_rest : (done is : List Index) → route_on done index_bound is ≡ cond (list_all (is_index_below index_bound) is) (Ok (route_of (done ++ is))) (Err OutOfRange)
@@ -26,8 +26,8 @@ route_rest done [] = rw append-nil
 route_rest done (i ∷ is) = go (is_index_below index_bound i) (route_rest (done ++ i ∷ []) is)
   where
     go : (b : Bool) → route_on (done ++ i ∷ []) index_bound is ≡ cond (list_all (is_index_below index_bound) is) (Ok (route_of ((done ++ i ∷ []) ++ is))) (Err OutOfRange)
-        → cond b (route_on (done ++ i ∷ []) index_bound is) (Err OutOfRange) ≡ cond (b && list_all (is_index_below index_bound) is)
-        (Ok (route_of (done ++ i ∷ is))) (Err OutOfRange)
+        → cond b (route_on (done ++ i ∷ []) index_bound is) (Err OutOfRange) ≡ cond (b && list_all (is_index_below index_bound) is) (Ok (route_of (done ++ i ∷ is)))
+        (Err OutOfRange)
     go true h = rw append_assoc at h
     go false h = refl
 
@@ -53,7 +53,7 @@ other_indices t ts h =
     record { indices = parts.1; small = grind arith }
 
 -- what a path was read from
-pub indices_of : (ts : List (List ℕ)) (path : Piece) → path_of ts ≡ Ok path → AreIndices ts
+pub indices_of : (ts : List (List ℕ)) (path : Piece) → pointed_of ts ≡ Ok path → AreIndices ts
 indices_of ts path h = go (is_path ts) (list_any is_too_large ts) refl refl h
   where
     go : (path_good large : Bool) → is_path ts ≡ path_good → list_any is_too_large ts ≡ large
@@ -77,9 +77,8 @@ cut_more text len place more =
 -- all texts of a path
 pub route_cut : (text : List ℕ) → route_on [] slot_limit (map index_of (cut_points text)) ≡ as_route (Path (map index_of (cut_points text)))
 route_cut text =
-    rw (cut_turn (λ b. eqb b 46) text) (route_whole (map index_of
-    (cond (ltb (position_or_len (λ b. eqb b 46) text) (length text)) (cut_points (drop (position_or_len (λ b. eqb b 46) text + 1) text)) []))
-    (index_of (take (position_or_len (λ b. eqb b 46) text) text)))
+    rw (cut_turn (λ b. eqb b 46) text) (route_whole (map index_of (cond (ltb (position_or_len (λ b. eqb b 46) text) (length text))
+    (cut_points (drop (position_or_len (λ b. eqb b 46) text + 1) text)) [])) (index_of (take (position_or_len (λ b. eqb b 46) text) text)))
 
 -- an index in its range, before others
 pub route_turn : (done : List Index) (bound : ℕ) (i j : Index) (is : List Index) → index_in bound i ≡ Ok j → route_on done bound (i ∷ is) ≡ route_on (done ++ j ∷ []) index_bound is
@@ -114,8 +113,8 @@ others_after text len more =
     let size = length-drop len text in
     let size-1 = length-drop 1 (drop len text) in
     let whole : take (length text - len) (drop len text) ≡ drop len text = take_all (length text - len) (drop len text) (omega arith) in
-    let others : take (length (drop len text) - 1) (drop 1 (drop len text)) ≡ drop 1 (drop len text) = take_all (length (drop len text) - 1)
-    (drop 1 (drop len text)) (omega arith) in
+    let others : take (length (drop len text) - 1) (drop 1 (drop len text)) ≡ drop 1 (drop len text) =
+    take_all (length (drop len text) - 1) (drop 1 (drop len text)) (omega arith) in
     rw (whole, others) (drop-drop 1 len text)
 
 -- the texts behind the first point

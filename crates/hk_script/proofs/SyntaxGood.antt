@@ -13,7 +13,7 @@ use Rattle.hk_format.specs.declared.syntax.Item.{Item}
 use Rattle.hk_format.specs.Pieces.{Piece, is_piece}
 use Rattle.hk_format.specs.Texts.{Lines, text}
 use Rattle.hk_format.specs.Reading.{Found}
-use Rattle.hk_format.specs.Grammar.{Seen, nothing_seen, is_new, noted, is_new_label, noted_label, Open, Read, item_at, part_at, between_items, placed_head, begun, with_part}
+use Rattle.hk_format.specs.Grammar.{GivenNames, nothing_seen, is_new, noted, is_new_label, noted_label, Open, Read, item_at, part_at, between_items, placed_head, begun, with_part}
 use Rattle.hk_format.specs.Grammar.{joined, and_then, next_line, after_line, Refused, closed, go_on, items_from, header, after_header, script, head_line, part_line}
 use Rattle.hk_format.specs.Spelling.{has_parts}
 use Rattle.hk_format.specs.Syntax.{IsHead, Belongs, AreParts, AreItems, IsSyntax}
@@ -29,7 +29,7 @@ all_labels labels [] = labels
 all_labels labels (p ∷ ps) = all_labels (noted_label labels p.body) ps
 
 -- what these items give, behind others
-abbrev all_noted : Seen → List Item → Seen
+abbrev all_noted : GivenNames → List Item → GivenNames
 all_noted seen [] = seen
 all_noted seen (i ∷ is) = all_noted (noted seen i.head) is
 
@@ -46,23 +46,23 @@ labels_added labels (p ∷ ps) line body = labels_added (noted_label labels p.bo
 
 -- one item more
 
-item_added : (seen : Seen) (is : List Item) (line : ℕ) (head : Head) → AreItems seen is → IsHead head → is_new (all_noted seen is) head ≡ true
+item_added : (seen : GivenNames) (is : List Item) (line : ℕ) (head : Head) → AreItems seen is → IsHead head → is_new (all_noted seen is) head ≡ true
     → AreItems seen (is ++ item_at line head [] ∷ [])
 item_added seen [] line head h k m = (k, m, tt, tt)
 item_added seen (i ∷ is) line head h k m = (h.0, h.1, h.2, item_added (noted seen i.head) is line head h.3 k m)
 
-noted_added : (seen : Seen) (is : List Item) (i : Item) → all_noted seen (is ++ i ∷ []) ≡ noted (all_noted seen is) i.head
+noted_added : (seen : GivenNames) (is : List Item) (i : Item) → all_noted seen (is ++ i ∷ []) ≡ noted (all_noted seen is) i.head
 noted_added seen [] i = refl
 noted_added seen (j ∷ is) i = noted_added (noted seen j.head) is i
 
 -- the last item has one part more
-item_longer : (seen : Seen) (is : List Item) (o : Item) (line : ℕ) (body : Body) → AreItems seen (is ++ o ∷ []) → Belongs o.head body
+item_longer : (seen : GivenNames) (is : List Item) (o : Item) (line : ℕ) (body : Body) → AreItems seen (is ++ o ∷ []) → Belongs o.head body
     → is_new_label (all_labels [] o.parts) body ≡ true → AreItems seen (is ++ with_part o line body ∷ [])
 item_longer seen [] o line body h k m = (h.0, h.1, part_added o.head [] o.parts line body h.2 k m, tt)
 item_longer seen (i ∷ is) o line body h k m = (h.0, h.1, h.2, item_longer (noted seen i.head) is o line body h.3 k m)
 
 -- what was read up to some line: the open item counts as far as it is read
-abbrev Reached : List Item → Seen → Option Open → Type 0
+abbrev Reached : List Item → GivenNames → Option Open → Type 0
 Reached items seen None = IsSyntax items × (seen ≡ all_noted nothing_seen items)
 Reached items seen (Some o) = IsSyntax (items ++ o.item ∷ []) × (seen ≡ all_noted nothing_seen (items ++ o.item ∷ [])) × (o.labels ≡ all_labels [] o.item.parts)
 
@@ -70,7 +70,7 @@ abbrev ReadGood : Read → Type 0
 ReadGood r = Reached r.items r.seen r.unclosed
 
 -- a head begins an item
-head_placed : (items : List Item) (seen : Seen) (unclosed : Option Open) (line : ℕ) (head : Head) → Reached items seen None → IsHead head → is_new seen head ≡ true
+head_placed : (items : List Item) (seen : GivenNames) (unclosed : Option Open) (line : ℕ) (head : Head) → Reached items seen None → IsHead head → is_new seen head ≡ true
     → ReadGood (placed_head (record { items = items; seen = seen; unclosed = unclosed }) line head)
 head_placed items seen unclosed line head h k m = go (has_parts head)
   where
@@ -102,13 +102,13 @@ part_joined r o line (Some body) h k = go (is_new_label o.labels body) refl
         → IfOk (cond (not b) (Err Repeated) (Ok (record {
           items = r.items;
           seen = r.seen;
-          unclosed = Some
-              (record { item = with_part o.item line body; labels = noted_label o.labels body });
+          unclosed =
+              Some (record { item = with_part o.item line body; labels = noted_label o.labels body });
         }))) ReadGood
     go true e = (
       item_longer nothing_seen r.items o.item line body h.0 k (rw h.2 at e),
-      h.1
-          ∙ (noted_added nothing_seen r.items o.item ∙ sym (noted_added nothing_seen r.items (with_part o.item line body))),
+      h.1 ∙ (noted_added nothing_seen r.items o.item
+          ∙ sym (noted_added nothing_seen r.items (with_part o.item line body))),
       rw (labels_added [] o.item.parts line body, ← h.2),
     )
     go false e = tt
@@ -126,7 +126,7 @@ line_good r None line ps h k = then_good IsHead (head_line ps) (begun r line) (h
 line_good r (Some o) line ps h k =
     then_good (IfSome (Belongs o.item.head)) (part_line o.item.head ps) (joined r o line) (part_good o.item.head ps k) (λ found a. part_joined r o line found h a)
 
-closed_good : (items : List Item) (seen : Seen) (unclosed : Option Open) → Reached items seen unclosed → IfOk (closed items unclosed) IsSyntax
+closed_good : (items : List Item) (seen : GivenNames) (unclosed : Option Open) → Reached items seen unclosed → IfOk (closed items unclosed) IsSyntax
 closed_good items seen None h = h.0
 closed_good items seen (Some o) h = tt
 
@@ -148,8 +148,8 @@ header_good line (Err cause) rest h = tt
 script_lines_good : (ls : Lines) → list_all is_good ls ≡ true → IfOk (script ls) IsSyntax
 script_lines_good [] h = tt
 script_lines_good (l ∷ ls) h =
-    header_good l.0 (header l.1) (items_from ls (between_items [] nothing_seen))
-    (lines_good ls (between_items [] nothing_seen) (and_parts (is_good l) (list_all is_good ls) h).1 (tt, refl))
+    header_good l.0 (header l.1) (items_from ls (between_items [] nothing_seen)) (lines_good ls (between_items [] nothing_seen) (and_parts (is_good l) (list_all is_good ls) h).1
+    (tt, refl))
 
 -- the items of a text are a syntax
 pub script_good : (source : List ℕ) (ls : Lines) (items : List Item) → text source ≡ Ok ls → script ls ≡ Ok items → IsSyntax items

@@ -1,5 +1,5 @@
 -- Numbers without leading zeros: as `parse` reads them and as `{}` writes them.
-use Rattle.std.proofs.Common.{◌≡◌, ℕ, zero, suc, ◌<◌, ◌^◌, Bool, true, false, cond, eqb, ltb, List, [], ◌∷◌, refl, ap, subst, arith, ◌&&◌, get_or, Option, Some, None, Err}
+use Rattle.std.proofs.Common.{◌≡◌, ℕ, zero, suc, ◌<◌, ◌^◌, Bool, true, false, cond, eqb, ltb, List, [], ◌∷◌, refl, subst, arith, ◌&&◌, get_or, Some, None, Err}
 use Rattle.std.specs.List.{list_all}
 use Rattle.std.specs.Str.Parse.{ParsesUnsigned, without_leading_plus}
 use Rattle.std.specs.Fmt.{decimal}

@@ -10,7 +10,7 @@ use Rattle.hk_format.specs.declared.causes.TextCause.TheVariants.{BadToken, Numb
 use Rattle.hk_model.specs.declared.instructions.Index.TheVariants.{Fixed, ByReg}
 use Rattle.hk_model.specs.Labels.{between, is_digit, is_lower, is_capital, is_word, is_register, first}
 use Rattle.hk_format.specs.Pieces.{Piece, Word, Upper, Dash, Number, Path, is_upper, is_dash, is_number, value, is_index_text, is_too_large, register_of, index_of, is_path}
-use Rattle.hk_format.specs.Pieces.{path_of, number_of, formed, plain_of, piece_of, is_piece, is_index}
+use Rattle.hk_format.specs.Pieces.{pointed_of, number_of, formed, plain_of, piece_of, is_piece, is_index}
 use Rattle.hk_format.specs.Texts.{Lines, is_no_text, pieces_of, piece_onto, tokens, text_line, text_lines, text, lines_of, line_onto}
 
 -- the piece is spelled by some text, if there is one
@@ -85,7 +85,7 @@ indices_good (t ∷ ts) h k =
     let others : list_any is_too_large ts ≡ false = grind arith in
     and_from _ _ (index_good t parts.0 small) (indices_good ts parts.1 others)
 
-path_good : (ts : List (List ℕ)) → GoodPiece (path_of ts)
+path_good : (ts : List (List ℕ)) → GoodPiece (pointed_of ts)
 path_good ts = go (is_path ts) (list_any is_too_large ts) refl refl
   where
     go : (path large : Bool) → is_path ts ≡ path → list_any is_too_large ts ≡ large
@@ -98,7 +98,7 @@ path_good ts = go (is_path ts) (list_any is_too_large ts) refl refl
 
 pub piece_good : (t : List ℕ) → GoodPiece (piece_of t)
 unfolding piece_of
-piece_good t = chosen (list_any (λ b. b == 46) t) (path_of (slice_split (λ b. b == 46) t)) (plain_of t) (path_good (slice_split (λ b. b == 46) t)) (plain_good t)
+piece_good t = chosen (list_any (λ b. b == 46) t) (pointed_of (slice_split (λ b. b == 46) t)) (plain_of t) (path_good (slice_split (λ b. b == 46) t)) (plain_good t)
 
 pieces_good : (ts : List (List ℕ)) → GoodPieces (pieces_of ts)
 pieces_good [] = refl

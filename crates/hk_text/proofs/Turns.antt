@@ -59,8 +59,8 @@ texts_turn xs =
   where
     go : (some more : Bool) → ltb (position_or_len is_blank xs) (length xs) ≡ more
         → cond some (take (position_or_len is_blank xs) xs ∷ filter (λ t. not (is_none t)) (cond more (slice_split is_blank (drop (position_or_len is_blank xs + 1) xs)) []))
-        (filter (λ t. not (is_none t)) (cond more (slice_split is_blank (drop (position_or_len is_blank xs + 1) xs)) [])) ≡ cond some (take (position_or_len is_blank xs) xs ∷ [])
-        [] ++ texts_of (drop (position_or_len is_blank xs + 1) xs)
+        (filter (λ t. not (is_none t)) (cond more (slice_split is_blank (drop (position_or_len is_blank xs + 1) xs)) []))
+        ≡ cond some (take (position_or_len is_blank xs) xs ∷ []) [] ++ texts_of (drop (position_or_len is_blank xs + 1) xs)
     go true true e = refl
     go false true e = refl
     go true false e = let low = ltb-false _ _ e in rw (drop_all (position_or_len is_blank xs + 1) xs (omega arith))
@@ -144,13 +144,13 @@ turn_pushed source at end len pieces kind all order inside place some few read h
 pub lines_turn : (bs : List ℕ) → 0 < length bs → lines_of bs ≡ take (position_or_len (λ b. eqb b 10) bs) bs ∷ lines_of (drop (position_or_len (λ b. eqb b 10) bs + 1) bs)
 lines_turn [] h = absurd (omega arith)
 lines_turn (b ∷ bs) h =
-    ap without_last_empty (cut_turn (λ c. eqb c 10) (b ∷ bs)) ∙ go (ltb (position_or_len (λ c. eqb c 10) (b ∷ bs)) (length (b ∷ bs))) refl
-    (slice_split (λ c. eqb c 10) (drop (position_or_len (λ c. eqb c 10) (b ∷ bs) + 1) (b ∷ bs))) refl
+    ap without_last_empty (cut_turn (λ c. eqb c 10) (b ∷ bs))
+    ∙ go (ltb (position_or_len (λ c. eqb c 10) (b ∷ bs)) (length (b ∷ bs))) refl (slice_split (λ c. eqb c 10) (drop (position_or_len (λ c. eqb c 10) (b ∷ bs) + 1) (b ∷ bs))) refl
   where
     go : (more : Bool) → ltb (position_or_len (λ c. eqb c 10) (b ∷ bs)) (length (b ∷ bs)) ≡ more → (rest : List (List ℕ))
         → slice_split (λ c. eqb c 10) (drop (position_or_len (λ c. eqb c 10) (b ∷ bs) + 1) (b ∷ bs)) ≡ rest
-        → without_last_empty (take (position_or_len (λ c. eqb c 10) (b ∷ bs)) (b ∷ bs) ∷ cond more rest []) ≡ take (position_or_len (λ c. eqb c 10) (b ∷ bs)) (b ∷ bs)
-        ∷ without_last_empty rest
+        → without_last_empty (take (position_or_len (λ c. eqb c 10) (b ∷ bs)) (b ∷ bs) ∷ cond more rest [])
+        ≡ take (position_or_len (λ c. eqb c 10) (b ∷ bs)) (b ∷ bs) ∷ without_last_empty rest
     go true e [] k = absurd (let turn = cut_turn (λ c. eqb c 10) (drop (position_or_len (λ c. eqb c 10) (b ∷ bs) + 1) (b ∷ bs)) in cc)
     go true e (r ∷ rs) k = refl
     go false e rest k =

@@ -1,5 +1,6 @@
 -- A history that has come to its end goes no further: so workers that have seen an end leave a book that is closed.
-use Rattle.std.specs.Prelude.{◌≡◌, ◌||◌, not, ℕ, zero, suc, ◌+◌, ◌<◌, ◌≤◌, List, [], ◌∷◌, ◌++◌, length, Bool, true, false, Option, Some, None, All, nat_lt, option_map, is_some, refl, if◌then◌else◌}
+use Rattle.std.specs.Prelude.{◌≡◌, ◌||◌, not, ℕ, zero, suc, ◌+◌, ◌<◌, ◌≤◌, List, [], ◌∷◌, ◌++◌, length, Bool, true, false, Option, Some, None, All, nat_lt, option_map, is_some}
+use Rattle.std.specs.Prelude.{refl, if◌then◌else◌}
 use Rattle.std.specs.List.{list_any}
 use Rattle.std.proofs.Common.{arith, ap, sym, ◌∙◌, subst}
 use mathlib.Core.Logic.{inl, inr}
@@ -44,7 +45,8 @@ still_on : (cpu : Cpu) (ps : List Process) (n : ℕ) → AreStill ps → runner_
 still_on cpu [] n h = refl
 still_on cpu (p ∷ ps) n h = by p.run (still_on cpu ps (n + 1)) h
   where
-    by : (run : ProcessState) → (AreStill ps → runner_from ps cpu (n + 1) ≡ None) → ((is_ready run || is_running run) || list_any (λ (p : Process). is_ready p.run || is_running p.run) ps) ≡ false
+    by : (run : ProcessState) → (AreStill ps → runner_from ps cpu (n + 1) ≡ None)
+        → ((is_ready run || is_running run) || list_any (λ (p : Process). is_ready p.run || is_running p.run) ps) ≡ false
         → (if is_on cpu run then Some (record { 0 = n }) else runner_from ps cpu (n + 1)) ≡ None
     by Ready rest h = absurd (cc)
     by (Running other) rest h = absurd (cc)
@@ -138,7 +140,8 @@ below_of cpus (line ∷ lines) h zero d l = h 0 (Event line) (omega arith)
 below_of cpus (line ∷ lines) h (suc k) d l = below_of cpus lines (λ k d l. h (suc k) d (omega (arith, l))) k d (omega (arith, l))
 
 module _ {K J : Type 0} (state : K → State) (w : WorldValue) (cpus : ℕ) (b : Book K J) (notes : List Noted) where
-  pub closed : (pass : Pass Noted) → IsBookOf state w b notes → b.stop ≡ None → HasSeenEnd w pass → IsPrefix (seen_list pass) notes → All (λ n. owner_of n < cpus) notes → IsClosed state w cpus b
+  pub closed : (pass : Pass Noted) → IsBookOf state w b notes → b.stop ≡ None → HasSeenEnd w pass → IsPrefix (seen_list pass) notes → All (λ n. owner_of n < cpus) notes
+      → IsClosed state w cpus b
   closed pass book going seen prefix owned = record {
     steps = book.1.steps;
     below = below_of cpus b.lines.items (subst (λ (ns : List Noted). All (λ n. owner_of n < cpus) ns) (sym notes_are) owned);
@@ -156,28 +159,36 @@ module _ {K J : Type 0} (state : K → State) (w : WorldValue) (cpus : ℕ) (b :
       steps = subst (λ (ls : List Line). AreStepsOf w ls) (sym lines_are) book.1.steps
 
       reg : Regular w (state_after w (lines_of (seen_list pass)))
-      reg = (sound_kept w (after_lines w (opened w) (lines_of (seen_list pass))) (sound_after w (lines_of (seen_list pass)) (steps_first w (opened w) (lines_of (seen_list pass)) (lines_of prefix.0) steps) book.1.valid)).regular
+      reg =
+          (sound_kept w (after_lines w (opened w) (lines_of (seen_list pass)))
+          (sound_after w (lines_of (seen_list pass)) (steps_first w (opened w) (lines_of (seen_list pass)) (lines_of prefix.0) steps) book.1.valid)).regular
 
       by : IsEnd w (seen_list pass) → end_word (state_after w b.lines.items) ≡ None → ⊥
       by (inl h) =
           let ended = has_ended_of (state_after w (lines_of (seen_list pass))) h in
-          let last = goes_no_further w (after_lines w (opened w) (lines_of (seen_list pass))) (lines_of prefix.0) reg ended (steps_last w (opened w) (lines_of (seen_list pass)) (lines_of prefix.0) steps) in
-          let same : lines_of (seen_list pass) ≡ b.lines.items = sym (append_nil (lines_of (seen_list pass))) ∙ (ap (λ (ls : List Line). lines_of (seen_list pass) ++ ls) (sym last) ∙ lines_are) in
+          let last = goes_no_further w (after_lines w (opened w) (lines_of (seen_list pass))) (lines_of prefix.0) reg ended
+          (steps_last w (opened w) (lines_of (seen_list pass)) (lines_of prefix.0) steps) in
+          let same : lines_of (seen_list pass) ≡ b.lines.items = sym (append_nil (lines_of (seen_list pass)))
+          ∙ (ap (λ (ls : List Line). lines_of (seen_list pass) ++ ls) (sym last) ∙ lines_are) in
           subst (λ (ls : List Line). end_word (state_after w ls) ≡ None → ⊥) same (word_of (state_after w (lines_of (seen_list pass))) ended)
       by (inr h) =
           let there : list_any is_stop (seen_list pass) ≡ true = rw h.1.1 (has_stop (events h.1.0) h.0 []) in
-          let all : list_any is_stop (events b.lines.items) ≡ true = subst (λ (ns : List Noted). list_any is_stop ns ≡ true) (prefix.1 ∙ sym notes_are) (any_first (seen_list pass) prefix.0 there) in
+          let all : list_any is_stop (events b.lines.items) ≡ true = subst (λ (ns : List Noted). list_any is_stop ns ≡ true) (prefix.1 ∙ sym notes_are)
+          (any_first (seen_list pass) prefix.0 there) in
           let none = no_stop b.lines.items in
           absurd (cc)
 
   -- the same, of any of the passes that have come back
-  pub closed_all : (passes : List (Pass Noted)) → 1 ≤ length passes → IsBookOf state w b notes → b.stop ≡ None → All (HasSeenEnd w) passes → All (Extends notes) passes → All (λ n. owner_of n < cpus) notes → IsClosed state w cpus b
+  pub closed_all : (passes : List (Pass Noted)) → 1 ≤ length passes → IsBookOf state w b notes → b.stop ≡ None → All (HasSeenEnd w) passes → All (Extends notes) passes
+      → All (λ n. owner_of n < cpus) notes → IsClosed state w cpus b
   closed_all [] few book going seen extends owned = absurd (omega (arith, few))
   closed_all (pass ∷ passes) few book going seen extends owned = let e = extends 0 pass (omega arith) in closed pass book going (seen 0 pass (omega arith)) e.0 owned
 
 -- the record of a closed book
-pub book_recorded : {K J : Type 0} (state : K → State) (w : WorldValue) (cpus : ℕ) (b : Book K J) (k kernel : K) (lines : List Line) (end : End) (word : Option End) (status : ℕ) (text : List ℕ) → MayRun cpus → IsClosed state w cpus b
-    → k ≡ b.kernel → word ≡ end_word (state k) → word ≡ Some end → lines ≡ b.lines.items → IsRecord w lines end status text → kernel ≡ b.kernel → IsRecorded (words_of (command.RunOn cpus)) w status text (Some (state kernel))
+pub book_recorded : {K J : Type 0} (state : K → State) (w : WorldValue) (cpus : ℕ) (b : Book K J) (k kernel : K) (lines : List Line) (end : End) (word : Option End)
+    (status : ℕ) (text : List ℕ) → MayRun cpus → IsClosed state w cpus b
+    → k ≡ b.kernel → word ≡ end_word (state k) → word ≡ Some end → lines ≡ b.lines.items → IsRecord w lines end status text → kernel ≡ b.kernel
+    → IsRecorded (words_of (command.RunOn cpus)) w status text (Some (state kernel))
 book_recorded {K} {J} state w cpus b k kernel lines end word status text may closed k_is word_is end_is lines_are record_is kernel_is = record {
   lines = b.lines.items;
   end = end;

@@ -30,7 +30,8 @@ checked_legal : (a : Audited) (status : ℕ) (text : List ℕ) → IsLegal a.wor
 checked_legal a status text h (legal is laws) = (refl, refl)
 checked_legal a status text h (illegal n cause is) = let same = one_verdict a.world a.lines a.end Legal (Illegal n cause) h is in absurd (cc)
 
-pub found_legal : (w : WorldValue) (lines : List Line) (end : End) → IsWorld w → IsLegal w lines end → (status : ℕ) (text : List ℕ) (made : Option State) → DueTo (words_of command.Check) (record_text w lines end) status text made → (status ≡ 0) × (text ≡ verdict_text Legal)
+pub found_legal : (w : WorldValue) (lines : List Line) (end : End) → IsWorld w → IsLegal w lines end → (status : ℕ) (text : List ℕ) (made : Option State)
+    → DueTo (words_of command.Check) (record_text w lines end) status text made → (status ≡ 0) × (text ≡ verdict_text Legal)
 found_legal w lines end world is status text made due = by due
   where
     again : audit (record_text w lines end) ≡ Ok (audited w (events lines end))

@@ -59,7 +59,8 @@ after_one : (w : WorldValue) (m : Machine) (lines : List Line) (line : Line) →
 after_one w m [] line = refl
 after_one w m (x ∷ lines) line = after_one w (moved w m x.cpu) lines line
 
-steps_one : (w : WorldValue) (m : Machine) (lines : List Line) (line : Line) → AreSteps w m lines → line_of w (after_lines w m lines) line.cpu ≡ Some line → AreSteps w m (lines ++ line ∷ [])
+steps_one : (w : WorldValue) (m : Machine) (lines : List Line) (line : Line) → AreSteps w m lines → line_of w (after_lines w m lines) line.cpu ≡ Some line
+    → AreSteps w m (lines ++ line ∷ [])
 steps_one w m [] line h e = (e, tt)
 steps_one w m (x ∷ lines) line h e = (h.0, steps_one w (moved w m x.cpu) lines line h.1 e)
 
@@ -82,14 +83,16 @@ pub record Grows (w : WorldValue) (lines : List Line) (m : Machine) (line : Line
   pub history : IsHistory w (lines ++ line ∷ []) after
   pub fewer : after.state.limit - after.state.events < m.state.limit - m.state.events
 
-pub grows : (w : WorldValue) (lines : List Line) (m : Machine) (line : Line) (after : Machine) → IsHistory w lines m → step w m first_processor ≡ Some (line, after) → Grows w lines m line after
+pub grows : (w : WorldValue) (lines : List Line) (m : Machine) (line : Line) (after : Machine) → IsHistory w lines m → step w m first_processor ≡ Some (line, after)
+    → Grows w lines m line after
 grows w lines m line after h e =
     let i = step_is w m first_processor line after e in
     let there : step w m line.cpu ≡ Some (line, after) = ap (step w m) i.cpu_is ∙ e in
     let tells : line_of w m line.cpu ≡ Some line = ap (λ (found : Option (Line × Machine)). option_map (λ f. f.0) found) there in
     let moves : moved w m line.cpu ≡ after = ap (λ (found : Option (Line × Machine)). unwrap_or (option_map (λ f. f.1) found) m) there in
     let goes : GoesOn m.state line after.state = subst (λ (x : Machine). GoesOn m.state line x.state) moves (moved_holds GoesOn each_goes w m line tells) in
-    let event : after.state.events ≡ m.state.events + 1 = ap (λ (x : Machine). x.state.events) (sym moves) ∙ moved_holds (λ s l t. t.events ≡ s.events + 1) events_each w m line tells in
+    let event : after.state.events ≡ m.state.events + 1 = ap (λ (x : Machine). x.state.events) (sym moves) ∙ moved_holds (λ s l t. t.events ≡ s.events + 1)
+    events_each w m line tells in
     let below : m.state.events < m.state.limit = ltb-true m.state.events m.state.limit i.may in
     record {
       history = record {
@@ -102,7 +105,8 @@ grows w lines m line after h e =
     }
 
 -- the same, of the step that was found
-pub grows_by : (w : WorldValue) (lines : List Line) (m : Machine) (found : Option Line) (line : Line) (after : Machine) → IsHistory w lines m → IfSome found (λ line. step w m first_processor ≡ Some (line, after)) → found ≡ Some line → Grows w lines m line after
+pub grows_by : (w : WorldValue) (lines : List Line) (m : Machine) (found : Option Line) (line : Line) (after : Machine) → IsHistory w lines m
+    → IfSome found (λ line. step w m first_processor ≡ Some (line, after)) → found ≡ Some line → Grows w lines m line after
 grows_by w lines m found line after h made is = let e = rw is at made in grows w lines m line after h e
 
 -- the end of a history of processor 0
@@ -111,7 +115,8 @@ pub record IsLast (w : WorldValue) (lines : List Line) (s : State) (word : Optio
   pub whole : (end : End) → word ≡ Some end → IsWholeRun w lines end
   pub there : word ≢ None
 
-pub last : (w : WorldValue) (lines : List Line) (m : Machine) (found : Option Line) (after : Machine) (s : State) (word : Option End) → IsHistory w lines m → IfNone found ((step w m first_processor ≡ None) × (after ≡ m)) → found ≡ None
+pub last : (w : WorldValue) (lines : List Line) (m : Machine) (found : Option Line) (after : Machine) (s : State) (word : Option End) → IsHistory w lines m
+    → IfNone found ((step w m first_processor ≡ None) × (after ≡ m)) → found ≡ None
     → s ≡ after.state → word ≡ end_word s → IsLast w lines s word
 last w lines m found after s word h none is at e =
     let n = rw is at none in

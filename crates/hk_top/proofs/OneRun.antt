@@ -30,7 +30,8 @@ first_line w m line lines steps alone = ap (line_of w m) (sym (alone 0 line (ome
 behind : (line : Line) (lines : List Line) → AreAlone (line ∷ lines) → AreAlone lines
 behind line lines alone k d l = alone (suc k) d (omega (arith, l))
 
-one_from : (w : WorldValue) (m : Machine) (lines others : List Line) → AreSteps w m lines → AreSteps w m others → AreAlone lines → AreAlone others → line_of w (after_lines w m lines) first_processor ≡ None
+one_from : (w : WorldValue) (m : Machine) (lines others : List Line) → AreSteps w m lines → AreSteps w m others → AreAlone lines → AreAlone others
+    → line_of w (after_lines w m lines) first_processor ≡ None
     → line_of w (after_lines w m others) first_processor ≡ None → lines ≡ others
 one_from w m [] [] s t a b e f = refl
 one_from w m [] (o ∷ os) s t a b e f = let some = first_line w m o os t b in absurd (cc)
@@ -40,7 +41,8 @@ one_from w m (l ∷ ls) (o ∷ os) s t a b e f =
     let other = first_line w m o os t b in
     let same : o ≡ l = cc in
     let steps : AreSteps w (moved w m l.cpu) os = subst (λ (x : Line). AreSteps w (moved w m x.cpu) os) same t.1 in
-    let none : line_of w (after_lines w (moved w m l.cpu) os) first_processor ≡ None = subst (λ (x : Line). line_of w (after_lines w (moved w m x.cpu) os) first_processor ≡ None) same f in
+    let none : line_of w (after_lines w (moved w m l.cpu) os) first_processor ≡ None = subst
+    (λ (x : Line). line_of w (after_lines w (moved w m x.cpu) os) first_processor ≡ None) same f in
     let rest = one_from w (moved w m l.cpu) ls os s.1 steps (behind l ls a) (behind o os b) e none in
     ap (λ (xs : List Line). l ∷ xs) rest ∙ ap (λ (x : Line). x ∷ os) (sym same)
 
@@ -70,9 +72,11 @@ all_ended (p ∷ ps) h = by p.run (all_ended ps) h
 -- a state that has an end word has ended
 word_ended : (s : State) (e : End) → end_word s ≡ Some e → HasEnded s
 word_ended s e h =
-    by (list_all (λ (p : Process). has_ended p.run) s.processes) (list_any (λ (p : Process). is_ready p.run || is_running p.run) s.processes) (list_any (λ (p : Process). is_waiting p.run) s.processes) (may_step s) refl refl refl h
+    by (list_all (λ (p : Process). has_ended p.run) s.processes) (list_any (λ (p : Process). is_ready p.run || is_running p.run) s.processes)
+    (list_any (λ (p : Process). is_waiting p.run) s.processes) (may_step s) refl refl refl h
   where
-    by : (ended busy waits may : Bool) → list_all (λ (p : Process). has_ended p.run) s.processes ≡ ended → list_any (λ (p : Process). is_ready p.run || is_running p.run) s.processes ≡ busy → may_step s ≡ may
+    by : (ended busy waits may : Bool) → list_all (λ (p : Process). has_ended p.run) s.processes ≡ ended
+        → list_any (λ (p : Process). is_ready p.run || is_running p.run) s.processes ≡ busy → may_step s ≡ may
         → cond ended (Some end.Done) (cond (not busy && waits) (Some end.Stuck) (cond (not may) (Some end.Limit) None)) ≡ Some e → HasEnded s
     by true busy waits may a b c g = still (all_ended s.processes a)
     by false false waits may a b c g = still b
@@ -86,5 +90,7 @@ pub runs_alone : (w : WorldValue) (lines : List Line) (e : End) → IsWorld w �
 runs_alone w lines e world h = record {
   legal = h.legal;
   alone = only_first lines h.below;
-  last = no_step w (after_lines w (opened w) lines) first_processor (sound_kept w (after_lines w (opened w) lines) (sound_after w lines h.legal.steps world)).regular (word_ended (state_after w lines) e h.legal.ends);
+  last =
+      no_step w (after_lines w (opened w) lines) first_processor (sound_kept w (after_lines w (opened w) lines) (sound_after w lines h.legal.steps world)).regular
+      (word_ended (state_after w lines) e h.legal.ends);
 }

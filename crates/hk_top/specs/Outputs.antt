@@ -112,7 +112,8 @@ pub record WasRead (words : List (List ℕ)) (before after : Option (List ℕ)) 
 -- the same, by what a source had before and after
 pub data Due (words : List (List ℕ)) (before after : Option (List ℕ)) : ℕ → List ℕ → Option State → Type 0 where
   -- 0, 1, 3, 7, 8: the source was read
-  read : (bytes : List ℕ) (status : ℕ) (text : List ℕ) (made : Option State) → WasRead words before after bytes → DueTo words bytes status text made → Due words before after status text made
+  read : (bytes : List ℕ) (status : ℕ) (text : List ℕ) (made : Option State) → WasRead words before after bytes → DueTo words bytes status text made
+      → Due words before after status text made
   -- 2: the words are no command; the source is untouched
   usage : (IsCommand words → ⊥) → after ≡ before → Due words before after 2 usage_text None
   -- 3: more bytes were taken than these words may read
@@ -135,7 +136,8 @@ HadFault s = Rose s.faults_before s.faults_after
 -- the status of a call and the state of the kernel that it hands back, if it does, and why they come
 pub data Answer (words : List (List ℕ)) (input output : Stream) : ℕ → Option State → Type 0 where
   -- 0, 1, 2, 3, 7, 8: the sink took the whole text that is due
-  written : (status : ℕ) (text : List ℕ) (made : Option State) → Due words input.before input.after status text made → Appends output.before output.after text → Answer words input output status made
+  written : (status : ℕ) (text : List ℕ) (made : Option State) → Due words input.before input.after status text made → Appends output.before output.after text
+      → Answer words input output status made
   -- 4: a read failed
   read_fault : IsCommand words → HadFault input → Answer words input output 4 None
   -- 5: want of memory

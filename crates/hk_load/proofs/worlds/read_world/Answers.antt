@@ -4,7 +4,8 @@ use Rattle.hk_load.proofs.Passes.{world_is, of_text_error, of_parse_error, of_lo
 use Rattle.hk_load.proofs.worlds.read_world.Goals as goal
 
 pub returns-in_err-lines-clause-refused : goal.returns-in_err-lines-clause-refused
-returns-in_err-lines-clause-refused c = of_text_error c.args.script.now c.from_residual.result c.in_err-lines.field-0.0 c.from_residual.ensures.1 (λ line cause e. c.in_err-lines.ensures.refused line cause (ap Err e))
+returns-in_err-lines-clause-refused c =
+    of_text_error c.args.script.now c.from_residual.result c.in_err-lines.field-0.0 c.from_residual.ensures.1 (λ line cause e. c.in_err-lines.ensures.refused line cause (ap Err e))
 
 pub returns-in_err-syntax-clause-refused : goal.returns-in_err-syntax-clause-refused
 returns-in_err-syntax-clause-refused c =

@@ -26,9 +26,8 @@ loop-start-preserved c = record {
       let tested = sym (c.is_empty.ensures ∙ ap (λ (x : _). eqb (length x) 0) c.as_slice.ensures) in
       elim c.if-not-is_empty.branch [
         | then-not-is_empty+in_ok-push-in-Ok w ↦ rw (w.lines-is, w.in_ok-push-in-Ok.ensures.ok)
-            (line_pushed c.args.bytes.now c.loop-start.start c.loop-start.number c.first_of-len.result c.loop-start.lines c.in-Ok.pieces _ (omega arith)
-            c.first_of-len.ensures.place
-            c.in-Ok.ensures.value (tested ∙ w.if-not-is_empty.true) c.loop-start.invariant.rest)
+            (line_pushed c.args.bytes.now c.loop-start.start c.loop-start.number c.first_of-len.result c.loop-start.lines c.in-Ok.pieces _
+            (omega arith) c.first_of-len.ensures.place c.in-Ok.ensures.value (tested ∙ w.if-not-is_empty.true) c.loop-start.invariant.rest)
         | else-not-is_empty w ↦ rw w.lines-is (line_skipped c.args.bytes.now c.loop-start.start c.loop-start.number c.first_of-len.result c.loop-start.lines c.in-Ok.pieces _
             (omega arith) c.first_of-len.ensures.place c.in-Ok.ensures.value (tested ∙ w.if-not-is_empty.false) c.loop-start.invariant.rest)
       ];

@@ -16,5 +16,6 @@ record_of_book-requires-clause-closed g c =
     let seats = ap (λ desk. seat_count desk.turns) back.desk ∙ made.seats in
     let going = unstopped c.close-book.result.stop (ap is_some (sym c.stop.ensures) ∙ (sym c.is_some.ensures ∙ c.if-is_some.false)) in
     subst (λ (w : WorldValue). IsClosed g.K.Kernel.state w c.args.cpus c.close-book.result) (sym c.requires.world)
-    (closed_all g.K.Kernel.state g.J.Naming.world c.args.cpus c.close-book.result stands.0 c.in_ok-desk-2.passes.items (omega (arith, back.count, made.count, few.0)) stands.1 going back.ends stands.2
+    (closed_all g.K.Kernel.state g.J.Naming.world c.args.cpus c.close-book.result stands.0 c.in_ok-desk-2.passes.items (omega (arith, back.count, made.count, few.0))
+    stands.1 going back.ends stands.2
     (subst (λ (n : ℕ). All (λ note. owner_of note < n) stands.0) seats stands.3))

@@ -42,5 +42,6 @@ returns-clause-made g c =
     (c.in_ok-what.what, c.in_ok-what.reply, state, frames)
     (subst (λ (m : Machine). c.index_mut-context.result.now ≡ get_or m.contexts c.args.proc.0 c.index_mut-context.result.now) c.self.view_is c.index_mut-context.ensures.value)
     c.requires.cpu c.requires.below
-    (subst (λ (m : Machine). turn c.args.world.now m.state (process_on m.state c.args.cpu) (next c.args.world.now c.index_mut-context.result.now) ≡ (c.in_ok-what.what, c.in_ok-what.reply, state, frames)) c.self.view_is c.in_ok-what.ensures.made)
+    (subst (λ (m : Machine). turn c.args.world.now m.state (process_on m.state c.args.cpu) (next c.args.world.now c.index_mut-context.result.now)
+    ≡ (c.in_ok-what.what, c.in_ok-what.reply, state, frames)) c.self.view_is c.in_ok-what.ensures.made)
     ∙ ap (λ (m : Machine). let made : Line × Machine = (line, record { state = state; contexts = slice_set m.contexts c.args.proc.0 frames }) in Some made) (sym c.self.view_is)

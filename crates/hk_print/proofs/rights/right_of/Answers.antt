@@ -1,7 +1,7 @@
 use Rattle.std.proofs.Common.{rules, IsTrue}
 use Rattle.hk_rights.specs.Rights.{is_right}
 use Rattle.hk_print.proofs.Names.{has_right}
-use Rattle.hk_print.proofs.rights.right_in.Goals as goal
+use Rattle.hk_print.proofs.rights.right_of.Goals as goal
 
 pub returns-in-None : goal.returns-in-None
 returns-in-None c =

@@ -19,8 +19,8 @@ abbrev pub indices_of : List (List ℕ) → Option (List ℕ)
 indices_of parts = if between 2 path_limit (length parts) && list_all is_index_numeral parts then Some (map value parts) else None
 
 -- the path of several indices that a text spells
-abbrev pub path_of : List ℕ → Option (List ℕ)
-path_of t = indices_of (slice_split (λ b. b == 46) t)
+abbrev pub indices_spelled : List ℕ → Option (List ℕ)
+indices_spelled t = indices_of (slice_split (λ b. b == 46) t)
 
 -- the set, where the text is its canonical spelling
 abbrev pub if_canonical : List ℕ → Option ℕ → Option ℕ
@@ -48,7 +48,7 @@ seen_path t None = if is_lower (first t) then Word t else seen_rights t (canonic
 -- a number, or something else
 abbrev pub seen_number : List ℕ → Option ℕ → Piece
 seen_number t (Some n) = Number n
-seen_number t None = seen_path t (path_of t)
+seen_number t None = seen_path t (indices_spelled t)
 
 -- the piece that a text spells
 unfoldable pub seen : List ℕ → Piece
