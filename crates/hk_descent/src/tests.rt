@@ -1,6 +1,6 @@
 // Each law is called once, of a world without objects and processes and of no lines.
 
-use crate::{descent_law, environment_law};
+use crate::{chain_lines_law, descent_law, environment_law};
 use hk_model::{Items, World};
 use std::test::Fail;
 
@@ -10,6 +10,7 @@ fn laws_of_no_lines(rt: HostRuntime) -> Result<(), Fail> {
     let world = World::new(1, Items::new(alloc), Items::new(alloc), Items::new(alloc));
     descent_law(&world, &[]);
     environment_law(&world, &[]);
+    chain_lines_law(&world, &[]);
     assert_eq!(rt; world.limit(), 1);
     Ok(())
 }

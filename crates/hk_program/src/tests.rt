@@ -6,7 +6,7 @@ ghost use Rattle.hk_model.specs.declared.instructions.Index.TheVariants.{Fixed};
 ghost use Rattle.hk_model.specs.WorldValue.{IsArguments, IsInstr};
 ghost use Rattle.hk_program.specs.Contexts.{AreFrames};
 
-use crate::{Context, Frame, Todo, after, next};
+use crate::{Context, Frame, Todo, after, kept_law, next, shapes_law};
 use hk_model::{
     Acted, Args, Call, Code, Index, Instr, Items, Operand, Path, Refusal, Reply, Route, Slot, Text,
     World,
@@ -224,5 +224,16 @@ fn an_enter_puts_a_frame_on_top_and_a_return_takes_it(rt: HostRuntime) -> Result
     assert_eq!(rt; next_of(&mut context, &world), Some(Todo::Do(leave)));
     answer(&mut context, &world, &leave, Reply::Done);
     assert_eq!(rt; context.top(), None);
+    Ok(())
+}
+
+// Each law is called once, of a world without objects and processes and of no lines.
+#[test]
+fn laws_of_no_lines(rt: HostRuntime) -> Result<(), Fail> {
+    let alloc = rt.alloc();
+    let world = World::new(1, Items::new(alloc), Items::new(alloc), Items::new(alloc));
+    kept_law(&world, &[]);
+    shapes_law(&world, &[]);
+    assert_eq!(rt; world.limit(), 1);
     Ok(())
 }
