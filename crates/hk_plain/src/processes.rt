@@ -8,7 +8,7 @@ ghost use Rattle.std.specs.List.{list_any};
 ghost use Rattle.hk_model.specs.declared.objects.Process.{Process};
 ghost use Rattle.hk_model.specs.declared.objects.ProcessState.TheVariants.{Running};
 ghost use Rattle.hk_model.specs.Processors.{runner_from, is_running};
-ghost use Rattle.hk_plain.specs.Runners.{with_run, with_current, is_live, freed, place_of, weight};
+ghost use Rattle.hk_running.specs.Runners.{with_run, with_current, is_live, freed, place_of, weight};
 ghost use Rattle.hk_plain.specs.Counts.{Moved, waiting_names};
 
 use crate::counts::Counts;
@@ -28,7 +28,7 @@ pub struct Processes {
 impl Model for Processes {
     ghost use Rattle.std.specs.Prelude.{List};
     ghost use Rattle.hk_model.specs.declared.objects.Process.{Process};
-    ghost use Rattle.hk_plain.specs.Runners.{IsPlaced};
+    ghost use Rattle.hk_running.specs.Runners.{IsPlaced};
 
     ghost Value = { List Process };
 
