@@ -1,0 +1,4 @@
+pub mod Whole
+pub mod Stacked
+pub mod Joined
+pub mod Born
