@@ -29,7 +29,7 @@ use Rattle.hk_format.specs.Syntax.{IsRightsText}
 use Rattle.hk_format.specs.LineReading.{inc_bound, widened, wide_pieces, halves}
 use Rattle.hk_format.specs.AuditLines.{arrow, call_pieces, what_pieces, full_word, reply_pieces, event_pieces}
 use Rattle.hk_format.specs.LineRanges.{IsPathValue, IsAnySlot, IsCall, IsWhat, IsReply, IsLine}
-use Rattle.hk_model.specs.Setup.{IsWord32}
+use Rattle.hk_model.specs.WorldValue.{IsWord32}
 use Rattle.hk_format.proofs.Cutting.{all_weaker, all_joined, none_of, split_joined}
 use Rattle.hk_format.proofs.ItemsGood.{rights_good}
 use Rattle.hk_format.proofs.LineAgain.{same_is}

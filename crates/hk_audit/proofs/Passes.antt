@@ -10,7 +10,7 @@ use Rattle.hk_format.specs.declared.syntax.Item.{Item}
 use Rattle.hk_format.specs.Texts.{Lines, text}
 use Rattle.hk_format.specs.Grammar.{script}
 use Rattle.hk_format.specs.Loading.{load}
-use Rattle.hk_model.specs.Setup.{Setup}
+use Rattle.hk_model.specs.WorldValue.{WorldValue}
 use Rattle.hk_format.specs.Worlds.{world, pass, parsed, loaded}
 use Rattle.hk_text.specs.declared.errors.TextError.{TextError}
 use Rattle.hk_text.specs.declared.errors.TextError.TheVariants as text_error
@@ -40,26 +40,26 @@ parse_refused bytes lines line cause h g = at_lines bytes lines h ∙ ap (λ r. 
 pub load_refused : (bytes : List ℕ) (lines : Lines) (items : List Item) (line : ℕ) (cause : LoadCause) → text bytes ≡ Ok lines → script lines ≡ Ok items → load items ≡ Err (line, cause) → world bytes ≡ Err (line, OfLoad cause)
 load_refused bytes lines items line cause h g f = at_items bytes lines items h g ∙ ap (λ r. pass OfLoad r Ok) f
 
-pub world_is : (bytes : List ℕ) (lines : Lines) (items : List Item) (w : Setup) → text bytes ≡ Ok lines → script lines ≡ Ok items → load items ≡ Ok w → world bytes ≡ Ok w
+pub world_is : (bytes : List ℕ) (lines : Lines) (items : List Item) (w : WorldValue) → text bytes ≡ Ok lines → script lines ≡ Ok items → load items ≡ Ok w → world bytes ≡ Ok w
 world_is bytes lines items w h g f = at_items bytes lines items h g ∙ ap (λ r. pass OfLoad r Ok) f
 
 -- what each pass that refuses says of the whole
 
-pub of_text_error : (bytes : List ℕ) (result : Result Setup RecordError) (e : TextError) → IsErrAnd result (λ error. error ≡ of_text e) → ((line : ℕ) (cause : TextCause) → e ≡ text_error.Refused line cause → text bytes ≡ Err (line, cause))
+pub of_text_error : (bytes : List ℕ) (result : Result WorldValue RecordError) (e : TextError) → IsErrAnd result (λ error. error ≡ of_text e) → ((line : ℕ) (cause : TextCause) → e ≡ text_error.Refused line cause → text bytes ≡ Err (line, cause))
     → (line : ℕ) (cause : Cause) → IsRefused result line cause → world bytes ≡ Err (line, cause)
 of_text_error bytes (Ok w) e h f line cause r = absurd h
 of_text_error bytes (Err error) (text_error.Refused at why) h f line cause r =
     let a : at ≡ line = cc in let b : OfText why ≡ cause = cc in text_refused bytes at why (f at why refl) ∙ rw (a, b) refl
 of_text_error bytes (Err error) text_error.NoMemory h f line cause r = absurd (cc)
 
-pub of_parse_error : (bytes : List ℕ) (lines : Lines) (result : Result Setup RecordError) (e : ParseError) → text bytes ≡ Ok lines → IsErrAnd result (λ error. error ≡ of_parse e)
+pub of_parse_error : (bytes : List ℕ) (lines : Lines) (result : Result WorldValue RecordError) (e : ParseError) → text bytes ≡ Ok lines → IsErrAnd result (λ error. error ≡ of_parse e)
     → ((line : ℕ) (cause : ParseCause) → e ≡ parse_error.Refused line cause → script lines ≡ Err (line, cause)) → (line : ℕ) (cause : Cause) → IsRefused result line cause → world bytes ≡ Err (line, cause)
 of_parse_error bytes lines (Ok w) e t h f line cause r = absurd h
 of_parse_error bytes lines (Err error) (parse_error.Refused at why) t h f line cause r =
     let a : at ≡ line = cc in let b : OfParse why ≡ cause = cc in parse_refused bytes lines at why t (f at why refl) ∙ rw (a, b) refl
 of_parse_error bytes lines (Err error) parse_error.NoMemory t h f line cause r = absurd (cc)
 
-pub of_load_error : (bytes : List ℕ) (lines : Lines) (items : List Item) (result : Result Setup RecordError) (e : LoadError) → text bytes ≡ Ok lines → script lines ≡ Ok items → IsErrAnd result (λ error. error ≡ of_load e)
+pub of_load_error : (bytes : List ℕ) (lines : Lines) (items : List Item) (result : Result WorldValue RecordError) (e : LoadError) → text bytes ≡ Ok lines → script lines ≡ Ok items → IsErrAnd result (λ error. error ≡ of_load e)
     → ((line : ℕ) (cause : LoadCause) → e ≡ load_error.Refused line cause → load items ≡ Err (line, cause)) → (line : ℕ) (cause : Cause) → IsRefused result line cause → world bytes ≡ Err (line, cause)
 of_load_error bytes lines items (Ok w) e t p h f line cause r = absurd h
 of_load_error bytes lines items (Err error) (load_error.Refused at why) t p h f line cause r =

@@ -23,7 +23,7 @@ use Rattle.hk_format.specs.LineReading.{inc_bound, is_number_index, index_number
 use Rattle.hk_format.specs.Texts.{piece_onto}
 use Rattle.hk_format.specs.AuditLines.{what_pieces, event_pieces, reply_pieces, arrow, line_body}
 use Rattle.hk_format.specs.LineRanges.{IsPathValue, IsAnySlot, IsLine}
-use Rattle.hk_model.specs.Setup.{IsWord32}
+use Rattle.hk_model.specs.WorldValue.{IsWord32}
 use Rattle.hk_format.proofs.Cutting.{all_both, split_joined}
 use Rattle.hk_format.proofs.LineAgain.{same_is}
 use Rattle.hk_format.proofs.LoadGood.{rights_word}

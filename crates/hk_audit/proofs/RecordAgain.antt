@@ -12,7 +12,7 @@ use Rattle.hk_model.specs.declared.lines.End.{End}
 use Rattle.hk_model.specs.declared.lines.End.TheVariants as end
 use Rattle.hk_model.specs.Labels.{same_text}
 use Rattle.hk_format.specs.Pieces.{Piece, spell, piece_of, is_piece}
-use Rattle.hk_model.specs.Setup.{Setup, IsWorld}
+use Rattle.hk_model.specs.WorldValue.{WorldValue, IsWorld}
 use Rattle.hk_format.specs.Texts.{is_line, is_none, ended_line, lines_of, spell_line, without_last_empty}
 use Rattle.hk_format.specs.Spelling.{script_lines}
 use Rattle.hk_format.specs.Canonical.{canon, syntax_of}
@@ -132,21 +132,21 @@ append_none [] = refl
 append_none (b ∷ t) = ap (λ (u : List ℕ). b ∷ u) (append_none t)
 
 -- the lines of the canonical script
-abbrev canon_lines : Setup → List (List ℕ)
+abbrev canon_lines : WorldValue → List (List ℕ)
 canon_lines w = map spell_line (script_lines (syntax_of w))
 
-canon_texts : (w : Setup) (rest : List ℕ) → IsWorld w → texts_of (canon w ++ rest) ≡ canon_lines w ++ texts_of rest
+canon_texts : (w : WorldValue) (rest : List ℕ) → IsWorld w → texts_of (canon w ++ rest) ≡ canon_lines w ++ texts_of rest
 unfolding canon
 canon_texts w rest h = texts_ended spell_line (script_lines (syntax_of w)) rest (lines_unbroken (script_lines (syntax_of w)) (lines_good w h))
 
-canon_world : (w : Setup) → IsWorld w → world_of (canon_lines w) ≡ Ok w
+canon_world : (w : WorldValue) → IsWorld w → world_of (canon_lines w) ≡ Ok w
 unfolding world
 canon_world w h =
     let lines : lines_of (canon w) ≡ canon_lines w = ap without_last_empty (ap texts_of (sym (append_none (canon w))) ∙ canon_texts w [] h) ∙ no_last (canon_lines w) in
     ap world_of (sym lines) ∙ world_again w h
 
 -- the whole
-record_texts : (w : Setup) (lines : List Line) (e : End) → IsWorld w → AllByRecursion IsLine lines → texts_of (record_text w lines e) ≡ canon_lines w ++ record_word ∷ (map line_body lines ++ end_text e ∷ [] ∷ [])
+record_texts : (w : WorldValue) (lines : List Line) (e : End) → IsWorld w → AllByRecursion IsLine lines → texts_of (record_text w lines e) ≡ canon_lines w ++ record_word ∷ (map line_body lines ++ end_text e ∷ [] ∷ [])
 unfolding record_text
 record_texts w lines e h g =
     canon_texts w (ended_line record_word ++ (lines_text lines ++ ended_line (end_text e))) h
@@ -157,7 +157,7 @@ record_texts w lines e h g =
     last end.Stuck = refl
     last end.Limit = refl
 
-pub record_again : (w : Setup) (lines : List Line) (e : End) → IsWorld w → All IsLine lines → audit (record_text w lines e) ≡ Ok (audited w (events lines e))
+pub record_again : (w : WorldValue) (lines : List Line) (e : End) → IsWorld w → All IsLine lines → audit (record_text w lines e) ≡ Ok (audited w (events lines e))
 unfolding audit
 record_again w lines e h g =
     let all = recursion_from_All IsLine lines g in
@@ -167,12 +167,12 @@ record_again w lines e h g =
     ∙ rw (canon_world w h, events_told lines e (length (canon_lines w) + 1 + 1) all) refl
 
 -- so the text tells them
-pub record_is_of_one : (w v : Setup) (lines more : List Line) (e f : End) → IsWorld w → IsWorld v → All IsLine lines → All IsLine more → record_text w lines e ≡ record_text v more f → (w ≡ v) × (lines ≡ more) × (e ≡ f)
+pub record_is_of_one : (w v : WorldValue) (lines more : List Line) (e f : End) → IsWorld w → IsWorld v → All IsLine lines → All IsLine more → record_text w lines e ≡ record_text v more f → (w ≡ v) × (lines ≡ more) × (e ≡ f)
 record_is_of_one w v lines more e f h k g i same =
     let both : Ok (audited w (events lines e)) ≡ Ok (audited v (events more f)) = sym (record_again w lines e h g) ∙ ap audit same ∙ record_again v more f k i in
     (ap (world_in w) both, ap (lines_in lines) both, ap (end_in e) both)
   where
-    world_in : Setup → Result Audited Refused → Setup
+    world_in : WorldValue → Result Audited Refused → WorldValue
     world_in d (Ok a) = a.world
     world_in d (Err r) = d
 

@@ -2,7 +2,7 @@
 use Rattle.std.proofs.Common.{◌≡◌, ℕ, ◌+◌, List, length, refl, sym, ap, ◌∙◌, take, drop, Result, Ok, Err}
 use Rattle.std.specs.Result.{IsErrAnd}
 use Rattle.hk_format.specs.declared.causes.Cause.{Cause}
-use Rattle.hk_model.specs.Setup.{Setup}
+use Rattle.hk_model.specs.WorldValue.{WorldValue}
 use Rattle.hk_format.specs.Texts.{lines_of}
 use Rattle.hk_format.specs.Worlds.{Refused, world, world_of}
 use Rattle.hk_format.specs.Loading.{◌>>=◌}
@@ -29,18 +29,18 @@ unfolding world
 world_is script = refl
 
 -- what is behind a world
-abbrev behind_world : List ℕ → List ℕ → Setup → Result Audited Refused
+abbrev behind_world : List ℕ → List ℕ → WorldValue → Result Audited Refused
 behind_world script behind w = events_behind (length (lines_of script) + 1) (behind_first behind) >>= λ found. Ok (audited w found)
 
 pub script_refused : (bytes script behind : List ℕ) (e : Refused) → Parted bytes script behind → world script ≡ Err e → audit bytes ≡ Err e
 script_refused bytes script behind e h bad =
     audit_is bytes script behind h ∙ ap (λ r. r >>= behind_world script behind) (sym (world_is script) ∙ bad)
 
-behind_given : (bytes script behind : List ℕ) (w : Setup) → Parted bytes script behind → world script ≡ Ok w → audit bytes ≡ behind_world script behind w
+behind_given : (bytes script behind : List ℕ) (w : WorldValue) → Parted bytes script behind → world script ≡ Ok w → audit bytes ≡ behind_world script behind w
 behind_given bytes script behind w h good =
     audit_is bytes script behind h ∙ ap (λ r. r >>= behind_world script behind) (sym (world_is script) ∙ good)
 
-pub behind_refused : (bytes script behind : List ℕ) (w : Setup) (number : ℕ) (e : RecordError) → Parted bytes script behind → world script ≡ Ok w → number ≡ length (lines_of script)
+pub behind_refused : (bytes script behind : List ℕ) (w : WorldValue) (number : ℕ) (e : RecordError) → Parted bytes script behind → world script ≡ Ok w → number ≡ length (lines_of script)
     → GivesEvents (Err e) (events_behind (number + 1) (behind_first behind)) → (line : ℕ) (cause : Cause) → e ≡ read_error.Refused line cause → audit bytes ≡ Err (line, cause)
 behind_refused bytes script behind w number read_error.NoMemory h good count given line cause e = absurd (cc)
 behind_refused bytes script behind w number (read_error.Refused at why) h good count given line cause e =
@@ -49,7 +49,7 @@ behind_refused bytes script behind w number (read_error.Refused at why) h good c
     let first = ap (λ n. events_behind (n + 1) (behind_first behind)) count in
     behind_given bytes script behind w h good ∙ ap (λ r. r >>= λ found. Ok (audited w found)) (sym first ∙ given) ∙ rw (a, b) refl
 
-pub record_given : (bytes script behind : List ℕ) (w : Setup) (number : ℕ) (found : Events) → Parted bytes script behind → world script ≡ Ok w → number ≡ length (lines_of script)
+pub record_given : (bytes script behind : List ℕ) (w : WorldValue) (number : ℕ) (found : Events) → Parted bytes script behind → world script ≡ Ok w → number ≡ length (lines_of script)
     → events_behind (number + 1) (behind_first behind) ≡ Ok found → audit bytes ≡ Ok (audited w found)
 record_given bytes script behind w number found h good count given =
     let first = ap (λ n. events_behind (n + 1) (behind_first behind)) count in

@@ -21,7 +21,7 @@ use Rattle.hk_format.specs.Forms.{as_verb, as_word, as_number_below, slot_number
 use Rattle.hk_format.specs.LineReading.{as_path, as_any_slot, as_rights_set, as_right, as_word32, as_full, all_full, full_found, inc_bound}
 use Rattle.hk_format.specs.AuditLines.{full_word}
 use Rattle.hk_format.specs.LineRanges.{IsPathValue, IsAnySlot}
-use Rattle.hk_model.specs.Setup.{IsWord32}
+use Rattle.hk_model.specs.WorldValue.{IsWord32}
 use Rattle.hk_format.proofs.LineAgain.{same_is}
 use Rattle.hk_audit.specs.Seen.{is_numeral, numeral_of, is_index_numeral, indices_of, path_of, rights_spelled, seen}
 use Rattle.hk_audit.proofs.DigitTexts.{numeral_text}

@@ -4,7 +4,7 @@
 ghost use Rattle.std.specs.Prelude.{◌≡◌, ◌<◌, ◌≤◌, [], length, map};
 ghost use Rattle.hk_model.specs.Limits.{event_limit};
 ghost use Rattle.hk_format.specs.LineRanges.{IsCall, IsLine, IsReply, IsPathValue, IsWhat};
-ghost use Rattle.hk_model.specs.Setup.{setup};
+ghost use Rattle.hk_model.specs.WorldValue.{world_value};
 
 use crate::{
     line_text, record_is_read_again, record_text, record_text_is_of_one, steps_have_texts,
@@ -293,7 +293,7 @@ fn replies_are_written(rt: HostRuntime) -> Result<(), Fail> {
 fn empty_world(alloc: Global, limit: u32) -> World
     requires some { 0 < limit }
     requires few { limit ≤ event_limit }
-    ensures { result ≡ setup limit [] [] [] }
+    ensures { result ≡ world_value limit [] [] [] }
 {
     World::new(
         limit,

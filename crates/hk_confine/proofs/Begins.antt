@@ -18,7 +18,7 @@ use Rattle.hk_model.specs.declared.calls.Call.TheVariants as call
 use Rattle.hk_model.specs.declared.lines.Line.{Line}
 use Rattle.hk_model.specs.declared.objects.Incarnation.{Incarnation}
 use Rattle.hk_rights.specs.Rights.{has, modify_right, unconf_right}
-use Rattle.hk_model.specs.Setup.{Setup, IsWorld}
+use Rattle.hk_model.specs.WorldValue.{WorldValue, IsWorld}
 use Rattle.hk_model.specs.State.{State, object, incarnation, same_inc, no_incarnation}
 use Rattle.hk_model.specs.Walking.{confined_rights}
 use Rattle.hk_model.specs.Merging.{inherited}
@@ -92,7 +92,7 @@ holder_found s i n cap h = activation_live s.incarnations i (by (lookup (same_in
 
 -- ---- the beginning
 
-module _ (w : Setup) (lines : List Line) (h : AreStepsOf w lines) (k : ℕ) (top : Inc) (c : IsCall w lines k top) where
+module _ (w : WorldValue) (lines : List Line) (h : AreStepsOf w lines) (k : ℕ) (top : Inc) (c : IsCall w lines k top) where
   abbrev before : State
   before = state_at w lines c.earlier
 

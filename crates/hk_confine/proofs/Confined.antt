@@ -11,7 +11,7 @@ use Rattle.hk_model.specs.declared.entries.Cap.{Cap}
 use Rattle.hk_model.specs.declared.entries.Entry.TheVariants.{Held}
 use Rattle.hk_model.specs.declared.lines.Line.{Line}
 use Rattle.hk_rights.specs.Rights.{MODIFY, modify_right}
-use Rattle.hk_model.specs.Setup.{Setup, IsWorld}
+use Rattle.hk_model.specs.WorldValue.{WorldValue, IsWorld}
 use Rattle.hk_model.specs.State.{State, object, incarnation}
 use Rattle.hk_model.specs.Places.{EntryOf, standing, cap_of}
 use Rattle.hk_model.specs.Lines.{done_call, makes_object, enters_call, changed}
@@ -45,7 +45,7 @@ empty_drop : (n : ℕ) → drop {A = Line} n [] ≡ []
 empty_drop zero = refl
 empty_drop (suc n) = refl
 
-part_after : (w : Setup) (m : Machine) (lines : List Line) (k j n : ℕ) → n ≡ k + j → after_lines w (after_lines w m (take k lines)) (take j (drop k lines)) ≡ after_lines w m (take n lines)
+part_after : (w : WorldValue) (m : Machine) (lines : List Line) (k j n : ℕ) → n ≡ k + j → after_lines w (after_lines w m (take k lines)) (take j (drop k lines)) ≡ after_lines w m (take n lines)
 part_after w m [] k j n e = rw (empty_take n, empty_take k, empty_drop k, empty_take j) refl
 part_after w m (line ∷ lines) zero j n e = let f : n ≡ j = omega (arith, e) in rw f refl
 part_after w m (line ∷ lines) (suc k) j zero e = absurd (omega (arith, e))
@@ -74,7 +74,7 @@ Late low s = Sound s × (low ≤ s.next_inc.0)
 late_line : (low : ℕ) (s : State) (line : Line) (t : State) → (Sound s → LineKnown s line t) → Late low s → Late low t
 late_line low s line t g k = let up = turn_up s line t (g k.0).turn in let a = k.1 in ((g k.0).after, omega (arith, up, a))
 
-numbers_later : (w : Setup) (lines : List Line) (n d : ℕ) → AreStepsOf w lines → (state_at w lines n).next_inc.0 ≤ (state_at w lines (n + d)).next_inc.0
+numbers_later : (w : WorldValue) (lines : List Line) (n d : ℕ) → AreStepsOf w lines → (state_at w lines n).next_inc.0 ≤ (state_at w lines (n + d)).next_inc.0
 numbers_later w lines n d h =
     let low : ℕ = (state_at w lines n).next_inc.0 in
     let late : Late low (after_lines w (machine_at w lines n) (take d (drop n lines))).state =
@@ -84,7 +84,7 @@ numbers_later w lines n d h =
 
 -- ---- from the beginning of a confined call on
 
-module _ (w : Setup) (lines : List Line) (h : AreStepsOf w lines) (world : IsWorld w) (k : ℕ) (top : Inc) (c : IsConfinedCall w lines k top) (M U : ℕ → Name → Type 0) (rules : AreReaches (state_at w lines) (is_made_under w lines k top) (parameters w lines k top) k M U) where
+module _ (w : WorldValue) (lines : List Line) (h : AreStepsOf w lines) (world : IsWorld w) (k : ℕ) (top : Inc) (c : IsConfinedCall w lines k top) (M U : ℕ → Name → Type 0) (rules : AreReaches (state_at w lines) (is_made_under w lines k top) (parameters w lines k top) k M U) where
   abbrev under : Inc → Bool
   under = is_under w lines k top
 
@@ -204,12 +204,12 @@ module _ (w : Setup) (lines : List Line) (h : AreStepsOf w lines) (world : IsWor
 
 -- ---- the laws
 
-pub confinement : (w : Setup) (lines : List Line) → AreStepsOf w lines → IsWorld w → ConfinementLaw w lines
+pub confinement : (w : WorldValue) (lines : List Line) → AreStepsOf w lines → IsWorld w → ConfinementLaw w lines
 confinement w lines h world k top c moment x g =
     change_within w lines h world k top c (IsModifiable w lines k top) (IsUnconfined w lines k top) (reaches_keep_the_rules (state_at w lines) (is_made_under w lines k top) (parameters w lines k top) k) moment x g
 
 -- where no parameter has either right, the empty sets keep the rules
-closed_rules : (at : ℕ → State) (made : Name → Bool) (w : Setup) (lines : List Line) (k : ℕ) (top : Inc) → AreClosed (parameters w lines k top) → AreReaches at made (parameters w lines k top) k (λ n x. ⊥) (λ n x. ⊥)
+closed_rules : (at : ℕ → State) (made : Name → Bool) (w : WorldValue) (lines : List Line) (k : ℕ) (top : Inc) → AreClosed (parameters w lines k top) → AreReaches at made (parameters w lines k top) k (λ n x. ⊥) (λ n x. ⊥)
 closed_rules at made w lines k top closed = record {
   param_modify = λ param cap e r. true≢false (sym r ∙ (closed param cap e).0);
   param_unconf = λ param cap e r. true≢false (sym r ∙ (closed param cap e).1);
@@ -220,7 +220,7 @@ closed_rules at made w lines k top closed = record {
   handed = λ moment index x cap begun g e r. absurd g;
 }
 
-pub closed_call : (w : Setup) (lines : List Line) → AreStepsOf w lines → IsWorld w → ClosedCallLaw w lines
+pub closed_call : (w : WorldValue) (lines : List Line) → AreStepsOf w lines → IsWorld w → ClosedCallLaw w lines
 closed_call w lines h world k top c closed moment x g =
     by (change_within w lines h world k top c (λ n y. ⊥) (λ n y. ⊥) (closed_rules (state_at w lines) (is_made_under w lines k top) w lines k top closed) moment x g)
   where

@@ -9,7 +9,7 @@ use Rattle.std.proofs.lemmas.Bool.Decides.{nat_tests}
 use Rattle.hk_model.specs.declared.names.Name.{Name}
 use Rattle.hk_model.specs.declared.names.Inc.{Inc}
 use Rattle.hk_model.specs.declared.lines.Line.{Line}
-use Rattle.hk_model.specs.Setup.{Setup}
+use Rattle.hk_model.specs.WorldValue.{WorldValue}
 use Rattle.hk_model.specs.State.{State, incarnation, same_name, same_inc}
 use Rattle.hk_model.specs.Lines.{done_call, makes_object, enters_call, told}
 use Rattle.hk_model.specs.Running.{Machine, moved, after_lines, AreSteps}
@@ -31,13 +31,13 @@ module _ {G : Type 0} (f : State → Line → State → G → G) (is_in : G → 
   Settles s line t = early s → early t × ((g : G) → is_in (f s line t g) ≡ is_in g)
 
   module _ (each : EachStep (λ s line t. Sound s → Settles s line t × Sound t)) where
-    pub settled : (w : Setup) (m : Machine) (lines : List Line) (g : G) → AreSteps w m lines → Sound m.state → early m.state → is_in (told f w m lines g) ≡ is_in g
+    pub settled : (w : WorldValue) (m : Machine) (lines : List Line) (g : G) → AreSteps w m lines → Sound m.state → early m.state → is_in (told f w m lines g) ≡ is_in g
     settled w m [] g h sound e = refl
     settled w m (line ∷ lines) g h sound e =
         let step = moved_holds (λ s l t. Sound s → Settles s l t × Sound t) each w m line h.0 sound in
         settled w (moved w m line.cpu) lines (f m.state line (moved w m line.cpu).state g) h.1 step.1 (step.0 e).0 ∙ (step.0 e).1 g
 
-    pub settled_at : (w : Setup) (m : Machine) (lines : List Line) (j : ℕ) (g : G) → AreSteps w m lines → Sound m.state → early (after_lines w m (take j lines)).state → is_in (told f w m lines g) ≡ is_in (told f w m (take j lines) g)
+    pub settled_at : (w : WorldValue) (m : Machine) (lines : List Line) (j : ℕ) (g : G) → AreSteps w m lines → Sound m.state → early (after_lines w m (take j lines)).state → is_in (told f w m lines g) ≡ is_in (told f w m (take j lines) g)
     settled_at w m [] zero g h sound e = refl
     settled_at w m [] (suc j) g h sound e = refl
     settled_at w m (line ∷ lines) zero g h sound e = settled w m (line ∷ lines) g h sound e
@@ -141,7 +141,7 @@ module _ (under : Inc → Bool) where
 
 -- ---- the line at a moment
 
-module _ (w : Setup) (m : Machine) (lines : List Line) (steps : AreSteps w m lines) (sound : Sound m.state) where
+module _ (w : WorldValue) (m : Machine) (lines : List Line) (steps : AreSteps w m lines) (sound : Sound m.state) where
   pub sound_from : (j : ℕ) → Sound (after_lines w m (take j lines)).state
   sound_from j = state_kept Sound (each_more (λ s line t. Sound s → LineKnown s line t) (λ s line t. Sound s → Sound t) (λ s line t h g. (h g).after) known_each) w m (take j lines) (first_steps w m lines j steps) sound
 

@@ -2,9 +2,9 @@
 //! hold of every history, whichever processors made its lines (`docs/RULES.md`, "Reaches").
 //!
 //! A law is a function that does nothing: calling it costs nothing, and gives its caller the law of
-//! the lines that it has. Its body only asks the world for its limit, since that call's clause tells
-//! that the world is one that can be run. The definitions are those of `hk_model`, and no law looks
-//! at a kernel.
+//! the lines that it has. Where a law needs that the world is one that can be run, its body asks the
+//! world for its limit, since that call's clause tells so; else it is empty. The definitions are
+//! those of `hk_model`, and no law looks at a kernel.
 #![tactic(auto)]
 
 #[cfg(test)]
@@ -49,8 +49,13 @@ pub fn closed_call_law(world: &World, lines: &[Line])
 }
 
 /// What a line changes (`docs/RULES.md`, "Under a call"): each object that stands before a line or
-/// after it stands as it was, but for the one that the line is told to change, which keeps its type,
-/// its code and its parameters, for the one that the line makes, and for those that go.
+/// after it stands as it was, but for these.
+///
+/// - The one that the line is told to change. It keeps its type, its code and its parameters.
+/// - The one that the line makes, where none stood before. A Create makes one with nothing in it, a
+///   Copy one like the object that is copied.
+/// - Those that go. They are none of the opening, and the line is a halt or a call that is not
+///   refused.
 ///
 /// `lines` are steps of `world` from its opening on, in the order of the history.
 pub fn changes_law(world: &World, lines: &[Line])
@@ -70,7 +75,7 @@ pub fn listed_changes_law(world: &World, lines: &[Line])
 
 /// What the reaches of a call are (`docs/RULES.md`, "Reaches"): the least sets that hold the objects
 /// of its parameters and all that the rules of the reaches add to them, at each moment from the call
-/// on. So what a parameter and hops lead to is in every other pair of sets that keeps these rules.
+/// on. So what a parameter and hops lead to passes each two tests of names that keep these rules.
 pub fn reach_law(world: &World, lines: &[Line])
     ensures { ReachLaw world.now lines.now }
 {}

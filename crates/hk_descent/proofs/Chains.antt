@@ -13,7 +13,7 @@ use Rattle.hk_model.specs.State.{State, object}
 use Rattle.hk_model.specs.Targets.{target}
 use Rattle.hk_model.specs.Rule.{made_form}
 use Rattle.hk_model.specs.Places.{Place, SlotOf, EntryOf, standing, end_of, named_by}
-use Rattle.hk_model.specs.Setup.{Setup}
+use Rattle.hk_model.specs.WorldValue.{WorldValue}
 use Rattle.hk_model.specs.Opening.{opening}
 use Rattle.hk_model.specs.Running.{opened, AreStepsOf}
 use Rattle.hk_model.specs.Ways.{Way, Walked, Stored, Lessened, Merged, Inherited, Copied, CopyOf, Created, Formed, Gone, line_way, Writes, Wrote}
@@ -33,12 +33,12 @@ if_there Empty P h = tt
 if_there (Held c) P h = h
 if_there (Form t) P h = h
 
-empty_descends : (w : Setup) (chain : Chain) → Descends w Empty chain
+empty_descends : (w : WorldValue) (chain : Chain) → Descends w Empty chain
 empty_descends w (Opened p) = tt
 empty_descends w (MadeAt line by target) = tt
 empty_descends w (Link line place entry gate rest) = tt
 
-module _ (w : Setup) (s : State) (inc : Inc) (chains : Place → Chain) (before : (q : Place) → Descends w (standing s q) (chains q)) where
+module _ (w : WorldValue) (s : State) (inc : Inc) (chains : Place → Chain) (before : (q : Place) → Descends w (standing s q) (chains q)) where
   -- an entry that is a reduction of what stood at its origin
   from_place : (p q : Place) (x : Entry) → Reduces (standing s q) x → Descends w x (extended s chains (Some (From q)) p)
   from_place p q x h = if_there x (Reduces (standing s q) x × Descends w (standing s q) (chains q)) (h, before q)
@@ -68,17 +68,17 @@ module _ (w : Setup) (s : State) (inc : Inc) (chains : Place → Chain) (before 
 
 -- ---- a history
 
-abbrev Descend : Setup → State → (Place → Chain) → Type 0
+abbrev Descend : WorldValue → State → (Place → Chain) → Type 0
 Descend w s chains = NumbersRise s × ((p : Place) → Descends w (standing s p) (chains p))
 
-descend_each : (w : Setup) → EachStep (λ s line t. (g : Place → Chain) → Descend w s g → Descend w t (extend s line t g))
+descend_each : (w : WorldValue) → EachStep (λ s line t. (g : Place → Chain) → Descend w s g → Descend w t (extend s line t g))
 descend_each w = each_more (λ s line t. (NumbersRise s → NumbersRise t) × (NumbersRise s → LineWrites s line t)) (λ s line t. (g : Place → Chain) → Descend w s g → Descend w t (extend s line t g))
     (λ s line t h g k. (h.0 k.0, λ p. place_descends w s line.inc g k.1 p (line_way s line p) (standing t p) ((h.1 k.0).entries p)))
     (each_both (λ s line t. NumbersRise s → NumbersRise t) (λ s line t. NumbersRise s → LineWrites s line t) rises_each writes_each)
 
-opens : (w : Setup) (p : Place) → Descends w (standing (opening w) p) (Opened p)
+opens : (w : WorldValue) (p : Place) → Descends w (standing (opening w) p) (Opened p)
 opens w p = if_there (standing (opening w) p) (standing (opening w) p ≡ standing (opening w) p) refl
 
-pub descent : (w : Setup) (lines : List Line) → AreStepsOf w lines → DescentLaw w lines
+pub descent : (w : WorldValue) (lines : List Line) → AreStepsOf w lines → DescentLaw w lines
 unfolding opened
 descent w lines h moment = (told_keeps extend (Descend w) (descend_each w) w (opened w) (take moment lines) Opened (first_steps w (opened w) lines moment h) (opening_rises w, opens w)).1

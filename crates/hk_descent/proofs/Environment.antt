@@ -11,7 +11,7 @@ use Rattle.hk_model.specs.declared.lines.Line.{Line}
 use Rattle.hk_model.specs.declared.objects.Incarnation.{Incarnation}
 use Rattle.hk_model.specs.State.{State, incarnation, same_inc, no_incarnation}
 use Rattle.hk_model.specs.Places.{Place, SlotOf, EntryOf, same_place, standing, is_empty}
-use Rattle.hk_model.specs.Setup.{Setup}
+use Rattle.hk_model.specs.WorldValue.{WorldValue}
 use Rattle.hk_model.specs.Lines.{done_call, param_count, line_before}
 use Rattle.hk_model.specs.Running.{Machine, opened, machine_at, state_at, after_lines, AreSteps, AreStepsOf}
 use Rattle.std.proofs.lemmas.Bool.{false_from_ne_true}
@@ -66,7 +66,7 @@ marked_lives call p s g us safe q h = by q (safe.2 q h)
     by (EntryOf name index) k = absurd k
 
 -- where the marks are, and that the call lives while there is one
-ends : (w : Setup) (lines : List Line) (k : ℕ) (call : Inc) (slot moment p : ℕ) → Safe call p (state_at w lines moment) (marks w lines k call slot moment) (under_after w (machine_at w lines k) (drop k (take moment lines)) call) → StaysUnder w lines k call slot moment
+ends : (w : WorldValue) (lines : List Line) (k : ℕ) (call : Inc) (slot moment p : ℕ) → Safe call p (state_at w lines moment) (marks w lines k call slot moment) (under_after w (machine_at w lines k) (drop k (take moment lines)) call) → StaysUnder w lines k call slot moment
 ends w lines k call slot moment p safe = record {
   under = λ q h. by q (safe.2 q h);
   gone = λ gone q. false_from_ne_true (marks w lines k call slot moment q) (λ h. true≢false (sym (marked_lives call p (state_at w lines moment) (marks w lines k call slot moment) (under_after w (machine_at w lines k) (drop k (take moment lines)) call) safe q h) ∙ gone));
@@ -76,7 +76,7 @@ ends w lines k call slot moment p safe = record {
     by (SlotOf i n) h = (holder_lives (state_at w lines moment) i n h.2, h.0)
     by (EntryOf name index) h = h
 
-pub environment : (w : Setup) (lines : List Line) → AreStepsOf w lines → EnvironmentLaw w lines
+pub environment : (w : WorldValue) (lines : List Line) → AreStepsOf w lines → EnvironmentLaw w lines
 environment w lines h k slot call param moment late =
     let rest_lines : List Line = drop k (take moment lines) in
     let process : ℕ = (incarnation (state_at w lines k) call).proc.0 in

@@ -10,7 +10,7 @@ use Rattle.hk_model.specs.declared.instructions.Instr.{Instr}
 use Rattle.hk_model.specs.declared.instructions.Instr.TheVariants as instr
 use Rattle.hk_format.specs.declared.syntax.Body.TheVariants.{LabelIs, StepIs}
 use Rattle.hk_model.specs.Labels.{same_text}
-use Rattle.hk_model.specs.Setup.{IsInstr, IsMaking}
+use Rattle.hk_model.specs.WorldValue.{IsInstr, IsMaking}
 use Rattle.hk_format.specs.Canonical.{part, label_text, making_text, written_of, jumps_to, code_parts}
 use Rattle.hk_format.specs.Syntax.{placed_parts}
 use Rattle.hk_format.specs.Loading.{Label, labels_from, target, making_of, instr_of, instrs_of}

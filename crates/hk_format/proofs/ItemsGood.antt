@@ -29,7 +29,7 @@ use Rattle.hk_model.specs.declared.world.Born.{Born}
 use Rattle.hk_model.specs.declared.world.Code.{Code}
 use Rattle.hk_model.specs.declared.world.Task.{Task}
 use Rattle.hk_model.specs.Labels.{same_text, is_word, is_word_byte, is_name, is_register, is_digit, are_apart, is_capital}
-use Rattle.hk_model.specs.Setup.{Setup, IsWorld, IsObject, IsTypeOrAny, IsEntry, IsParam, IsKind, IsCode, IsTask, IsInstr, IsMaking, IsWord32}
+use Rattle.hk_model.specs.WorldValue.{WorldValue, IsWorld, IsObject, IsTypeOrAny, IsEntry, IsParam, IsKind, IsCode, IsTask, IsInstr, IsMaking, IsWord32}
 use Rattle.hk_format.specs.RightsTexts.{rights_text}
 use Rattle.hk_format.specs.Pieces.{is_upper, is_names, is_upper_byte}
 use Rattle.hk_format.specs.Canonical.{spoken, object_text, code_text, kind_text, part, item, entry_body, entry_parts, param_parts, number_bytes, words_from, word_lines, label_text, making_text, written_of, jumps_to, code_parts, object_item, kind_item, code_item, task_item, syntax_of}
@@ -107,32 +107,32 @@ pub all_back : {X : Type 0} (P : X → Type 0) (xs ys : List X) → AllByRecursi
 all_back P [] ys h = h
 all_back P (x ∷ xs) ys h = all_back P xs ys h.1
 
-pub object_labels : Setup → List (List ℕ)
+pub object_labels : WorldValue → List (List ℕ)
 object_labels w = map (λ (b : Born). b.label) w.objects
 
 typed_names : (ls : List (List ℕ)) → AllByRecursion (λ l. IsTrue (is_name l)) ls → AllByRecursion IsTypeText ls
 typed_names [] h = tt
 typed_names (l ∷ ls) h = (or_left (is_word l) (is_upper l) (name_word l h.0), typed_names ls h.1)
 
-pub object_good : (w : Setup) → IsWorld w → (n : Name) → IsObject w n → IsTypeText (object_text (spoken w) n)
+pub object_good : (w : WorldValue) → IsWorld w → (n : Name) → IsObject w n → IsTypeText (object_text (spoken w) n)
 object_good w h n there =
     let own = map (λ (b : Born). b.label) w.objects in
     let rest = map (λ (c : Code). c.label) w.codes ++ map (λ (t : Task). t.label) w.tasks in
     let size : length (spoken w).objects ≡ 7 + length w.objects = rw length-map (omega arith) in
     all_at IsTypeText (spoken w).objects n.0 [] (refl, (refl, (refl, (refl, (refl, (refl, (refl, typed_names own (all_front (λ l. IsTrue (is_name l)) own rest h.names)))))))) (omega arith)
 
-pub code_good : (w : Setup) → IsWorld w → (n : ℕ) → n < length w.codes → IsWordText (code_text (spoken w) n)
+pub code_good : (w : WorldValue) → IsWorld w → (n : ℕ) → n < length w.codes → IsWordText (code_text (spoken w) n)
 code_good w h n there =
     let own = map (λ (b : Born). b.label) w.objects in
     let codes = map (λ (c : Code). c.label) w.codes in
     let tasks = map (λ (t : Task). t.label) w.tasks in
     name_word (code_text (spoken w) n) (all_at (λ l. IsTrue (is_name l)) codes n [] (all_front (λ l. IsTrue (is_name l)) codes tasks (all_back (λ l. IsTrue (is_name l)) own (codes ++ tasks) h.names)) (rw length-map there))
 
-pub kind_good : (w : Setup) → IsWorld w → (of : Option Name) → IsTypeOrAny w of → IsTypeText (kind_text (spoken w) of)
+pub kind_good : (w : WorldValue) → IsWorld w → (of : Option Name) → IsTypeOrAny w of → IsTypeText (kind_text (spoken w) of)
 kind_good w h None k = refl
 kind_good w h (Some n) k = object_good w h n (type_object w n k)
 
-pub entry_good : (w : Setup) → IsWorld w → (e : Entry) → IsEntry w e → IsEntryBody (entry_body (spoken w) e)
+pub entry_good : (w : WorldValue) → IsWorld w → (e : Entry) → IsEntry w e → IsEntryBody (entry_body (spoken w) e)
 entry_good w h Empty k = tt
 entry_good w h (Held cap) k = (object_good w h cap.name k.0, rights_good cap.rights k.1)
 entry_good w h (Form (template.Amplify of check give)) k = (kind_good w h of k.0, rights_good check k.1, rights_good give k.2)
@@ -141,31 +141,31 @@ entry_good w h (Form (template.Create of give)) k = (object_good w h of (type_ob
 -- lines of items
 
 -- a head that entries may stand under
-TakesEntries : Setup → Head → Type 0
+TakesEntries : WorldValue → Head → Type 0
 TakesEntries w head = (e : Entry) → IsEntryBody (entry_body (spoken w) e) → Belongs head (entry_body (spoken w) e)
 
-object_takes : (w : Setup) (name of : List ℕ) → TakesEntries w (ObjectIs name of)
+object_takes : (w : WorldValue) (name of : List ℕ) → TakesEntries w (ObjectIs name of)
 unfolding TakesEntries
 object_takes w name of Empty k = k
 object_takes w name of (Held cap) k = k
 object_takes w name of (Form (template.Amplify t check give)) k = k
 object_takes w name of (Form (template.Create t give)) k = k
 
-procedure_takes : (w : Setup) (name code : List ℕ) → TakesEntries w (ProcedureIs name code)
+procedure_takes : (w : WorldValue) (name code : List ℕ) → TakesEntries w (ProcedureIs name code)
 unfolding TakesEntries
 procedure_takes w name code Empty k = k
 procedure_takes w name code (Held cap) k = k
 procedure_takes w name code (Form (template.Amplify t check give)) k = k
 procedure_takes w name code (Form (template.Create t give)) k = k
 
-process_takes : (w : Setup) (name code : List ℕ) → TakesEntries w (ProcessIs name code)
+process_takes : (w : WorldValue) (name code : List ℕ) → TakesEntries w (ProcessIs name code)
 unfolding TakesEntries
 process_takes w name code Empty k = k
 process_takes w name code (Held cap) k = k
 process_takes w name code (Form (template.Amplify t check give)) k = k
 process_takes w name code (Form (template.Create t give)) k = k
 
-entries_good : (w : Setup) → IsWorld w → (head : Head) → TakesEntries w head → (es : List Entry) → AllByRecursion (IsEntry w) es → AreParts head [] (entry_parts (spoken w) es)
+entries_good : (w : WorldValue) → IsWorld w → (head : Head) → TakesEntries w head → (es : List Entry) → AllByRecursion (IsEntry w) es → AreParts head [] (entry_parts (spoken w) es)
 unfolding TakesEntries
 entries_good w h head takes [] k = tt
 entries_good w h head takes (Empty ∷ es) k = (takes Empty (entry_good w h Empty k.0), refl, entries_good w h head takes es k.1)
@@ -173,7 +173,7 @@ entries_good w h head takes (Held cap ∷ es) k = (takes (Held cap) (entry_good 
 entries_good w h head takes (Form (template.Amplify of check give) ∷ es) k = (takes (Form (template.Amplify of check give)) (entry_good w h (Form (template.Amplify of check give)) k.0), refl, entries_good w h head takes es k.1)
 entries_good w h head takes (Form (template.Create of give) ∷ es) k = (takes (Form (template.Create of give)) (entry_good w h (Form (template.Create of give)) k.0), refl, entries_good w h head takes es k.1)
 
-params_good : (w : Setup) → IsWorld w → (name code : List ℕ) (ps : List Param) (rest : List Part) → AllByRecursion (IsParam w) ps → AreParts (ProcedureIs name code) [] rest → AreParts (ProcedureIs name code) [] (param_parts (spoken w) ps ++ rest)
+params_good : (w : WorldValue) → IsWorld w → (name code : List ℕ) (ps : List Param) (rest : List Part) → AllByRecursion (IsParam w) ps → AreParts (ProcedureIs name code) [] rest → AreParts (ProcedureIs name code) [] (param_parts (spoken w) ps ++ rest)
 params_good w h name code [] rest k after = after
 params_good w h name code (p ∷ ps) rest k after = ((kind_good w h p.of k.0.0, rights_good p.check k.0.1, rights_good p.give k.0.2), refl, params_good w h name code ps rest k.1 after)
 
@@ -321,7 +321,7 @@ apart_seen (n ∷ ns) t ts h =
 pub seen_so : List (List ℕ) → Bool → Seen
 seen_so names limited = record { names = names; limited = limited }
 
-object_item_good : (w : Setup) → IsWorld w → (label : List ℕ) (k : Kind) → IsTrue (is_name label) → IsKind w k → IsHead (kind_item (spoken w) label k).head × AreParts (kind_item (spoken w) label k).head [] (kind_item (spoken w) label k).parts
+object_item_good : (w : WorldValue) → IsWorld w → (label : List ℕ) (k : Kind) → IsTrue (is_name label) → IsKind w k → IsHead (kind_item (spoken w) label k).head × AreParts (kind_item (spoken w) label k).head [] (kind_item (spoken w) label k).parts
 object_item_good w h label kind.TypeObject name k = (name, tt)
 object_item_good w h label (kind.Semaphore count) name k = ((name, k), tt)
 object_item_good w h label (kind.Plain of words entries) name k =
@@ -329,14 +329,14 @@ object_item_good w h label (kind.Plain of words entries) name k =
 object_item_good w h label (kind.Procedure code params entries) name k =
     ((name, code_good w h code k.0), params_good w h label (code_text (spoken w) code) params (entry_parts (spoken w) entries) k.2 (entries_good w h (ProcedureIs label (code_text (spoken w) code)) (procedure_takes w label (code_text (spoken w) code)) entries k.4))
 
-object_seen : (w : Setup) (names : List (List ℕ)) (limited : Bool) (label : List ℕ) (k : Kind) → is_among names label ≡ false → (IsTrue (is_new (seen_so names limited) (kind_item (spoken w) label k).head)) × (noted (seen_so names limited) (kind_item (spoken w) label k).head ≡ seen_so (names ++ label ∷ []) limited)
+object_seen : (w : WorldValue) (names : List (List ℕ)) (limited : Bool) (label : List ℕ) (k : Kind) → is_among names label ≡ false → (IsTrue (is_new (seen_so names limited) (kind_item (spoken w) label k).head)) × (noted (seen_so names limited) (kind_item (spoken w) label k).head ≡ seen_so (names ++ label ∷ []) limited)
 unfolding seen_so
 object_seen w names limited label kind.TypeObject e = (rw e refl, refl)
 object_seen w names limited label (kind.Plain of words entries) e = (rw e refl, refl)
 object_seen w names limited label (kind.Semaphore count) e = (rw e refl, refl)
 object_seen w names limited label (kind.Procedure code params entries) e = (rw e refl, refl)
 
-objects_good : (w : Setup) → IsWorld w → (names : List (List ℕ)) (limited : Bool) (os : List Born) (rest : List Item) (ls : List (List ℕ)) → AllByRecursion (λ (o : Born). IsKind w o.kind) os → AllByRecursion (λ l. IsTrue (is_name l)) (map (λ (o : Born). o.label) os) → are_apart (names ++ (map (λ (o : Born). o.label) os ++ ls)) ≡ true → ((more : List (List ℕ)) → are_apart (more ++ ls) ≡ true → AreItems (seen_so more limited) rest) → AreItems (seen_so names limited) (map (object_item (spoken w)) os ++ rest)
+objects_good : (w : WorldValue) → IsWorld w → (names : List (List ℕ)) (limited : Bool) (os : List Born) (rest : List Item) (ls : List (List ℕ)) → AllByRecursion (λ (o : Born). IsKind w o.kind) os → AllByRecursion (λ l. IsTrue (is_name l)) (map (λ (o : Born). o.label) os) → are_apart (names ++ (map (λ (o : Born). o.label) os ++ ls)) ≡ true → ((more : List (List ℕ)) → are_apart (more ++ ls) ≡ true → AreItems (seen_so more limited) rest) → AreItems (seen_so names limited) (map (object_item (spoken w)) os ++ rest)
 objects_good w h names limited [] rest ls k named apart after = after names apart
 objects_good w h names limited (o ∷ os) rest ls k named apart after =
     let item = object_item_good w h o.label o.kind named.0 k.0 in
@@ -350,7 +350,7 @@ codes_good names limited (c ∷ cs) rest ls k named apart after =
     let new = apart_seen names c.label (map (λ (d : Code). d.label) cs ++ ls) apart in
     (named.0, rw new refl, steps_good c.label c.steps c.steps 0 [] tt (let few = k.0.0 in omega arith) (all_written (length c.steps) c.steps k.0.0 k.0.1), codes_good (names ++ c.label ∷ []) limited cs rest ls k.1 named.1 (rw append_assoc apart) after)
 
-tasks_good : (w : Setup) → IsWorld w → (names : List (List ℕ)) (limited : Bool) (ts : List Task) → AllByRecursion (IsTask w) ts → AllByRecursion (λ l. IsTrue (is_name l)) (map (λ (t : Task). t.label) ts) → are_apart (names ++ map (λ (t : Task). t.label) ts) ≡ true → AreItems (seen_so names limited) (map (task_item (spoken w)) ts)
+tasks_good : (w : WorldValue) → IsWorld w → (names : List (List ℕ)) (limited : Bool) (ts : List Task) → AllByRecursion (IsTask w) ts → AllByRecursion (λ l. IsTrue (is_name l)) (map (λ (t : Task). t.label) ts) → are_apart (names ++ map (λ (t : Task). t.label) ts) ≡ true → AreItems (seen_so names limited) (map (task_item (spoken w)) ts)
 unfolding seen_so
 tasks_good w h names limited [] k named apart = tt
 tasks_good w h names limited (t ∷ ts) k named apart =
@@ -358,7 +358,7 @@ tasks_good w h names limited (t ∷ ts) k named apart =
     ((named.0, code_good w h t.code k.0.0), rw new refl, entries_good w h (ProcessIs t.label (code_text (spoken w) t.code)) (process_takes w t.label (code_text (spoken w) t.code)) t.slots k.0.2, tasks_good w h (names ++ t.label ∷ []) limited ts k.1 named.1 (rw append_assoc apart))
 
 -- the items of a world are those of some script
-pub syntax_good : (w : Setup) → IsWorld w → IsSyntax (syntax_of w)
+pub syntax_good : (w : WorldValue) → IsWorld w → IsSyntax (syntax_of w)
 unfolding seen_so
 syntax_good w h = go (w.limit == 10000)
   where

@@ -17,7 +17,7 @@ use Rattle.hk_format.specs.declared.syntax.Body.TheVariants.{WordsAre, EmptyEntr
 use Rattle.hk_format.specs.declared.syntax.Part.{Part}
 use Rattle.hk_format.specs.declared.causes.LoadCause.TheVariants.{UnknownName}
 use Rattle.hk_model.specs.Labels.{same_text}
-use Rattle.hk_model.specs.Setup.{IsMaking, IsInstr}
+use Rattle.hk_model.specs.WorldValue.{IsMaking, IsInstr}
 use Rattle.hk_format.specs.Syntax.{IsWritten, Belongs, AreParts}
 use Rattle.hk_format.specs.Grammar.{noted_label}
 use Rattle.hk_format.specs.Loading.{◌>>=◌, limited, front, rights_named, making_of, to_limit, target, Label, labels_from, label_onto, instr_of, instr_onto, instrs_of}

@@ -21,7 +21,7 @@ use Rattle.hk_format.specs.declared.syntax.Head.TheVariants.{LimitIs, TypeIs, Ob
 use Rattle.hk_format.specs.declared.syntax.Body.{Body}
 use Rattle.hk_format.specs.declared.syntax.Body.TheVariants.{WordsAre, EmptyEntry, CapEntry, AmplifyEntry, CreateEntry, ParamIs, LabelIs, StepIs}
 use Rattle.hk_model.specs.Labels.{is_word, is_register, same_text}
-use Rattle.hk_model.specs.Setup.{IsReg, IsOperand, IsSlot, IsIndex, IsRoute, BeginsAtSlot}
+use Rattle.hk_model.specs.WorldValue.{IsReg, IsOperand, IsSlot, IsIndex, IsRoute, BeginsAtSlot}
 use Rattle.hk_format.specs.Pieces.{Word, Upper, Dash, Number, register_of, register_text}
 use Rattle.hk_format.specs.Verbs.{all_verbs, verb_piece}
 use Rattle.hk_format.specs.Operands.{register_piece, slot_piece, operand_piece, steps_piece, route_piece, type_piece, rights_piece}

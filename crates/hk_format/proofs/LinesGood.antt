@@ -39,7 +39,7 @@ use Rattle.hk_model.specs.declared.instructions.Index.TheVariants.{Fixed, ByReg}
 use Rattle.hk_model.specs.Labels.{is_word, is_word_byte, is_lower, is_name, first, same_text}
 use Rattle.hk_format.specs.Pieces.{Piece, Word, Upper, Dash, Number, spell, spell_index, is_piece, is_index, is_upper, register_text}
 use Rattle.hk_format.specs.Texts.{spell_line, is_line}
-use Rattle.hk_model.specs.Setup.{Setup, IsWorld, IsObject, IsTypeOrAny, IsEntry, IsParam, IsKind, IsCode, IsTask, IsInstr, IsIndex, IsRoute, IsOperand, IsSlot, IsReg, BeginsAtSlot, IsWord32}
+use Rattle.hk_model.specs.WorldValue.{WorldValue, IsWorld, IsObject, IsTypeOrAny, IsEntry, IsParam, IsKind, IsCode, IsTask, IsInstr, IsIndex, IsRoute, IsOperand, IsSlot, IsReg, BeginsAtSlot, IsWord32}
 use Rattle.hk_format.specs.RightsTexts.{rights_text}
 use Rattle.hk_format.specs.Verbs.{verb_word, verb_piece}
 use Rattle.hk_format.specs.Operands.{register_piece, slot_piece, operand_piece, steps_piece, route_piece, type_piece, rights_piece, argument_pieces}
@@ -239,7 +239,7 @@ verb_word_good _ = refl
 verb_short : (v : Verb) → IsShort (verb_piece v)
 verb_short v = word_short (verb_word v) (verb_word_good v)
 
-label_size : (w : Setup) → AllByRecursion (λ l. IsTrue (is_name l)) (map (λ (b : Born). b.label) w.objects) → (n : Name) → IsObject w n → length (object_text (spoken w) n) ≤ 32
+label_size : (w : WorldValue) → AllByRecursion (λ l. IsTrue (is_name l)) (map (λ (b : Born). b.label) w.objects) → (n : Name) → IsObject w n → length (object_text (spoken w) n) ≤ 32
 label_size w named n there =
     let size : length (spoken w).objects ≡ 7 + length w.objects = rw length-map (omega arith) in
     all_at (λ l. length l ≤ 32) (spoken w).objects n.0 [] (omega arith, (omega arith, (omega arith, (omega arith, (omega arith, (omega arith, (omega arith, each (map (λ (b : Born). b.label) w.objects) named))))))) (omega arith)
@@ -248,17 +248,17 @@ label_size w named n there =
     each [] h = tt
     each (l ∷ ls) h = (leb-true (length l) 32 (and_parts (is_lower (first l) && list_all is_word_byte l) (leb (length l) 32) (name_word l h.0)).1, each ls h.1)
 
-object_short : (w : Setup) → IsWorld w → (n : Name) → IsObject w n → IsShort (type_piece (object_text (spoken w) n))
+object_short : (w : WorldValue) → IsWorld w → (n : Name) → IsObject w n → IsShort (type_piece (object_text (spoken w) n))
 object_short w h n there =
     let own = map (λ (b : Born). b.label) w.objects in
     let rest = map (λ (c : Code). c.label) w.codes ++ map (λ (t : Task). t.label) w.tasks in
     type_text_short (object_text (spoken w) n) (object_good w h n there) (label_size w (all_front (λ l. IsTrue (is_name l)) own rest h.names) n there)
 
-kind_short : (w : Setup) → IsWorld w → (of : Option Name) → IsTypeOrAny w of → IsShort (type_piece (kind_text (spoken w) of))
+kind_short : (w : WorldValue) → IsWorld w → (of : Option Name) → IsTypeOrAny w of → IsShort (type_piece (kind_text (spoken w) of))
 kind_short w h None k = word_short (codes "any") refl
 kind_short w h (Some n) k = object_short w h n (type_object w n k)
 
-code_short : (w : Setup) → IsWorld w → (n : ℕ) → n < length w.codes → IsShort (Word (code_text (spoken w) n))
+code_short : (w : WorldValue) → IsWorld w → (n : ℕ) → n < length w.codes → IsShort (Word (code_text (spoken w) n))
 code_short w h n there = word_short (code_text (spoken w) n) (code_good w h n there)
 
 name_short : (t : List ℕ) → IsTrue (is_name t) → IsShort (Word t)
@@ -266,7 +266,7 @@ name_short t h = word_short t (name_word t h)
 
 -- lines inside items
 
-entry_line_good : (w : Setup) → IsWorld w → (e : Entry) → IsEntry w e → is_line (body_pieces (entry_body (spoken w) e)) ≡ true
+entry_line_good : (w : WorldValue) → IsWorld w → (e : Entry) → IsEntry w e → is_line (body_pieces (entry_body (spoken w) e)) ≡ true
 entry_line_good w h Empty k = refl
 entry_line_good w h (Held held) k = few_good (and_short (verb_short verb.Cap) (and_short (object_short w h held.name k.0) (and_short (rights_short held.rights k.1) none_short))) (omega arith)
 entry_line_good w h (Form (template.Amplify of check give)) k = few_good (and_short (verb_short verb.Amplify) (and_short (kind_short w h of k.0) (and_short (rights_short check k.1) (and_short (rights_short give k.2) none_short)))) (omega arith)
@@ -275,12 +275,12 @@ entry_line_good w h (Form (template.Create of give)) k = few_good (and_short (ve
 LinesAreGood : List Part → Type 0
 LinesAreGood ps = list_all (λ (p : Part). is_line (body_pieces p.body)) ps ≡ true
 
-entry_lines_good : (w : Setup) → IsWorld w → (es : List Entry) → AllByRecursion (IsEntry w) es → LinesAreGood (entry_parts (spoken w) es)
+entry_lines_good : (w : WorldValue) → IsWorld w → (es : List Entry) → AllByRecursion (IsEntry w) es → LinesAreGood (entry_parts (spoken w) es)
 unfolding LinesAreGood
 entry_lines_good w h [] k = refl
 entry_lines_good w h (e ∷ es) k = and_from _ _ (entry_line_good w h e k.0) (entry_lines_good w h es k.1)
 
-param_lines_good : (w : Setup) → IsWorld w → (ps : List Param) → AllByRecursion (IsParam w) ps → LinesAreGood (param_parts (spoken w) ps)
+param_lines_good : (w : WorldValue) → IsWorld w → (ps : List Param) → AllByRecursion (IsParam w) ps → LinesAreGood (param_parts (spoken w) ps)
 unfolding LinesAreGood
 param_lines_good w h [] k = refl
 param_lines_good w h (p ∷ ps) k = and_from _ _ (few_good (and_short (verb_short verb.Param) (and_short (kind_short w h p.of k.0.0) (and_short (rights_short p.check k.0.1) (and_short (rights_short p.give k.0.2) none_short)))) (omega arith)) (param_lines_good w h ps k.1)
@@ -427,7 +427,7 @@ item_lines_good head parts h k = go (has_parts head)
     go true = and_from _ _ h (part_lines_good parts k)
     go false = and_from _ _ h refl
 
-object_lines_good : (w : Setup) → IsWorld w → (label : List ℕ) (k : Kind) → IsTrue (is_name label) → IsKind w k → list_all is_line (item_lines (kind_item (spoken w) label k)) ≡ true
+object_lines_good : (w : WorldValue) → IsWorld w → (label : List ℕ) (k : Kind) → IsTrue (is_name label) → IsKind w k → list_all is_line (item_lines (kind_item (spoken w) label k)) ≡ true
 unfolding LinesAreGood
 object_lines_good w h label kind.TypeObject name k = item_lines_good (TypeIs label) [] (few_good (and_short (verb_short verb.Type) (and_short (name_short label name) none_short)) (omega arith)) refl
 object_lines_good w h label (kind.Semaphore count) name k = item_lines_good (SemaphoreIs label count) [] (few_good (and_short (verb_short verb.Semaphore) (and_short (name_short label name) (and_short (number_short count (omega arith)) none_short))) (omega arith)) refl
@@ -443,7 +443,7 @@ lines_both xs ys a b = rw (flat_map-append item_lines xs ys) (list_all-append is
 line_onto : (x : Item) (xs : List Item) → list_all is_line (item_lines x) ≡ true → list_all is_line (flat_map item_lines xs) ≡ true → list_all is_line (flat_map item_lines (x ∷ xs)) ≡ true
 line_onto x xs a b = list_all-append is_line (item_lines x) (flat_map item_lines xs) ∙ and_from _ _ a b
 
-objects_lines : (w : Setup) → IsWorld w → (os : List Born) → AllByRecursion (λ (o : Born). IsKind w o.kind) os → AllByRecursion (λ l. IsTrue (is_name l)) (map (λ (o : Born). o.label) os) → list_all is_line (flat_map item_lines (map (object_item (spoken w)) os)) ≡ true
+objects_lines : (w : WorldValue) → IsWorld w → (os : List Born) → AllByRecursion (λ (o : Born). IsKind w o.kind) os → AllByRecursion (λ l. IsTrue (is_name l)) (map (λ (o : Born). o.label) os) → list_all is_line (flat_map item_lines (map (object_item (spoken w)) os)) ≡ true
 objects_lines w h [] k named = refl
 objects_lines w h (o ∷ os) k named = line_onto (object_item (spoken w) o) (map (object_item (spoken w)) os) (object_lines_good w h o.label o.kind named.0 k.0) (objects_lines w h os k.1 named.1)
 
@@ -451,12 +451,12 @@ codes_lines : (cs : List Code) → AllByRecursion IsCode cs → AllByRecursion (
 codes_lines [] k named = refl
 codes_lines (c ∷ cs) k named = line_onto (code_item c) (map code_item cs) (item_lines_good (CodeIs c.label) (code_parts c.steps 0 c.steps) (few_good (and_short (verb_short verb.Code) (and_short (name_short c.label named.0) none_short)) (omega arith)) (code_lines_good (length c.steps) c.steps c.steps 0 k.0.0 (let few = k.0.0 in omega arith) k.0.1)) (codes_lines cs k.1 named.1)
 
-tasks_lines : (w : Setup) → IsWorld w → (ts : List Task) → AllByRecursion (IsTask w) ts → AllByRecursion (λ l. IsTrue (is_name l)) (map (λ (t : Task). t.label) ts) → list_all is_line (flat_map item_lines (map (task_item (spoken w)) ts)) ≡ true
+tasks_lines : (w : WorldValue) → IsWorld w → (ts : List Task) → AllByRecursion (IsTask w) ts → AllByRecursion (λ l. IsTrue (is_name l)) (map (λ (t : Task). t.label) ts) → list_all is_line (flat_map item_lines (map (task_item (spoken w)) ts)) ≡ true
 tasks_lines w h [] k named = refl
 tasks_lines w h (t ∷ ts) k named = line_onto (task_item (spoken w) t) (map (task_item (spoken w)) ts) (item_lines_good (ProcessIs t.label (code_text (spoken w) t.code)) (entry_parts (spoken w) t.slots) (few_good (and_short (verb_short verb.Process) (and_short (name_short t.label named.0) (and_short (code_short w h t.code k.0.0) none_short))) (omega arith)) (entry_lines_good w h t.slots k.0.2)) (tasks_lines w h ts k.1 named.1)
 
 -- the lines of a world are those of some script
-pub lines_good : (w : Setup) → IsWorld w → list_all is_line (script_lines (syntax_of w)) ≡ true
+pub lines_good : (w : WorldValue) → IsWorld w → list_all is_line (script_lines (syntax_of w)) ≡ true
 unfolding digits
 lines_good w h = lines_both (limit_items w.limit) (map (object_item (spoken w)) w.objects ++ (map code_item w.codes ++ map (task_item (spoken w)) w.tasks)) (limits (w.limit == 10000)) (lines_both (map (object_item (spoken w)) w.objects) (map code_item w.codes ++ map (task_item (spoken w)) w.tasks) (objects_lines w h w.objects h.kinds (all_front (λ l. IsTrue (is_name l)) own (coded ++ tasked) h.names)) (lines_both (map code_item w.codes) (map (task_item (spoken w)) w.tasks) (codes_lines w.codes h.codes_are (all_front (λ l. IsTrue (is_name l)) coded tasked named)) (tasks_lines w h w.tasks h.tasks_are (all_back (λ l. IsTrue (is_name l)) coded tasked named))))
   where

@@ -26,7 +26,7 @@ use Rattle.hk_format.specs.declared.causes.LoadCause.{LoadCause}
 use Rattle.hk_format.specs.declared.causes.LoadCause.TheVariants.{UnknownName, WrongPart, TooMany, BadRights}
 use Rattle.hk_model.specs.Labels.{same_text}
 use Rattle.hk_format.specs.RightsTexts.{rights_of, right_of, both, union_of}
-use Rattle.hk_model.specs.Setup.{Setup, IsEntry, IsParam, IsObject, IsType, IsTypeOrAny, IsTypeKind}
+use Rattle.hk_model.specs.WorldValue.{WorldValue, IsEntry, IsParam, IsObject, IsType, IsTypeOrAny, IsTypeKind}
 use Rattle.hk_format.specs.Loading.{Refused, Names, ◌>>=◌, ◌>>◌, found, unless, limited, permitted, onto, object_named, type_named, kind_named, some_name, code_named, rights_named, name_numbered, kernel_flags, entry_of, param_of, parameter, held_entry, place, to_limit}
 use Rattle.hk_format.proofs.NamesAgain.{is_type_object}
 
@@ -110,12 +110,12 @@ rights_word t r h = go (same_text t (codes "-")) (same_text t (codes "ALL")) (fo
 -- names
 
 -- the names are those of this world
-pub record NamesFit (w : Setup) (names : Names) : Type 0 where
+pub record NamesFit (w : WorldValue) (names : Names) : Type 0 where
   pub objects : length names.objects ≡ 7 + length w.objects
   pub types : names.types ≡ kernel_flags ++ map is_type_object w.objects
   pub codes : length names.codes ≡ length w.codes
 
-pub object_loaded : {w : Setup} {names : Names} → NamesFit w names → (t : List ℕ) (n : ℕ) → object_named names t ≡ Ok n → IsObject w (name_numbered n)
+pub object_loaded : {w : WorldValue} {names : Names} → NamesFit w names → (t : List ℕ) (n : ℕ) → object_named names t ≡ Ok n → IsObject w (name_numbered n)
 object_loaded {w} {names} fit t n h = let below = place_below names.objects t n (found_ok (place names.objects t) UnknownName n h) in let size = fit.objects in omega arith
 
 type_kind : (b : Born) → is_type_object b ≡ true → IsTypeKind b.kind
@@ -129,7 +129,7 @@ type_kind b h = go b.kind h
     go (kind.Procedure code params entries) h = absurd (false≢true h)
 
 -- a number whose flag is set is that of a type
-type_flagged : (w : Setup) (n : ℕ) → n < 7 + length w.objects → get_or (kernel_flags ++ map is_type_object w.objects) n false ≡ true → IsType w (name_numbered n)
+type_flagged : (w : WorldValue) (n : ℕ) → n < 7 + length w.objects → get_or (kernel_flags ++ map is_type_object w.objects) n false ≡ true → IsType w (name_numbered n)
 type_flagged w n there flag = go (ltb n 7) refl
   where
     declared : 7 ≤ n → ((born : Born) × (n - 7 < length w.objects) × (slice_get w.objects (n - 7) ≡ Some born) × (get_or w.objects (n - 7) born ≡ born)) → IsType w (name_numbered n)
@@ -145,7 +145,7 @@ type_flagged w n there flag = go (ltb n 7) refl
     go true e = inl (ltb-true n 7 e)
     go false e = let above : 7 ≤ n = grind (arith, nat_tests) in either above (slice_get_cases w.objects (n - 7)).1
 
-pub type_loaded : {w : Setup} {names : Names} → NamesFit w names → (t : List ℕ) (n : ℕ) → type_named names t ≡ Ok n → IsType w (name_numbered n)
+pub type_loaded : {w : WorldValue} {names : Names} → NamesFit w names → (t : List ℕ) (n : ℕ) → type_named names t ≡ Ok n → IsType w (name_numbered n)
 type_loaded {w} {names} fit t n h =
     let a = bind_ok (object_named names t) (λ m. unless (slice_index_or names.types m false) UnknownName >> Ok m) n h in
     let b = then_ok (unless (slice_index_or names.types a.0 false) UnknownName) (Ok a.0) n a.2 in
@@ -153,7 +153,7 @@ type_loaded {w} {names} fit t n h =
     let flagged = sym (ap (λ (fs : List Bool). slice_index_or fs a.0 false) fit.types) ∙ flag in
     moved (λ (m : ℕ). IsType w (name_numbered m)) a.0 n b.2 (type_flagged w a.0 (object_loaded fit t a.0 a.1) flagged)
 
-kind_loaded : {w : Setup} {names : Names} → NamesFit w names → (t : List ℕ) (of : Option Name) → kind_named names t ≡ Ok of → IsTypeOrAny w of
+kind_loaded : {w : WorldValue} {names : Names} → NamesFit w names → (t : List ℕ) (of : Option Name) → kind_named names t ≡ Ok of → IsTypeOrAny w of
 kind_loaded {w} {names} fit t of h = go (same_text t (codes "any")) h
   where
     go : (b : Bool) → cond b (Ok None) (some_name (type_named names t)) ≡ Ok of → IsTypeOrAny w of
@@ -162,7 +162,7 @@ kind_loaded {w} {names} fit t of h = go (same_text t (codes "any")) h
         let a = bind_ok (type_named names t) (λ n. Ok (Some (name_numbered n))) of k in
         moved (IsTypeOrAny w) (Some (name_numbered a.0)) of a.2 (type_loaded fit t a.0 a.1)
 
-pub code_loaded : {w : Setup} {names : Names} → NamesFit w names → (t : List ℕ) (n : ℕ) → code_named names t ≡ Ok n → n < length w.codes
+pub code_loaded : {w : WorldValue} {names : Names} → NamesFit w names → (t : List ℕ) (n : ℕ) → code_named names t ≡ Ok n → n < length w.codes
 code_loaded {w} {names} fit t n h = go (place names.codes t) refl (found_ok (option_map to_limit (place names.codes t)) UnknownName n h)
   where
     go : (o : Option ℕ) → place names.codes t ≡ o → option_map to_limit o ≡ Some n → n < length w.codes
@@ -171,7 +171,7 @@ code_loaded {w} {names} fit t n h = go (place names.codes t) refl (found_ok (opt
 
 -- single lines
 
-pub entry_loaded : {w : Setup} {names : Names} → NamesFit w names → (body : Body) (e : Entry) → entry_of names body ≡ Ok e → IsEntry w e
+pub entry_loaded : {w : WorldValue} {names : Names} → NamesFit w names → (body : Body) (e : Entry) → entry_of names body ≡ Ok e → IsEntry w e
 entry_loaded {w} {names} fit (CapEntry object rights) e h =
     let a = bind_ok (object_named names object) (λ n. rights_named rights >>= (λ r. Ok (held_entry n r))) e h in
     let b = bind_ok (rights_named rights) (λ r. Ok (held_entry a.0 r)) e a.2 in
@@ -188,7 +188,7 @@ entry_loaded {w} {names} fit (CreateEntry of give) e h =
 entry_loaded {w} fit EmptyEntry e h = moved (IsEntry w) Empty e h tt
 entry_loaded {w} fit b e h = moved (IsEntry w) Empty e h tt
 
-pub param_loaded : {w : Setup} {names : Names} → NamesFit w names → (kind check give : List ℕ) (p : Param) → param_of names kind check give ≡ Ok p → IsParam w p
+pub param_loaded : {w : WorldValue} {names : Names} → NamesFit w names → (kind check give : List ℕ) (p : Param) → param_of names kind check give ≡ Ok p → IsParam w p
 param_loaded {w} {names} fit kind check give p h =
     let a = bind_ok (kind_named names kind) (λ of. rights_named check >>= (λ c. rights_named give >>= (λ g. Ok (parameter of c g)))) p h in
     let b = bind_ok (rights_named check) (λ c. rights_named give >>= (λ g. Ok (parameter a.0 c g))) p a.2 in

@@ -18,7 +18,7 @@ use Rattle.hk_model.specs.declared.world.Born.{Born}
 use Rattle.hk_model.specs.declared.world.Code.{Code}
 use Rattle.hk_model.specs.declared.world.Task.{Task}
 use Rattle.hk_model.specs.Labels.{same_text, is_lower, is_name, is_word, is_register, first, are_apart}
-use Rattle.hk_model.specs.Setup.{Setup, IsWorld, IsObject, IsType, IsTypeOrAny, IsTypeKind, IsEntry, IsParam}
+use Rattle.hk_model.specs.WorldValue.{WorldValue, IsWorld, IsObject, IsType, IsTypeOrAny, IsTypeKind, IsEntry, IsParam}
 use Rattle.hk_format.specs.RightsTexts.{rights_text}
 use Rattle.hk_rights.specs.Rights.{IsRightsWord}
 use Rattle.hk_format.specs.Canonical.{spoken, kernel_names, object_text, code_text, kind_text, entry_body}
@@ -97,26 +97,26 @@ is_type_object born = kind_type born.kind
     kind_type (kind.Procedure code params entries) = false
 
 -- what a world's names are in both directions
-pub record Known (w : Setup) (names : Names) : Type 0 where
+pub record Known (w : WorldValue) (names : Names) : Type 0 where
   pub objects : names.objects ≡ (spoken w).objects
   pub types : names.types ≡ kernel_flags ++ map is_type_object w.objects
   pub codes : names.codes ≡ (spoken w).codes
   pub world : IsWorld w
 
-objects_apart : (w : Setup) → IsWorld w → are_apart (spoken w).objects ≡ true
+objects_apart : (w : WorldValue) → IsWorld w → are_apart (spoken w).objects ≡ true
 objects_apart w h =
     let own = map (λ (b : Born). b.label) w.objects in
     let rest = map (λ (c : Code). c.label) w.codes ++ map (λ (t : Task). t.label) w.tasks in
     kernel_apart own (names_front own rest h.names) (apart_before own rest h.apart)
 
-codes_apart : (w : Setup) → IsWorld w → are_apart (spoken w).codes ≡ true
+codes_apart : (w : WorldValue) → IsWorld w → are_apart (spoken w).codes ≡ true
 codes_apart w h =
     let own = map (λ (b : Born). b.label) w.objects in
     let codes = map (λ (c : Code). c.label) w.codes in
     let tasks = map (λ (t : Task). t.label) w.tasks in
     apart_before codes tasks (apart_behind own (codes ++ tasks) h.apart)
 
-pub object_again : {w : Setup} {names : Names} → Known w names → (n : Name) → IsObject w n → object_named names (object_text (spoken w) n) ≡ Ok n.0
+pub object_again : {w : WorldValue} {names : Names} → Known w names → (n : Name) → IsObject w n → object_named names (object_text (spoken w) n) ≡ Ok n.0
 object_again {w} k n h =
     let size : length (spoken w).objects ≡ 7 + length w.objects = rw length-map (omega arith) in
     rw (k.objects, place_found (spoken w).objects n.0 (objects_apart w k.world) (omega arith))
@@ -124,7 +124,7 @@ object_again {w} k n h =
 there_at : {X : Type 0} (xs : List X) (k : ℕ) (x : X) → slice_get xs k ≡ Some x → (k < length xs) × (get_or xs k x ≡ x)
 there_at xs k x e = (slice_get_within xs k x e, get_or_from_slice_get xs k x x e)
 
-pub type_object : (w : Setup) (n : Name) → IsType w n → IsObject w n
+pub type_object : (w : WorldValue) (n : Name) → IsType w n → IsObject w n
 type_object w n (inl low) = omega arith
 type_object w n (inr declared) = let at = (there_at w.objects (n.0 - 7) declared.born declared.there).0 in let above = declared.above in omega arith
 
@@ -148,17 +148,17 @@ type_flag b h = go b.kind h
     go (kind.Semaphore count) h = absurd h
     go (kind.Procedure code params entries) h = absurd h
 
-flag_again : (w : Setup) (n : Name) → IsType w n → get_or (kernel_flags ++ map is_type_object w.objects) n.0 false ≡ true
+flag_again : (w : WorldValue) (n : Name) → IsType w n → get_or (kernel_flags ++ map is_type_object w.objects) n.0 false ≡ true
 flag_again w n (inl low) = flag_low (map is_type_object w.objects) n.0 low
 flag_again w n (inr declared) =
     let there = there_at w.objects (n.0 - 7) declared.born declared.there in
     get_or-append_right kernel_flags (map is_type_object w.objects) 7 n.0 false refl declared.above ∙ get_or-map is_type_object w.objects (n.0 - 7) declared.born false there.0 ∙ ap is_type_object there.1 ∙ type_flag declared.born declared.is_type
 
-pub type_again : {w : Setup} {names : Names} → Known w names → (n : Name) → IsType w n → type_named names (object_text (spoken w) n) ≡ Ok n.0
+pub type_again : {w : WorldValue} {names : Names} → Known w names → (n : Name) → IsType w n → type_named names (object_text (spoken w) n) ≡ Ok n.0
 type_again {w} k n h = rw (object_again k n (type_object w n h), k.types, flag_again w n h)
 
 -- labels of a world are not `any`
-object_not_any : (w : Setup) → IsWorld w → (n : Name) → IsObject w n → same_text (object_text (spoken w) n) (codes "any") ≡ false
+object_not_any : (w : WorldValue) → IsWorld w → (n : Name) → IsObject w n → same_text (object_text (spoken w) n) (codes "any") ≡ false
 object_not_any w h n there = go (spoken w).objects n.0 (all_other w h) (let size : length (spoken w).objects ≡ 7 + length w.objects = rw length-map (omega arith) in omega arith)
   where
     go : (ls : List (List ℕ)) (k : ℕ) → AllByRecursion (λ l. same_text l (codes "any") ≡ false) ls → k < length ls → same_text (get_or ls k []) (codes "any") ≡ false
@@ -170,14 +170,14 @@ object_not_any w h n there = go (spoken w).objects n.0 (all_other w h) (let size
     others [] all = tt
     others (l ∷ ls) all = (not-true _ (and_parts (is_word l && not (is_register l)) (not (same_text l (codes "any"))) all.0).1, others ls all.1)
 
-    all_other : (w : Setup) → IsWorld w → AllByRecursion (λ l. same_text l (codes "any") ≡ false) (spoken w).objects
+    all_other : (w : WorldValue) → IsWorld w → AllByRecursion (λ l. same_text l (codes "any") ≡ false) (spoken w).objects
     all_other w h = (refl, (refl, (refl, (refl, (refl, (refl, (refl, others (map (λ (b : Born). b.label) w.objects) (names_front (map (λ (b : Born). b.label) w.objects) (map (λ (c : Code). c.label) w.codes ++ map (λ (t : Task). t.label) w.tasks) h.names))))))))
 
-pub kind_again : {w : Setup} {names : Names} → Known w names → (of : Option Name) → IsTypeOrAny w of → kind_named names (kind_text (spoken w) of) ≡ Ok of
+pub kind_again : {w : WorldValue} {names : Names} → Known w names → (of : Option Name) → IsTypeOrAny w of → kind_named names (kind_text (spoken w) of) ≡ Ok of
 kind_again k None h = refl
 kind_again {w} k (Some n) h = rw (object_not_any w k.world n (type_object w n h), type_again k n h)
 
-pub code_again : {w : Setup} {names : Names} → Known w names → (n : ℕ) → n < length w.codes → code_named names (code_text (spoken w) n) ≡ Ok n
+pub code_again : {w : WorldValue} {names : Names} → Known w names → (n : ℕ) → n < length w.codes → code_named names (code_text (spoken w) n) ≡ Ok n
 code_again {w} k n h =
     let few = k.world.few_codes in
     let least : min n 4096 ≡ n = omega arith in
@@ -186,11 +186,11 @@ code_again {w} k n h =
 pub rights_found : (r : ℕ) → IsRightsWord r → rights_named (rights_text r) ≡ Ok r
 rights_found r h = rw (rights_again r h)
 
-pub entry_again : {w : Setup} {names : Names} → Known w names → (e : Entry) → IsEntry w e → entry_of names (entry_body (spoken w) e) ≡ Ok e
+pub entry_again : {w : WorldValue} {names : Names} → Known w names → (e : Entry) → IsEntry w e → entry_of names (entry_body (spoken w) e) ≡ Ok e
 entry_again k Empty h = refl
 entry_again k (Held cap) h = rw (object_again k cap.name h.0, rights_found cap.rights h.1)
 entry_again k (Form (template.Amplify of check give)) h = rw (kind_again k of h.0, rights_found check h.1, rights_found give h.2)
 entry_again k (Form (template.Create of give)) h = rw (type_again k of h.0, rights_found give h.1)
 
-pub param_again : {w : Setup} {names : Names} → Known w names → (p : Param) → IsParam w p → param_of names (kind_text (spoken w) p.of) (rights_text p.check) (rights_text p.give) ≡ Ok p
+pub param_again : {w : WorldValue} {names : Names} → Known w names → (p : Param) → IsParam w p → param_of names (kind_text (spoken w) p.of) (rights_text p.check) (rights_text p.give) ≡ Ok p
 param_again k p h = rw (kind_again k p.of h.0, rights_found p.check h.1, rights_found p.give h.2)

@@ -18,7 +18,7 @@ use Rattle.hk_model.specs.declared.lines.Line.{Line}
 use Rattle.hk_model.specs.declared.lines.End.TheVariants as end
 use Rattle.hk_format.specs.declared.causes.Cause.TheVariants.{OfParse, BadLine}
 use Rattle.hk_format.specs.declared.causes.ParseCause.TheVariants.{UnknownWord, Missing, Extra}
-use Rattle.hk_model.specs.Setup.{Setup, setup}
+use Rattle.hk_model.specs.WorldValue.{WorldValue, world_value}
 use Rattle.hk_model.proofs.ReadingWorld.{line, reading, reading_lines}
 use Rattle.hk_format.specs.RightsTexts.{rights_text, rights_of}
 use Rattle.hk_format.specs.Pieces.{piece_of}

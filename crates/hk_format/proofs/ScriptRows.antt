@@ -7,7 +7,7 @@ use Rattle.hk_model.specs.declared.instructions.Index.TheVariants.{Fixed}
 use Rattle.hk_model.specs.declared.instructions.Instr.TheVariants as instr
 use Rattle.hk_model.specs.declared.instructions.Operand.TheVariants as operand
 use Rattle.hk_model.specs.declared.world.Kind.TheVariants as kind
-use Rattle.hk_model.specs.Setup.{Setup, setup}
+use Rattle.hk_model.specs.WorldValue.{WorldValue, world_value}
 use Rattle.hk_format.specs.RightsTexts.{rights_text}
 use Rattle.hk_format.specs.declared.causes.Cause.TheVariants.{OfText, OfParse, OfLoad}
 use Rattle.hk_format.specs.declared.causes.TextCause.TheVariants as bad_text
@@ -21,8 +21,8 @@ use Rattle.hk_format.specs.Canonical.{canon}
 use Rattle.hk_model.specs.Generated.{generate}
 
 -- one DATA object, whose words a loop reads until there is none
-abbrev pub counting : Setup
-counting = setup 10000
+abbrev pub counting : WorldValue
+counting = world_value 10000
     (record { label = codes "d"; kind = kind.Plain (record { 0 = 1 }) (1 ∷ 2 ∷ 3 ∷ []) [] } ∷ [])
     (record {
       label = codes "main";

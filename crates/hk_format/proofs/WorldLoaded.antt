@@ -9,7 +9,7 @@ use Rattle.hk_format.specs.declared.syntax.Body.{Body}
 use Rattle.hk_format.specs.declared.syntax.Body.TheVariants.{WordsAre, EmptyEntry, CapEntry, AmplifyEntry, CreateEntry, ParamIs, LabelIs, StepIs}
 use Rattle.hk_format.specs.declared.syntax.Part.{Part}
 use Rattle.hk_format.specs.declared.causes.LoadCause.{LoadCause}
-use Rattle.hk_model.specs.Setup.{Setup, IsEntry, IsParam, IsWord32}
+use Rattle.hk_model.specs.WorldValue.{WorldValue, IsEntry, IsParam, IsWord32}
 use Rattle.hk_format.specs.Syntax.{Belongs, AreParts, IsWordsLine}
 use Rattle.hk_format.specs.Grammar.{noted_label}
 use Rattle.hk_format.specs.Loading.{Refused, Names, limited, permitted, onto, entry_of, param_of, Contents, contents, more_words, one_param, one_entry, Used, used, Room, contents_of, content_onto, at_line}
@@ -27,7 +27,7 @@ WordsIn (WordsAre words) = AllByRecursion IsWord32 words
 WordsIn _ = Unit {0}
 
 -- what lines give within this room, behind lines that have given so many
-pub record ContentsLoaded (w : Setup) (r : Room) (u : Used) (c : Contents) : Type 0 where
+pub record ContentsLoaded (w : WorldValue) (r : Room) (u : Used) (c : Contents) : Type 0 where
   pub few_words : u.words + length c.words ≤ 4096
   pub words : AllByRecursion IsWord32 c.words
   pub few_params : u.params + length c.params ≤ 8
@@ -42,7 +42,7 @@ pub record WithinLimits (r : Room) (u : Used) : Type 0 where
   pub params : u.params ≤ 8
   pub entries : u.entries ≤ r.entries
 
-entry_more : {w : Setup} {names : Names} → NamesFit w names → (r : Room) (u : Used) (line : ℕ) (b : Body) (rest : Result Contents Refused) (c : Contents) → onto one_entry line (limited (ltb u.entries r.entries) (permitted r.listed (entry_of names b))) rest ≡ Ok c → ((d : Contents) → u.entries < r.entries → rest ≡ Ok d → ContentsLoaded w r (used u.words u.params (u.entries + 1)) d) → ContentsLoaded w r u c
+entry_more : {w : WorldValue} {names : Names} → NamesFit w names → (r : Room) (u : Used) (line : ℕ) (b : Body) (rest : Result Contents Refused) (c : Contents) → onto one_entry line (limited (ltb u.entries r.entries) (permitted r.listed (entry_of names b))) rest ≡ Ok c → ((d : Contents) → u.entries < r.entries → rest ≡ Ok d → ContentsLoaded w r (used u.words u.params (u.entries + 1)) d) → ContentsLoaded w r u c
 entry_more {w} {names} fit r u line b rest c e more =
     let a = onto_ok one_entry line (limited (ltb u.entries r.entries) (permitted r.listed (entry_of names b))) rest c e in
     let l = limited_ok (ltb u.entries r.entries) (permitted r.listed (entry_of names b)) a.0 a.2 in
@@ -52,7 +52,7 @@ entry_more {w} {names} fit r u line b rest c e more =
     let few = d.few_entries in
     subst (ContentsLoaded w r u) a.4 (record { few_words = d.few_words; words = d.words; few_params = d.few_params; params = d.params; few_entries = omega arith; entries = (entry_loaded fit b a.0 p.0, d.entries); none = λ off. absurd (false≢true (sym off ∙ p.1)) })
 
-pub contents_loaded : {w : Setup} {names : Names} → NamesFit w names → (r : Room) (u : Used) (ps : List Part) (c : Contents) → WithinLimits r u → AllByRecursion (λ (p : Part). WordsIn p.body) ps → contents_of names r u ps ≡ Ok c → ContentsLoaded w r u c
+pub contents_loaded : {w : WorldValue} {names : Names} → NamesFit w names → (r : Room) (u : Used) (ps : List Part) (c : Contents) → WithinLimits r u → AllByRecursion (λ (p : Part). WordsIn p.body) ps → contents_of names r u ps ≡ Ok c → ContentsLoaded w r u c
 unfolding WordsIn
 contents_loaded {w} fit r u [] c within h e = moved (ContentsLoaded w r u) (contents [] [] []) c e (let a = within.words in let b = within.params in let d = within.entries in record { few_words = omega arith; words = tt; few_params = omega arith; params = tt; few_entries = omega arith; entries = tt; none = λ off. refl })
 contents_loaded {w} {names} fit r u (p ∷ ps) c within h e = go p.body h.0 e (λ v d l f. contents_loaded fit r v ps d l h.1 f)

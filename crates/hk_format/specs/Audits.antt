@@ -8,7 +8,7 @@ use Rattle.hk_model.specs.declared.lines.End.TheVariants as end
 use Rattle.hk_format.specs.declared.causes.Cause.TheVariants.{OfParse, BadLine}
 use Rattle.hk_format.specs.declared.causes.ParseCause.TheVariants.{Missing, Extra}
 use Rattle.hk_model.specs.Labels.{same_text}
-use Rattle.hk_model.specs.Setup.{Setup}
+use Rattle.hk_model.specs.WorldValue.{WorldValue}
 use Rattle.hk_format.specs.Texts.{is_none}
 use Rattle.hk_format.specs.Loading.{◌>>=◌}
 use Rattle.hk_format.specs.Worlds.{Refused, world_of}
@@ -26,12 +26,12 @@ events lines end = record { lines = lines; end = end }
 
 -- what a record tells
 pub record Audited : Type 0 where
-  pub world : Setup
+  pub world : WorldValue
   pub lines : List Line
   pub end : End
 
 -- this world, and these events
-abbrev pub audited : Setup → Events → Audited
+abbrev pub audited : WorldValue → Events → Audited
 audited w found = record { world = w; lines = found.lines; end = found.end }
 
 -- the lines of the script, and what line feeds cut behind the line `record`; None where no line is that

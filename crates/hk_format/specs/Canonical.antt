@@ -27,7 +27,7 @@ use Rattle.hk_model.specs.declared.world.Kind.{Kind}
 use Rattle.hk_model.specs.declared.world.Kind.TheVariants as kind
 use Rattle.hk_model.specs.declared.world.Task.{Task}
 use Rattle.hk_model.specs.Limits.{usual_limit, line_bytes}
-use Rattle.hk_model.specs.Setup.{Setup}
+use Rattle.hk_model.specs.WorldValue.{WorldValue}
 use Rattle.hk_format.specs.RightsTexts.{rights_text}
 use Rattle.hk_format.specs.Texts.{spell_lines}
 use Rattle.hk_format.specs.Spelling.{script_lines}
@@ -42,7 +42,7 @@ pub record Spoken : Type 0 where
   pub codes : List (List ℕ)
 
 -- the labels of a world, the names of the kernel types before those of the objects
-abbrev pub spoken : Setup → Spoken
+abbrev pub spoken : WorldValue → Spoken
 spoken w = record { objects = kernel_names ++ map (λ (b : Born). b.label) w.objects; codes = map (λ (c : Code). c.label) w.codes }
 
 -- the label of an object
@@ -195,7 +195,7 @@ abbrev pub limit_items : ℕ → List Item
 limit_items n = if n == usual_limit then [] else item (LimitIs n) [] ∷ []
 
 -- the items of a world: its limit, its objects, its codes, its processes, each in the order of their numbers
-abbrev pub syntax_of : Setup → List Item
+abbrev pub syntax_of : WorldValue → List Item
 syntax_of w =
     limit_items w.limit
     ++ (map (object_item (spoken w)) w.objects
@@ -203,5 +203,5 @@ syntax_of w =
     ++ map (task_item (spoken w)) w.tasks))
 
 -- the canonical script of a world
-unfoldable pub canon : Setup → List ℕ
+unfoldable pub canon : WorldValue → List ℕ
 canon w = spell_lines (script_lines (syntax_of w))

@@ -28,7 +28,7 @@ use Rattle.hk_model.specs.Labels.{same_text}
 use Rattle.hk_model.specs.Limits.{object_limit, word_limit, entry_limit, slot_limit, param_limit, code_limit, process_limit, usual_limit}
 use Rattle.hk_model.specs.Targets.{DATA, kernel_types, is_general}
 use Rattle.hk_format.specs.RightsTexts.{rights_of}
-use Rattle.hk_model.specs.Setup.{Setup, setup}
+use Rattle.hk_model.specs.WorldValue.{WorldValue, world_value}
 use Rattle.hk_format.specs.Canonical.{kernel_names}
 
 -- a line and its cause
@@ -365,20 +365,20 @@ object_fits n = nat_lt (kernel_types + n.objects) object_limit
 -- what an item adds in front of a world
 
 -- a limit on events
-abbrev pub with_limit : ℕ → Setup → Setup
-with_limit n w = setup n w.objects w.codes w.tasks
+abbrev pub with_limit : ℕ → WorldValue → WorldValue
+with_limit n w = world_value n w.objects w.codes w.tasks
 
 -- an object
-abbrev pub with_object : List ℕ → Kind → Setup → Setup
-with_object label kind w = setup w.limit (record { label = label; kind = kind } ∷ w.objects) w.codes w.tasks
+abbrev pub with_object : List ℕ → Kind → WorldValue → WorldValue
+with_object label kind w = world_value w.limit (record { label = label; kind = kind } ∷ w.objects) w.codes w.tasks
 
 -- a code
-abbrev pub with_code : List ℕ → List Instr → Setup → Setup
-with_code label steps w = setup w.limit w.objects (record { label = label; steps = steps } ∷ w.codes) w.tasks
+abbrev pub with_code : List ℕ → List Instr → WorldValue → WorldValue
+with_code label steps w = world_value w.limit w.objects (record { label = label; steps = steps } ∷ w.codes) w.tasks
 
 -- a process
-abbrev pub with_task : List ℕ → ℕ → List Entry → Setup → Setup
-with_task label code slots w = setup w.limit w.objects w.codes (record { label = label; code = code; slots = slots } ∷ w.tasks)
+abbrev pub with_task : List ℕ → ℕ → List Entry → WorldValue → WorldValue
+with_task label code slots w = world_value w.limit w.objects w.codes (record { label = label; code = code; slots = slots } ∷ w.tasks)
 
 -- a line of its own
 abbrev pub at_line : {A : Type 0} → ℕ → Result A LoadCause → Result A Refused
@@ -393,7 +393,7 @@ plain_type names of = do
   Ok n
 
 -- the item with this head and these lines behind it
-abbrev pub loaded : Names → Counts → ℕ → List Part → Head → Result (Setup → Setup) Refused
+abbrev pub loaded : Names → Counts → ℕ → List Part → Head → Result (WorldValue → WorldValue) Refused
 loaded names n line parts (LimitIs limit) = Ok (with_limit limit)
 loaded names n line parts (TypeIs name) = do
   at_line line (unless (object_fits n) TooMany)
@@ -419,20 +419,20 @@ loaded names n line parts (ProcessIs name code) = do
   Ok (with_task name k c.entries)
 
 -- what an item adds to a world
-abbrev pub item_of : Names → Counts → Item → Result (Setup → Setup) Refused
+abbrev pub item_of : Names → Counts → Item → Result (WorldValue → WorldValue) Refused
 item_of names n i = loaded names n i.line i.parts i.head
 
 -- an item before those behind it, unless it is refused or one of them is
-abbrev pub put_item : Result (Setup → Setup) Refused → Result Setup Refused → Result Setup Refused
+abbrev pub put_item : Result (WorldValue → WorldValue) Refused → Result WorldValue Refused → Result WorldValue Refused
 put_item (Err refused) rest = Err refused
 put_item (Ok put) (Err refused) = Err refused
 put_item (Ok put) (Ok w) = Ok (put w)
 
 -- the items in order; a world without any has the usual limit
-abbrev pub items_of : Names → Counts → List Item → Result Setup Refused
-items_of names n [] = Ok (setup usual_limit [] [] [])
+abbrev pub items_of : Names → Counts → List Item → Result WorldValue Refused
+items_of names n [] = Ok (world_value usual_limit [] [] [])
 items_of names n (i ∷ is) = put_item (item_of names n i) (items_of names (counted n i.head) is)
 
 -- the world of the items of a script
-abbrev pub load : List Item → Result Setup Refused
+abbrev pub load : List Item → Result WorldValue Refused
 load items = items_of (names_of (map (λ (i : Item). i.head) items)) (counts 0 0 0) items

@@ -13,7 +13,7 @@ use Rattle.hk_format.specs.declared.syntax.Part.{Part}
 use Rattle.hk_format.specs.declared.syntax.Item.{Item}
 use Rattle.hk_model.specs.Labels.{is_word, is_name, same_text}
 use Rattle.hk_model.specs.Limits.{event_limit, token_limit}
-use Rattle.hk_model.specs.Setup.{IsSlot, IsSlotOrNone, IsReg, IsOperand, IsRoute, IsArguments, IsWord32}
+use Rattle.hk_model.specs.WorldValue.{IsSlot, IsSlotOrNone, IsReg, IsOperand, IsRoute, IsArguments, IsWord32}
 use Rattle.hk_format.specs.Pieces.{is_upper}
 use Rattle.hk_format.specs.Spelling.{has_parts}
 use Rattle.hk_format.specs.Grammar.{Seen, nothing_seen, is_new, noted, is_new_label, noted_label, item_at, part_at}

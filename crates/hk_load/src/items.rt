@@ -4,7 +4,7 @@ ghost use Rattle.std.specs.Prelude.{◌≡◌, [], None, Ok, length, nat_lt};
 ghost use Rattle.hk_format.specs.declared.syntax.Head.TheVariants.{ObjectIs, ProcedureIs, CodeIs, ProcessIs};
 ghost use Rattle.hk_model.specs.declared.world.Kind.TheVariants as kind;
 ghost use Rattle.hk_model.specs.Limits.{process_limit};
-ghost use Rattle.hk_model.specs.Setup.{IsWorld};
+ghost use Rattle.hk_model.specs.WorldValue.{IsWorld};
 ghost use Rattle.hk_format.specs.Loading.{Names, at_line, limited, object_fits, code_named, plain_type};
 ghost use Rattle.hk_load.specs.Outcomes.{Gives, Loads, Grows};
 ghost use Rattle.hk_load.specs.Jumping.{HasNewLabels};

@@ -9,7 +9,7 @@ use Rattle.hk_model.specs.declared.instructions.Operand.TheVariants.{Number}
 use Rattle.hk_model.specs.declared.world.Kind.TheVariants as kind
 use Rattle.hk_model.specs.declared.lines.Line.{Line}
 use Rattle.hk_rights.specs.Rights.{PUTDATA, APPEND, KILL, MODIFY, UNCONF, A0, A1, first_missing, right_numbers, right_table}
-use Rattle.hk_model.specs.Setup.{Setup}
+use Rattle.hk_model.specs.WorldValue.{WorldValue}
 use Rattle.hk_model.specs.Targets.{DATA, UNIVERSAL, SEMAPHORE}
 use Rattle.hk_model.specs.Opening.{opening}
 use Rattle.hk_model.specs.Control.{next, next_from, after}
@@ -22,7 +22,7 @@ use Rattle.hk_model.proofs.RowParts.{name, inc, slot, cap, route, plain, procedu
 
 -- ---- calls within calls: each is confined, and the innermost changes the object that was passed on
 
-abbrev nested : Setup
+abbrev nested : WorldValue
 nested = small_world
     (plain DATA (7 ∷ []) []
     ∷ procedure 0 (record { of = Some (name DATA); check = PUTDATA; give = PUTDATA + MODIFY } ∷ []) []
@@ -71,7 +71,7 @@ changes-under-nested-calls = refl
 
 -- ---- changes by Erase, Append, V and P, also one that waits
 
-abbrev changing : Setup
+abbrev changing : WorldValue
 changing = small_world
     (plain UNIVERSAL [] (Empty ∷ [])
     ∷ kind.Semaphore 0

@@ -12,9 +12,11 @@ use Rattle.std.proofs.lemmas.Option.{slice_get_within}
 use Rattle.hk_model.specs.declared.names.Name.{Name}
 use Rattle.hk_model.specs.declared.entries.Cap.{Cap}
 use Rattle.hk_model.specs.declared.entries.Entry.{Entry}
+use Rattle.hk_model.specs.declared.reaches.Hop.{Hop}
+use Rattle.hk_model.specs.declared.reaches.Hop.TheVariants as hop_by
 use Rattle.hk_model.specs.State.{State, object, same_name}
 use Rattle.hk_model.specs.Places.{cap_of}
-use Rattle.hk_model.specs.Reaches.{Hop, Reached, reached_by, listed_cap, onward, hop_to, follow, param_reached, IsReach}
+use Rattle.hk_model.specs.Reaches.{index_of, moment_of, is_handed, Reached, reached_by, listed_cap, onward, hop_to, follow, param_reached, IsReach}
 use Rattle.hk_model.specs.Changes.{hop_key, reach_key, is_at_most, IsLeastReach}
 
 -- the numbers below one
@@ -34,7 +36,7 @@ all_below P (suc n) i l h = by (λ f. all_below P n i f (second_so (P n) (list_a
 
 -- where the hops are compared first
 keys_then : (a b : Hop) (xs ys : List ℕ) → slice_cmp nat_cmp (hop_key a ++ xs) (hop_key b ++ ys) ≡ ordering_then (slice_cmp nat_cmp (hop_key a) (hop_key b)) (slice_cmp nat_cmp xs ys)
-keys_then a b xs ys = by (nat_cmp a.moment b.moment) (nat_cmp a.index b.index) (nat_cmp (elim a.handed [ true ↦ 1 | false ↦ 0 ]) (elim b.handed [ true ↦ 1 | false ↦ 0 ])) (slice_cmp nat_cmp xs ys)
+keys_then a b xs ys = by (nat_cmp (moment_of a) (moment_of b)) (nat_cmp (index_of a) (index_of b)) (nat_cmp (elim (is_handed a) [ true ↦ 1 | false ↦ 0 ]) (elim (is_handed b) [ true ↦ 1 | false ↦ 0 ])) (slice_cmp nat_cmp xs ys)
   where
     by : (o p q r : Ordering) → ordering_then o (ordering_then p (ordering_then q r)) ≡ ordering_then (ordering_then o (ordering_then p (ordering_then q Equal))) r
     by Less p q r = refl
@@ -51,7 +53,8 @@ module _ (at : ℕ → State) (made : Name → Bool) (moment : ℕ) (wanted : Na
   if_any P (Some there) = P there
 
   abbrev hop_of : ℕ → ℕ → Bool → Hop
-  hop_of moment index handed = record { index = index; moment = moment; handed = handed }
+  hop_of moment index true = hop_by.Handed index moment
+  hop_of moment index false = hop_by.Entry index moment
 
   -- the test of both hops over an index at a moment, and of all hops up to the moment
   abbrev both_hops : (Hop → Reached → Bool) → Reached → ℕ → ℕ → Bool
@@ -79,39 +82,45 @@ module _ (at : ℕ → State) (made : Name → Bool) (moment : ℕ) (wanted : Na
   any_holds P (Some r) there e k = let same : r ≡ there = cc in rw (← same) k
 
   -- an index of a hop is one of the list's
-  hop_within : (hop : Hop) (from there : Reached) → hop_to at made hop from ≡ Some there → hop.index < length (object (at hop.moment) from.name).entries
-  hop_within hop from there h = by (nat_le from.moment hop.moment) (slice_get (object (at hop.moment) from.name).entries hop.index) refl h
+  hop_within : (hop : Hop) (from there : Reached) → hop_to at made hop from ≡ Some there → (index_of hop) < length (object (at (moment_of hop)) from.name).entries
+  hop_within hop from there h = by (nat_le from.moment (moment_of hop)) (slice_get (object (at (moment_of hop)) from.name).entries (index_of hop)) refl h
     where
-      by : (b : Bool) (found : Option Entry) → slice_get (object (at hop.moment) from.name).entries hop.index ≡ found → (if b then option_and_then (onward made hop from) (option_and_then cap_of found) else None) ≡ Some there → hop.index < length (object (at hop.moment) from.name).entries
+      by : (b : Bool) (found : Option Entry) → slice_get (object (at (moment_of hop)) from.name).entries (index_of hop) ≡ found → (if b then option_and_then (onward made hop from) (option_and_then cap_of found) else None) ≡ Some there → (index_of hop) < length (object (at (moment_of hop)) from.name).entries
       by false found e h = absurd (cc)
       by true None e h = absurd (cc)
-      by true (Some entry) e h = slice_get_within (object (at hop.moment) from.name).entries hop.index entry e
+      by true (Some entry) e h = slice_get_within (object (at (moment_of hop)) from.name).entries (index_of hop) entry e
 
   -- a hop ends at its moment, which is not before the one at which it begins
-  hop_moment : (hop : Hop) (from there : Reached) → hop_to at made hop from ≡ Some there → (there.moment ≡ hop.moment) × (from.moment ≤ hop.moment)
-  hop_moment hop from there h = by (nat_le from.moment hop.moment) refl (listed_cap (at hop.moment) from.name hop.index) h
+  hop_moment : (hop : Hop) (from there : Reached) → hop_to at made hop from ≡ Some there → (there.moment ≡ (moment_of hop)) × (from.moment ≤ (moment_of hop))
+  hop_moment hop from there h = by (nat_le from.moment (moment_of hop)) refl (listed_cap (at (moment_of hop)) from.name (index_of hop)) h
     where
-      ends : (cap : Cap) (b c d : Bool) → ◌≡◌ {A = Option Reached} (if b then (if c then Some (record { name = cap.name; modify = true; unconf = true; moment = hop.moment }) else None) else (if d then Some (reached_by hop.moment cap) else None)) (Some there) → there.moment ≡ hop.moment
-      ends cap true true d h = let same : record { name = cap.name; modify = true; unconf = true; moment = hop.moment } ≡ there = cc in sym (ap (λ (r : Reached). r.moment) same)
+      ends : (cap : Cap) (b c d : Bool) → ◌≡◌ {A = Option Reached} (if b then (if c then Some (record { name = cap.name; modify = true; unconf = true; moment = (moment_of hop) }) else None) else (if d then Some (reached_by (moment_of hop) cap) else None)) (Some there) → there.moment ≡ (moment_of hop)
+      ends cap true true d h = let same : record { name = cap.name; modify = true; unconf = true; moment = (moment_of hop) } ≡ there = cc in sym (ap (λ (r : Reached). r.moment) same)
       ends cap true false d h = absurd (cc)
-      ends cap false c true h = let same : reached_by hop.moment cap ≡ there = cc in sym (ap (λ (r : Reached). r.moment) same)
+      ends cap false c true h = let same : reached_by (moment_of hop) cap ≡ there = cc in sym (ap (λ (r : Reached). r.moment) same)
       ends cap false c false h = absurd (cc)
 
-      by : (b : Bool) → nat_le from.moment hop.moment ≡ b → (found : Option Cap) → (if b then option_and_then (onward made hop from) found else None) ≡ Some there → (there.moment ≡ hop.moment) × (from.moment ≤ hop.moment)
+      by : (b : Bool) → nat_le from.moment (moment_of hop) ≡ b → (found : Option Cap) → (if b then option_and_then (onward made hop from) found else None) ≡ Some there → (there.moment ≡ (moment_of hop)) × (from.moment ≤ (moment_of hop))
       by false e found h = absurd (cc)
       by true e None h = absurd (cc)
-      by true e (Some cap) h = (ends cap hop.handed (from.modify && made cap.name) from.unconf h, leb-true from.moment hop.moment e)
+      by true e (Some cap) h = (ends cap (is_handed hop) (from.modify && made cap.name) from.unconf h, leb-true from.moment (moment_of hop) e)
 
   -- a test of all hops holds of each
-  every_hop_holds : (P : Hop → Reached → Bool) (from : Reached) (hop : Hop) (there : Reached) → every_hop P from ≡ true → hop_to at made hop from ≡ Some there → hop.moment ≤ moment → P hop there ≡ true
+  every_hop_holds : (P : Hop → Reached → Bool) (from : Reached) (hop : Hop) (there : Reached) → every_hop P from ≡ true → hop_to at made hop from ≡ Some there → (moment_of hop) ≤ moment → P hop there ≡ true
   every_hop_holds P from hop there h g l =
-      let all : list_all (both_hops P from hop.moment) (below (length (object (at hop.moment) from.name).entries)) ≡ true = all_below (λ t. list_all (both_hops P from t) (below (length (object (at t) from.name).entries))) (moment + 1) hop.moment (omega (arith, l)) h in
-      let two : both_hops P from hop.moment hop.index ≡ true = all_below (both_hops P from hop.moment) (length (object (at hop.moment) from.name).entries) hop.index (hop_within hop from there g) all in
-      by hop.index hop.moment hop.handed two g
+      let all : list_all (both_hops P from (moment_of hop)) (below (length (object (at (moment_of hop)) from.name).entries)) ≡ true =
+      all_below (λ t. list_all (both_hops P from t) (below (length (object (at t) from.name).entries))) (moment + 1) (moment_of hop) (omega (arith, l)) h in
+      let two : both_hops P from (moment_of hop) (index_of hop) ≡ true =
+      all_below (both_hops P from (moment_of hop)) (length (object (at (moment_of hop)) from.name).entries) (index_of hop) (hop_within hop from there g) all in
+      of_hop hop two g
     where
       by : (i t : ℕ) (b : Bool) → both_hops P from t i ≡ true → hop_to at made (hop_of t i b) from ≡ Some there → P (hop_of t i b) there ≡ true
       by i t false k e = any_holds (P (hop_of t i false)) (hop_to at made (hop_of t i false) from) there e (first_so (if_any (P (hop_of t i false)) (hop_to at made (hop_of t i false) from)) (if_any (P (hop_of t i true)) (hop_to at made (hop_of t i true) from)) k)
       by i t true k e = any_holds (P (hop_of t i true)) (hop_to at made (hop_of t i true) from) there e (second_so (if_any (P (hop_of t i false)) (hop_to at made (hop_of t i false) from)) (if_any (P (hop_of t i true)) (hop_to at made (hop_of t i true) from)) k)
+
+      of_hop : (hop : Hop) → both_hops P from (moment_of hop) (index_of hop) ≡ true → hop_to at made hop from ≡ Some there → P hop there ≡ true
+      of_hop (hop_by.Entry i t) k e = by i t false k e
+      of_hop (hop_by.Handed i t) k e = by i t true k e
 
   -- moments never fall along hops
   rises : (hops : List Hop) (from there : Reached) → follow at made hops from ≡ Some there → from.moment ≤ there.moment

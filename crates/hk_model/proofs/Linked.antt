@@ -12,7 +12,7 @@ use Rattle.hk_model.specs.declared.objects.Process.{Process}
 use Rattle.hk_model.specs.declared.objects.ProcessState.TheVariants.{Ended}
 use Rattle.hk_model.specs.declared.lines.Line.{Line}
 use Rattle.hk_model.specs.declared.world.Task.{Task}
-use Rattle.hk_model.specs.Setup.{Setup}
+use Rattle.hk_model.specs.WorldValue.{WorldValue}
 use Rattle.hk_model.specs.State.{State, incarnation, process, same_inc, no_incarnation}
 use Rattle.hk_model.specs.Opening.{opening, bases, base_of, all_ready}
 use Rattle.hk_model.specs.Running.{opened, state_at, AreStepsOf}
@@ -203,7 +203,7 @@ bases_linked n (t ∷ ts) i x h = by (same_inc i (record { 0 = n })) refl h (bas
         let next : i.0 - n ≡ suc (i.0 - (n + 1)) = omega (arith, low) in
         (r.0, (omega (arith, low), rw next r.1.1))
 
-opening_linked : (w : Setup) → Linked (activations_in (opening w).incarnations) (currents_in (opening w).processes)
+opening_linked : (w : WorldValue) → Linked (activations_in (opening w).incarnations) (currents_in (opening w).processes)
 unfolding opening
 opening_linked w i x h =
     let r = bases_linked 0 w.tasks i x h in
@@ -215,7 +215,7 @@ opening_linked w i x h =
 abbrev LinkedState : State → Type 0
 LinkedState s = Sound s × Linked (activations_in s.incarnations) (currents_in s.processes)
 
-pub linked_at : (w : Setup) (lines : List Line) (moment : ℕ) → AreStepsOf w lines → LinkedState (state_at w lines moment)
+pub linked_at : (w : WorldValue) (lines : List Line) (moment : ℕ) → AreStepsOf w lines → LinkedState (state_at w lines moment)
 unfolding opened
 linked_at w lines moment h =
     state_kept LinkedState (each_more (λ s line t. Sound s → LineKnown s line t) (λ s line t. LinkedState s → LinkedState t) (λ s line t k g. ((k g.0).after, turn_linked s line t g.0.rises g.0.stacked g.1 (k g.0).turn)) known_each)
@@ -282,7 +282,7 @@ module _ (s : State) (stacked : IsStacked s) (linked : Linked (activations_in s.
           inr (record { callee = c.callee; called = there.0; lives = there.1.0; by = ap (λ (a : Activation). a.caller) there.1.1 ∙ c.by })
 
 -- at every moment
-pub currents_at : (w : Setup) (lines : List Line) → AreStepsOf w lines → (moment : ℕ) → CurrentsCallNone (state_at w lines moment)
+pub currents_at : (w : WorldValue) (lines : List Line) → AreStepsOf w lines → (moment : ℕ) → CurrentsCallNone (state_at w lines moment)
 currents_at w lines steps moment =
     let h = linked_at w lines moment steps in
     currents_call_none (state_at w lines moment) h.0.stacked h.1

@@ -18,7 +18,7 @@ use Rattle.hk_model.specs.Limits.{slot_limit}
 use Rattle.hk_model.specs.State.{State, object, same_name, same_inc, no_object, no_incarnation}
 use Rattle.hk_model.specs.Walking.{walk}
 use Rattle.hk_model.specs.Places.{Place, SlotOf, EntryOf, standing, is_empty, end_of}
-use Rattle.hk_model.specs.Setup.{Setup, IsWorld, IsEntry, IsKind, IsTask}
+use Rattle.hk_model.specs.WorldValue.{WorldValue, IsWorld, IsEntry, IsKind, IsTask}
 use Rattle.hk_model.specs.Opening.{opening, bases, numbered, object_of, base_of}
 use Rattle.hk_model.specs.Targets.{kernel_types}
 use Rattle.hk_model.specs.declared.world.Born.{Born}
@@ -127,14 +127,14 @@ given_line s line t h next g = record { entries = entries_given s line t h next 
 
 -- ---- the opening
 
-entries_below : (w : Setup) (xs : List Entry) → AllByRecursion (IsEntry w) xs → (i : ℕ) → IsBelow (kernel_types + length w.objects) (slice_index_or xs i Empty)
+entries_below : (w : WorldValue) (xs : List Entry) → AllByRecursion (IsEntry w) xs → (i : ℕ) → IsBelow (kernel_types + length w.objects) (slice_index_or xs i Empty)
 entries_below w [] h i = tt
 entries_below w (Empty ∷ xs) h zero = tt
 entries_below w (Held cap ∷ xs) h zero = h.0.0
 entries_below w (Form form ∷ xs) h zero = tt
 entries_below w (x ∷ xs) h (suc i) = entries_below w xs h.1 i
 
-padded_below : (w : Setup) (k : ℕ) (xs : List Entry) → AllByRecursion (IsEntry w) xs → (i : ℕ) → IsBelow (kernel_types + length w.objects) (slice_index_or (xs ++ replicate k Empty) i Empty)
+padded_below : (w : WorldValue) (k : ℕ) (xs : List Entry) → AllByRecursion (IsEntry w) xs → (i : ℕ) → IsBelow (kernel_types + length w.objects) (slice_index_or (xs ++ replicate k Empty) i Empty)
 padded_below w zero [] h i = tt
 padded_below w (suc k) [] h zero = tt
 padded_below w (suc k) [] h (suc i) = padded_below w k [] h i
@@ -143,20 +143,20 @@ padded_below w k (Held cap ∷ xs) h zero = h.0.0
 padded_below w k (Form form ∷ xs) h zero = tt
 padded_below w k (x ∷ xs) h (suc i) = padded_below w k xs h.1 i
 
-abbrev ListBelow : Setup → Object → Type 0
+abbrev ListBelow : WorldValue → Object → Type 0
 ListBelow w o = (i : ℕ) → IsBelow (kernel_types + length w.objects) (slice_index_or o.entries i Empty)
 
-kind_below : (w : Setup) (k : Kind) → IsKind w k → ListBelow w (object_of k)
+kind_below : (w : WorldValue) (k : Kind) → IsKind w k → ListBelow w (object_of k)
 kind_below w kind.TypeObject h i = tt
 kind_below w (kind.Plain of words entries) h i = entries_below w entries h.4 i
 kind_below w (kind.Semaphore count) h i = tt
 kind_below w (kind.Procedure code params entries) h i = entries_below w entries h.4 i
 
-kinds_below : (w : Setup) (bs : List Born) → AllByRecursion (λ (b : Born). IsKind w b.kind) bs → AllByRecursion (ListBelow w) (map (λ (b : Born). object_of b.kind) bs)
+kinds_below : (w : WorldValue) (bs : List Born) → AllByRecursion (λ (b : Born). IsKind w b.kind) bs → AllByRecursion (ListBelow w) (map (λ (b : Born). object_of b.kind) bs)
 kinds_below w [] h = tt
 kinds_below w (b ∷ bs) h = (kind_below w b.kind h.0, kinds_below w bs h.1)
 
-types_below : (w : Setup) (n : ℕ) (os : List Object) → AllByRecursion (ListBelow w) os → AllByRecursion (ListBelow w) (replicate n no_object ++ os)
+types_below : (w : WorldValue) (n : ℕ) (os : List Object) → AllByRecursion (ListBelow w) os → AllByRecursion (ListBelow w) (replicate n no_object ++ os)
 types_below w zero os h = h
 types_below w (suc n) os h = (λ i. tt, types_below w n os h)
 
@@ -178,7 +178,7 @@ numbered_below n (o ∷ os) name index full = by (same_name name (record { 0 = n
     by true e f later = let same : name.0 ≡ n = ap (λ (x : Name). x.0) (name_same name (record { 0 = n }) e) in omega (arith, same)
     by false e f later = let r = later f in omega (arith, r)
 
-bases_below : (w : Setup) (n : ℕ) (ts : List Task) → AllByRecursion (IsTask w) ts → (inc : Inc) (slot : ℕ) → IsBelow (kernel_types + length w.objects) (slice_index_or (unwrap_or (lookup (same_inc inc) (bases n ts)) no_incarnation).slots slot Empty)
+bases_below : (w : WorldValue) (n : ℕ) (ts : List Task) → AllByRecursion (IsTask w) ts → (inc : Inc) (slot : ℕ) → IsBelow (kernel_types + length w.objects) (slice_index_or (unwrap_or (lookup (same_inc inc) (bases n ts)) no_incarnation).slots slot Empty)
 bases_below w n [] h inc slot = tt
 bases_below w n (t ∷ ts) h inc slot = by (same_inc inc (record { 0 = n })) (bases_below w (n + 1) ts h.1 inc slot)
   where
@@ -192,7 +192,7 @@ born_count [] = refl
 born_count (b ∷ bs) = ap suc (born_count bs)
 
 -- in a world that can be run all names are those of its objects
-pub opening_given : (w : Setup) → IsWorld w → NamesGiven (opening w)
+pub opening_given : (w : WorldValue) → IsWorld w → NamesGiven (opening w)
 unfolding opening
 opening_given w world = record {
   entries = λ p. by p;

@@ -12,7 +12,7 @@ use Rattle.hk_model.specs.declared.entries.Entry.{Entry}
 use Rattle.hk_model.specs.declared.entries.Entry.TheVariants.{Empty, Held, Form}
 use Rattle.hk_model.specs.declared.lines.Line.{Line}
 use Rattle.hk_rights.specs.Rights.{has, modify_right, unconf_right}
-use Rattle.hk_model.specs.Setup.{Setup}
+use Rattle.hk_model.specs.WorldValue.{WorldValue}
 use Rattle.hk_model.specs.State.{State, object}
 use Rattle.hk_model.specs.Running.{state_at}
 use Rattle.hk_model.specs.Places.{cap_of}
@@ -159,7 +159,7 @@ module _ (at : ℕ → State) (made : Name → Bool) (params : List Entry) (k la
 
 -- a name that is not in the first list is outside the modifiable reach at the moment, and one that is not in the second list is
 -- outside the unconfined reach
-module _ (w : Setup) (lines : List Line) (k : ℕ) (call : Inc) (last : ℕ) (ms us : List ℕ) where
+module _ (w : WorldValue) (lines : List Line) (k : ℕ) (call : Inc) (last : ℕ) (ms us : List ℕ) where
   abbrev pub are_kept : Bool
   are_kept = keep_rules (state_at w lines) (is_made_under w lines k call) (parameters w lines k call) k last ms us
 

@@ -9,8 +9,10 @@ use Rattle.hk_model.specs.declared.calls.Refusal.TheVariants as refused
 use Rattle.hk_model.specs.declared.instructions.Instr.TheVariants as instr
 use Rattle.hk_model.specs.declared.instructions.Operand.TheVariants.{Number}
 use Rattle.hk_model.specs.declared.lines.Line.{Line}
+use Rattle.hk_model.specs.declared.reaches.Hop.{Hop}
+use Rattle.hk_model.specs.declared.reaches.Hop.TheVariants as hop_by
 use Rattle.hk_rights.specs.Rights.{PUTDATA, LOAD, STORE, APPEND, MODIFY, ENV, UNCONF, A0, modify_right, first_missing, right_numbers, right_table}
-use Rattle.hk_model.specs.Setup.{Setup}
+use Rattle.hk_model.specs.WorldValue.{WorldValue}
 use Rattle.hk_model.specs.Targets.{DATA, UNIVERSAL}
 use Rattle.hk_model.specs.Opening.{opening}
 use Rattle.hk_model.specs.Control.{next, next_from, after}
@@ -18,17 +20,18 @@ use Rattle.hk_model.specs.Rule.{get_word, put_word, add_word, store_entry, appen
 use Rattle.hk_model.specs.Keeping.{kept_objects}
 use Rattle.hk_model.specs.Running.{AreStepsOf, opened, step, state_at}
 use Rattle.hk_model.specs.Under.{is_made_under, parameters}
-use Rattle.hk_model.specs.Reaches.{Hop, IsReach, IsModifiable, IsUnconfined, reach}
+use Rattle.hk_model.specs.Reaches.{IsReach, IsModifiable, IsUnconfined, reach}
 use Rattle.hk_model.proofs.OutsideReaches.{not_modifiable, not_unconfined}
 use Rattle.hk_model.proofs.RowParts.{name, inc, slot, cap, route, plain, procedure, process, small_world, dispatch, line, line_of_process, return_line}
 
 -- one hop
 abbrev hop : Bool → ℕ → ℕ → Hop
-hop handed index moment = record { index = index; moment = moment; handed = handed }
+hop true index moment = hop_by.Handed index moment
+hop false index moment = hop_by.Entry index moment
 
 -- ---- an entry without UNCONF: the parameter leads to object 8, and no further
 
-abbrev closing : Setup
+abbrev closing : WorldValue
 closing = small_world
     (plain DATA (7 ∷ []) []
     ∷ plain UNIVERSAL [] (cap 7 (PUTDATA + MODIFY + ENV + UNCONF) ∷ [])
@@ -63,7 +66,7 @@ no-further-than-an-entry-without-unconf = not_modifiable closing closing_lines 2
 
 -- ---- a new object of another in the list of what is reached: it was not made under the call
 
-abbrev another : Setup
+abbrev another : WorldValue
 another = small_world
     (plain UNIVERSAL [] (Empty ∷ [])
     ∷ procedure 0 (record { of = Some (name UNIVERSAL); check = LOAD; give = LOAD + MODIFY } ∷ []) []
@@ -94,7 +97,7 @@ another's-new-object = not_modifiable another another_lines 2 (inc 2) 6 (7 ∷ [
 
 -- ---- a call without parameters reaches nothing
 
-abbrev bare : Setup
+abbrev bare : WorldValue
 bare = small_world
     (plain DATA (7 ∷ []) []
     ∷ procedure 0 [] (cap 7 (PUTDATA + MODIFY + ENV + UNCONF) ∷ [])
@@ -125,7 +128,7 @@ no-parameter-no-unconfined-reach = not_unconfined bare bare_lines 2 (inc 1) 3 []
 
 -- ---- a new object of the call, before and after it is handed over; and moments that fall
 
-abbrev handing : Setup
+abbrev handing : WorldValue
 handing = small_world
     (plain UNIVERSAL [] (Empty ∷ [])
     ∷ plain DATA (1 ∷ []) []

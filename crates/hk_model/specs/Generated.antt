@@ -19,7 +19,7 @@ use Rattle.hk_model.specs.declared.world.Kind.TheVariants as kind
 use Rattle.hk_model.specs.declared.world.Task.{Task}
 use Rattle.hk_model.specs.Limits.{event_limit}
 use Rattle.hk_model.specs.Targets.{DATA}
-use Rattle.hk_model.specs.Setup.{Setup, setup}
+use Rattle.hk_model.specs.WorldValue.{WorldValue, world_value}
 
 -- sets of rights
 
@@ -127,5 +127,5 @@ processes_from n zero = []
 processes_from n (suc k) = process_numbered n ∷ processes_from (n + 1) k
 
 -- the generated world of so many processes
-unfoldable pub generate : ℕ → Setup
-generate k = setup event_limit objects (code (codes "cbump") bump_steps ∷ code (codes "main") main_steps ∷ []) (processes_from 0 k)
+unfoldable pub generate : ℕ → WorldValue
+generate k = world_value event_limit objects (code (codes "cbump") bump_steps ∷ code (codes "main") main_steps ∷ []) (processes_from 0 k)

@@ -2,7 +2,7 @@
 use Rattle.std.specs.Prelude.{ℕ, Bool, true, List}
 use Rattle.hk_model.specs.declared.names.Name.{Name}
 use Rattle.hk_model.specs.declared.lines.Line.{Line}
-use Rattle.hk_model.specs.Setup.{Setup}
+use Rattle.hk_model.specs.WorldValue.{WorldValue}
 use Rattle.hk_model.specs.Keeping.{AreKept}
 use Rattle.hk_model.specs.Running.{state_at}
 
@@ -11,5 +11,5 @@ abbrev pub everything : Name → Bool
 everything name = true
 
 -- at every moment exactly the kept objects stand: all that stand are the greatest supported set
-abbrev pub KeptLaw : Setup → List Line → Type 0
+abbrev pub KeptLaw : WorldValue → List Line → Type 0
 KeptLaw w lines = (moment : ℕ) → AreKept (state_at w lines moment) everything

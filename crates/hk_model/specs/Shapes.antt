@@ -7,7 +7,7 @@ use Rattle.hk_model.specs.declared.names.Inc.{Inc}
 use Rattle.hk_model.specs.declared.objects.Object.{Object}
 use Rattle.hk_model.specs.declared.objects.Incarnation.{Incarnation}
 use Rattle.hk_model.specs.declared.lines.Line.{Line}
-use Rattle.hk_model.specs.Setup.{Setup}
+use Rattle.hk_model.specs.WorldValue.{WorldValue}
 use Rattle.hk_model.specs.State.{State, process, same_inc}
 use Rattle.hk_model.specs.Targets.{PROCEDURE}
 use Rattle.hk_model.specs.Running.{state_at}
@@ -36,6 +36,6 @@ pub record CurrentsCallNone (s : State) : Type 0 where
   pub lives : (i : Inc) (x : Incarnation) → Lives s i x → IsSome (lookup (same_inc (process s x.proc).current) s.incarnations)
 
 -- at every moment
-pub record AreShapes (w : Setup) (lines : List Line) : Type 0 where
+pub record AreShapes (w : WorldValue) (lines : List Line) : Type 0 where
   pub codes : (moment : ℕ) → ProceduresHaveCodes (state_at w lines moment)
   pub currents : (moment : ℕ) → CurrentsCallNone (state_at w lines moment)

@@ -16,6 +16,7 @@ use crate::counts::Counts;
 use crate::marks::Marks;
 use crate::stop::Stop;
 use crate::tables::Tables;
+use hk_model::limits::OBJECT_LIMIT;
 use hk_model::{Name, NoMemory, Object, Refusal, What8};
 use std::alloc::Global;
 use std::collections::{BTreeMap, BTreeSet};
@@ -108,11 +109,11 @@ impl Tables {
     pub(crate) fn spare_objects(&self, alloc: Global) -> Result<BTreeSet<Name>, Stop>
         ensures { Spares self.now result }
     {
-        if self.objects.len() < 65536 {
+        if self.objects.len() < OBJECT_LIMIT {
             return Ok(BTreeSet::new(alloc));
         }
         let spare = self.unrooted(alloc)?;
-        if count_but(&self.objects, &spare) < 65536 {
+        if count_but(&self.objects, &spare) < OBJECT_LIMIT {
             return Ok(spare);
         }
         let what = What8::Objects;

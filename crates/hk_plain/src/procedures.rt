@@ -11,6 +11,7 @@ use crate::stop::Stop;
 use crate::tables::Tables;
 use crate::targets::{Wanted, slot_at};
 use hk_merge::{Arg, allowed, build_space, held};
+use hk_model::limits::{DEPTH_LIMIT, SLOT_LIMIT};
 use hk_model::{
     Answer, Args, Cap, Entries, Entry, Inc, Incarnation, Name, Path, Proc, ProcessState, Refusal,
     Slot, Template,
@@ -26,7 +27,7 @@ fn slots_at(slots: &[u8], first: u8) -> Result<(), Refusal>
     ensures { result ≡ slots_at slots.now first }
 {
     for (i, slot) in slots.iter().enumerate() {
-        if *slot >= 64 {
+        if usize::from(*slot) >= SLOT_LIMIT {
             return Err(Refusal::Range {
                 step: first + i as u8,
             });
@@ -123,7 +124,7 @@ impl Tables {
         let confined = !cap.rights.has(Right::UNCONF);
         let held = self.args(alloc, inc, args.as_slice())?;
         let space = self.space_of(cap.name, held.as_slice(), confined, step)?;
-        if self.depth(proc) >= 64 {
+        if self.depth(proc) >= DEPTH_LIMIT {
             return Err(Stop::Refused(Refusal::Deep));
         }
         self.add_incarnation(

@@ -12,6 +12,7 @@ ghost use Rattle.hk_running.specs.Runners.{with_run, with_current, is_live, free
 ghost use Rattle.hk_plain.specs.Counts.{Moved, waiting_names};
 
 use crate::counts::Counts;
+use hk_model::limits::CPU_LIMIT;
 use hk_model::{Cpu, Inc, Proc, Process, ProcessState};
 use std::marker::Model;
 
@@ -81,7 +82,7 @@ fn free(places: &mut [Option<Proc>; 16], before: ProcessState)
 {
     if let ProcessState::Running(cpu) = before {
         let at = cpu.0 as usize;
-        if at < 16 {
+        if at < usize::from(CPU_LIMIT) {
             places[at] = None;
         }
     }

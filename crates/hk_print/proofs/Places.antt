@@ -6,7 +6,7 @@ use Rattle.std.proofs.lemmas.List.Folds.{list_any_more}
 use Rattle.std.proofs.lemmas.Bool.{eqb-true, eqb-false}
 use Rattle.hk_model.specs.declared.instructions.Instr.{Instr}
 use Rattle.hk_model.specs.declared.instructions.Instr.TheVariants as instr
-use Rattle.hk_model.specs.Setup.{IsInstr}
+use Rattle.hk_model.specs.WorldValue.{IsInstr}
 use Rattle.hk_format.specs.Canonical.{jumps_to}
 use Rattle.hk_print.specs.Jumps.{target_of}
 

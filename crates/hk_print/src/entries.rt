@@ -2,7 +2,7 @@
 
 ghost use Rattle.std.specs.Prelude.{◌≡◌, ◌++◌, OnOk, string_bytes};
 ghost use Rattle.std.specs.List.{AllByRecursion, flat_map};
-ghost use Rattle.hk_model.specs.Setup.{IsEntry, IsParam};
+ghost use Rattle.hk_model.specs.WorldValue.{IsEntry, IsParam};
 ghost use Rattle.hk_model.specs.declared.entries.Entry.TheVariants.{Form};
 ghost use Rattle.hk_format.specs.Canonical.{spoken};
 ghost use Rattle.hk_print.specs.ItemTexts.{entry_text, param_text};

@@ -1,7 +1,7 @@
 //! The labels that stand for numbers in a script (`docs/FORMATS.md`, "Names").
 
 ghost use Rattle.std.specs.Prelude.{◌≡◌, ◌+◌, ◌<◌, ◌≤◌, [], length, slice_index_or};
-ghost use Rattle.hk_model.specs.Setup.{IsObject, IsTypeOrAny};
+ghost use Rattle.hk_model.specs.WorldValue.{IsObject, IsTypeOrAny};
 ghost use Rattle.hk_format.specs.Canonical.{spoken, object_text, code_text, kind_text};
 
 use hk_model::{Name, World};

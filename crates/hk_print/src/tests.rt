@@ -2,7 +2,7 @@
 
 ghost use Rattle.std.specs.Prelude.{◌≡◌, ◌<◌, ◌≤◌, []};
 ghost use Rattle.hk_model.specs.Limits.{event_limit};
-ghost use Rattle.hk_model.specs.Setup.{setup};
+ghost use Rattle.hk_model.specs.WorldValue.{world_value};
 
 use crate::{
     canonical_is_read_again, instr_text, operand_text, register_text, rights_text, route_text,
@@ -16,7 +16,7 @@ use std::test::Fail;
 fn empty_world(alloc: Global, limit: u32) -> World
     requires some { 0 < limit }
     requires few { limit ≤ event_limit }
-    ensures { result ≡ setup limit [] [] [] }
+    ensures { result ≡ world_value limit [] [] [] }
 {
     World::new(
         limit,

@@ -7,10 +7,8 @@ ghost use Rattle.hk_print.specs.ItemTexts.{parts_text};
 ghost use Rattle.hk_print.specs.WordLines.{begun_lines};
 
 use hk_model::NoMemory;
+use hk_model::limits::LINE_BYTES;
 use std::alloc::Global;
-
-/// The bytes that a line can have, without its line feed.
-const LINE_BYTES: usize = 1000;
 
 /// The bytes of `words`.
 const WORDS_BYTES: usize = 5;

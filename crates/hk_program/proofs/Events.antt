@@ -18,7 +18,7 @@ use Rattle.hk_model.specs.declared.objects.ProcessState.TheVariants.{Ready, Runn
 use Rattle.hk_model.specs.declared.frames.Todo.{Todo}
 use Rattle.hk_model.specs.Limits.{cpu_limit}
 use Rattle.hk_model.specs.declared.world.Task.{Task}
-use Rattle.hk_model.specs.Setup.{Setup}
+use Rattle.hk_model.specs.WorldValue.{WorldValue}
 use Rattle.hk_model.specs.Opening.{opening}
 use Rattle.hk_model.specs.State.{State, process}
 use Rattle.hk_model.specs.Processors.{is_on, is_ready, runner, runner_from, running_on, may_step, dispatched, dispatched_from, process_on, acted_on, entered_on}
@@ -63,7 +63,7 @@ run_within (p ∷ ps) cpu (suc n) h = let a = run_within ps cpu n h in omega (ar
 
 -- ---- what the call is given
 
-module _ (w : Setup) (m : Machine) (cpu : Cpu) (proc : Proc) (inc : Inc) (sound : IsSound w m) (runs : running_on m.state cpu ≡ Some (proc, inc)) where
+module _ (w : WorldValue) (m : Machine) (cpu : Cpu) (proc : Proc) (inc : Inc) (sound : IsSound w m) (runs : running_on m.state cpu ≡ Some (proc, inc)) where
   here : runner m.state cpu ≡ Some proc
   here = runner_is m.state cpu proc inc runs
 
@@ -127,7 +127,7 @@ ready_within (p ∷ ps) zero h = omega arith
 ready_within (p ∷ ps) (suc n) h = let a = ready_within ps n h in omega (arith, a)
 
 -- the process that is dispatched runs on the processor
-pub dispatched_runs : (w : Setup) (m : Machine) (cpu : Cpu) (proc : Proc) (t : State) → IsSound w m → running_on m.state cpu ≡ None → dispatched m.state cpu ≡ Some (proc, t) → running_on t cpu ≡ Some (proc, (process t proc).current)
+pub dispatched_runs : (w : WorldValue) (m : Machine) (cpu : Cpu) (proc : Proc) (t : State) → IsSound w m → running_on m.state cpu ≡ None → dispatched m.state cpu ≡ Some (proc, t) → running_on t cpu ≡ Some (proc, (process t proc).current)
 dispatched_runs w m cpu proc t sound off h = rw (runs m.state.ready refl h) refl
   where
     self : (n : ℕ) → (n == n) ≡ true
@@ -146,7 +146,7 @@ dispatched_runs w m cpu proc t sound off h = rw (runs m.state.ready refl h) refl
         subst (λ (x : Proc × State). runner x.1 cpu ≡ Some x.0) same (got ∙ ap (λ (x : ℕ). let p : Proc = record { 0 = x } in Some p) (omega arith))
 
 -- where a processor runs nothing its step is a dispatch
-idle_steps : (w : Setup) (m : Machine) (cpu : Cpu) → cpu.0 < 16 → may_step m.state ≡ true → running_on m.state cpu ≡ None → step w m cpu ≡ dispatch_event m cpu (dispatched m.state cpu)
+idle_steps : (w : WorldValue) (m : Machine) (cpu : Cpu) → cpu.0 < 16 → may_step m.state ≡ true → running_on m.state cpu ≡ None → step w m cpu ≡ dispatch_event m cpu (dispatched m.state cpu)
 idle_steps w m cpu low may idle = step_is w m cpu may (is_low cpu.0 low) ∙ (rw (runner_none m.state cpu idle) refl)
   where
     is_low : (n : ℕ) → n < 16 → nat_lt n cpu_limit ≡ true
@@ -162,17 +162,17 @@ current_before s cpu proc t h = by s.ready h
         let same : ◌≡◌ {A = Proc × State} (first, given_to s cpu first rest) (proc, t) = cc in
         subst (λ (x : Proc × State). (process x.1 x.0).current ≡ (process s x.0).current) same (current_stays s cpu first rest)
 
-pub dispatch_steps : (w : Setup) (m : Machine) (cpu : Cpu) (proc : Proc) (inc : Inc) (t : State) → cpu.0 < 16 → may_step m.state ≡ true → running_on m.state cpu ≡ None → dispatched m.state cpu ≡ Some (proc, t) → inc ≡ (process t proc).current
+pub dispatch_steps : (w : WorldValue) (m : Machine) (cpu : Cpu) (proc : Proc) (inc : Inc) (t : State) → cpu.0 < 16 → may_step m.state ≡ true → running_on m.state cpu ≡ None → dispatched m.state cpu ≡ Some (proc, t) → inc ≡ (process t proc).current
     → step w m cpu ≡ Some (record { cpu = cpu; proc = proc; inc = inc; what = what.Dispatch; reply = Done }, record m { state = t })
 dispatch_steps w m cpu proc inc t low may idle h e = idle_steps w m cpu low may idle ∙ (let same = current_before m.state cpu proc t h in rw (h, e, same) refl)
 
-pub nothing_steps : (w : Setup) (m : Machine) (cpu : Cpu) → cpu.0 < 16 → may_step m.state ≡ true → running_on m.state cpu ≡ None → dispatched m.state cpu ≡ None → step w m cpu ≡ None
+pub nothing_steps : (w : WorldValue) (m : Machine) (cpu : Cpu) → cpu.0 < 16 → may_step m.state ≡ true → running_on m.state cpu ≡ None → dispatched m.state cpu ≡ None → step w m cpu ≡ None
 nothing_steps w m cpu low may idle h = idle_steps w m cpu low may idle ∙ (rw h refl)
 
 -- ---- the opening
 
 -- the machine of a kernel that has opened the world and of the contexts of its processes
-pub opening_is : (w : Setup) (s : State) (contexts : List Context) → s ≡ opening w → contexts ≡ map (λ (t : Task). new_frame t.code ∷ []) w.tasks → record { state = s; contexts = contexts } ≡ opened w
+pub opening_is : (w : WorldValue) (s : State) (contexts : List Context) → s ≡ opening w → contexts ≡ map (λ (t : Task). new_frame t.code ∷ []) w.tasks → record { state = s; contexts = contexts } ≡ opened w
 unfolding opened
 opening_is w s contexts h g = rw (h, g) refl
 
@@ -186,6 +186,6 @@ pub if_none : (P : Type 0) (o : Option Line) → P → IfNone o P
 if_none P None h = h
 if_none P (Some line) h = tt
 
-pub dispatch_sound : (w : Setup) (m new : Machine) (cpu : Cpu) (o : Option Line) → IsSound w m → IfSome o (λ line. step w m cpu ≡ Some (line, new)) → IfNone o ((step w m cpu ≡ None) × (new ≡ m)) → IsSound w new
+pub dispatch_sound : (w : WorldValue) (m new : Machine) (cpu : Cpu) (o : Option Line) → IsSound w m → IfSome o (λ line. step w m cpu ≡ Some (line, new)) → IfNone o ((step w m cpu ≡ None) × (new ≡ m)) → IsSound w new
 dispatch_sound w m new cpu (Some line) h g k = step_sound w m cpu line new h g
 dispatch_sound w m new cpu None h g k = subst (IsSound w) (sym k.1) h

@@ -23,7 +23,7 @@ use Rattle.hk_model.specs.declared.frames.Todo.{Todo}
 use Rattle.hk_model.specs.declared.frames.Todo.TheVariants.{Do, Halt}
 use Rattle.hk_model.specs.declared.objects.Object.{Object}
 use Rattle.hk_model.specs.declared.world.Task.{Task}
-use Rattle.hk_model.specs.Setup.{Setup, IsWorld}
+use Rattle.hk_model.specs.WorldValue.{WorldValue, IsWorld}
 use Rattle.hk_model.specs.State.{State, process, same_inc, no_object}
 use Rattle.hk_model.specs.Walking.{walk}
 use Rattle.hk_model.specs.Targets.{PROCEDURE, is_type, target}
@@ -68,24 +68,24 @@ kept_same (call.Leave give) Waits frames h = refl
 kept_same (call.Leave give) (No e) frames h = refl
 kept_same c reply frames h = refl
 
-after_same : (w : Setup) (frames : Context) (c : Call) (reply : Reply) → leaves_call (done_by (what.Call c) reply) ≡ false → length (after w frames c reply None) ≡ length frames
+after_same : (w : WorldValue) (frames : Context) (c : Call) (reply : Reply) → leaves_call (done_by (what.Call c) reply) ≡ false → length (after w frames c reply None) ≡ length frames
 unfolding after
 after_same w [] c reply h = refl
 after_same w (f ∷ rest) c reply h = kept_same c reply (behind w f reply ∷ rest) h
 
-after_entered : (w : Setup) (frames : Context) (c : Call) (reply : Reply) (code : Option ℕ) → 1 ≤ length frames → IsSome code → length (after w frames c reply code) ≡ 1 + length frames
+after_entered : (w : WorldValue) (frames : Context) (c : Call) (reply : Reply) (code : Option ℕ) → 1 ≤ length frames → IsSome code → length (after w frames c reply code) ≡ 1 + length frames
 unfolding after
 after_entered w [] c reply code some h = absurd (omega (arith, some))
 after_entered w (f ∷ rest) c reply None some h = absurd (true≢false (sym h))
 after_entered w (f ∷ rest) c reply (Some n) some h = omega arith
 
-after_returned : (w : Setup) (frames : Context) (give : Option Slot) → length frames ≤ length (after w frames (call.Leave give) Done None) + 1
+after_returned : (w : WorldValue) (frames : Context) (give : Option Slot) → length frames ≤ length (after w frames (call.Leave give) Done None) + 1
 unfolding after
 after_returned w [] give = omega arith
 after_returned w (f ∷ rest) give = omega arith
 
 -- who makes a call has a frame
-some_frame : (w : Setup) (context : Context) (c : Call) (frames : Context) → next w context ≡ (Do c, frames) → 1 ≤ length context
+some_frame : (w : WorldValue) (context : Context) (c : Call) (frames : Context) → next w context ≡ (Do c, frames) → 1 ≤ length context
 unfolding next
 some_frame w [] c frames h = let e : Halt ≡ Do c = ap (λ (f : Todo × Context). f.0) h in absurd (cc)
 some_frame w (f ∷ rest) c frames h = omega arith
@@ -182,7 +182,7 @@ enter_code s codes proc inc path args into =
     let leaf = code_there s codes inc path in
     search (then_is, and_is, leaf) depth 12
 
-module _ (w : Setup) (m : Machine) (cpu : Cpu) (proc : Proc) (frames : Context) (kept : Kept w m) (currents : CurrentsCallNone m.state) (codes : ProceduresHaveCodes m.state) (full : IsFull m)
+module _ (w : WorldValue) (m : Machine) (cpu : Cpu) (proc : Proc) (frames : Context) (kept : Kept w m) (currents : CurrentsCallNone m.state) (codes : ProceduresHaveCodes m.state) (full : IsFull m)
     (runs : runner m.state cpu ≡ Some proc) (some : 1 ≤ length (context_of m proc)) (many : length frames ≡ length (context_of m proc)) where
   abbrev s : State
   s = m.state
@@ -259,14 +259,14 @@ module _ (w : Setup) (m : Machine) (cpu : Cpu) (proc : Proc) (frames : Context) 
       event_full m (rule s proc c).1 proc.0 (after w frames c (rule s proc c).0 (entered s inc c (rule s proc c).0)) full (others_fewer s (call_line c (rule s proc c).0) (rule s proc c).1 turn)
       (inr (some, own_full c (outcome s proc inc c) refl turn))
 
-halt_full : (w : Setup) (m : Machine) (cpu : Cpu) (proc : Proc) (frames : Context) → Kept w m → IsFull m → runner m.state cpu ≡ Some proc → IsFull (event w m cpu proc (Halt, frames)).1
+halt_full : (w : WorldValue) (m : Machine) (cpu : Cpu) (proc : Proc) (frames : Context) → Kept w m → IsFull m → runner m.state cpu ≡ Some proc → IsFull (event w m cpu proc (Halt, frames)).1
 halt_full w m cpu proc frames kept full runs =
     let turn = turn_each.halts m.state cpu proc runs kept.sound.rises in
     let number : amount proc.0 (activations_in (halted m.state proc).incarnations) ≡ depth (halted m.state proc) proc = depth_is (halted m.state proc) proc.0 in
     let none : amount proc.0 (activations_in (halted m.state proc).incarnations) ≡ 0 = ap (amount proc.0) (activations_filter proc.0 m.state.incarnations) ∙ filtered_own proc.0 (activations_in m.state.incarnations) in
     event_full m (halted m.state proc) proc.0 [] full (others_fewer m.state (proc_line m.state cpu proc what.Halt Done) (halted m.state proc) turn) (inl (sym number ∙ none))
 
-moved_full : (w : Setup) (m : Machine) (cpu : Cpu) → Kept w m → CurrentsCallNone m.state → ProceduresHaveCodes m.state → IsFull m → IsFull (moved w m cpu)
+moved_full : (w : WorldValue) (m : Machine) (cpu : Cpu) → Kept w m → CurrentsCallNone m.state → ProceduresHaveCodes m.state → IsFull m → IsFull (moved w m cpu)
 moved_full w m cpu kept currents codes full = moved_by w m cpu IsFull full (record {
   none = tt;
   calls = λ proc c frames may r e.
@@ -307,7 +307,7 @@ base_full q n (t ∷ ts) h = by (n == q) refl (base_full q (n + 1) ts)
         let next : q - n ≡ suc (q - (n + 1)) = omega (arith, up) in
         rw next (later up)
 
-opened_full : (w : Setup) → IsFull (opened w)
+opened_full : (w : WorldValue) → IsFull (opened w)
 unfolding opened opening
 opened_full w q =
     let number = depth_is (opening w) q in
@@ -318,7 +318,7 @@ opened_full w q =
 
 -- ---- every moment
 
-at_opening : (w : Setup) (lines : List Line) → machine_at w lines 0 ≡ opened w
+at_opening : (w : WorldValue) (lines : List Line) → machine_at w lines 0 ≡ opened w
 at_opening w [] = refl
 at_opening w (x ∷ lines) = refl
 
@@ -328,7 +328,7 @@ no_more [] (suc n) h = refl
 no_more (x ∷ lines) zero h = absurd (cc)
 no_more (x ∷ lines) (suc n) h = ap (λ (l : List Line). x ∷ l) (no_more lines n h)
 
-module _ (w : Setup) (lines : List Line) (world : IsWorld w) (steps : AreStepsOf w lines) where
+module _ (w : WorldValue) (lines : List Line) (world : IsWorld w) (steps : AreStepsOf w lines) where
   kept_at : (moment : ℕ) → Kept w (machine_at w lines moment)
   kept_at moment = sound_kept w (machine_at w lines moment) (sound_after w (take moment lines) (first_steps w (opened w) lines moment steps) world)
 

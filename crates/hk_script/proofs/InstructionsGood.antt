@@ -10,7 +10,7 @@ use Rattle.hk_format.specs.declared.syntax.MakingText.TheVariants as making
 use Rattle.hk_format.specs.declared.syntax.Written.{Written}
 use Rattle.hk_format.specs.declared.syntax.Written.TheVariants as written
 use Rattle.hk_model.specs.Limits.{argument_limit, slot_limit}
-use Rattle.hk_model.specs.Setup.{IsSlot, IsSlotOrNone, IsReg, IsOperand, IsRoute}
+use Rattle.hk_model.specs.WorldValue.{IsSlot, IsSlotOrNone, IsReg, IsOperand, IsRoute}
 use Rattle.hk_format.specs.Reading.{Reads, ◌>>=◌, wanted, end}
 use Rattle.hk_format.specs.Forms.{as_slot, as_number_below, slot_numbered, as_route}
 use Rattle.hk_format.specs.WrittenLines.{before_last, last_of, template_end, template_of, instruction_of}

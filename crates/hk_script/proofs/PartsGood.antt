@@ -9,7 +9,7 @@ use Rattle.hk_format.specs.declared.syntax.Head.TheVariants.{LimitIs, TypeIs, Ob
 use Rattle.hk_format.specs.declared.syntax.Body.{Body}
 use Rattle.hk_format.specs.declared.syntax.Body.TheVariants.{WordsAre, EmptyEntry, CapEntry, AmplifyEntry, CreateEntry, ParamIs, LabelIs, StepIs}
 use Rattle.hk_model.specs.Limits.{event_limit, token_limit}
-use Rattle.hk_model.specs.Setup.{IsWord32}
+use Rattle.hk_model.specs.WorldValue.{IsWord32}
 use Rattle.hk_format.specs.Reading.{Reads, Found, onward}
 use Rattle.hk_format.specs.Forms.{as_number}
 use Rattle.hk_format.specs.WrittenLines.{instruction_of}

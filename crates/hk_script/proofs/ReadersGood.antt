@@ -13,7 +13,7 @@ use Rattle.hk_format.specs.declared.syntax.Verb.{Verb}
 use Rattle.hk_model.specs.Labels.{between, is_word, is_name, is_register, same_text}
 use Rattle.hk_model.specs.Limits.{slot_limit, index_bound}
 use Rattle.hk_format.specs.Pieces.{Piece, Word, Upper, Dash, Number, Path, is_upper, is_piece, is_index, register_of}
-use Rattle.hk_model.specs.Setup.{IsSlot, IsReg, IsOperand, IsIndex, IsRoute, IsWord32, BeginsAtSlot}
+use Rattle.hk_model.specs.WorldValue.{IsSlot, IsReg, IsOperand, IsIndex, IsRoute, IsWord32, BeginsAtSlot}
 use Rattle.hk_format.specs.Verbs.{verb_word, all_verbs}
 use Rattle.hk_format.specs.Reading.{Reads, Found, ◌>>=◌, onward, taken, wanted, end, unknown, optional, each, at_most}
 use Rattle.hk_format.specs.Forms.{as_verb, verb_found, as_word, as_name, as_type, as_rights, as_number, as_number_in, as_number_below, as_slot, slot_numbered, as_register, as_operand, as_route, is_route, is_index_below, route_of}

@@ -5,7 +5,7 @@ use Rattle.hk_model.specs.declared.names.Proc.{Proc}
 use Rattle.hk_model.specs.declared.names.Cpu.{Cpu}
 use Rattle.hk_model.specs.declared.lines.Line.{Line}
 use Rattle.hk_model.specs.declared.frames.Todo.{Todo}
-use Rattle.hk_model.specs.Setup.{Setup}
+use Rattle.hk_model.specs.WorldValue.{WorldValue}
 use Rattle.hk_model.specs.State.{State}
 use Rattle.hk_model.specs.Control.{Context, next}
 use Rattle.hk_model.specs.Processors.{runner}
@@ -26,7 +26,7 @@ use Rattle.hk_shared.specs.Books.{IsNext, IsBookOf, added}
 use Rattle.hk_shared.proofs.LinesMost.{lines_most}
 use Rattle.hk_shared.proofs.Notes.{lines_book, few_notes, runner_same, context_same}
 
-module _ {K J : Type 0} (state : K → State) (w : Setup) (cpu : Cpu) (b : Book K J) (seen found : List Noted) (h : IsBookOf state w b found) where
+module _ {K J : Type 0} (state : K → State) (w : WorldValue) (cpu : Cpu) (b : Book K J) (seen found : List Noted) (h : IsBookOf state w b found) where
   lines_are : lines_of found ≡ b.lines.items
   lines_are = ap lines_of (sym h.0) ∙ lines_book b.lines.items b.stop
 
@@ -63,7 +63,7 @@ module _ {K J : Type 0} (state : K → State) (w : Setup) (cpu : Cpu) (b : Book 
         m.1 ∙ ap (λ (c : Context). next w c) (sym (context_same w h.1.valid cpu seen found goes found_steps proc m.0) ∙ ap (λ (ls : List Line). context_of (machine_after w ls) proc) lines_are)
 
 -- what the book answers is the desk's answer by what the pass had seen
-module _ (w : Setup) (cpu : Cpu) (seen found was now after : List Noted) (note : Option Noted) (goes : GoesOn owner_of cpu.0 seen found)
+module _ (w : WorldValue) (cpu : Cpu) (seen found was now after : List Noted) (note : Option Noted) (goes : GoesOn owner_of cpu.0 seen found)
     (was_is : was ≡ found) (now_is : now ≡ was ++ added note) (after_is : after ≡ found ++ added note) where
   same_after : now ≡ after
   same_after = now_is ∙ (ap (λ (ns : List Noted). ns ++ added note) was_is ∙ sym after_is)

@@ -16,7 +16,7 @@ use Rattle.hk_model.specs.declared.calls.Answer.TheVariants.{Done, Waits}
 use Rattle.hk_model.specs.declared.objects.Process.{Process}
 use Rattle.hk_model.specs.declared.objects.ProcessState.TheVariants.{Ready, Waiting, Ended}
 use Rattle.hk_model.specs.Limits.{token_limit}
-use Rattle.hk_model.specs.Setup.{Setup}
+use Rattle.hk_model.specs.WorldValue.{WorldValue}
 use Rattle.hk_model.specs.State.{State, object, process, put_object, put_process, same_inc}
 use Rattle.hk_model.specs.Refusing.{unless}
 use Rattle.hk_model.specs.Targets.{SEMAPHORE, is_type, MODIFY+A0, MODIFY+A1, target}
@@ -37,7 +37,7 @@ pub data Moves : State → Proc → State → Type 0 where
   Yields : {s : State} {p : Proc} {t : State} (new : Process) → t.processes ≡ slice_set s.processes p.0 new → new.run ≡ Ready → t.ready ≡ s.ready ++ p ∷ [] → Moves s p t
   Wakes : {s : State} {p : Proc} {t : State} (q : Proc) (new : Process) → t.processes ≡ slice_set s.processes q.0 new → new.run ≡ Ready → is_waiting (run_at s.processes q.0) ≡ true → t.ready ≡ s.ready ++ q ∷ [] → Moves s p t
 
-module _ (w : Setup) (s : State) (reg : Regular w s) where
+module _ (w : WorldValue) (s : State) (reg : Regular w s) where
   enters : (proc : Proc) (inc : Inc) (path args : List ℕ) (into : Slot) → IfOk (enter_procedure s proc inc path args into) (λ f. Moves s proc f.1)
   enters proc inc path args into = by (enter_procedure s proc inc path args into) (enters_by s proc inc path args into)
     where

@@ -2,14 +2,14 @@
 use Rattle.std.specs.Prelude.{◌≡◌, ◌||◌, ℕ, Bool, true, List, length, Option, Some, slice_get}
 use Rattle.hk_model.specs.declared.lines.Line.{Line}
 use Rattle.hk_model.specs.declared.objects.ProcessState.{ProcessState}
-use Rattle.hk_model.specs.Setup.{Setup}
+use Rattle.hk_model.specs.WorldValue.{WorldValue}
 use Rattle.hk_model.specs.State.{process}
 use Rattle.hk_model.specs.Control.{Context}
 use Rattle.hk_model.specs.Processors.{is_ready, is_waiting}
 use Rattle.hk_model.specs.Running.{Machine, opened, after_lines, context_of}
 
 -- the machine after these lines of the world
-abbrev pub machine_after : Setup → List Line → Machine
+abbrev pub machine_after : WorldValue → List Line → Machine
 machine_after w lines = after_lines w (opened w) lines
 
 -- the process is ready or waits

@@ -11,10 +11,8 @@ use crate::errors::{LineError, TextError};
 use crate::pieces::{Piece, kind_of};
 use hk_format::TextCause;
 use hk_model::Items;
+use hk_model::limits::LINE_BYTES;
 use std::alloc::Global;
-
-/// The most bytes of a line, without its line feed.
-const LINE_BYTES: usize = 1000;
 
 /// A line that has pieces.
 #[derive(Drop)]

@@ -17,7 +17,7 @@ use Rattle.hk_format.specs.Audits.{Audited, audit}
 use Rattle.hk_model.specs.Legal.{IsLegal}
 use Rattle.hk_model.specs.Verdicts.{IsVerdict}
 use Rattle.hk_format.specs.Canonical.{canon}
-use Rattle.hk_model.specs.Setup.{Setup}
+use Rattle.hk_model.specs.WorldValue.{WorldValue}
 use Rattle.hk_format.specs.Worlds.{world}
 use Rattle.hk_model.specs.State.{State}
 use Rattle.hk_top.specs.declared.served.DueText.{DueText}
@@ -51,12 +51,12 @@ too_long_is = refl
 
 -- what is due to the bytes of a script
 
-pub record_due : {K : Type 0} (state : K → State) (words : List (List ℕ)) (bytes : List ℕ) (w : Setup) (r : Result (Served K) NoMemory) → world bytes ≡ Ok w → IfOk r (λ served. IsRecorded words w served.due.status served.due.text (option_map state served.kernel))
+pub record_due : {K : Type 0} (state : K → State) (words : List (List ℕ)) (bytes : List ℕ) (w : WorldValue) (r : Result (Served K) NoMemory) → world bytes ≡ Ok w → IfOk r (λ served. IsRecorded words w served.due.status served.due.text (option_map state served.kernel))
     → IfOk r (λ served. DueTo words bytes served.due.status served.due.text (option_map state served.kernel))
 record_due state words bytes w (Ok served) is h = record_of w served.due.status served.due.text (option_map state served.kernel) is h
 record_due state words bytes w (Err error) is h = tt
 
-pub script_due : (bytes : List ℕ) (w : Setup) (r : Result DueText NoMemory) → world bytes ≡ Ok w → IfOk r (λ due. (due.status ≡ 0) × (due.text ≡ canon w)) → IfOk r (λ due. DueTo (words_of command.Show) bytes due.status due.text None)
+pub script_due : (bytes : List ℕ) (w : WorldValue) (r : Result DueText NoMemory) → world bytes ≡ Ok w → IfOk r (λ due. (due.status ≡ 0) × (due.text ≡ canon w)) → IfOk r (λ due. DueTo (words_of command.Show) bytes due.status due.text None)
 script_due bytes w (Ok due) is h = rw (h.0, h.1) (script_of w refl is)
 script_due bytes w (Err error) is h = tt
 
@@ -76,7 +76,7 @@ pub record_refused_due : (bytes : List ℕ) (line : ℕ) (cause : Cause) (r : Re
 record_refused_due bytes line cause (Ok due) is h = rw (h.0, h.1) (record_refused line cause refl is)
 record_refused_due bytes line cause (Err error) is h = tt
 
-pub legal_due : (a : Audited) (w : Setup) (lines : List Line) (end : End) (v : Verdict) (r : Result DueText NoMemory) → w ≡ a.world → lines ≡ a.lines → end ≡ a.end → IsVerdict w lines end v → v ≡ Legal → IsLawful w lines
+pub legal_due : (a : Audited) (w : WorldValue) (lines : List Line) (end : End) (v : Verdict) (r : Result DueText NoMemory) → w ≡ a.world → lines ≡ a.lines → end ≡ a.end → IsVerdict w lines end v → v ≡ Legal → IsLawful w lines
     → IfOk r (λ due. (due.status ≡ 0) × (due.text ≡ verdict_text v)) → IfOk r (λ due. IsChecked a due.status due.text)
 legal_due a w lines end v (Ok due) w_is lines_are end_is is v_is laws h =
     let holds : IsLegal a.world a.lines a.end = rw (w_is, lines_are, end_is, v_is) at is in
@@ -85,7 +85,7 @@ legal_due a w lines end v (Ok due) w_is lines_are end_is is v_is laws h =
     rw (h.0, told) (legal holds lawful)
 legal_due a w lines end v (Err error) w_is lines_are end_is is v_is laws h = tt
 
-pub illegal_due : (a : Audited) (w : Setup) (lines : List Line) (end : End) (v : Verdict) (n : ℕ) (cause : Misstep) (r : Result DueText NoMemory) → w ≡ a.world → lines ≡ a.lines → end ≡ a.end → IsVerdict w lines end v → v ≡ Illegal n cause
+pub illegal_due : (a : Audited) (w : WorldValue) (lines : List Line) (end : End) (v : Verdict) (n : ℕ) (cause : Misstep) (r : Result DueText NoMemory) → w ≡ a.world → lines ≡ a.lines → end ≡ a.end → IsVerdict w lines end v → v ≡ Illegal n cause
     → IfOk r (λ due. (due.status ≡ 8) × (due.text ≡ verdict_text v)) → IfOk r (λ due. IsChecked a due.status due.text)
 illegal_due a w lines end v n cause (Ok due) w_is lines_are end_is is v_is h =
     let bad : IsVerdict a.world a.lines a.end (Illegal n cause) = rw (w_is, lines_are, end_is, v_is) at is in

@@ -11,7 +11,7 @@ use Rattle.hk_model.specs.declared.lines.End.{End}
 use Rattle.hk_model.specs.declared.objects.Process.{Process}
 use Rattle.hk_model.specs.declared.objects.ProcessState.{ProcessState}
 use Rattle.hk_model.specs.declared.objects.ProcessState.TheVariants.{Ready, Running, Waiting, Ended}
-use Rattle.hk_model.specs.Setup.{Setup}
+use Rattle.hk_model.specs.WorldValue.{WorldValue}
 use Rattle.hk_model.specs.State.{State}
 use Rattle.hk_model.specs.Processors.{is_on, is_ready, is_running, is_over, may_step, runner, runner_from}
 use Rattle.hk_model.specs.Running.{Machine, AreSteps, AreStepsOf, after_lines, event_of, line_of, moved, opened, state_after, step}
@@ -63,7 +63,7 @@ still_ready (p ∷ ps) (suc n) h e = still_ready ps n (rest p.run h) e
     rest Ended h = h
 
 -- where no process is ready, none stands in the ready list
-none_stands : (w : Setup) (s : State) → Regular w s → AreStill s.processes → s.ready ≡ []
+none_stands : (w : WorldValue) (s : State) → Regular w s → AreStill s.processes → s.ready ≡ []
 none_stands w s reg h = by s.ready reg.ready
   where
     by : (ready : List Proc) → IsQueue s.processes Ready ready → ready ≡ []
@@ -83,7 +83,7 @@ has_ended_of s h = by (may_step s) (list_any (λ (p : Process). is_ready p.run |
     by true false e f g = still f
     by true true e f g = absurd (cc)
 
-pub no_step : (w : Setup) (m : Machine) (cpu : Cpu) → Regular w m.state → HasEnded m.state → step w m cpu ≡ None
+pub no_step : (w : WorldValue) (m : Machine) (cpu : Cpu) → Regular w m.state → HasEnded m.state → step w m cpu ≡ None
 unfolding step
 no_step w m cpu reg (at_limit e) = rw e refl
 no_step w m cpu reg (still h) = by (may_step m.state) (nat_lt cpu.0 16)
@@ -93,10 +93,10 @@ no_step w m cpu reg (still h) = by (may_step m.state) (nat_lt cpu.0 16)
     by true false = refl
     by false low = refl
 
-no_line : (w : Setup) (m : Machine) (cpu : Cpu) → Regular w m.state → HasEnded m.state → line_of w m cpu ≡ None
+no_line : (w : WorldValue) (m : Machine) (cpu : Cpu) → Regular w m.state → HasEnded m.state → line_of w m cpu ≡ None
 no_line w m cpu reg h = ap (λ (found : Option (Line × Machine)). option_map (λ f. f.0) found) (no_step w m cpu reg h)
 
-goes_no_further : (w : Setup) (m : Machine) (rest : List Line) → Regular w m.state → HasEnded m.state → AreSteps w m rest → rest ≡ []
+goes_no_further : (w : WorldValue) (m : Machine) (rest : List Line) → Regular w m.state → HasEnded m.state → AreSteps w m rest → rest ≡ []
 goes_no_further w m [] reg h steps = refl
 goes_no_further w m (line ∷ rest) reg h steps = let none = no_line w m line.cpu reg h in absurd (cc)
 
@@ -106,7 +106,7 @@ word_of s (still h) = word_there s (inl h)
 
 -- ---- the book
 
-steps_last : (w : Setup) (m : Machine) (xs ys : List Line) → AreSteps w m (xs ++ ys) → AreSteps w (after_lines w m xs) ys
+steps_last : (w : WorldValue) (m : Machine) (xs ys : List Line) → AreSteps w m (xs ++ ys) → AreSteps w (after_lines w m xs) ys
 steps_last w m [] ys h = h
 steps_last w m (x ∷ xs) ys h = steps_last w (moved w m x.cpu) xs ys h.1
 
@@ -137,7 +137,7 @@ below_of cpus [] h k d l = absurd (omega (arith, l))
 below_of cpus (line ∷ lines) h zero d l = h 0 (Event line) (omega arith)
 below_of cpus (line ∷ lines) h (suc k) d l = below_of cpus lines (λ k d l. h (suc k) d (omega (arith, l))) k d (omega (arith, l))
 
-module _ {K J : Type 0} (state : K → State) (w : Setup) (cpus : ℕ) (b : Book K J) (notes : List Noted) where
+module _ {K J : Type 0} (state : K → State) (w : WorldValue) (cpus : ℕ) (b : Book K J) (notes : List Noted) where
   pub closed : (pass : Pass Noted) → IsBookOf state w b notes → b.stop ≡ None → HasSeenEnd w pass → IsPrefix (seen_list pass) notes → All (λ n. owner_of n < cpus) notes → IsClosed state w cpus b
   closed pass book going seen prefix owned = record {
     steps = book.1.steps;
@@ -176,7 +176,7 @@ module _ {K J : Type 0} (state : K → State) (w : Setup) (cpus : ℕ) (b : Book
   closed_all (pass ∷ passes) few book going seen extends owned = let e = extends 0 pass (omega arith) in closed pass book going (seen 0 pass (omega arith)) e.0 owned
 
 -- the record of a closed book
-pub book_recorded : {K J : Type 0} (state : K → State) (w : Setup) (cpus : ℕ) (b : Book K J) (k kernel : K) (lines : List Line) (end : End) (word : Option End) (status : ℕ) (text : List ℕ) → MayRun cpus → IsClosed state w cpus b
+pub book_recorded : {K J : Type 0} (state : K → State) (w : WorldValue) (cpus : ℕ) (b : Book K J) (k kernel : K) (lines : List Line) (end : End) (word : Option End) (status : ℕ) (text : List ℕ) → MayRun cpus → IsClosed state w cpus b
     → k ≡ b.kernel → word ≡ end_word (state k) → word ≡ Some end → lines ≡ b.lines.items → IsRecord w lines end status text → kernel ≡ b.kernel → IsRecorded (words_of (command.RunOn cpus)) w status text (Some (state kernel))
 book_recorded {K} {J} state w cpus b k kernel lines end word status text may closed k_is word_is end_is lines_are record_is kernel_is = record {
   lines = b.lines.items;
@@ -192,7 +192,7 @@ book_recorded {K} {J} state w cpus b k kernel lines end word status text may clo
 -- ---- passes
 
 -- however a worker has ended, its pass has seen an end
-pub seen_end : (w : Setup) (cpu : Cpu) (notes : List Noted) (how : How) → Ends w cpu notes how → IsEnd w notes
+pub seen_end : (w : WorldValue) (cpu : Cpu) (notes : List Noted) (how : How) → Ends w cpu notes how → IsEnd w notes
 seen_end w cpu notes ended.Over h = inl h
 seen_end w cpu notes ended.Stopped h = inr h
 seen_end w cpu notes ended.NoMemory h = inr (cpu, h)

@@ -8,7 +8,7 @@ use Rattle.hk_model.specs.declared.lines.End.TheVariants as end
 use Rattle.hk_model.specs.declared.objects.Process.{Process}
 use Rattle.hk_model.specs.declared.objects.ProcessState.{ProcessState}
 use Rattle.hk_model.specs.declared.objects.ProcessState.TheVariants.{Ready, Running, Waiting, Ended}
-use Rattle.hk_model.specs.Setup.{Setup}
+use Rattle.hk_model.specs.WorldValue.{WorldValue}
 use Rattle.hk_model.specs.State.{State}
 use Rattle.hk_model.specs.Processors.{runner, runner_from, is_ready, is_running, is_waiting, has_ended, may_step, dispatched_from}
 use Rattle.hk_model.specs.Running.{Machine, event_of, dispatch_event, step}
@@ -51,7 +51,7 @@ data HasNone (s : State) : Type 0 where
   at_limit : may_step s ≡ false → HasNone s
   idle : runner s first_processor ≡ None → s.ready ≡ [] → HasNone s
 
-none_of : (w : Setup) (m : Machine) → step w m first_processor ≡ None → HasNone m.state
+none_of : (w : WorldValue) (m : Machine) → step w m first_processor ≡ None → HasNone m.state
 unfolding step
 none_of w m h = by (may_step m.state) refl h
   where
@@ -89,7 +89,7 @@ word_there s (inl h) = word_by (list_all (λ (p : Process). has_ended p.run) s.p
 word_there s (inr h) = word_by (list_all (λ (p : Process). has_ended p.run) s.processes) (list_any (λ (p : Process). is_ready p.run || is_running p.run) s.processes) (list_any (λ (p : Process). is_waiting p.run) s.processes) (may_step s) (inr h)
 
 -- the end word of a state in whose places processor 0 has no step
-pub ends : (w : Setup) (m : Machine) → Placed m.state → step w m first_processor ≡ None → end_word m.state ≢ None
+pub ends : (w : WorldValue) (m : Machine) → Placed m.state → step w m first_processor ≡ None → end_word m.state ≢ None
 ends w m p h = by (none_of w m h)
   where
     by : HasNone m.state → end_word m.state ≢ None

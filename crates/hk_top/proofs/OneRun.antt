@@ -8,7 +8,7 @@ use Rattle.hk_model.specs.declared.lines.End.TheVariants as end
 use Rattle.hk_model.specs.declared.objects.Process.{Process}
 use Rattle.hk_model.specs.declared.objects.ProcessState.{ProcessState}
 use Rattle.hk_model.specs.declared.objects.ProcessState.TheVariants.{Ready, Running, Waiting, Ended}
-use Rattle.hk_model.specs.Setup.{Setup, IsWorld}
+use Rattle.hk_model.specs.WorldValue.{WorldValue, IsWorld}
 use Rattle.hk_model.specs.State.{State}
 use Rattle.hk_model.specs.Processors.{has_ended, is_ready, is_running, is_waiting, may_step}
 use Rattle.hk_model.specs.Running.{Machine, AreSteps, after_lines, line_of, moved, opened, state_after, step}
@@ -24,13 +24,13 @@ abbrev AreAlone : List Line → Type 0
 AreAlone lines = All (λ (line : Line). line.cpu ≡ first_processor) lines
 
 -- the first of lines that are steps of processor 0 is its step
-first_line : (w : Setup) (m : Machine) (line : Line) (lines : List Line) → AreSteps w m (line ∷ lines) → AreAlone (line ∷ lines) → line_of w m first_processor ≡ Some line
+first_line : (w : WorldValue) (m : Machine) (line : Line) (lines : List Line) → AreSteps w m (line ∷ lines) → AreAlone (line ∷ lines) → line_of w m first_processor ≡ Some line
 first_line w m line lines steps alone = ap (line_of w m) (sym (alone 0 line (omega arith))) ∙ steps.0
 
 behind : (line : Line) (lines : List Line) → AreAlone (line ∷ lines) → AreAlone lines
 behind line lines alone k d l = alone (suc k) d (omega (arith, l))
 
-one_from : (w : Setup) (m : Machine) (lines others : List Line) → AreSteps w m lines → AreSteps w m others → AreAlone lines → AreAlone others → line_of w (after_lines w m lines) first_processor ≡ None
+one_from : (w : WorldValue) (m : Machine) (lines others : List Line) → AreSteps w m lines → AreSteps w m others → AreAlone lines → AreAlone others → line_of w (after_lines w m lines) first_processor ≡ None
     → line_of w (after_lines w m others) first_processor ≡ None → lines ≡ others
 one_from w m [] [] s t a b e f = refl
 one_from w m [] (o ∷ os) s t a b e f = let some = first_line w m o os t b in absurd (cc)
@@ -44,10 +44,10 @@ one_from w m (l ∷ ls) (o ∷ os) s t a b e f =
     let rest = one_from w (moved w m l.cpu) ls os s.1 steps (behind l ls a) (behind o os b) e none in
     ap (λ (xs : List Line). l ∷ xs) rest ∙ ap (λ (x : Line). x ∷ os) (sym same)
 
-no_line_last : (w : Setup) (lines : List Line) (e : End) → IsWholeRun w lines e → line_of w (after_lines w (opened w) lines) first_processor ≡ None
+no_line_last : (w : WorldValue) (lines : List Line) (e : End) → IsWholeRun w lines e → line_of w (after_lines w (opened w) lines) first_processor ≡ None
 no_line_last w lines e h = ap (λ (found : Option (Line × Machine)). option_map (λ f. f.0) found) h.last
 
-pub one_run : (w : Setup) (lines others : List Line) (e other : End) → IsWholeRun w lines e → IsWholeRun w others other → (lines ≡ others) × (e ≡ other)
+pub one_run : (w : WorldValue) (lines others : List Line) (e other : End) → IsWholeRun w lines e → IsWholeRun w others other → (lines ≡ others) × (e ≡ other)
 one_run w lines others e other h k =
     let same = one_from w (opened w) lines others h.legal.steps k.legal.steps h.alone k.alone (no_line_last w lines e h) (no_line_last w others other k) in
     let mine : Some e ≡ end_word (state_after w lines) = sym h.legal.ends in
@@ -82,7 +82,7 @@ word_ended s e h =
 only_first : (lines : List Line) → All (λ (line : Line). line.cpu.0 < 1) lines → AreAlone lines
 only_first lines h k d l = let low = h k d l in ap (λ (n : ℕ). record { 0 = n }) (omega (arith, low))
 
-pub runs_alone : (w : Setup) (lines : List Line) (e : End) → IsWorld w → IsRunBy w 1 lines e → IsWholeRun w lines e
+pub runs_alone : (w : WorldValue) (lines : List Line) (e : End) → IsWorld w → IsRunBy w 1 lines e → IsWholeRun w lines e
 runs_alone w lines e world h = record {
   legal = h.legal;
   alone = only_first lines h.below;

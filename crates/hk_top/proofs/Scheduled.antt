@@ -24,7 +24,7 @@ use Rattle.hk_model.specs.declared.objects.ProcessState.{ProcessState}
 use Rattle.hk_model.specs.declared.objects.ProcessState.TheVariants.{Ready, Running, Waiting, Ended}
 use Rattle.hk_model.specs.declared.world.Task.{Task}
 use Rattle.hk_model.specs.Limits.{token_limit}
-use Rattle.hk_model.specs.Setup.{Setup}
+use Rattle.hk_model.specs.WorldValue.{WorldValue}
 use Rattle.hk_model.specs.Opening.{opening, all_ready, proc_numbers}
 use Rattle.hk_model.specs.State.{State, object, process, put_object, put_slot, put_process, add_object}
 use Rattle.hk_model.specs.Refusing.{unless}
@@ -247,6 +247,6 @@ all_placed ready n (t ∷ ts) h =
     let here : n + 0 ≡ n = omega arith in
     (subst (Has ready) here (h 0 (omega arith)), all_placed ready (n + 1) ts (λ k b. let e : n + suc k ≡ n + 1 + k = omega arith in subst (Has ready) e (h (suc k) (omega (arith, b)))))
 
-pub opening_placed : (w : Setup) → Placed (opening w)
+pub opening_placed : (w : WorldValue) → Placed (opening w)
 unfolding opening
 opening_placed w = all_placed (proc_numbers 0 w.tasks) 0 w.tasks (λ k b. all_in 0 k w.tasks b)

@@ -5,6 +5,7 @@ ghost use Rattle.std.specs.Fmt.{decimal};
 ghost use Rattle.hk_top.specs.Words.{Calls, MayRun, IsNoNumber};
 
 use hk_audit::numeral;
+use hk_model::limits::CPU_LIMIT;
 
 /// What the program can do.
 #[derive(Clone, Copy, PartialEq, Eq, Debug)]
@@ -62,7 +63,7 @@ fn processors(word: &str) -> Option<u8>
     ensures none { IfNone result (IsNoNumber word.now) }
 {
     let cpus = numeral(word.as_bytes())?;
-    if cpus < 1 || cpus > 16 {
+    if cpus < 1 || cpus > CPU_LIMIT.into() {
         return None;
     }
     Some(cpus as u8)

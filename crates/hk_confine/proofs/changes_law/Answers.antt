@@ -1,4 +1,4 @@
-use Rattle.hk_model.proofs.ObjectsLeft.{leaves_others}
+use Rattle.hk_model.proofs.KindsStay.{leaves_others}
 use Rattle.hk_confine.proofs.changes_law.Goals as goal
 
 pub returns : goal.returns

@@ -26,7 +26,7 @@ use Rattle.hk_model.specs.Labels.{is_name, are_apart}
 use Rattle.hk_model.specs.Limits.{object_limit, word_limit, entry_limit, slot_limit, param_limit, argument_limit, path_limit, index_bound, register_limit, token_limit, code_limit, process_limit, event_limit}
 use Rattle.hk_model.specs.Targets.{DATA, UNIVERSAL, kernel_types}
 
-pub record Setup : Type 0 where
+pub record WorldValue : Type 0 where
   -- how many events there can be
   pub limit : ℕ
   -- objects by their names, the first of which is 7, codes and processes by their numbers
@@ -34,11 +34,11 @@ pub record Setup : Type 0 where
   pub codes : List Code
   pub tasks : List Task
 
-abbrev pub setup : ℕ → List Born → List Code → List Task → Setup
-setup limit objects codes tasks = record { limit = limit; objects = objects; codes = codes; tasks = tasks }
+abbrev pub world_value : ℕ → List Born → List Code → List Task → WorldValue
+world_value limit objects codes tasks = record { limit = limit; objects = objects; codes = codes; tasks = tasks }
 
 -- an object of the world
-abbrev pub IsObject : Setup → Name → Type 0
+abbrev pub IsObject : WorldValue → Name → Type 0
 IsObject w name = name.0 < kernel_types + length w.objects
 
 abbrev pub IsTypeKind : Kind → Type 0
@@ -48,28 +48,28 @@ IsTypeKind (kind.Semaphore count) = ⊥
 IsTypeKind (kind.Procedure code params entries) = ⊥
 
 -- a type that the script declares
-pub record IsDeclaredType (w : Setup) (name : Name) : Type 0 where
+pub record IsDeclaredType (w : WorldValue) (name : Name) : Type 0 where
   pub born : Born
   pub above : kernel_types ≤ name.0
   pub there : slice_get w.objects (name.0 - kernel_types) ≡ Some born
   pub is_type : IsTypeKind born.kind
 
 -- a kernel type, or a declared one
-abbrev pub IsType : Setup → Name → Type 0
+abbrev pub IsType : WorldValue → Name → Type 0
 IsType w name = (name.0 < kernel_types) ⊎ IsDeclaredType w name
 
-abbrev pub IsTypeOrAny : Setup → Option Name → Type 0
+abbrev pub IsTypeOrAny : WorldValue → Option Name → Type 0
 IsTypeOrAny w None = Unit {0}
 IsTypeOrAny w (Some name) = IsType w name
 
 -- capabilities name objects of the world, and templates its types; rights are sets of the 19
-abbrev pub IsEntry : Setup → Entry → Type 0
+abbrev pub IsEntry : WorldValue → Entry → Type 0
 IsEntry w Empty = Unit {0}
 IsEntry w (Held cap) = IsObject w cap.name × IsRightsWord cap.rights
 IsEntry w (Form (template.Amplify of check give)) = IsTypeOrAny w of × IsRightsWord check × IsRightsWord give
 IsEntry w (Form (template.Create of give)) = IsType w of × IsRightsWord give
 
-abbrev pub IsParam : Setup → Param → Type 0
+abbrev pub IsParam : WorldValue → Param → Type 0
 IsParam w param = IsTypeOrAny w param.of × IsRightsWord param.check × IsRightsWord param.give
 
 -- a word of 32 bits
@@ -77,10 +77,10 @@ abbrev pub IsWord32 : ℕ → Type 0
 IsWord32 n = n < 2 ^ 32
 
 -- a plain object is of DATA, without entries, or of UNIVERSAL or a declared type
-abbrev pub IsPlainType : Setup → Name → List Entry → Type 0
+abbrev pub IsPlainType : WorldValue → Name → List Entry → Type 0
 IsPlainType w of entries = ((of.0 ≡ DATA) × (entries ≡ [])) ⊎ ((of.0 ≡ UNIVERSAL) ⊎ IsDeclaredType w of)
 
-abbrev pub IsKind : Setup → Kind → Type 0
+abbrev pub IsKind : WorldValue → Kind → Type 0
 IsKind w kind.TypeObject = Unit {0}
 IsKind w (kind.Plain of words entries) =
     IsPlainType w of entries × (length words ≤ word_limit) × AllByRecursion IsWord32 words × (length entries ≤ entry_limit) × AllByRecursion (IsEntry w) entries
@@ -158,15 +158,15 @@ IsInstr len (instr.IfDenied to) = to ≤ len
 abbrev pub IsCode : Code → Type 0
 IsCode code = (length code.steps ≤ code_limit) × AllByRecursion (IsInstr (length code.steps)) code.steps
 
-abbrev pub IsTask : Setup → Task → Type 0
+abbrev pub IsTask : WorldValue → Task → Type 0
 IsTask w task = (task.code < length w.codes) × (length task.slots ≤ slot_limit) × AllByRecursion (IsEntry w) task.slots
 
 -- the labels of objects, codes and processes, which share one space
-abbrev pub labels : Setup → List (List ℕ)
+abbrev pub labels : WorldValue → List (List ℕ)
 labels w = map (λ (b : Born). b.label) w.objects ++ (map (λ (c : Code). c.label) w.codes ++ map (λ (t : Task). t.label) w.tasks)
 
 -- a world that can be run
-pub record IsWorld (w : Setup) : Type 0 where
+pub record IsWorld (w : WorldValue) : Type 0 where
   pub some_events : 0 < w.limit
   pub few_events : w.limit ≤ event_limit
   pub few_objects : kernel_types + length w.objects ≤ object_limit
