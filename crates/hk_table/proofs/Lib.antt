@@ -3,3 +3,7 @@ pub mod Whole
 pub mod ObjectsOpened
 pub mod Opens
 pub mod QueueMoves
+pub mod Live
+pub mod EntryLists
+pub mod PartReads
+pub mod WalkSteps

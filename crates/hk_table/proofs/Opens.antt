@@ -13,7 +13,7 @@ use Rattle.hk_model.specs.declared.objects.Process.{Process}
 use Rattle.hk_model.specs.declared.objects.ProcessState.TheVariants.{Ready}
 use Rattle.hk_model.specs.declared.world.Task.{Task}
 use Rattle.hk_model.specs.declared.world.Born.{Born}
-use Rattle.hk_model.specs.Setup.{Setup, IsWorld}
+use Rattle.hk_model.specs.WorldValue.{WorldValue}
 use Rattle.hk_model.specs.State.{State, no_object}
 use Rattle.hk_model.specs.Processors.{is_running}
 use Rattle.hk_model.specs.Opening.{all_ready, proc_numbers, bases, opening, object_of}
@@ -23,7 +23,9 @@ use Rattle.hk_objects.specs.Slots.{standing, name_at}
 use Rattle.hk_table.specs.Born.{named}
 use Rattle.hk_running.specs.Runners.{process_at}
 use Rattle.hk_queues.specs.Queued.{Queued, IsIdle, waiters, is_queued}
-use Rattle.hk_walk.specs.Walks.{shown_at}
+use Rattle.hk_walk.specs.Remembered.{Remembered}
+use Rattle.hk_walk.specs.Walks.{shown_at, seen, AreRight}
+use Rattle.hk_walk.proofs.Kept.{right_none}
 use Rattle.hk_spaces.specs.declared.stack.StackFrame.{StackFrame}
 use Rattle.hk_table.specs.Whole.{whole}
 use Rattle.hk_table.specs.Stacked.{Stacked, live_from, base_frame, base_stacks}
@@ -120,17 +122,16 @@ opened_queues slots q ps tasks all ready waiting processes = record {
       subst (λ (procs : List Proc). AreOnce procs) (sym e) tt;
 }
 
-pub opened_joined : (objects : Shelf) (q : Queued) (ps : List Process) (st : Stacked) (tasks : List Task) (born : ℕ) → AreQueued objects.slots q ps → ps ≡ all_ready 0 tasks → length tasks ≤ 256 → born ≤ 65529
-    → objects.next.0 ≡ 7 + born → st.stacks ≡ base_stacks 0 tasks → st.next.0 ≡ length tasks → IsJoined objects q ps st 0
-opened_joined objects q ps st tasks born queued processes few small names stacks numbers = record {
+pub opened_joined : (objects : Shelf) (q : Queued) (ps : List Process) (st : Stacked) (w : Remembered) (tasks : List Task) → AreQueued objects.slots q ps → ps ≡ all_ready 0 tasks → st.stacks ≡ base_stacks 0 tasks
+    → w ≡ record { capacity = 256; pairs = [] } → IsJoined objects q ps st w
+opened_joined objects q ps st w tasks queued processes stacks none = record {
   queued = queued;
   stacked = ap (λ (s : List (List StackFrame)). length s) stacks ∙ as_many_stacks 0 tasks ∙ sym (ap (λ (p : List Process). length p) processes ∙ as_many_ready 0 tasks);
   current = λ n low.
       let inside : n < length tasks = omega (arith, ap (λ (p : List Process). length p) processes, as_many_ready 0 tasks) in
       subst (λ (s : List (List StackFrame)). IsCurrent s (process_at ps n).current n) (sym stacks)
       (subst (λ (p : List Process). IsCurrent (base_stacks 0 tasks) (process_at p n).current n) (sym processes) (base_current tasks n inside));
-  names = omega arith;
-  numbers = omega arith;
+  right = subst (λ (v : Remembered). AreRight (seen objects.slots) v.pairs) (sym none) (right_none (seen objects.slots));
 }
 
 -- and the state that they tell
@@ -147,7 +148,7 @@ told objects q ps st first_new events limit = record {
   limit = limit;
 }
 
-pub opened_state : (w : Setup) (objects : Shelf) (q : Queued) (ps : List Process) (st : Stacked) (first_new : Name) (limit : ℕ)
+pub opened_state : (w : WorldValue) (objects : Shelf) (q : Queued) (ps : List Process) (st : Stacked) (first_new : Name) (limit : ℕ)
     → standing (map shown_at objects.slots) ≡ named (replicate 7 no_object ++ map (λ (b : Born). object_of b.kind) w.objects) → objects.next.0 ≡ 7 + length w.objects
     → q.ready ≡ proc_numbers 0 w.tasks → q.waiting ≡ replicate 65536 [] → ps ≡ all_ready 0 w.tasks → st.stacks ≡ base_stacks 0 w.tasks → st.next.0 ≡ length w.tasks
     → first_new.0 ≡ 7 + length w.objects → limit ≡ w.limit → told objects q ps st first_new 0 limit ≡ opening w

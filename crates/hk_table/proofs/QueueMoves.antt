@@ -18,6 +18,7 @@ use Rattle.hk_queues.specs.Queued.{Queued, waiters, is_queued}
 use Rattle.hk_running.specs.Runners.{process_at, with_run}
 use Rattle.hk_running.proofs.RunnerLemmas.{set_same, set_other}
 use Rattle.hk_spaces.specs.declared.stack.StackFrame.{StackFrame}
+use Rattle.hk_walk.specs.Remembered.{Remembered}
 use Rattle.hk_table.specs.Stacked.{Stacked}
 use Rattle.hk_table.specs.Joined.{AreOnce, AreQueued, IsCurrent, IsJoined}
 
@@ -60,7 +61,7 @@ split_first [] first e = absurd (cc)
 split_first (p ∷ procs) first e = let same : p ≡ first = cc in ap (λ (q : Proc). q ∷ procs) same
 
 -- the first ready process gets a processor
-module _ (objects : Shelf) (q r : Queued) (ps : List Process) (st : Stacked) (events : ℕ) (first : Proc) (cpu : Cpu) (h : IsJoined objects q ps st events)
+module _ (objects : Shelf) (q r : Queued) (ps : List Process) (st : Stacked) (w : Remembered) (first : Proc) (cpu : Cpu) (h : IsJoined objects q ps st w)
     (is_first : Some first ≡ slice_get q.ready 0) (rest : r ≡ record q { ready = drop 1 q.ready }) where
   split : q.ready ≡ first ∷ drop 1 q.ready
   split = split_first q.ready first is_first
@@ -80,7 +81,7 @@ module _ (objects : Shelf) (q r : Queued) (ps : List Process) (st : Stacked) (ev
   waiting_other n proc waits same =
       let e : Ready ≡ Waiting n = sym was_ready ∙ ap (λ (k : ℕ). (process_at ps k).run) (sym same) ∙ waits in cc
 
-  pub dispatched_joined : IsJoined objects r (with_run ps first (Running cpu)) st (events + 1)
+  pub dispatched_joined : IsJoined objects r (with_run ps first (Running cpu)) st w
   dispatched_joined =
       let many : length (with_run ps first (Running cpu)) ≡ length ps = length-set ps first.0 (record (process_at ps first.0) { run = Running cpu }) in
       let same_lists : (s : ℕ) → waiters r s ≡ waiters q s = λ s. ap (λ (v : Queued). waiters v s) rest in
@@ -103,6 +104,5 @@ module _ (objects : Shelf) (q r : Queued) (ps : List Process) (st : Stacked) (ev
         current = λ n low.
             let inside : n < length ps = omega (arith, many) in
             subst (λ (inc : Inc). IsCurrent st.stacks inc n) (sym (current_stays ps first (Running cpu) n inside)) (h.current n inside);
-        names = omega (arith, h.names);
-        numbers = omega (arith, h.numbers);
+        right = h.right;
       }

@@ -1,5 +1,5 @@
 -- What a change of a slot, or of a list of those who wait, is to the objects of the state.
-use Rattle.std.proofs.Common.{◌≡◌, ◌≢◌, ℕ, zero, suc, ◌+◌, ◌<◌, Bool, true, false, cond, List, [], ◌∷◌, length, get_or, set, map, replicate, Option, Some, None, refl, ap, ◌∙◌, sym, subst, arith, option_map}
+use Rattle.std.proofs.Common.{◌≡◌, ◌≢◌, ℕ, zero, suc, ◌+◌, ◌<◌, Bool, true, false, cond, List, [], ◌∷◌, length, get_or, set, map, replicate, Option, Some, None, IfSome, refl, ap, ◌∙◌, sym, subst, arith, option_map}
 use Rattle.std.specs.Prelude.{slice_index_or}
 use Rattle.std.specs.Map.{lookup, set_value}
 use Rattle.std.specs.Option.{unwrap_or}
@@ -60,7 +60,7 @@ body_there : (p : Option (Name × Body)) (n : Name) → option_map (λ (e : Name
 body_there None n h = absurd (cc)
 body_there (Some e) n h = let k : e.0 ≡ n = cc in (e.1, ap (λ (m : Name). let q : Option (Name × Body) = Some (m, e.1) in q) k)
 
-abbrev object_in : List (Name × Object) → Name → Object
+abbrev pub object_in : List (Name × Object) → Name → Object
 object_in objects name = unwrap_or (lookup (same_name name) objects) no_object
 
 module _ (ps : List (Option (Name × Body))) (ws : List (List Proc)) (s : ℕ) (n : Name) (apart : AreApart ps) (named : name_at ps s ≡ Some n) where
@@ -77,6 +77,9 @@ module _ (ps : List (Option (Name × Body))) (ws : List (List Proc)) (s : ℕ) (
   pub part_read : {Y : Type 0} (f : Body → Y) (g : Object → Y) → ((b : Body) (procs : List Proc) → g (whole_object b procs) ≡ f b) → (y : Y)
       → ((b : Body) → place ps s ≡ Some (n, b) → y ≡ f b) → y ≡ g (object_in (standing (whole ps ws)) n)
   part_read f g same y read = read there.0 there.1 ∙ sym (ap g found ∙ same there.0 (slice_index_or ws s []))
+
+  pub words_inside : (at : ℕ) → at < length (object_in (standing (whole ps ws)) n).words → IfSome (place ps s) (λ e. at < length e.1.words)
+  words_inside at low = subst (λ (p : Option (Name × Body)). IfSome p (λ e. at < length e.1.words)) (sym there.1) (subst (λ (o : Object). at < length o.words) found low)
 
   -- the waiters
   pub waiters_read : slice_index_or ws s [] ≡ (object_in (standing (whole ps ws)) n).waiters

@@ -12,6 +12,9 @@ use Rattle.hk_table.specs.Stacked.{Stacked, frame_at}
 use Rattle.hk_objects.specs.Slots.{name_at}
 use Rattle.hk_queues.specs.Queued.{Queued, waiters, is_queued}
 use Rattle.hk_running.specs.Runners.{process_at}
+use Rattle.hk_model.specs.State.{State}
+use Rattle.hk_walk.specs.Remembered.{Remembered}
+use Rattle.hk_walk.specs.Walks.{seen, AreRight}
 
 -- no process is twice in a list
 abbrev pub AreOnce : List Proc → Type 0
@@ -36,11 +39,14 @@ pub record AreQueued (slots : List (Option (Name × Body))) (q : Queued) (ps : L
   pub ready_once : AreOnce q.ready
   pub waiting_once : (s : ℕ) → AreOnce (waiters q s)
 
--- the parts of a table: each process has its queue and its stack. An event takes one name and one number at most; a world
--- opens with at most 65,536 objects and 256 incarnations
-pub record IsJoined (objects : Shelf) (q : Queued) (ps : List Process) (st : Stacked) (events : ℕ) : Type 0 where
+-- the parts of a table: each process has its queue and its stack, and what is remembered of walks is right
+pub record IsJoined (objects : Shelf) (q : Queued) (ps : List Process) (st : Stacked) (w : Remembered) : Type 0 where
   pub queued : AreQueued objects.slots q ps
   pub stacked : length st.stacks ≡ length ps
   pub current : (n : ℕ) → n < length ps → IsCurrent st.stacks (process_at ps n).current n
-  pub names : objects.next.0 ≤ 65536 + events
-  pub numbers : st.next.0 ≤ 256 + events
+  pub right : AreRight (seen objects.slots) w.pairs
+
+-- the numbers that objects and incarnations take next never run out: an event takes one of each at most, and a world opens
+-- with at most 65,536 objects and 256 incarnations
+abbrev pub FewNumbers : State → Type 0
+FewNumbers s = (s.next_name.0 ≤ 65536 + s.events) × (s.next_inc.0 ≤ 256 + s.events)

@@ -2,3 +2,4 @@ pub mod Whole
 pub mod Stacked
 pub mod Joined
 pub mod Born
+pub mod Giving

@@ -49,3 +49,11 @@ base_frame n entries =
 abbrev pub base_stacks : ℕ → List Task → List (List StackFrame)
 base_stacks n [] = []
 base_stacks n (t ∷ ts) = (base_frame n t.slots ∷ []) ∷ base_stacks (n + 1) ts
+
+-- the top frame of a stack, if there is one, and its slots
+abbrev pub top_of : List StackFrame → Option StackFrame
+top_of fs = slice_get fs (length fs - 1)
+
+abbrev pub slots_of : Option StackFrame → List Entry
+slots_of None = []
+slots_of (Some f) = f.space

@@ -5,14 +5,19 @@ ghost use Rattle.std.specs.List.{list_any};
 ghost use Rattle.hk_model.specs.declared.objects.Process.{Process};
 ghost use Rattle.hk_model.specs.Processors.{is_running};
 ghost use Rattle.hk_model.specs.Opening.{all_ready, proc_numbers, opening};
+ghost use Rattle.hk_table.specs.Joined.{FewNumbers};
 
 use crate::born::objects_of;
 use crate::stacks::Stacks;
-use crate::table::Table;
+use crate::parts::Parts;
 use hk_model::{Born, Inc, Name, NoMemory, Proc, Process, ProcessState, Task, World};
 use hk_queues::Queues;
 use hk_running::Processes;
+use hk_walk::Walker;
 use std::alloc::Global;
+
+/// How many walks are remembered.
+const REMEMBERED: usize = 256;
 
 // So many processes, all ready.
 #[tactic(auto, using(crate::proofs::Opens::next_ready))]
@@ -71,10 +76,11 @@ fn tasks_of(world: &World) -> &[Task]
     world.tasks()
 }
 
-impl Table {
-    /// The kernel in the state in which a world opens. NoMemory is want of memory.
-    pub fn new(alloc: Global, world: &World) -> Result<Table, NoMemory>
-        ensures { IfOk result (λ t. t ≡ opening world.now) }
+impl Parts {
+    /// The state in which a world opens. NoMemory is want of memory.
+    pub(crate) fn open(alloc: Global, world: &World) -> Result<Parts, NoMemory>
+        ensures state { IfOk result (λ parts. parts ≡ opening world.now) }
+        ensures numbers { IfOk result (λ parts. FewNumbers parts) }
     {
         let born = born_of(world);
         let tasks = tasks_of(world);
@@ -82,11 +88,13 @@ impl Table {
         let processes = all_ready(alloc, tasks)?;
         let queues = all_queued(alloc, tasks)?;
         let stacks = Stacks::open(alloc, world)?;
-        Ok(Table {
+        let walker = Walker::with(alloc, REMEMBERED)?;
+        Ok(Parts {
             objects,
             queues,
             processes,
             stacks,
+            walker,
             first_new: Name(7 + born.len() as u64),
             events: 0,
             limit: world.limit(),

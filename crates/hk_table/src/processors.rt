@@ -3,12 +3,12 @@
 ghost use Rattle.std.specs.Prelude.{◌≡◌, ◌<◌, not, IsTrue, IfSome, IfNone, Some, None};
 ghost use Rattle.hk_model.specs.Processors.{runner, running_on, may_step, dispatched, is_over};
 
-use crate::table::Table;
+use crate::parts::Parts;
 use hk_model::{Cpu, Inc, Proc};
 
-impl Table {
+impl Parts {
     /// The process that the processor runs, and its current incarnation. None exactly where it runs nothing.
-    pub fn current(&self, cpu: Cpu) -> Option<(Proc, Inc)>
+    pub(crate) fn current(&self, cpu: Cpu) -> Option<(Proc, Inc)>
         ensures { result ≡ running_on self.now cpu }
     {
         let proc = self.processes.runner(cpu)?;
@@ -16,14 +16,14 @@ impl Table {
     }
 
     /// Whether no process is ready and none runs.
-    pub fn over(&self) -> bool
+    pub(crate) fn over(&self) -> bool
         ensures { result ≡ is_over self.now }
     {
         !self.processes.some_live()
     }
 
     /// Whether the events number the limit.
-    pub fn limit_reached(&self) -> bool
+    pub(crate) fn limit_reached(&self) -> bool
         ensures { result ≡ not (may_step self.now) }
     {
         self.events >= self.limit
@@ -31,7 +31,7 @@ impl Table {
 
     /// Gives the processor the first ready process, which is one event. None exactly where none is ready; then nothing
     /// changes.
-    pub fn dispatch(&mut self, cpu: Cpu) -> Option<Proc>
+    pub(crate) fn dispatch(&mut self, cpu: Cpu) -> Option<Proc>
         requires cpu { cpu.0 < 16 }
         requires idle { runner self.old cpu ≡ None }
         requires below { IsTrue (may_step self.old) }

@@ -3,12 +3,11 @@
 //! An incarnation is a frame of its process's stack, and the frame below it is its caller. So the current incarnation of a
 //! process is found without a search.
 
-ghost use Rattle.std.specs.Prelude.{◌≡◌, ◌≤◌, ◌+◌, ◌-◌, ◌++◌, ◌∷◌, [], IfOk, length, replicate};
+ghost use Rattle.std.specs.Prelude.{◌≡◌, ◌≤◌, ◌+◌, ◌-◌, ◌++◌, ◌∷◌, [], IfOk, length, option_copied, replicate, slice_index_or};
 ghost use Rattle.hk_model.specs.declared.entries.Entry.TheVariants.{Empty};
-ghost use Rattle.hk_model.specs.Setup.{IsWorld};
-ghost use Rattle.hk_table.specs.Stacked.{base_frame, base_stacks};
+ghost use Rattle.hk_table.specs.Stacked.{base_frame, base_stacks, top_of, slots_of, AreNumbered};
 
-use hk_model::{Entries, Entry, Inc, NoMemory, Slot, Task, World};
+use hk_model::{Entries, Entry, Inc, NoMemory, Proc, Slot, World};
 use hk_spaces::{Space, Stack, StackFrame};
 use std::alloc::Global;
 use std::marker::Model;
@@ -80,6 +79,30 @@ impl Stacks {
         ensures value { result.now ≡ self.now.stacks }
     {
         self.all.as_slice()
+    }
+
+    // The top frame of a process. None exactly where it has no frame.
+    fn top(&self, proc: Proc) -> Option<&StackFrame>
+        ensures numbered { AreNumbered self.now.stacks self.now.next }
+        ensures top { option_copied result ≡ top_of (slice_index_or self.now.stacks proc.0 []) }
+    {
+        let stack = self.all.as_slice().get(proc.0 as usize)?;
+        let depth = stack.depth();
+        if depth == 0 {
+            return None;
+        }
+        Some(stack.frame(depth - 1))
+    }
+
+    /// The slots of the top frame of a process: none where it has no frame.
+    pub(crate) fn top_slots(&self, proc: Proc) -> &[Entry]
+        ensures value { result.now ≡ slots_of (top_of (slice_index_or self.now.stacks proc.0 [])) }
+        ensures numbered { AreNumbered self.now.stacks self.now.next }
+    {
+        match self.top(proc) {
+            Some(frame) => frame.space.as_slice(),
+            None => &[],
+        }
     }
 
     /// The number that the next incarnation takes.
