@@ -100,9 +100,10 @@ impl Processes {
         }
     }
 
-    /// The processes.
+    /// The processes, at most 256.
     pub fn as_slice(&self) -> &[Process]
-        ensures { result.now ≡ self.now }
+        ensures value { result.now ≡ self.now }
+        ensures few { length result.now ≤ 256 }
     {
         self.all.as_slice()
     }

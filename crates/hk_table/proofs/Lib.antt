@@ -7,3 +7,5 @@ pub mod Live
 pub mod EntryLists
 pub mod PartReads
 pub mod WalkSteps
+pub mod QueueWalks
+pub mod InOrder

@@ -11,7 +11,7 @@ use Rattle.hk_model.specs.declared.entries.Entry.{Entry}
 use Rattle.hk_model.specs.declared.objects.Incarnation.{Incarnation}
 use Rattle.hk_model.specs.State.{inc_cmp, same_inc, no_incarnation}
 use Rattle.hk_spaces.specs.declared.stack.StackFrame.{StackFrame}
-use Rattle.hk_table.specs.Stacked.{incarnation_of, live_with, live_from, frame_at, top_of, slots_of, AreNumbered}
+use Rattle.hk_table.specs.Stacked.{caller_at, incarnation_of, live_with, live_from, frame_at, top_of, slots_of, AreNumbered}
 use Rattle.hk_table.specs.Joined.{IsCurrentOf, IsCurrent}
 
 abbrev Ones : Type 0
@@ -32,12 +32,6 @@ lookup-insert_number n m o es same = ap (λ (k : ℕ). let i : Inc = record { 0 
 -- the number of a frame is none of these
 abbrev pub IsNoneOf : Inc → List StackFrame → Type 0
 IsNoneOf n fs = (k : ℕ) (f : StackFrame) → slice_get fs k ≡ Some f → f.inc.0 ≡ n.0 → ⊥
-
--- the caller of the frame at a depth
-abbrev pub caller_at : Option Inc → List StackFrame → ℕ → Option Inc
-caller_at caller fs zero = caller
-caller_at caller [] (suc k) = caller
-caller_at caller (f ∷ fs) (suc k) = caller_at (Some f.inc) fs k
 
 pub live-none : (proc : Proc) (caller : Option Inc) (fs : List StackFrame) (es : Ones) (n : Inc) → IsNoneOf n fs → lookup (same_inc n) (live_with proc caller fs es) ≡ lookup (same_inc n) es
 live-none proc caller [] es n none = refl

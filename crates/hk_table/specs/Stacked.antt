@@ -1,5 +1,5 @@
 -- The live incarnations, from the stacks of the processes. docs/RULES.md, "Objects, incarnations, processes".
-use Rattle.std.specs.Prelude.{◌≡◌, ℕ, ◌+◌, ◌-◌, ◌<◌, false, List, [], ◌∷◌, ◌++◌, length, replicate, Option, Some, None, slice_get, slice_index_or}
+use Rattle.std.specs.Prelude.{◌≡◌, ℕ, zero, suc, ◌+◌, ◌-◌, ◌<◌, false, List, [], ◌∷◌, ◌++◌, length, replicate, Option, Some, None, slice_get, slice_index_or}
 use Rattle.std.specs.BTreeMap.{insert_entry}
 use Rattle.hk_model.specs.declared.names.Inc.{Inc}
 use Rattle.hk_model.specs.declared.names.Proc.{Proc}
@@ -20,6 +20,12 @@ pub record Stacked : Type 0 where
 abbrev pub incarnation_of : Proc → Option Inc → StackFrame → Incarnation
 incarnation_of proc caller f =
     record { proc = proc; procedure = f.procedure; caller = caller; into = f.into; confined = f.confined; slots = f.space }
+
+-- the caller of the frame at a depth is the one below it; that of the first is told
+abbrev pub caller_at : Option Inc → List StackFrame → ℕ → Option Inc
+caller_at caller fs zero = caller
+caller_at caller [] (suc k) = caller
+caller_at caller (f ∷ fs) (suc k) = caller_at (Some f.inc) fs k
 
 -- the frames of a process put among incarnations by rising number
 abbrev pub live_with : Proc → Option Inc → List StackFrame → List (Inc × Incarnation) → List (Inc × Incarnation)

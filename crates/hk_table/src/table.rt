@@ -2,10 +2,11 @@
 
 ghost use Rattle.std.specs.Prelude.{◌≡◌, ◌<◌, not, IsTrue, IfOk, IfSome, IfNone, Some, None};
 ghost use Rattle.hk_model.specs.Opening.{opening};
+ghost use Rattle.hk_model.specs.Snapshots.{shown};
 ghost use Rattle.hk_model.specs.Processors.{runner, running_on, may_step, dispatched, is_over};
 
 use crate::parts::Parts;
-use hk_model::{Cpu, Inc, NoMemory, Proc, World};
+use hk_model::{Cpu, Inc, NoMemory, Proc, Snapshot, World};
 use std::alloc::Global;
 use std::marker::Model;
 
@@ -55,6 +56,13 @@ impl Table {
         ensures { result ≡ not (may_step self.now) }
     {
         self.parts.limit_reached()
+    }
+
+    /// The state as plain data. NoMemory is want of memory.
+    pub fn snapshot(&self, alloc: Global) -> Result<Snapshot, NoMemory>
+        ensures { IfOk result (λ s. s ≡ shown self.now) }
+    {
+        self.parts.shown(alloc)
     }
 
     /// Gives the processor the first ready process, which is one event. None exactly where none is ready; then nothing
