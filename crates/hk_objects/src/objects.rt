@@ -1,6 +1,7 @@
 //! The table of slots.
 
 ghost use Rattle.std.specs.Prelude.{◌≡◌, ◌<◌, ◌≤◌, ◌+◌, ◌^◌, ◌++◌, ◌∷◌, ◌↔◌, [], ℕ, Some, None, length, IfSome, IfNone, IfOk, OnOk, OnErr, IsSome, IsTrue, slice_set};
+ghost use Rattle.hk_model.specs.declared.names.Name.{Name};
 ghost use Rattle.hk_objects.specs.Slots.{standing, place, name_at, change, AreApart};
 ghost use Rattle.hk_objects.specs.Shelf.{new_body, code_of, params_of};
 
@@ -83,9 +84,12 @@ impl Objects {
         }
     }
 
-    /// The name that the next object takes.
+    /// The name that the next object takes, which is above all names that stand.
     pub fn next_name(&self) -> Name
-        ensures { result ≡ self.now.next }
+        ensures name { result ≡ self.now.next }
+        ensures above { (slot : ℕ) (name : Name) → name_at self.now.slots slot ≡ Some name → name.0 < self.now.next.0 }
+        ensures apart { AreApart self.now.slots }
+        ensures room { length self.now.slots ≡ 65536 }
     {
         self.next
     }

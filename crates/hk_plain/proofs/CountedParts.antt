@@ -32,7 +32,7 @@ use Rattle.std.proofs.lemmas.Bool.{true≢false, false≢true, false_from_ne_tru
 use Rattle.hk_model.proofs.Standing.{on_cond, name_same}
 use Rattle.hk_model.specs.declared.world.Task.{Task}
 use Rattle.hk_model.specs.Opening.{numbered, all_ready}
-use Rattle.hk_plain.specs.Runners.{process_at}
+use Rattle.hk_running.specs.Runners.{process_at}
 use Rattle.hk_plain.specs.Counts.{Tally, made, number, times, is_unnamed, IsFound, Moved, has_made, AreCounted, names_in, slot_names, waiting_names, inner_names}
 use Rattle.hk_plain.proofs.CountLemmas.{tally, still, times_none, times_cons, times_both, none_among, among_times, both, alike}
 

@@ -1,7 +1,6 @@
 pub mod Maps
 pub mod Numbered
 pub mod StackLemmas
-pub mod RunnerLemmas
 pub mod CountLemmas
 pub mod CountedParts
 pub mod Naming

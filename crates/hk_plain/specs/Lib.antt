@@ -3,7 +3,6 @@ pub mod Giving
 pub mod Kinds
 pub mod Additions
 pub mod Opening
-pub mod Runners
 pub mod Stacks
 pub mod Counts
 pub mod Marking

@@ -8,7 +8,7 @@ ghost use Rattle.std.specs.List.{list_any};
 ghost use Rattle.hk_model.specs.declared.objects.Process.{Process};
 ghost use Rattle.hk_model.specs.declared.objects.ProcessState.TheVariants.{Running};
 ghost use Rattle.hk_model.specs.Processors.{runner_from, is_running};
-ghost use Rattle.hk_plain.specs.Runners.{with_run, with_current, runner_lives, freed, place_of, weight};
+ghost use Rattle.hk_running.specs.Runners.{with_run, with_current, runner_lives, freed, place_of, weight};
 ghost use Rattle.hk_plain.specs.Counts.{Moved, waiting_names};
 
 use crate::counts::Counts;
@@ -29,7 +29,7 @@ pub struct Processes {
 impl Model for Processes {
     ghost use Rattle.std.specs.Prelude.{List};
     ghost use Rattle.hk_model.specs.declared.objects.Process.{Process};
-    ghost use Rattle.hk_plain.specs.Runners.{IsPlaced};
+    ghost use Rattle.hk_running.specs.Runners.{IsPlaced};
 
     ghost Value = { List Process };
 
@@ -39,7 +39,7 @@ impl Model for Processes {
 }
 
 // Whether a process is ready or runs.
-fn is_live(run: ProcessState) -> bool
+fn runner_lives(run: ProcessState) -> bool
     ensures { result ≡ runner_lives run }
 {
     match run {
@@ -52,7 +52,7 @@ fn is_live(run: ProcessState) -> bool
 fn count_live(all: &[Process]) -> usize
     ensures { result ≡ count_by (λ (p : Process). runner_lives p.run) all.now }
 {
-    all.iter().filter(|process| is_live(process.run)).count()
+    all.iter().filter(|process| runner_lives(process.run)).count()
 }
 
 // The number of live processes after one of them does something else.
@@ -61,8 +61,8 @@ fn recounted(live: usize, before: ProcessState, after: ProcessState) -> usize
     requires few { live ≤ 256 }
     ensures { result + weight before ≡ live + weight after }
 {
-    let others = if is_live(before) { live - 1 } else { live };
-    if is_live(after) { others + 1 } else { others }
+    let others = if runner_lives(before) { live - 1 } else { live };
+    if runner_lives(after) { others + 1 } else { others }
 }
 
 // The process in the place of a processor.

@@ -10,7 +10,7 @@ use Rattle.hk_objects.specs.Slots.{place, name_at, AreApart}
 use Rattle.hk_objects.proofs.Standing.{lookup-place, lookup-absent}
 use Rattle.hk_walk.specs.Walks.{seen, shown, shown_at}
 
-place-shown : (slots : List (Option (Name × Body))) (s : ℕ) → place (map shown_at slots) s ≡ shown_at (place slots s)
+pub place-shown : (slots : List (Option (Name × Body))) (s : ℕ) → place (map shown_at slots) s ≡ shown_at (place slots s)
 place-shown [] s = refl
 place-shown (p ∷ slots) zero = refl
 place-shown (p ∷ slots) (suc s) = place-shown slots s
@@ -19,7 +19,7 @@ name-shown : (p : Option (Name × Body)) → option_map (λ (e : Name × Object)
 name-shown None = refl
 name-shown (Some e) = refl
 
-name_at-shown : (slots : List (Option (Name × Body))) (s : ℕ) → name_at (map shown_at slots) s ≡ name_at slots s
+pub name_at-shown : (slots : List (Option (Name × Body))) (s : ℕ) → name_at (map shown_at slots) s ≡ name_at slots s
 name_at-shown slots s = ap (option_map (λ (e : Name × Object). e.0)) (place-shown slots s) ∙ name-shown (place slots s)
 
 apart_shown : (slots : List (Option (Name × Body))) → AreApart slots → AreApart (map shown_at slots)

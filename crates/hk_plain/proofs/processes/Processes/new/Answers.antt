@@ -2,8 +2,8 @@
 use Rattle.std.proofs.Common.{◌∙◌, ap, List}
 use Rattle.std.specs.Prelude.{count_by}
 use Rattle.hk_model.specs.declared.objects.Process.{Process}
-use Rattle.hk_plain.specs.Runners.{runner_lives}
-use Rattle.hk_plain.proofs.RunnerLemmas.{none_placed}
+use Rattle.hk_running.specs.Runners.{runner_lives}
+use Rattle.hk_running.proofs.RunnerLemmas.{none_placed}
 use Rattle.hk_plain.proofs.processes.Processes.new.Goals as goal
 
 pub invariant_of-result : goal.invariant_of-result

@@ -2,7 +2,7 @@
 use Rattle.std.proofs.Common.{◌∙◌, ap, List}
 use Rattle.hk_model.specs.declared.objects.Process.{Process}
 use Rattle.hk_model.specs.Processors.{runner_from}
-use Rattle.hk_plain.proofs.RunnerLemmas.{runner_is}
+use Rattle.hk_running.proofs.RunnerLemmas.{runner_is}
 use Rattle.hk_plain.proofs.processes.Processes.runner.Goals as goal
 
 pub returns : goal.returns

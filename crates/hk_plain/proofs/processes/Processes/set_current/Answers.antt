@@ -1,8 +1,8 @@
 -- Another current incarnation changes no place.
 use Rattle.std.proofs.Common.{◌∙◌, ap, refl, arith, List}
 use Rattle.hk_model.specs.declared.objects.Process.{Process}
-use Rattle.hk_plain.specs.Runners.{with_current}
-use Rattle.hk_plain.proofs.RunnerLemmas.{placed_current, current_written}
+use Rattle.hk_running.specs.Runners.{with_current}
+use Rattle.hk_running.proofs.RunnerLemmas.{placed_current, current_written}
 use Rattle.hk_plain.proofs.processes.Processes.set_current.Goals as goal
 
 pub invariant_of-self : goal.invariant_of-self

@@ -4,8 +4,8 @@ use Rattle.hk_model.specs.declared.objects.Process.{Process}
 use Rattle.hk_model.specs.Keeping.{run_names}
 use Rattle.hk_plain.specs.Counts.{Moved, waiting_names}
 use Rattle.hk_plain.proofs.CountedParts.{set_moved, replaced}
-use Rattle.hk_plain.specs.Runners.{with_run}
-use Rattle.hk_plain.proofs.RunnerLemmas.{placed_rested, run_written}
+use Rattle.hk_running.specs.Runners.{with_run}
+use Rattle.hk_running.proofs.RunnerLemmas.{placed_rested, run_written}
 use Rattle.hk_plain.proofs.processes.Processes.set_run.Goals as goal
 
 pub invariant_of-self : goal.invariant_of-self

@@ -2,8 +2,8 @@
 use Rattle.std.proofs.Common.{◌∙◌, ap, List, nat_lt}
 use Rattle.std.specs.List.{list_any}
 use Rattle.hk_model.specs.declared.objects.Process.{Process}
-use Rattle.hk_plain.specs.Runners.{runner_lives}
-use Rattle.hk_plain.proofs.RunnerLemmas.{any_counted}
+use Rattle.hk_running.specs.Runners.{runner_lives}
+use Rattle.hk_running.proofs.RunnerLemmas.{any_counted}
 use Rattle.hk_plain.proofs.processes.Processes.some_live.Goals as goal
 
 pub returns : goal.returns

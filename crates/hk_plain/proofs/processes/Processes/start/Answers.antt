@@ -6,8 +6,8 @@ use Rattle.hk_model.specs.Processors.{runner_from}
 use Rattle.hk_model.specs.Keeping.{run_names}
 use Rattle.hk_plain.specs.Counts.{Moved, waiting_names}
 use Rattle.hk_plain.proofs.CountedParts.{set_moved}
-use Rattle.hk_plain.specs.Runners.{with_run}
-use Rattle.hk_plain.proofs.RunnerLemmas.{placed_started, run_written}
+use Rattle.hk_running.specs.Runners.{with_run}
+use Rattle.hk_running.proofs.RunnerLemmas.{placed_started, run_written}
 use Rattle.hk_plain.proofs.processes.Processes.start.Goals as goal
 
 pub invariant_of-self : goal.invariant_of-self

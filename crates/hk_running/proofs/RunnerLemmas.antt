@@ -15,7 +15,7 @@ use Rattle.hk_model.specs.declared.objects.Process.{Process}
 use Rattle.hk_model.specs.declared.objects.ProcessState.{ProcessState}
 use Rattle.hk_model.specs.declared.objects.ProcessState.TheVariants.{Ready, Running, Waiting, Ended}
 use Rattle.hk_model.specs.Processors.{is_on, is_running, runner_from}
-use Rattle.hk_plain.specs.Runners.{process_at, with_run, with_current, runner_lives, weight, has_place, place_of, freed, IsPlaced}
+use Rattle.hk_running.specs.Runners.{process_at, with_run, with_current, runner_lives, weight, has_place, place_of, freed, IsPlaced}
 
 -- numbers and their tests
 

@@ -1,0 +1,11 @@
+pub mod Bases
+pub mod Whole
+pub mod ObjectsOpened
+pub mod Opens
+pub mod QueueMoves
+pub mod Live
+pub mod EntryLists
+pub mod PartReads
+pub mod WalkSteps
+pub mod QueueWalks
+pub mod InOrder

@@ -1,0 +1,5 @@
+pub mod Whole
+pub mod Stacked
+pub mod Joined
+pub mod Born
+pub mod Giving

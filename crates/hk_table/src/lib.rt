@@ -1,0 +1,29 @@
+//! The table kernel: objects in slots, the stacks of the processes, and lists of processes by index
+//! (`docs/RULES.md`, "The table of the calls").
+//!
+//! Its state is that of the rule table, told from its parts. The files are by subject: `stacks` has the name spaces of the calls, `table` these with the objects and the queues,
+//! `born` and `opening` the state in which a world opens, `processors` the dispatch and what a processor runs,
+//! `finding` and `reads` the objects by name, `walks` and `targets` the tests that the calls share, `words` the calls on words, `queued`,
+//! `shown` and `shows` the state as plain data.
+//!
+//! What is not in a list of objects or frames is found by its number: nothing here grows with the number of objects,
+//! incarnations or processes but the opening and the state as plain data.
+#![tactic(auto)]
+
+mod born;
+mod finding;
+mod opening;
+mod parts;
+mod processors;
+mod queued;
+mod reads;
+mod shown;
+mod shows;
+mod stacks;
+mod table;
+mod targets;
+mod walks;
+mod words;
+
+pub use table::Table;
+

@@ -1,0 +1,114 @@
+//! The stacks of the processes (`docs/RULES.md`, "Objects, incarnations, processes").
+//!
+//! An incarnation is a frame of its process's stack, and the frame below it is its caller. So the current incarnation of a
+//! process is found without a search.
+
+ghost use Rattle.std.specs.Prelude.{◌≡◌, ◌≤◌, ◌+◌, ◌-◌, ◌++◌, ◌∷◌, [], IfOk, length, option_copied, replicate, slice_index_or};
+ghost use Rattle.hk_model.specs.declared.entries.Entry.TheVariants.{Empty};
+ghost use Rattle.hk_table.specs.Stacked.{base_frame, base_stacks, top_of, slots_of, AreNumbered};
+
+use hk_model::{Entries, Entry, Inc, NoMemory, Proc, Slot, World};
+use hk_spaces::{Space, Stack, StackFrame};
+use std::alloc::Global;
+use std::marker::Model;
+
+/// The stack of each process. Contracts see the frames of each, and the number that the next incarnation takes.
+#[derive(Drop)]
+pub struct Stacks {
+    all: Vec<Stack>,
+    next: Inc,
+}
+
+impl Model for Stacks {
+    ghost use Rattle.hk_table.specs.Stacked.{Stacked, AreNumbered};
+
+    ghost Value = { Stacked };
+
+    ghost view = { λ s. record { stacks = s.all.items; next = s.next } };
+
+    ghost invariant = { λ s. AreNumbered s.all.items s.next };
+}
+
+// The name space that has these entries in its first slots.
+fn space_of(entries: &[Entry]) -> Space
+    requires { length entries.now ≤ 64 }
+    ensures { result ≡ entries.now ++ replicate (64 - length entries.now) Empty }
+{
+    let mut space = Space::empty();
+    for (i, entry) in entries.iter().enumerate() {
+        space.set(Slot(i as u8), *entry);
+    }
+    space
+}
+
+// The stack of a process with its base frame alone.
+fn base_stack(alloc: Global, inc: Inc, entries: &Entries) -> Result<Stack, NoMemory>
+    requires { length entries.now ≤ 64 }
+    ensures { IfOk result (λ stack. stack ≡ base_frame inc.0 entries.now ∷ []) }
+{
+    let mut stack = Stack::empty(alloc);
+    stack.push(StackFrame {
+        space: space_of(entries.as_slice()),
+        inc,
+        into: Slot(0),
+        confined: false,
+        procedure: None,
+    })?;
+    Ok(stack)
+}
+
+impl Stacks {
+    /// The stacks as a world opens: process k has the base incarnation k. NoMemory is want of memory.
+    pub(crate) fn open(alloc: Global, world: &World) -> Result<Stacks, NoMemory>
+        ensures stacks { IfOk result (λ s. s.stacks ≡ base_stacks 0 world.now.tasks) }
+        ensures next { IfOk result (λ s. s.next.0 ≡ length world.now.tasks) }
+    {
+        let tasks = world.tasks();
+        let mut all = Vec::with_capacity(alloc, tasks.len())?;
+        for (n, task) in tasks.iter().enumerate() {
+            all.push(base_stack(alloc, Inc(n as u64), &task.slots)?)?;
+        }
+        Ok(Stacks {
+            all,
+            next: Inc(tasks.len() as u64),
+        })
+    }
+
+    /// The stacks by process.
+    pub(crate) fn as_slice(&self) -> &[Stack]
+        ensures value { result.now ≡ self.now.stacks }
+    {
+        self.all.as_slice()
+    }
+
+    // The top frame of a process. None exactly where it has no frame.
+    fn top(&self, proc: Proc) -> Option<&StackFrame>
+        ensures numbered { AreNumbered self.now.stacks self.now.next }
+        ensures top { option_copied result ≡ top_of (slice_index_or self.now.stacks proc.0 []) }
+    {
+        let stack = self.all.as_slice().get(proc.0 as usize)?;
+        let depth = stack.depth();
+        if depth == 0 {
+            return None;
+        }
+        Some(stack.frame(depth - 1))
+    }
+
+    /// The slots of the top frame of a process: none where it has no frame.
+    pub(crate) fn top_slots(&self, proc: Proc) -> &[Entry]
+        ensures value { result.now ≡ slots_of (top_of (slice_index_or self.now.stacks proc.0 [])) }
+        ensures numbered { AreNumbered self.now.stacks self.now.next }
+    {
+        match self.top(proc) {
+            Some(frame) => frame.space.as_slice(),
+            None => &[],
+        }
+    }
+
+    /// The number that the next incarnation takes.
+    pub(crate) fn next(&self) -> Inc
+        ensures { result ≡ self.now.next }
+    {
+        self.next
+    }
+}
