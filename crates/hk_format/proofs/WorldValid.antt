@@ -62,7 +62,8 @@ puts names n line parts (TypeIs name) put h =
 puts names n line parts (ObjectIs name of) put h =
     let a = bind_ok (at_line line (limited (object_fits n) (plain_type names of))) (λ t. contents_of names (room (not (t == DATA)) 256) (used 0 0 0) parts >>=
     (λ c. Ok (with_object name (kind.Plain (name_numbered t) c.words c.entries)))) put h in
-    let b = bind_ok (contents_of names (room (not (a.0 == DATA)) 256) (used 0 0 0) parts) (λ c. Ok (with_object name (kind.Plain (name_numbered a.0) c.words c.entries))) put a.2 in (
+    let b = bind_ok (contents_of names (room (not (a.0 == DATA)) 256) (used 0 0 0) parts)
+    (λ c. Ok (with_object name (kind.Plain (name_numbered a.0) c.words c.entries))) put a.2 in (
       a.0,
       b.0,
       at_line_ok line (limited (object_fits n) (plain_type names of)) a.0 a.1,

@@ -101,7 +101,8 @@ at_or_not P k at f g = by (k == at) refl
 same_made : (first name : Name) (k : ℕ) → first.0 + k ≡ name.0 → made (tally first [] [] true) k ≡ name
 same_made first name k e = ap (λ (n : ℕ). let m : Name = record { 0 = n } in m) e
 
-module _ (first : Name) (numbers : List ℕ) (lost : List Name) (exact : Bool) (name : Name) (at was : ℕ) (place : first.0 + at ≡ name.0) (there : at < length numbers) (is : was ≡ get_or numbers at was) where
+module _ (first : Name) (numbers : List ℕ) (lost : List Name) (exact : Bool) (name : Name) (at was : ℕ) (place : first.0 + at ≡ name.0) (there : at < length numbers)
+    (is : was ≡ get_or numbers at was) where
   abbrev before : Tally
   before = tally first numbers lost exact
 
@@ -132,7 +133,10 @@ module _ (first : Name) (numbers : List ℕ) (lost : List Name) (exact : Bool) (
         let d = none_there k s in
         let f = times_none (made before k) in
         omega (arith, a, d, f));
-    found = λ e k f none. at_or_not (is_among (made before k) lost ≡ true) k at (λ s. let a : get_or (set numbers at (was + 1)) k 0 ≡ was + 1 = new_number (was + 1) k s in absurd (omega (arith, a, none))) (λ s. f (sym (get_or-set_other numbers at k (was + 1) 0 s) ∙ none));
+    found =
+        λ e k f none. at_or_not (is_among (made before k) lost ≡ true) k at
+        (λ s. let a : get_or (set numbers at (was + 1)) k 0 ≡ was + 1 = new_number (was + 1) k s in absurd (omega (arith, a, none)))
+        (λ s. f (sym (get_or-set_other numbers at k (was + 1) 0 s) ∙ none));
   }
 
   pub held_in : (t : Tally) → before ≡ t → Moved t (tally first (set numbers at (was + 1)) lost exact) (name ∷ []) []
@@ -156,7 +160,8 @@ module _ (first : Name) (numbers : List ℕ) (lost : List Name) (exact : Bool) (
         omega (arith, a, d, f));
     found = λ e k f none. at_or_not (is_among (made before k) list ≡ true) k at (λ s.
         let same : made before k ≡ name = same_made first name k (omega (arith, s, place)) in
-        subst (λ (n : Name). is_among n list ≡ true) (sym same) (last (sym (new_number left k s) ∙ none))) (λ s. more (made before k) (f (sym (get_or-set_other numbers at k left 0 s) ∙ none)));
+        subst (λ (n : Name). is_among n list ≡ true) (sym same) (last (sym (new_number left k s) ∙ none)))
+        (λ s. more (made before k) (f (sym (get_or-set_other numbers at k left 0 s) ∙ none)));
   }
 
   pub released_in : (left : ℕ) (list : List Name) (t : Tally) → before ≡ t → left + 1 ≡ was → ((n : Name) → is_among n lost ≡ true → is_among n list ≡ true)
@@ -206,14 +211,16 @@ pub more_come : {A : Type 0} (names : A → List Name) (xs : List A) (i : ℕ) (
     → Moved b c (names x) [] → Moved a c (flat_map names (take (i + 1) xs)) []
 more_come names xs i x d a b c there is f g =
     let more : flat_map names (take (i + 1) xs) ≡ flat_map names (take i xs) ++ names x =
-    ap (flat_map names) (take_more xs i d there ∙ ap (λ y. take i xs ++ y ∷ []) (sym is)) ∙ flat_map-append names (take i xs) (x ∷ []) ∙ ap (λ ys. flat_map names (take i xs) ++ ys) (append-nil (names x)) in
+    ap (flat_map names) (take_more xs i d there ∙ ap (λ y. take i xs ++ y ∷ []) (sym is)) ∙ flat_map-append names (take i xs) (x ∷ []) ∙ ap (λ ys. flat_map names (take i xs) ++ ys)
+    (append-nil (names x)) in
     subst (λ (came : List Name). Moved a c came []) (sym more) (both a b c (flat_map names (take i xs)) [] (names x) [] f g)
 
 pub more_go : {A : Type 0} (names : A → List Name) (xs : List A) (i : ℕ) (x d : A) (a b c : Tally) → i < length xs → x ≡ get_or xs i d → Moved a b [] (flat_map names (take i xs))
     → Moved b c [] (names x) → Moved a c [] (flat_map names (take (i + 1) xs))
 more_go names xs i x d a b c there is f g =
     let more : flat_map names (take (i + 1) xs) ≡ flat_map names (take i xs) ++ names x =
-    ap (flat_map names) (take_more xs i d there ∙ ap (λ y. take i xs ++ y ∷ []) (sym is)) ∙ flat_map-append names (take i xs) (x ∷ []) ∙ ap (λ ys. flat_map names (take i xs) ++ ys) (append-nil (names x)) in
+    ap (flat_map names) (take_more xs i d there ∙ ap (λ y. take i xs ++ y ∷ []) (sym is)) ∙ flat_map-append names (take i xs) (x ∷ []) ∙ ap (λ ys. flat_map names (take i xs) ++ ys)
+    (append-nil (names x)) in
     subst (λ (went : List Name). Moved a c [] went) (sym more) (both a b c [] (flat_map names (take i xs)) [] (names x) f g)
 
 -- a push that gives no error
@@ -227,7 +234,8 @@ pub found_without : (t : Tally) (objects : List (Name × Object)) (name : Name) 
     → (is_some (lookup (same_name name) objects) ≡ true → is_unnamed t name ≡ true → ⊥) → has_made t k objects ≡ true → IsFound t k → number t k ≡ 0
     → is_among (made t k) rest ≡ true
 found_without t objects name rest k list not_lost stands found none =
-    by (is_among (made t k) rest) (same_name (made t k) name) refl refl (sym (list_any-append (same_name (made t k)) rest (name ∷ [])) ∙ (ap (is_among (made t k)) (sym list) ∙ found none))
+    by (is_among (made t k) rest) (same_name (made t k) name) refl refl
+    (sym (list_any-append (same_name (made t k)) rest (name ∷ [])) ∙ (ap (is_among (made t k)) (sym list) ∙ found none))
   where
     again : nat_lt (made t k).0 t.first_new.0 ≡ false
     again = grind (arith, nat_tests)
@@ -247,12 +255,14 @@ found_without t objects name rest k list not_lost stands found none =
 
 pub found_dropped : (start t new : Tally) (objects : List (Name × Object)) (name : Name) → t ≡ record start { lost = t.lost }
     → t.lost ≡ take (length t.lost - 1) t.lost ++ name ∷ [] → new ≡ record t { lost = take (length t.lost - 1) t.lost }
-    → (is_some (lookup (same_name name) objects) ≡ true → is_unnamed t name ≡ true → ⊥) → ((k : ℕ) → has_made start k objects ≡ true → IsFound start k → IsFound t k) → (k : ℕ) → has_made start k objects ≡ true → IsFound start k → IsFound new k
+    → (is_some (lookup (same_name name) objects) ≡ true → is_unnamed t name ≡ true → ⊥) → ((k : ℕ) → has_made start k objects ≡ true → IsFound start k → IsFound t k) → (k : ℕ)
+    → has_made start k objects ≡ true → IsFound start k → IsFound new k
 found_dropped start t new objects name same list is not_lost found k stands f none =
     let first : start.first_new ≡ t.first_new = sym (ap (λ (u : Tally). u.first_new) same) in
     let there : has_made t k objects ≡ true = subst (λ (n : Name). is_some (lookup (same_name (record { 0 = n.0 + k })) objects) ≡ true) first stands in
     let zero_there : number t k ≡ 0 = sym (ap (λ (u : Tally). number u k) is) ∙ none in
-    subst (λ (u : Tally). is_among (made u k) u.lost ≡ true) (sym is) (found_without t objects name (take (length t.lost - 1) t.lost) k list not_lost there (found k stands f) zero_there)
+    subst (λ (u : Tally). is_among (made u k) u.lost ≡ true) (sym is)
+    (found_without t objects name (take (length t.lost - 1) t.lost) k list not_lost there (found k stands f) zero_there)
 
 pub only_list : (start t new : Tally) (rest : List Name) → t ≡ record start { lost = t.lost } → new ≡ record t { lost = rest } → new ≡ record start { lost = new.lost }
 only_list start t new rest same is = subst (λ (u : Tally). u ≡ record start { lost = u.lost }) (sym is) (ap (λ (u : Tally). let v : Tally = record u { lost = rest } in v) same)

@@ -217,14 +217,16 @@ stands_written p test (e ∷ es) w = by (p e.0) (test e.0) (stands_written p tes
         → is_some (lookup p (cond b ((e.0, w) ∷ es) (e ∷ set_value test es w))) ≡ is_some (lookup p (e ∷ es))
     by a true h = on_cond (λ (o : Option Object). is_some (cond (p e.0) (Some w) (lookup p es)) ≡ is_some o) (p e.0) (Some e.1) (lookup p es) (λ k. rw k refl) (λ k. rw k refl)
     by a false h =
-        on_cond (λ (o : Option Object). is_some (cond (p e.0) (Some e.1) (lookup p (set_value test es w))) ≡ is_some o) (p e.0) (Some e.1) (lookup p es) (λ k. rw k refl) (λ k. rw k h)
+        on_cond (λ (o : Option Object). is_some (cond (p e.0) (Some e.1) (lookup p (set_value test es w))) ≡ is_some o) (p e.0) (Some e.1) (lookup p es)
+        (λ k. rw k refl) (λ k. rw k h)
 
 -- an object that names what it named before
 pub counted_written : (live : List (Inc × Incarnation)) (ps : List Process) (objects : List (Name × Object)) (t : Tally) (name : Name) (v w : Object) → AreCounted live ps objects t
     → lookup (same_name name) objects ≡ Some v → object_names w ≡ object_names v → AreCounted live ps (set_value (same_name name) objects w) t
 counted_written live ps objects t name v w h there same =
     objects_kept live ps objects (set_value (same_name name) objects w) t t h
-    (written_moved object_names t t (same_name name) objects v w there (subst (λ (came : List Name). Moved t t came (object_names v)) (sym same) (unmoved t t (object_names v) (still t))))
+    (written_moved object_names t t (same_name name) objects v w there
+    (subst (λ (came : List Name). Moved t t came (object_names v)) (sym same) (unmoved t t (object_names v) (still t))))
     (λ e k stands. inl (sym (stands_written (same_name (made t k)) (same_name name) objects w) ∙ stands))
 
 -- another current incarnation
@@ -236,7 +238,8 @@ current_names (p ∷ ps) (suc i) inc = ap (λ (xs : List Name). run_names p.run 
 pub counted_current : (live : List (Inc × Incarnation)) (ps : List Process) (objects : List (Name × Object)) (t : Tally) (i : ℕ) (inc : Inc) → AreCounted live ps objects t
     → AreCounted live (set ps i (record (process_at ps i) { current = inc })) objects t
 counted_current live ps objects t i inc h =
-    runs_kept live ps (set ps i (record (process_at ps i) { current = inc })) objects t t h (subst (λ (came : List Name). Moved t t came (waiting_names ps)) (sym (current_names ps i inc)) (unmoved t t (waiting_names ps) (still t)))
+    runs_kept live ps (set ps i (record (process_at ps i) { current = inc })) objects t t h
+    (subst (λ (came : List Name). Moved t t came (waiting_names ps)) (sym (current_names ps i inc)) (unmoved t t (waiting_names ps) (still t)))
 
 -- an object goes
 pub counted_removed : (live : List (Inc × Incarnation)) (ps : List Process) (objects : List (Name × Object)) (t t' : Tally) (name : Name) → AreCounted live ps objects t
@@ -258,7 +261,8 @@ counted_removed live ps objects t t' name h f =
 pub counted_entries : (live : List (Inc × Incarnation)) (ps : List Process) (objects objects' : List (Name × Object)) (t t' : Tally) (name : Name) (w : Object)
     → AreCounted live ps objects t → objects' ≡ set_value (same_name name) objects w → Moved t t' (inner_names objects') (inner_names objects) → AreCounted live ps objects' t'
 counted_entries live ps objects objects' t t' name w h is f =
-    objects_kept live ps objects objects' t t' h f (λ e k there. inl (sym (stands_written (same_name (made t k)) (same_name name) objects w) ∙ (ap (λ (es : List (Name × Object)). has_made t k es) (sym is) ∙ there)))
+    objects_kept live ps objects objects' t t' h f (λ e k there. inl
+    (sym (stands_written (same_name (made t k)) (same_name name) objects w) ∙ (ap (λ (es : List (Name × Object)). has_made t k es) (sym is) ∙ there)))
 
 -- one more object stands, which is on the list
 inserted_stands : (m name : Name) (es : List (Name × Object)) (o : Object) → same_name m name ≡ false → is_some (lookup (same_name m) (insert_entry name_cmp es name o)) ≡ true
@@ -300,7 +304,8 @@ pub counted_beside : (live : List (Inc × Incarnation)) (ps : List Process) (obj
     → AreCounted live ps objects t → Moved t u [] [] → is_among name u.lost ≡ true → objects' ≡ insert_entry name_cmp (filter (λ (e : Name × Object). p e.0) objects) name o
     → Moved u t' (inner_names objects') (inner_names objects) → AreCounted live ps objects' t'
 counted_beside live ps objects objects' t u t' name o p h f listed is g =
-    objects_kept live ps objects objects' u t' (kept live live ps ps objects objects t u h (unmoved t u (names_in live ps objects) f) (λ e k there. inl there)) g (λ e k there. by e k (same_name (made u k) name) refl (subst (λ (es : List (Name × Object)). has_made u k es ≡ true) is there))
+    objects_kept live ps objects objects' u t' (kept live live ps ps objects objects t u h (unmoved t u (names_in live ps objects) f) (λ e k there. inl there)) g
+    (λ e k there. by e k (same_name (made u k) name) refl (subst (λ (es : List (Name × Object)). has_made u k es ≡ true) is there))
   where
     by : t'.exact ≡ true → (k : ℕ) (b : Bool) → same_name (made u k) name ≡ b → has_made u k (insert_entry name_cmp (filter (λ (e : Name × Object). p e.0) objects) name o) ≡ true
         → (has_made u k objects ≡ true) ⊎ IsFound t' k
@@ -409,14 +414,16 @@ pub none_made : (n : ℕ) (xs : List Object) (m : Name) → n + length xs ≤ m.
 none_made n [] m low = refl
 none_made n (o ∷ xs) m low =
     let apart : same_name m (record { 0 = n }) ≡ false =
-    false_from_ne_true (same_name m (record { 0 = n })) (λ e. let same : m.0 ≡ n = ap (λ (x : Name). x.0) (name_same m (record { 0 = n }) e) in absurd (omega (arith, low, same))) in
+    false_from_ne_true (same_name m (record { 0 = n }))
+    (λ e. let same : m.0 ≡ n = ap (λ (x : Name). x.0) (name_same m (record { 0 = n }) e) in absurd (omega (arith, low, same))) in
     rw apart (none_made (n + 1) xs m (omega arith))
 
 pub counted_opening : (live : List (Inc × Incarnation)) (ps : List Process) (objects : List (Name × Object)) (first : Name) (t t' t'' : Tally) → t ≡ tally first [] [] true
     → Moved t t' (inner_names objects) [] → Moved t' t'' (slot_names live) [] → waiting_names ps ≡ []
     → ((k : ℕ) → is_some (lookup (same_name (record { 0 = first.0 + k })) objects) ≡ false) → AreCounted live ps objects t''
 counted_opening live ps objects first t t' t'' is f g rest none =
-    kept [] live [] ps [] objects t t'' (subst (λ (u : Tally). AreCounted [] [] [] u) (sym is) (record { counted = λ e k. sym (times_none (record { 0 = first.0 + k })); found = λ e k there. absurd (false≢true there) }))
+    kept [] live [] ps [] objects t t'' (subst (λ (u : Tally). AreCounted [] [] [] u) (sym is)
+    (record { counted = λ e k. sym (times_none (record { 0 = first.0 + k })); found = λ e k there. absurd (false≢true there) }))
     (alike t t'' (inner_names objects ++ slot_names live) [] (names_in live ps objects) [] (λ n.
     let a = times_both n (inner_names objects) (slot_names live) in
     let b = times_both n (slot_names live ++ waiting_names ps) (inner_names objects) in

@@ -29,8 +29,11 @@ each_stands es = more es es (λ n h. h)
     more : (rest all : List (Name × Object)) → ((n : Name) → is_some (lookup (same_name n) rest) ≡ true → is_some (lookup (same_name n) all) ≡ true)
         → AllByRecursion (λ (e : Name × Object). is_some (lookup (same_name e.0) all) ≡ true) rest
     more [] all f = tt
-    more (e ∷ rest) all f =
-        (f e.0 (rw (name_laws.refl e.0) refl), more rest all (λ n h. f n (on_cond (λ (o : Option Object). is_some o ≡ true) (same_name n e.0) (Some e.1) (lookup (same_name n) rest) (λ k. refl) (λ k. h))))
+    more (e ∷ rest) all f = (
+      f e.0 (rw (name_laws.refl e.0) refl),
+      more rest all
+          (λ n h. f n (on_cond (λ (o : Option Object). is_some o ≡ true) (same_name n e.0) (Some e.1) (lookup (same_name n) rest) (λ k. refl) (λ k. h))),
+    )
 
 -- what holds of each entry holds of each name that stands
 pub at_each : (P : Name → Type 0) (es : List (Name × Object)) (n : Name) → AllByRecursion (λ (e : Name × Object). P e.0) es → is_some (lookup (same_name n) es) ≡ true → P n
@@ -44,7 +47,8 @@ at_each P (e ∷ es) n a g = by (at_each P es n a.1) (same_name n e.0) refl g
 -- where each object stays, all are kept
 pub all_stay : (s : State) → AllByRecursion (λ (e : Name × Object). are_supporting s s.objects e.0 ≡ true) s.objects → kept_objects s ≡ s.objects
 all_stay s h =
-    all_kept s (λ n g k. subst (λ (os : List (Name × Object)). are_supporting s os n ≡ true) (sym (of_all s.objects)) (at_each (λ (m : Name). are_supporting s s.objects m ≡ true) s.objects n h g))
+    all_kept s (λ n g k. subst (λ (os : List (Name × Object)). are_supporting s os n ≡ true) (sym (of_all s.objects))
+    (at_each (λ (m : Name). are_supporting s s.objects m ≡ true) s.objects n h g))
 
 -- an object goes that nothing names, and the same are kept; where all are kept nothing goes
 pub restricted_removed : (s : State) (n : Name) → stands s n ≡ true → are_supporting s s.objects n ≡ false
@@ -75,7 +79,8 @@ all_new : (P : Name → Type 0) (s : State) (es : List (Name × Object)) → All
     → AllByRecursion (λ (e : Name × Object). P e.0) (filter (λ (e : Name × Object). is_new s e.0) es)
 all_new P s [] a = tt
 all_new P s (e ∷ es) a =
-    on_cond (λ (l : List (Name × Object)). AllByRecursion (λ (e : Name × Object). P e.0) l) (is_new s e.0) (e ∷ filter (λ (e : Name × Object). is_new s e.0) es) (filter (λ (e : Name × Object). is_new s e.0) es) (λ k. (a.0, all_new P s es a.1)) (λ k. all_new P s es a.1)
+    on_cond (λ (l : List (Name × Object)). AllByRecursion (λ (e : Name × Object). P e.0) l) (is_new s e.0) (e ∷ filter (λ (e : Name × Object). is_new s e.0) es)
+    (filter (λ (e : Name × Object). is_new s e.0) es) (λ k. (a.0, all_new P s es a.1)) (λ k. all_new P s es a.1)
 
 pub new_stand : (s : State) → AllByRecursion (λ (e : Name × Object). stands s e.0 ≡ true) (filter (λ (e : Name × Object). is_new s e.0) s.objects)
 new_stand s = all_new (λ (n : Name). stands s n ≡ true) s s.objects (each_stands s.objects)
@@ -156,7 +161,8 @@ put_beside name o p (e ∷ es) h = by (put_beside name o p es (sorted_tail name_
         sym (first ∙ ap (λ (n : Name). (n, o) ∷ of_set p es) same)
 
     by_greater : of_set (passing name p) (insert_entry name_cmp es name o) ≡ insert_entry name_cmp (of_set p es) name o → name_cmp name e.0 ≡ Greater → (b : Bool)
-        → cond b (e ∷ of_set (passing name p) (insert_entry name_cmp es name o)) (of_set (passing name p) (insert_entry name_cmp es name o)) ≡ insert_entry name_cmp (cond b (e ∷ of_set p es) (of_set p es)) name o
+        → cond b (e ∷ of_set (passing name p) (insert_entry name_cmp es name o)) (of_set (passing name p) (insert_entry name_cmp es name o)) ≡ insert_entry name_cmp
+        (cond b (e ∷ of_set p es) (of_set p es)) name o
     by_greater later k true = rw k (ap (λ (l : List (Name × Object)). e ∷ l) later)
     by_greater later k false = later
 
@@ -164,7 +170,8 @@ put_beside name o p (e ∷ es) h = by (put_beside name o p es (sorted_tail name_
         → of_set (passing name p) (match_ordering c ((name, o) ∷ e ∷ es) ((e.0, o) ∷ es) (e ∷ insert_entry name_cmp es name o)) ≡ insert_entry name_cmp (of_set p (e ∷ es)) name o
     by later Less k =
         let all : ArePast name (e ∷ es) = (k, past_more name e es k (past_first e es (sorted_head name_cmp e.0 (keys_of es) h))) in
-        put_here name p o (e ∷ es) ∙ (ap (λ (l : List (Name × Object)). (name, o) ∷ l) (passing_past name p (e ∷ es) all) ∙ sym (put_first name o (of_set p (e ∷ es)) (past_some name p (e ∷ es) all)))
+        put_here name p o (e ∷ es) ∙ (ap (λ (l : List (Name × Object)). (name, o) ∷ l) (passing_past name p (e ∷ es) all) ∙ sym
+        (put_first name o (of_set p (e ∷ es)) (past_some name p (e ∷ es) all)))
     by later Equal k =
         let same : name ≡ e.0 = name_same name e.0 (ap is_eq k) in
         let it : (e.0.0 == name.0) ≡ true = is_it name.0 e.0.0 k in

@@ -248,7 +248,9 @@ named_by_set set n k (e ∷ es) h g i = by (named_by_set set n k es) (same_name 
     here true j l = append_left k (object_names e.1) (inner rest) l
     here false j l = absurd (false≢true j)
 
-    by : (is_some (lookup (same_name n) es) ≡ true → set n ≡ true → is_among k (object_names (unwrap_or (lookup (same_name n) es) no_object)) ≡ true → is_among k (inner rest) ≡ true) → (b : Bool) → same_name n e.0 ≡ b → is_some (cond b (Some e.1) (lookup (same_name n) es)) ≡ true → is_among k (object_names (unwrap_or (cond b (Some e.1) (lookup (same_name n) es)) no_object)) ≡ true → is_among k (inner (of_set set (e ∷ es))) ≡ true
+    by : (is_some (lookup (same_name n) es) ≡ true → set n ≡ true → is_among k (object_names (unwrap_or (lookup (same_name n) es) no_object)) ≡ true → is_among k (inner rest)
+        ≡ true) → (b : Bool) → same_name n e.0 ≡ b → is_some (cond b (Some e.1) (lookup (same_name n) es)) ≡ true → is_among k
+        (object_names (unwrap_or (cond b (Some e.1) (lookup (same_name n) es)) no_object)) ≡ true → is_among k (inner (of_set set (e ∷ es))) ≡ true
     by later true j there l = here (set e.0) (ap set (sym (name_same n e.0 j)) ∙ g) l
     by later false j there l = more (set e.0) (later there g l)
 
@@ -392,7 +394,8 @@ pub marked_at : {A : Type 0} (f : A → List Name) (es : List A) (i : ℕ) (x d 
 marked_at {A} f es i x d start now next there is h g =
     let one_on : suc i ≡ i + 1 = omega arith in
     let cons : drop i es ≡ x ∷ drop (i + 1) es = drop-cons es i d there ∙ (ap (λ (y : A). y ∷ drop (suc i) es) (sym is) ∙ ap (λ (k : ℕ). x ∷ drop k es) one_on) in
-    marked_step f x (drop (i + 1) es) (flat_map f es) start now next (subst (λ (l : List A). (final : Marking) → AreMarked (flat_map f l) now final → AreMarked (flat_map f es) start final) cons h) g
+    marked_step f x (drop (i + 1) es) (flat_map f es) start now next
+    (subst (λ (l : List A). (final : Marking) → AreMarked (flat_map f l) now final → AreMarked (flat_map f es) start final) cons h) g
 
 pub marked_past : {A : Type 0} (f : A → List Name) (es : List A) (i : ℕ) (start now : Marking) → i ≤ length es → length es ≤ i
     → ((final : Marking) → AreMarked (flat_map f (drop i es)) now final → AreMarked (flat_map f es) start final) → AreMarked (flat_map f es) start now

@@ -61,7 +61,8 @@ opened born = map (λ (b : Born). object_of b.kind) born
 
 -- one more object of the script
 next_born : (born : List Born) (i : ℕ) (d : Born) → i < length born
-    → insert_entry name_cmp (with_names (replicate 7 no_object ++ opened (take i born))) (name (7 + i)) (object_of (get_or born i d).kind) ≡ with_names (replicate 7 no_object ++ opened (take (i + 1) born))
+    → insert_entry name_cmp (with_names (replicate 7 no_object ++ opened (take i born))) (name (7 + i)) (object_of (get_or born i d).kind) ≡ with_names
+    (replicate 7 no_object ++ opened (take (i + 1) born))
 next_born born i d there =
     let so_far : List Object = opened (take i born) in
     let some : length so_far ≡ i = length-map (take i born) (λ (b : Born). object_of b.kind) ∙ length-take-le i born (omega arith) in

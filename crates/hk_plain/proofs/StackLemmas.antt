@@ -76,7 +76,8 @@ numbers_end proc [] next new = refl
 numbers_end proc (e ∷ es) next new = by (e.1.proc.0 == proc.0) (new.proc.0 == proc.0) (numbers_end proc es next new)
   where
     by : (b c : Bool) → numbers_of proc (es ++ (next, new) ∷ []) ≡ cond c (numbers_of proc es ++ next ∷ []) (numbers_of proc es)
-        → cond b (e.0 ∷ numbers_of proc (es ++ (next, new) ∷ [])) (numbers_of proc (es ++ (next, new) ∷ [])) ≡ cond c (cond b (e.0 ∷ numbers_of proc es) (numbers_of proc es) ++ next ∷ []) (cond b (e.0 ∷ numbers_of proc es) (numbers_of proc es))
+        → cond b (e.0 ∷ numbers_of proc (es ++ (next, new) ∷ [])) (numbers_of proc (es ++ (next, new) ∷ [])) ≡ cond c
+        (cond b (e.0 ∷ numbers_of proc es) (numbers_of proc es) ++ next ∷ []) (cond b (e.0 ∷ numbers_of proc es) (numbers_of proc es))
     by true true h = ap (λ (rest : List Inc). e.0 ∷ rest) h
     by true false h = ap (λ (rest : List Inc). e.0 ∷ rest) h
     by false true h = h
@@ -141,7 +142,8 @@ numbers_removed proc low (e ∷ es) high inc h = by (is_eq (nat_cmp inc.0 e.0.0)
     here false same = sym (not_among proc (e.0.0 + 1) es high inc (omega arith) h.1)
 
     past : (c : Bool) → (e.0.0 == inc.0) ≡ false → numbers_of proc (remove_entry (same_inc inc) es) ≡ without inc (numbers_of proc es)
-        → cond c (e.0 ∷ numbers_of proc (remove_entry (same_inc inc) es)) (numbers_of proc (remove_entry (same_inc inc) es)) ≡ without inc (cond c (e.0 ∷ numbers_of proc es) (numbers_of proc es))
+        → cond c (e.0 ∷ numbers_of proc (remove_entry (same_inc inc) es)) (numbers_of proc (remove_entry (same_inc inc) es)) ≡ without inc
+        (cond c (e.0 ∷ numbers_of proc es) (numbers_of proc es))
     past true other rest = rw other (ap (λ (more : List Inc). e.0 ∷ more) rest)
     past false other rest = rest
 
@@ -322,20 +324,24 @@ stack_written (e ∷ es) proc new f none is q = by (is_eq (nat_cmp proc.0 e.0.0)
   where
     -- the process's own stack stands first
     own : proc.0 ≡ e.0.0 → new ≡ f e.1 → (b : Bool) → (proc.0 == q.0) ≡ b
-        → held (cond (is_eq (nat_cmp q.0 e.0.0)) (Some new) (lookup (same_proc q) es)) ≡ cond b (f (held (cond (is_eq (nat_cmp q.0 e.0.0)) (Some e.1) (lookup (same_proc q) es)))) (held (cond (is_eq (nat_cmp q.0 e.0.0)) (Some e.1) (lookup (same_proc q) es)))
+        → held (cond (is_eq (nat_cmp q.0 e.0.0)) (Some new) (lookup (same_proc q) es)) ≡ cond b (f (held (cond (is_eq (nat_cmp q.0 e.0.0)) (Some e.1) (lookup (same_proc q) es))))
+        (held (cond (is_eq (nat_cmp q.0 e.0.0)) (Some e.1) (lookup (same_proc q) es)))
     own same here true f' = let found : is_eq (nat_cmp q.0 e.0.0) ≡ true = grind (arith, nat_tests) in rw found here
     own same here false f' = let missed : is_eq (nat_cmp q.0 e.0.0) ≡ false = grind (arith, nat_tests) in rw missed refl
 
     -- another stack stands first
     other : (c : Bool) → is_eq (nat_cmp q.0 e.0.0) ≡ c → is_eq (nat_cmp proc.0 e.0.0) ≡ false
         → stack (set_value (same_proc proc) es new) q ≡ cond (proc.0 == q.0) (f (stack es q)) (stack es q)
-        → held (cond c (Some e.1) (lookup (same_proc q) (set_value (same_proc proc) es new))) ≡ cond (proc.0 == q.0) (f (held (cond c (Some e.1) (lookup (same_proc q) es)))) (held (cond c (Some e.1) (lookup (same_proc q) es)))
+        → held (cond c (Some e.1) (lookup (same_proc q) (set_value (same_proc proc) es new))) ≡ cond (proc.0 == q.0) (f (held (cond c (Some e.1) (lookup (same_proc q) es))))
+        (held (cond c (Some e.1) (lookup (same_proc q) es)))
     other true at past rest = let apart_from : (proc.0 == q.0) ≡ false = grind (arith, nat_tests) in rw apart_from refl
     other false at past rest = rest
 
     by : (b : Bool) → is_eq (nat_cmp proc.0 e.0.0) ≡ b → (cond b (Some e.1) (lookup (same_proc proc) es) ≡ None → f [] ≡ [])
         → new ≡ f (held (cond b (Some e.1) (lookup (same_proc proc) es)))
-        → ((lookup (same_proc proc) es ≡ None → f [] ≡ []) → new ≡ f (stack es proc) → stack (set_value (same_proc proc) es new) q ≡ cond (proc.0 == q.0) (f (stack es q)) (stack es q)) → stack (cond b ((e.0, new) ∷ es) (e ∷ set_value (same_proc proc) es new)) q ≡ cond (proc.0 == q.0) (f (stack (e ∷ es) q)) (stack (e ∷ es) q)
+        → ((lookup (same_proc proc) es ≡ None → f [] ≡ []) → new ≡ f (stack es proc) → stack (set_value (same_proc proc) es new) q ≡ cond (proc.0 == q.0)
+        (f (stack es q)) (stack es q))
+        → stack (cond b ((e.0, new) ∷ es) (e ∷ set_value (same_proc proc) es new)) q ≡ cond (proc.0 == q.0) (f (stack (e ∷ es) q)) (stack (e ∷ es) q)
     by true at missing here rest = own (same_is proc.0 e.0.0 at) here (proc.0 == q.0) refl
     by false at missing later rest = other (is_eq (nat_cmp q.0 e.0.0)) refl at (rest missing later)
 

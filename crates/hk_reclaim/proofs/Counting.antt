@@ -1,5 +1,6 @@
 -- What a release and a removal do to the counts.
-use Rattle.std.proofs.Common.{◌≡◌, ◌≢◌, ℕ, zero, suc, ◌+◌, ◌-◌, ◌<◌, ◌≤◌, Bool, true, false, cond, List, [], ◌∷◌, ◌++◌, length, get_or, set, refl, ap, ◌∙◌, sym, subst, arith, ⊎_elim, get_or-set_same, get_or-set_other, length-set, Option, Some, None, IsSome, option_map, ◌||◌, ◌↔◌}
+use Rattle.std.proofs.Common.{◌≡◌, ◌≢◌, ℕ, zero, suc, ◌+◌, ◌-◌, ◌<◌, ◌≤◌, Bool, true, false, cond, List, [], ◌∷◌, ◌++◌, length, get_or, set, refl, ap, ◌∙◌, sym, subst, arith}
+use Rattle.std.proofs.Common.{⊎_elim, get_or-set_same, get_or-set_other, length-set, Option, Some, None, IsSome, option_map, ◌||◌, ◌↔◌}
 use Rattle.std.proofs.lemmas.Bool.Decides.{nat_tests}
 use Rattle.std.proofs.lemmas.Bool.{cases_eq, cases_lt}
 use Rattle.std.proofs.lemmas.List.{get_or_past}
@@ -37,7 +38,8 @@ times_other n x xs ne = let k : n.0 ≢ x.0 = λ e. ne (same_names n x e) in tim
 pub namings_gone : (ps : List (Option (Name × Body))) (s : ℕ) (n : Name) → s < length ps → namings ps n ≡ namings (set ps s None) n + times n (names_in (place ps s))
 unfolding namings
 namings_gone ps s n low =
-    let h : sum_by (λ p. times n (names_in p)) (set ps s None) + times n (names_in (place ps s)) ≡ sum_by (λ p. times n (names_in p)) ps + times n [] = sum_by-set (λ p. times n (names_in p)) ps s None None low in
+    let h : sum_by (λ p. times n (names_in p)) (set ps s None) + times n (names_in (place ps s)) ≡ sum_by (λ p. times n (names_in p)) ps + times n [] = sum_by-set
+    (λ p. times n (names_in p)) ps s None None low in
     let z : times n [] ≡ 0 = times_none n in
     omega arith
 
@@ -47,7 +49,8 @@ unfolding namings
 times-le-namings ps k n =
     ⊎_elim
     (λ (low : k < length ps). get_or-le-sum_by (λ p. times n (names_in p)) ps k None low)
-    (λ (high : length ps ≤ k). let e : place ps k ≡ None = get_or_past ps k None high in let z : times n (names_in (place ps k)) ≡ 0 = ap (λ (p : Option (Name × Body)). times n (names_in p)) e ∙ times_none n in omega arith)
+    (λ (high : length ps ≤ k). let e : place ps k ≡ None = get_or_past ps k None high in let z : times n (names_in (place ps k)) ≡ 0 = ap
+    (λ (p : Option (Name × Body)). times n (names_in p)) e ∙ times_none n in omega arith)
     (cases_lt k (length ps))
 
 pub namings-cons : (p : Option (Name × Body)) (ps : List (Option (Name × Body))) (n : Name) → namings (p ∷ ps) n ≡ times n (names_in p) + namings ps n
@@ -87,7 +90,8 @@ pub due_other : (owed : Name → ℕ) (x : Name) (rest : List Name) (p : Option 
 due_other owed x rest None ne = refl
 due_other owed x rest (Some n) ne = ap (λ m. owed n + m) (times_other n x rest (λ e. ne (ap (λ (m : Name). Some m) e)))
 
-pub releasable : (ps : List (Option (Name × Body))) (name : Option Name) (rest : List Name) (owed : Name → ℕ) (t : Tally) → AreCounted ps (owing owed (with_name name rest)) t → IsReleasable ps t name
+pub releasable : (ps : List (Option (Name × Body))) (name : Option Name) (rest : List Name) (owed : Name → ℕ) (t : Tally) → AreCounted ps (owing owed (with_name name rest)) t
+    → IsReleasable ps t name
 releasable ps None rest owed t h = tt
 releasable ps (Some x) rest owed t h = λ k e.
     let d : due (owing owed (x ∷ rest)) (name_at ps k) ≡ due (owing owed rest) (name_at ps k) + 1 = due_named owed x rest (name_at ps k) e in
@@ -116,7 +120,8 @@ due_to : (first name : Name) (total : ℕ) → first.0 ≤ name.0 → total ≡ 
 due_to first name total low z = grind (arith, nat_tests)
 
 -- what is pending after a naming fewer
-pub released_pending : (ps : List (Option (Name × Body))) (owed : Name → ℕ) (t : Tally) (s : ℕ) (x : Name) → name_at ps s ≡ Some x → 0 < get_or t.total s 0 → s < length t.total → AreCounted ps owed t
+pub released_pending : (ps : List (Option (Name × Body))) (owed : Name → ℕ) (t : Tally) (s : ℕ) (x : Name) → name_at ps s ≡ Some x → 0 < get_or t.total s 0 → s < length t.total
+    → AreCounted ps owed t
     → (k : ℕ) → has (released t s x).pending k ≡ true ↔ ((n : Name) × (name_at ps k ≡ Some n) × (t.first_new.0 ≤ n.0) × (get_or (lowered t.total s) k 0 ≡ 0))
 released_pending ps owed t s x here some low h k =
     let now : get_or (lowered t.total s) s 0 ≡ get_or t.total s 0 - 1 = get_or-set_same t.total s (get_or t.total s 0 - 1) 0 low in
@@ -124,7 +129,8 @@ released_pending ps owed t s x here some low h k =
     ⊎_elim
     (λ (same : k ≡ s). rw (same, push_has (is_due t.first_new (get_or t.total s 0 - 1) x) t.pending s out) (
       λ e. let w = due_from t.first_new x (get_or t.total s 0 - 1) e in (x, here, w.0, now ∙ w.1),
-      λ w. let n : w.0 ≡ x = (let a : Some w.0 ≡ Some x = sym w.1 ∙ here in cc) in due_to t.first_new x (get_or t.total s 0 - 1) (subst (λ (m : Name). t.first_new.0 ≤ m.0) n w.2) (sym now ∙ w.3),
+      λ w. let n : w.0 ≡ x = (let a : Some w.0 ≡ Some x = sym w.1 ∙ here in cc) in due_to t.first_new x (get_or t.total s 0 - 1)
+          (subst (λ (m : Name). t.first_new.0 ≤ m.0) n w.2) (sym now ∙ w.3),
     ))
     (λ (ne : k ≢ s).
     let o : get_or (lowered t.total s) k 0 ≡ get_or t.total k 0 = get_or-set_other t.total s k (get_or t.total s 0 - 1) 0 ne in
@@ -138,24 +144,28 @@ released_pending ps owed t s x here some low h k =
       not_in false h = refl
 
 -- a naming fewer, by what it counts
-released_one : (ps : List (Option (Name × Body))) (x : Name) (rest : List Name) (owed : Name → ℕ) (t : Tally) (s : ℕ) → AreApart ps → name_at ps s ≡ Some x → AreCounted ps (owing owed (x ∷ rest)) t → AreCounted ps (owing owed rest) (released t s x)
+released_one : (ps : List (Option (Name × Body))) (x : Name) (rest : List Name) (owed : Name → ℕ) (t : Tally) (s : ℕ) → AreApart ps → name_at ps s ≡ Some x
+    → AreCounted ps (owing owed (x ∷ rest)) t → AreCounted ps (owing owed rest) (released t s x)
 released_one ps x rest owed t s apart here h =
     let d : due (owing owed (x ∷ rest)) (name_at ps s) ≡ due (owing owed rest) (name_at ps s) + 1 = due_named owed x rest (name_at ps s) here in
     let ts : get_or t.total s 0 ≡ get_or t.outside s 0 + due (owing owed (x ∷ rest)) (name_at ps s) = h.totals s in
-    let low : s < length t.total = ⊎_elim (λ (l : s < length t.total). l) (λ (g : length t.total ≤ s). absurd (let z : get_or t.total s 0 ≡ 0 = get_or_past t.total s 0 g in omega arith)) (cases_lt s (length t.total)) in
+    let low : s < length t.total = ⊎_elim (λ (l : s < length t.total). l)
+    (λ (g : length t.total ≤ s). absurd (let z : get_or t.total s 0 ≡ 0 = get_or_past t.total s 0 g in omega arith)) (cases_lt s (length t.total)) in
     let now : get_or (lowered t.total s) s 0 ≡ get_or t.total s 0 - 1 = get_or-set_same t.total s (get_or t.total s 0 - 1) 0 low in
     record {
       sizes = h.sizes ∙ sym (length-set t.total s (get_or t.total s 0 - 1));
       room = λ k some. rw (length-set t.total s (get_or t.total s 0 - 1)) (h.room k some);
       totals = λ k. ⊎_elim
           (λ (same : k ≡ s). rw same (now ∙ omega arith))
-          (λ (ne : k ≢ s). get_or-set_other t.total s k (get_or t.total s 0 - 1) 0 ne ∙ h.totals k ∙ ap (λ m. get_or t.outside k 0 + m) (due_other owed x rest (name_at ps k) (λ e. ne (apart k s x e here))))
+          (λ (ne : k ≢ s). get_or-set_other t.total s k (get_or t.total s 0 - 1) 0 ne ∙ h.totals k ∙ ap (λ m. get_or t.outside k 0 + m)
+          (due_other owed x rest (name_at ps k) (λ e. ne (apart k s x e here))))
           (cases_eq k s);
       pending = released_pending ps (owing owed (x ∷ rest)) t s x here (omega arith) low h;
     }
 
 -- a name that no slot has counts nowhere
-released_none : (ps : List (Option (Name × Body))) (x : Name) (rest : List Name) (owed : Name → ℕ) (t : Tally) → ((k : ℕ) → name_at ps k ≡ Some x → ⊥) → AreCounted ps (owing owed (x ∷ rest)) t → AreCounted ps (owing owed rest) t
+released_none : (ps : List (Option (Name × Body))) (x : Name) (rest : List Name) (owed : Name → ℕ) (t : Tally) → ((k : ℕ) → name_at ps k ≡ Some x → ⊥)
+    → AreCounted ps (owing owed (x ∷ rest)) t → AreCounted ps (owing owed rest) t
 released_none ps x rest owed t none h = record {
   sizes = h.sizes;
   room = h.room;
@@ -163,11 +173,13 @@ released_none ps x rest owed t none h = record {
   pending = h.pending;
 }
 
-pub released_name : (ps : List (Option (Name × Body))) (name : Option Name) (rest : List Name) (owed : Name → ℕ) (old new : Tally) → AreApart ps → IsReleased ps name old new → AreCounted ps (owing owed (with_name name rest)) old → AreCounted ps (owing owed rest) new
+pub released_name : (ps : List (Option (Name × Body))) (name : Option Name) (rest : List Name) (owed : Name → ℕ) (old new : Tally) → AreApart ps → IsReleased ps name old new
+    → AreCounted ps (owing owed (with_name name rest)) old → AreCounted ps (owing owed rest) new
 released_name ps None rest owed old new apart e h = subst (λ (t : Tally). AreCounted ps (owing owed rest) t) (sym e) h
 released_name ps (Some x) rest owed old new apart r h =
     ⊎_elim
-    (λ (w : (k : ℕ) × (name_at ps k ≡ Some x) × (new ≡ released old k x)). subst (λ (t : Tally). AreCounted ps (owing owed rest) t) (sym w.2) (released_one ps x rest owed old w.0 apart w.1 h))
+    (λ (w : (k : ℕ) × (name_at ps k ≡ Some x) × (new ≡ released old k x)). subst (λ (t : Tally). AreCounted ps (owing owed rest) t) (sym w.2)
+    (released_one ps x rest owed old w.0 apart w.1 h))
     (λ (w : ((k : ℕ) → name_at ps k ≡ Some x → ⊥) × (new ≡ old)). subst (λ (t : Tally). AreCounted ps (owing owed rest) t) (sym w.1) (released_none ps x rest owed old w.0 h))
     r
 
@@ -176,7 +188,8 @@ pub owing_nothing : (ps : List (Option (Name × Body))) (owed : Name → ℕ) (t
 owing_nothing ps owed t h = counted_same ps (owing owed []) owed t (λ n. let z : times n [] ≡ 0 = times_none n in omega arith) h
 
 -- before an object goes, what it names is owed
-pub owing_own : (ps : List (Option (Name × Body))) (s : ℕ) (t : Tally) → s < length ps → AreCounted ps (namings ps) t → AreCounted ps (owing (namings (set ps s None)) (names_in (place ps s))) t
+pub owing_own : (ps : List (Option (Name × Body))) (s : ℕ) (t : Tally) → s < length ps → AreCounted ps (namings ps) t
+    → AreCounted ps (owing (namings (set ps s None)) (names_in (place ps s))) t
 owing_own ps s t low h = counted_same ps (namings ps) (owing (namings (set ps s None)) (names_in (place ps s))) t (λ n. namings_gone ps s n low) h
 
 pub name_at_gone : (ps : List (Option (Name × Body))) (s k : ℕ) → k ≢ s → name_at (set ps s None) k ≡ name_at ps k
@@ -190,7 +203,8 @@ no_some None e h = absurd (cc)
 no_some (Some q) e h = absurd (cc)
 
 -- a pending object goes
-pub removed_one : (ps : List (Option (Name × Body))) (owed : Name → ℕ) (t : Tally) (s : ℕ) → s < length ps → has t.pending s ≡ true → AreCounted ps owed t → AreCounted (set ps s None) owed (record t { pending = without s t.pending })
+pub removed_one : (ps : List (Option (Name × Body))) (owed : Name → ℕ) (t : Tally) (s : ℕ) → s < length ps → has t.pending s ≡ true → AreCounted ps owed t
+    → AreCounted (set ps s None) owed (record t { pending = without s t.pending })
 removed_one ps owed t s low in' h =
     let gone : name_at (set ps s None) s ≡ None = name_at_none ps s low in
     let w : (n : Name) × (name_at ps s ≡ Some n) × (t.first_new.0 ≤ n.0) × (get_or t.total s 0 ≡ 0) = (h.pending s).0 in' in

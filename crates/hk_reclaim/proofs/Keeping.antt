@@ -1,5 +1,6 @@
 -- What a table needs to keep its counts right as it makes and changes objects.
-use Rattle.std.proofs.Common.{◌≡◌, ◌≢◌, ℕ, zero, suc, ◌+◌, ◌-◌, ◌<◌, ◌≤◌, Bool, true, false, List, [], ◌∷◌, length, get_or, set, refl, ap, ◌∙◌, sym, subst, arith, ⊎_elim, get_or-set_same, get_or-set_other, length-set, Option, Some, None, IsSome, option_map, ◌↔◌, replicate}
+use Rattle.std.proofs.Common.{◌≡◌, ◌≢◌, ℕ, zero, suc, ◌+◌, ◌-◌, ◌<◌, ◌≤◌, Bool, true, false, List, [], ◌∷◌, length, get_or, set, refl, ap, ◌∙◌, sym, subst, arith, ⊎_elim}
+use Rattle.std.proofs.Common.{get_or-set_same, get_or-set_other, length-set, Option, Some, None, IsSome, option_map, ◌↔◌, replicate}
 use Rattle.std.proofs.lemmas.Bool.Decides.{nat_tests}
 use Rattle.std.proofs.lemmas.Bool.{cases_eq}
 use Rattle.std.proofs.lemmas.List.{ext_get_or, length-map}
@@ -18,7 +19,8 @@ use Rattle.hk_reclaim.proofs.Counting.{due_named, due_other, due_same, times_non
 use Rattle.hk_reclaim.proofs.Settling.{stands_at, stands_where, name_of_some}
 
 -- two greatest supported sets are one
-pub kept_unique : (first : Name) (outside : List ℕ) (ps : List (Option (Name × Body))) (S T : Name → Bool) → IsKept first outside ps S → IsKept first outside ps T → (n : Name) → S n ≡ T n
+pub kept_unique : (first : Name) (outside : List ℕ) (ps : List (Option (Name × Body))) (S T : Name → Bool) → IsKept first outside ps S → IsKept first outside ps T → (n : Name)
+    → S n ≡ T n
 kept_unique first outside ps S T s t n = by (S n) (T n) (t.greatest S s.supported n) (s.greatest T t.supported n) where
   by : (a b : Bool) → (a ≡ true → b ≡ true) → (b ≡ true → a ≡ true) → a ≡ b
   by true b f g = sym (f refl)
@@ -66,7 +68,11 @@ held_pending ps owed t s low h k = ⊎_elim
     (λ (same : k ≡ s).
     let nt : get_or (raised t.total s) s 0 ≡ get_or t.total s 0 + 1 = get_or-set_same t.total s (get_or t.total s 0 + 1) 0 low in
     let f : (k == s) ≡ true = grind (arith, nat_tests) in
-    rw (has_without s k t.pending, f) (λ e. absurd (cc), λ w. absurd (let z : get_or (raised t.total s) s 0 ≡ 0 = subst (λ (j : ℕ). get_or (raised t.total s) j 0 ≡ 0) same w.3 in omega arith)))
+    rw (has_without s k t.pending, f) (
+      λ e. absurd (cc),
+      λ w. absurd
+          (let z : get_or (raised t.total s) s 0 ≡ 0 = subst (λ (j : ℕ). get_or (raised t.total s) j 0 ≡ 0) same w.3 in omega arith),
+    ))
     (λ (ne : k ≢ s).
     let f : (k == s) ≡ false = grind (arith, nat_tests) in
     let o : get_or (raised t.total s) k 0 ≡ get_or t.total k 0 = get_or-set_other t.total s k (get_or t.total s 0 + 1) 0 ne in
@@ -91,7 +97,8 @@ hold_outside_counted ps owed t s low h =
     }
 
 -- a naming from outside fewer
-pub release_outside_counted : (ps : List (Option (Name × Body))) (owed : Name → ℕ) (t : Tally) (s : ℕ) (x : Name) → name_at ps s ≡ Some x → s < length t.total → 0 < get_or t.outside s 0 → AreCounted ps owed t
+pub release_outside_counted : (ps : List (Option (Name × Body))) (owed : Name → ℕ) (t : Tally) (s : ℕ) (x : Name) → name_at ps s ≡ Some x → s < length t.total
+    → 0 < get_or t.outside s 0 → AreCounted ps owed t
     → AreCounted ps owed (record (released t s x) { outside = lowered t.outside s })
 release_outside_counted ps owed t s x here low some h =
     let lowo : s < length t.outside = omega (arith, h.sizes) in
@@ -109,36 +116,42 @@ release_outside_counted ps owed t s x here low some h =
     }
 
 -- a naming by an object more
-pub hold_inside_counted : (ps : List (Option (Name × Body))) (owed : Name → ℕ) (t : Tally) (s : ℕ) (x : Name) → AreApart ps → name_at ps s ≡ Some x → s < length t.total → AreCounted ps owed t
+pub hold_inside_counted : (ps : List (Option (Name × Body))) (owed : Name → ℕ) (t : Tally) (s : ℕ) (x : Name) → AreApart ps → name_at ps s ≡ Some x → s < length t.total
+    → AreCounted ps owed t
     → AreCounted ps (owing owed (x ∷ [])) (record t { total = raised t.total s; pending = without s t.pending })
 hold_inside_counted ps owed t s x apart here low h =
     let nt : get_or (raised t.total s) s 0 ≡ get_or t.total s 0 + 1 = get_or-set_same t.total s (get_or t.total s 0 + 1) 0 low in
     let hs : get_or t.total s 0 ≡ get_or t.outside s 0 + due owed (name_at ps s) = h.totals s in
     let d : due (owing owed (x ∷ [])) (name_at ps s) ≡ due (owing owed []) (name_at ps s) + 1 = due_named owed x [] (name_at ps s) here in
-    let none : (k : ℕ) → due (owing owed []) (name_at ps k) ≡ due owed (name_at ps k) = λ k. due_same (owing owed []) owed (name_at ps k) (λ n. let z : times n [] ≡ 0 = times_none n in omega arith) in
+    let none : (k : ℕ) → due (owing owed []) (name_at ps k) ≡ due owed (name_at ps k) = λ k. due_same (owing owed []) owed (name_at ps k)
+    (λ n. let z : times n [] ≡ 0 = times_none n in omega arith) in
     record {
       sizes = h.sizes ∙ sym (length-set t.total s (get_or t.total s 0 + 1));
       room = λ k some. rw (length-set t.total s (get_or t.total s 0 + 1)) (h.room k some);
       totals = λ k. ⊎_elim
           (λ (same : k ≡ s). rw (same, nt) (omega (arith, none s)))
-          (λ (ne : k ≢ s). get_or-set_other t.total s k (get_or t.total s 0 + 1) 0 ne ∙ h.totals k ∙ ap (λ m. get_or t.outside k 0 + m) (sym (due_other owed x [] (name_at ps k) (λ e. ne (apart k s x e here)) ∙ none k)))
+          (λ (ne : k ≢ s). get_or-set_other t.total s k (get_or t.total s 0 + 1) 0 ne ∙ h.totals k ∙ ap (λ m. get_or t.outside k 0 + m)
+          (sym (due_other owed x [] (name_at ps k) (λ e. ne (apart k s x e here)) ∙ none k)))
           (cases_eq k s);
       pending = held_pending ps owed t s low h;
     }
 
 -- a change of a slot lowers the namings by what stood there, and raises them by what stands there now
-pub namings_set : (ps : List (Option (Name × Body))) (s : ℕ) (p : Option (Name × Body)) (n : Name) → s < length ps → namings (set ps s p) n + times n (names_in (place ps s)) ≡ namings ps n + times n (names_in p)
+pub namings_set : (ps : List (Option (Name × Body))) (s : ℕ) (p : Option (Name × Body)) (n : Name) → s < length ps
+    → namings (set ps s p) n + times n (names_in (place ps s)) ≡ namings ps n + times n (names_in p)
 unfolding namings
 namings_set ps s p n low = sum_by-set (λ p. times n (names_in p)) ps s p None low
 
 -- a new object, named from outside at once
-pub made_counted : (ps : List (Option (Name × Body))) (owed : Name → ℕ) (t : Tally) (s : ℕ) (n : Name) (b : Body) → s < length ps → s < length t.total → place ps s ≡ None → owed n ≡ 0 → AreCounted ps owed t
+pub made_counted : (ps : List (Option (Name × Body))) (owed : Name → ℕ) (t : Tally) (s : ℕ) (n : Name) (b : Body) → s < length ps → s < length t.total → place ps s ≡ None
+    → owed n ≡ 0 → AreCounted ps owed t
     → AreCounted (set ps s (Some (n, b))) owed (record t { outside = raised t.outside s; total = raised t.total s; pending = without s t.pending })
 made_counted ps owed t s n b lowp low free fresh h =
     let g = hold_outside_counted ps owed t s low h in
     let here : name_at (set ps s (Some (n, b))) s ≡ Some n = ap (option_map (λ (e : Name × Body). e.0)) (get_or-set_same ps s (Some (n, b)) None lowp) in
     let was : name_at ps s ≡ None = ap (option_map (λ (e : Name × Body). e.0)) free in
-    let other : (k : ℕ) → k ≢ s → name_at (set ps s (Some (n, b))) k ≡ name_at ps k = λ k ne. ap (option_map (λ (e : Name × Body). e.0)) (get_or-set_other ps s k (Some (n, b)) None ne) in
+    let other : (k : ℕ) → k ≢ s → name_at (set ps s (Some (n, b))) k ≡ name_at ps k = λ k ne. ap (option_map (λ (e : Name × Body). e.0))
+    (get_or-set_other ps s k (Some (n, b)) None ne) in
     let nt : get_or (raised t.total s) s 0 ≡ get_or t.total s 0 + 1 = get_or-set_same t.total s (get_or t.total s 0 + 1) 0 low in
     record {
       sizes = g.sizes;
@@ -147,13 +160,18 @@ made_counted ps owed t s n b lowp low free fresh h =
           (λ (ne : k ≢ s). g.room k (subst (λ (p : Option (Name × Body)). IsSome p) (get_or-set_other ps s k (Some (n, b)) None ne) some))
           (cases_eq k s);
       totals = λ k. ⊎_elim
-          (λ (same : k ≡ s). let gs : get_or (raised t.total s) s 0 ≡ get_or (raised t.outside s) s 0 + due owed (name_at ps s) = g.totals s in let z : due owed (name_at ps s) ≡ 0 = ap (due owed) was in rw (same, here) (omega arith))
+          (λ (same : k ≡ s). let gs : get_or (raised t.total s) s 0 ≡ get_or (raised t.outside s) s 0 + due owed (name_at ps s) = g.totals s in let z : due owed (name_at ps s)
+          ≡ 0 = ap (due owed) was in rw (same, here) (omega arith))
           (λ (ne : k ≢ s). g.totals k ∙ ap (λ (p : Option Name). get_or (raised t.outside s) k 0 + due owed p) (sym (other k ne)))
           (cases_eq k s);
       pending = λ k. ⊎_elim
           (λ (same : k ≡ s).
           let f : (k == s) ≡ true = grind (arith, nat_tests) in
-          rw (has_without s k t.pending, f) (λ e. absurd (cc), λ w. absurd (let z : get_or (raised t.total s) s 0 ≡ 0 = subst (λ (j : ℕ). get_or (raised t.total s) j 0 ≡ 0) same w.3 in omega arith)))
+          rw (has_without s k t.pending, f) (
+            λ e. absurd (cc),
+            λ w. absurd
+                (let z : get_or (raised t.total s) s 0 ≡ 0 = subst (λ (j : ℕ). get_or (raised t.total s) j 0 ≡ 0) same w.3 in omega arith),
+          ))
           (λ (ne : k ≢ s). rw (other k ne) (g.pending k))
           (cases_eq k s);
     }

@@ -1,5 +1,6 @@
 -- What marking keeps.
-use Rattle.std.proofs.Common.{◌≡◌, ◌≢◌, ℕ, zero, suc, ◌+◌, ◌<◌, ◌≤◌, Bool, true, false, cond, List, [], ◌∷◌, ◌++◌, length, get_or, drop, refl, ap, ◌∙◌, sym, subst, arith, ⊎_elim, inl, inr, ◌⊎◌, Option, Some, None, IsSome, IfSome, ◌||◌, ◌&&◌, nat_lt, slice_get, append_assoc}
+use Rattle.std.proofs.Common.{◌≡◌, ◌≢◌, ℕ, zero, suc, ◌+◌, ◌<◌, ◌≤◌, Bool, true, false, cond, List, [], ◌∷◌, ◌++◌, length, get_or, drop, refl, ap, ◌∙◌, sym, subst, arith, ⊎_elim}
+use Rattle.std.proofs.Common.{inl, inr, ◌⊎◌, Option, Some, None, IsSome, IfSome, ◌||◌, ◌&&◌, nat_lt, slice_get, append_assoc}
 use Rattle.std.proofs.lemmas.Bool.Decides.{nat_tests}
 use Rattle.std.proofs.lemmas.Bool.{cases_eq, cases_lt}
 use Rattle.std.proofs.lemmas.List.{drop_all}
@@ -127,7 +128,8 @@ named_more n x rest h = ⊎_elim
     (λ (ne : n.0 ≢ x.0). rw (times_other n x rest (λ e. ne (ap (λ (m : Name). m.0) e))) h)
     (cases_eq n.0 x.0)
 
-grows_one : (ps : List (Option (Name × Body))) (x : Name) (rest : List Name) (old mid new : Marked) (s : ℕ) → AreApart ps → name_at ps s ≡ Some x → mid ≡ record old { slots = marked_with old.slots s } → Grows ps rest mid new → Grows ps (x ∷ rest) old new
+grows_one : (ps : List (Option (Name × Body))) (x : Name) (rest : List Name) (old mid new : Marked) (s : ℕ) → AreApart ps → name_at ps s ≡ Some x
+    → mid ≡ record old { slots = marked_with old.slots s } → Grows ps rest mid new → Grows ps (x ∷ rest) old new
 grows_one ps x rest old mid new s apart here e g =
     let es : mid.slots ≡ marked_with old.slots s = ap (λ (m : Marked). m.slots) e in
     let hm : (k : ℕ) → has mid.slots k ≡ (has old.slots k || (k == s)) = λ k. ap (λ (xs : List ℕ). has xs k) es ∙ has_marked old.slots s k in
@@ -151,7 +153,8 @@ grows_one ps x rest old mid new s apart here e g =
           (g.only k h);
     }
 
-grows_none : (ps : List (Option (Name × Body))) (x : Name) (rest : List Name) (old new : Marked) → ((k : ℕ) → name_at ps k ≡ Some x → ⊥) → Grows ps rest old new → Grows ps (x ∷ rest) old new
+grows_none : (ps : List (Option (Name × Body))) (x : Name) (rest : List Name) (old new : Marked) → ((k : ℕ) → name_at ps k ≡ Some x → ⊥) → Grows ps rest old new
+    → Grows ps (x ∷ rest) old new
 grows_none ps x rest old new none g = record {
   size = g.size;
   more = g.more;
@@ -165,7 +168,8 @@ grows_none ps x rest old new none g = record {
       (g.only k h);
 }
 
-pub grows_name : (ps : List (Option (Name × Body))) (name : Option Name) (rest : List Name) (old mid new : Marked) → AreApart ps → IsMarkedBy ps name old mid → Grows ps rest mid new → Grows ps (with_name name rest) old new
+pub grows_name : (ps : List (Option (Name × Body))) (name : Option Name) (rest : List Name) (old mid new : Marked) → AreApart ps → IsMarkedBy ps name old mid
+    → Grows ps rest mid new → Grows ps (with_name name rest) old new
 grows_name ps None rest old mid new apart e g = subst (λ (m : Marked). Grows ps rest m new) e g
 grows_name ps (Some x) rest old mid new apart r g = ⊎_elim
     (λ (w : (k : ℕ) × (name_at ps k ≡ Some x) × (mid ≡ record old { slots = marked_with old.slots k })). grows_one ps x rest old mid new w.0 apart w.1 w.2 g)
@@ -179,16 +183,19 @@ same_size ps (Some x) old mid r = ⊎_elim
     (λ (w : ((k : ℕ) → name_at ps k ≡ Some x → ⊥) × (mid ≡ old)). ap (λ (m : Marked). m.size) w.1)
     r
 
-pub type_marked : (ps : List (Option (Name × Body))) (s : ℕ) (of : Name) (es : List Entry) (t u : Marked) → AreApart ps → IsSome (place ps s) → IfSome (place ps s) (λ e. of ≡ e.1.of) → IfSome (place ps s) (λ e. es ≡ e.1.entries)
+pub type_marked : (ps : List (Option (Name × Body))) (s : ℕ) (of : Name) (es : List Entry) (t u : Marked) → AreApart ps → IsSome (place ps s)
+    → IfSome (place ps s) (λ e. of ≡ e.1.of) → IfSome (place ps s) (λ e. es ≡ e.1.entries)
     → IsMarkedBy ps (Some of) t u → (final : Marked) → Grows ps (named_in es) u final → Grows ps (names_in (place ps s)) t final
 type_marked ps s of es t u apart some h g r final f =
     rw (slot_names (place ps s) of es some h g) (grows_name ps (Some of) (named_in es) t u final apart r f)
 
-pub entry_marked : (ps : List (Option (Name × Body))) (all : List Name) (es : List Entry) (i : ℕ) (name : Option Name) (t u v : Marked) → AreApart ps → i < length es → name ≡ named (get_or es i Empty)
+pub entry_marked : (ps : List (Option (Name × Body))) (all : List Name) (es : List Entry) (i : ℕ) (name : Option Name) (t u v : Marked) → AreApart ps → i < length es
+    → name ≡ named (get_or es i Empty)
     → IsMarkedBy ps name u v → ((final : Marked) → Grows ps (named_in (drop i es)) u final → Grows ps all t final)
     → (final : Marked) → Grows ps (named_in (drop (i + 1) es)) v final → Grows ps all t final
 entry_marked ps all es i name t u v apart low read r h final f =
-    h final (rw (next_names es i low) (grows_name ps (named (get_or es i Empty)) (named_in (drop (i + 1) es)) u v final apart (subst (λ (n : Option Name). IsMarkedBy ps n u v) read r) f))
+    h final (rw (next_names es i low) (grows_name ps (named (get_or es i Empty)) (named_in (drop (i + 1) es)) u v final apart
+    (subst (λ (n : Option Name). IsMarkedBy ps n u v) read r) f))
 
 pub all_marked : (ps : List (Option (Name × Body))) (all : List Name) (es : List Entry) (i : ℕ) (t u : Marked) → length es ≤ i
     → ((final : Marked) → Grows ps (named_in (drop i es)) u final → Grows ps all t final) → Grows ps all t u
@@ -205,7 +212,8 @@ walk_starts ps m stand = record {
   stand = stand;
 }
 
-pub walk_step : (ps : List (Option (Name × Body))) (old now new : Marked) (j s : ℕ) → IsWalked ps old now j → slice_get now.slots j ≡ Some s → Grows ps (names_in (place ps s)) now new → IsWalked ps old new (j + 1)
+pub walk_step : (ps : List (Option (Name × Body))) (old now new : Marked) (j s : ℕ) → IsWalked ps old now j → slice_get now.slots j ≡ Some s
+    → Grows ps (names_in (place ps s)) now new → IsWalked ps old new (j + 1)
 walk_step ps old now new j s h at g =
     let more : (k : ℕ) → has now.slots k ≡ true → has new.slots k ≡ true = λ k i. ap (λ (xs : List ℕ). has xs k) g.more.1 ∙ has_append now.slots g.more.0 k i in
     let here : has now.slots s ≡ true = get_has now.slots j s at in
@@ -241,7 +249,8 @@ walk_step ps old now new j s h at g =
           (g.only k i);
     }
 
-pub walk_next : (ps : List (Option (Name × Body))) (ns : List Name) (now new : Marked) (j s : ℕ) → slice_get now.slots j ≡ Some s → Grows ps ns now new → slice_get new.slots j ≡ Some s
+pub walk_next : (ps : List (Option (Name × Body))) (ns : List Name) (now new : Marked) (j s : ℕ) → slice_get now.slots j ≡ Some s → Grows ps ns now new
+    → slice_get new.slots j ≡ Some s
 walk_next ps ns now new j s at g = ap (λ (xs : List ℕ). slice_get xs j) g.more.1 ∙ get_append now.slots g.more.0 j s at
 
 pub walk_ends : (ps : List (Option (Name × Body))) (old now : Marked) (j : ℕ) → length now.slots ≤ j → IsWalked ps old now j → IsWalked ps old now (length now.slots)
@@ -255,7 +264,8 @@ walk_ends ps old now j high h = record {
 }
 
 -- the roots
-pub root_marked : (xs ys : List ℕ) (i : ℕ) (b : Bool) (root : ℕ → Bool) → b ≡ root i → ys ≡ cond b (marked_with xs i) xs → ((k : ℕ) → has xs k ≡ (nat_lt k i && root k)) → (k : ℕ) → has ys k ≡ (nat_lt k (i + 1) && root k)
+pub root_marked : (xs ys : List ℕ) (i : ℕ) (b : Bool) (root : ℕ → Bool) → b ≡ root i → ys ≡ cond b (marked_with xs i) xs → ((k : ℕ) → has xs k ≡ (nat_lt k i && root k)) → (k : ℕ)
+    → has ys k ≡ (nat_lt k (i + 1) && root k)
 root_marked xs ys i b root eb e h k = ap (λ (zs : List ℕ). has zs k) e ∙ by b eb where
   by : (b : Bool) → b ≡ root i → has (cond b (marked_with xs i) xs) k ≡ (nat_lt k (i + 1) && root k)
   by true r = has_marked xs i k ∙ ap (λ (c : Bool). c || (k == i)) (h k) ∙ ⊎_elim

@@ -1,5 +1,6 @@
 -- What is gone was in no supported set, and what is left is one.
-use Rattle.std.proofs.Common.{◌≡◌, ◌≢◌, ℕ, zero, suc, ◌+◌, ◌<◌, ◌≤◌, Bool, true, false, cond, List, [], ◌∷◌, length, get_or, set, refl, ap, ◌∙◌, sym, subst, arith, ⊎_elim, inl, inr, ◌⊎◌, get_or-set_same, get_or-set_other, length-set, Option, Some, None, IsSome, option_map, ◌||◌}
+use Rattle.std.proofs.Common.{◌≡◌, ◌≢◌, ℕ, zero, suc, ◌+◌, ◌<◌, ◌≤◌, Bool, true, false, cond, List, [], ◌∷◌, length, get_or, set, refl, ap, ◌∙◌, sym, subst, arith, ⊎_elim, inl}
+use Rattle.std.proofs.Common.{inr, ◌⊎◌, get_or-set_same, get_or-set_other, length-set, Option, Some, None, IsSome, option_map, ◌||◌}
 use Rattle.std.proofs.lemmas.Bool.Decides.{nat_tests}
 use Rattle.std.proofs.lemmas.Bool.{cases_eq, cases_lt}
 use Rattle.std.specs.Bool.{◌==◌}
@@ -30,7 +31,8 @@ pub stands_at : (ps : List (Option (Name × Body))) (k : ℕ) (n : Name) → nam
 unfolding stands
 stands_at [] k n e = absurd (cc)
 stands_at (None ∷ ps) zero n e = absurd (cc)
-stands_at (Some q ∷ ps) zero n e = let f : q.0 ≡ n = cc in let g : n.0 ≡ q.0.0 = ap (λ (m : Name). m.0) (sym f) in let t : (n.0 == q.0.0) ≡ true = grind (arith, nat_tests) in rw t refl
+stands_at (Some q ∷ ps) zero n e =
+    let f : q.0 ≡ n = cc in let g : n.0 ≡ q.0.0 = ap (λ (m : Name). m.0) (sym f) in let t : (n.0 == q.0.0) ≡ true = grind (arith, nat_tests) in rw t refl
 stands_at (p ∷ ps) (suc k) n e = or_true (is_named n p) (list_any (is_named n) ps) (stands_at ps k n e) where
   or_true : (a b : Bool) → b ≡ true → (a || b) ≡ true
   or_true true b h = refl
@@ -43,7 +45,8 @@ stands_where (None ∷ ps) n h = let r = stands_where ps n h in (suc r.0, r.1)
 stands_where (Some q ∷ ps) n h =
     ⊎_elim
     (λ (same : n.0 ≡ q.0.0). (zero, ap (λ (m : Name). Some m) (sym (same_names n q.0 same))))
-    (λ (ne : n.0 ≢ q.0.0). let f : (n.0 == q.0.0) ≡ false = grind (arith, nat_tests) in let r = stands_where ps n (subst (λ (b : Bool). (b || list_any (is_named n) ps) ≡ true) f h) in (suc r.0, r.1))
+    (λ (ne : n.0 ≢ q.0.0). let f : (n.0 == q.0.0) ≡ false = grind (arith, nat_tests) in let r = stands_where ps n
+    (subst (λ (b : Bool). (b || list_any (is_named n) ps) ≡ true) f h) in (suc r.0, r.1))
     (cases_eq n.0 q.0.0)
 
 -- at the start nothing is gone
@@ -54,7 +57,8 @@ settling_starts first outside ps = record {
 }
 
 -- a name named by what stands is named
-pub named_counts : (ps : List (Option (Name × Body))) (owed : Name → ℕ) (t : Tally) (s : ℕ) (n : Name) → AreCounted ps owed t → name_at ps s ≡ Some n → get_or t.total s 0 ≡ get_or t.outside s 0 + owed n
+pub named_counts : (ps : List (Option (Name × Body))) (owed : Name → ℕ) (t : Tally) (s : ℕ) (n : Name) → AreCounted ps owed t → name_at ps s ≡ Some n
+    → get_or t.total s 0 ≡ get_or t.outside s 0 + owed n
 named_counts ps owed t s n h e = h.totals s ∙ ap (λ m. get_or t.outside s 0 + m) (ap (due owed) e)
 
 -- one pending object fewer
@@ -144,7 +148,8 @@ settled first outside old now t ef eo h none g = record {
       (cases_lt n.0 first.0)
 
 pub pending_stands : (ps : List (Option (Name × Body))) (owed : Name → ℕ) (t : Tally) (s : ℕ) → AreCounted ps owed t → has t.pending s ≡ true → IsSome (place ps s)
-pending_stands ps owed t s h in' = let w : (n : Name) × (name_at ps s ≡ Some n) × (t.first_new.0 ≤ n.0) × (get_or t.total s 0 ≡ 0) = (h.pending s).0 in' in name_of_some (place ps s) w.0 w.1
+pending_stands ps owed t s h in' =
+    let w : (n : Name) × (name_at ps s ≡ Some n) × (t.first_new.0 ≤ n.0) × (get_or t.total s 0 ≡ 0) = (h.pending s).0 in' in name_of_some (place ps s) w.0 w.1
 
 -- while what it names is taken back, it stays pending
 pub still_pending : (ps : List (Option (Name × Body))) (t u : Tally) (s : ℕ) → AreCounted ps (namings ps) t → has t.pending s ≡ true

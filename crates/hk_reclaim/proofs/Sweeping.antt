@@ -1,5 +1,6 @@
 -- What taking away the unmarked objects keeps.
-use Rattle.std.proofs.Common.{◌≡◌, ◌≢◌, ℕ, zero, suc, ◌+◌, ◌<◌, ◌≤◌, Bool, true, false, cond, List, [], ◌∷◌, length, get_or, set, refl, ap, ◌∙◌, sym, subst, arith, ⊎_elim, inl, inr, ◌⊎◌, Option, Some, None, IsSome, option_map, ◌||◌, ◌&&◌, not, nat_lt, slice_get, get_or-set_same, get_or-set_other, length-set}
+use Rattle.std.proofs.Common.{◌≡◌, ◌≢◌, ℕ, zero, suc, ◌+◌, ◌<◌, ◌≤◌, Bool, true, false, cond, List, [], ◌∷◌, length, get_or, set, refl, ap, ◌∙◌, sym, subst, arith, ⊎_elim, inl}
+use Rattle.std.proofs.Common.{inr, ◌⊎◌, Option, Some, None, IsSome, option_map, ◌||◌, ◌&&◌, not, nat_lt, slice_get, get_or-set_same, get_or-set_other, length-set}
 use Rattle.std.proofs.lemmas.Bool.Decides.{nat_tests}
 use Rattle.std.proofs.lemmas.Bool.{cases_eq, cases_lt}
 use Rattle.std.proofs.lemmas.List.{ext_get_or}
@@ -48,10 +49,12 @@ marking first outside ps size old new room roots h = record {
   test_from : (n : Name) (out : ℕ) → (nat_lt n.0 first.0 || nat_lt 0 out) ≡ true → (n.0 < first.0) ⊎ (0 < out)
   test_from n out t = ⊎_elim
       (λ (l : n.0 < first.0). inl l)
-      (λ (g : first.0 ≤ n.0). ⊎_elim (λ (o : 0 < out). inr o) (λ (z : out ≤ 0). absurd (let f : (nat_lt n.0 first.0 || nat_lt 0 out) ≡ false = grind (arith, nat_tests) in cc)) (cases_lt 0 out))
+      (λ (g : first.0 ≤ n.0). ⊎_elim (λ (o : 0 < out). inr o)
+      (λ (z : out ≤ 0). absurd (let f : (nat_lt n.0 first.0 || nat_lt 0 out) ≡ false = grind (arith, nat_tests) in cc)) (cases_lt 0 out))
       (cases_lt n.0 first.0)
 
-  root_true : (k : ℕ) (n : Name) → name_at ps k ≡ Some n → (n.0 < first.0) ⊎ (0 < get_or outside k 0) → (nat_lt k size && is_root_at first (get_or outside k 0) (name_at ps k)) ≡ true
+  root_true : (k : ℕ) (n : Name) → name_at ps k ≡ Some n → (n.0 < first.0) ⊎ (0 < get_or outside k 0)
+      → (nat_lt k size && is_root_at first (get_or outside k 0) (name_at ps k)) ≡ true
   root_true k n e r =
       let low : k < size = room k (name_of_some (place ps k) n e) in
       let t : nat_lt k size ≡ true = grind (arith, nat_tests) in
@@ -61,9 +64,11 @@ marking first outside ps size old new room roots h = record {
   and_right true b h = h
   and_right false b h = absurd (cc)
 
-  root_from : (k : ℕ) (n : Name) → name_at ps k ≡ Some n → (nat_lt k size && is_root_at first (get_or outside k 0) (name_at ps k)) ≡ true → (n.0 < first.0) ⊎ (0 < get_or outside k 0)
+  root_from : (k : ℕ) (n : Name) → name_at ps k ≡ Some n → (nat_lt k size && is_root_at first (get_or outside k 0) (name_at ps k)) ≡ true
+      → (n.0 < first.0) ⊎ (0 < get_or outside k 0)
   root_from k n e t =
-      test_from n (get_or outside k 0) (subst (λ (p : Option Name). is_root_at first (get_or outside k 0) p ≡ true) e (and_right (nat_lt k size) (is_root_at first (get_or outside k 0) (name_at ps k)) t))
+      test_from n (get_or outside k 0) (subst (λ (p : Option Name). is_root_at first (get_or outside k 0) p ≡ true) e
+      (and_right (nat_lt k size) (is_root_at first (get_or outside k 0) (name_at ps k)) t))
 
 -- nothing is swept yet
 pub sweep_starts : (ps : List (Option (Name × Body))) (marks : List ℕ) (t : Tally) → AreCounted ps (namings ps) t → IsHalfSwept ps marks 0 t
@@ -91,7 +96,8 @@ sweep_keeps ps marks i t keep h = (
   cases (Some q) true h = refl
   cases (Some q) false h = absurd (cc)
 
-  at_i : (p : Option (Name × Body)) (b : Bool) → (is_some (option_map (λ (e : Name × Body). e.0) p) && not b) ≡ false → cond (nat_lt i i && not b) None p ≡ cond (nat_lt i (i + 1) && not b) None p
+  at_i : (p : Option (Name × Body)) (b : Bool) → (is_some (option_map (λ (e : Name × Body). e.0) p) && not b) ≡ false
+      → cond (nat_lt i i && not b) None p ≡ cond (nat_lt i (i + 1) && not b) None p
   at_i p b h = let f : nat_lt i i ≡ false = grind (arith, nat_tests) in let g : nat_lt i (i + 1) ≡ true = grind (arith, nat_tests) in rw (f, g) (cases p b h)
 
 lost_some : (p : Option (Name × Body)) (b : Bool) → (is_some (option_map (λ (e : Name × Body). e.0) p) && not b) ≡ true → IsSome p × (b ≡ false)
@@ -168,7 +174,8 @@ drop_step first outside owed ps now new t s ef eo in' en h g =
           (cases_eq k s);
     })
 
-pub drop_counted : (now new : List (Option (Name × Body))) (owed : Name → ℕ) (t u : Tally) (s : ℕ) → has t.pending s ≡ true → new ≡ set now s None → u ≡ record t { pending = without s t.pending } → AreCounted now owed t → AreCounted new owed u
+pub drop_counted : (now new : List (Option (Name × Body))) (owed : Name → ℕ) (t u : Tally) (s : ℕ) → has t.pending s ≡ true → new ≡ set now s None
+    → u ≡ record t { pending = without s t.pending } → AreCounted now owed t → AreCounted new owed u
 drop_counted now new owed t u s in' en eu h = rw (en, eu) (removed_one now owed t s (within_some now s (pending_stands now owed t s h in')) in' h)
 
 module _ (first : Name) (outside : List ℕ) (ps qs rs : List (Option (Name × Body))) (marks : List ℕ) (size : ℕ) (t : Tally)

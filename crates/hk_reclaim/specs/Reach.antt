@@ -39,8 +39,10 @@ pub record IsWalked (ps : List (Option (Name × Body))) (old new : Marked) (upto
   pub size : new.size ≡ old.size
   pub kept : (k : ℕ) → has old.slots k ≡ true → has new.slots k ≡ true
   pub closed : (i s : ℕ) → i < upto → slice_get new.slots i ≡ Some s → (n : Name) (k : ℕ) → 0 < times n (names_in (place ps s)) → name_at ps k ≡ Some n → has new.slots k ≡ true
-  pub held : (k : ℕ) → has new.slots k ≡ true → (has old.slots k ≡ true) ⊎ ((s : ℕ) × (n : Name) × (has new.slots s ≡ true) × (name_at ps k ≡ Some n) × (0 < times n (names_in (place ps s))))
-  pub least : (T : Name → Bool) → ((k : ℕ) (n : Name) → has old.slots k ≡ true → name_at ps k ≡ Some n → T n ≡ true) → IsNamingClosed ps T → (k : ℕ) (n : Name) → has new.slots k ≡ true → name_at ps k ≡ Some n → T n ≡ true
+  pub held : (k : ℕ) → has new.slots k ≡ true
+      → (has old.slots k ≡ true) ⊎ ((s : ℕ) × (n : Name) × (has new.slots s ≡ true) × (name_at ps k ≡ Some n) × (0 < times n (names_in (place ps s))))
+  pub least : (T : Name → Bool) → ((k : ℕ) (n : Name) → has old.slots k ≡ true → name_at ps k ≡ Some n → T n ≡ true) → IsNamingClosed ps T → (k : ℕ) (n : Name)
+      → has new.slots k ≡ true → name_at ps k ≡ Some n → T n ≡ true
   pub stand : (k : ℕ) → has new.slots k ≡ true → IsSome (place ps k)
 
 -- the marked ones are those that are reached
@@ -48,7 +50,8 @@ pub record IsMarking (first : Name) (outside : List ℕ) (ps : List (Option (Nam
   pub stand : (k : ℕ) → has marks k ≡ true → IsSome (place ps k)
   pub roots : (k : ℕ) (n : Name) → name_at ps k ≡ Some n → (n.0 < first.0) ⊎ (0 < slice_index outside k) → has marks k ≡ true
   pub closed : (s k : ℕ) (n : Name) → has marks s ≡ true → 0 < times n (names_in (place ps s)) → name_at ps k ≡ Some n → has marks k ≡ true
-  pub held : (k : ℕ) (n : Name) → has marks k ≡ true → name_at ps k ≡ Some n → ((n.0 < first.0) ⊎ (0 < slice_index outside k)) ⊎ ((s : ℕ) × (has marks s ≡ true) × (0 < times n (names_in (place ps s))))
+  pub held : (k : ℕ) (n : Name) → has marks k ≡ true → name_at ps k ≡ Some n
+      → ((n.0 < first.0) ⊎ (0 < slice_index outside k)) ⊎ ((s : ℕ) × (has marks s ≡ true) × (0 < times n (names_in (place ps s))))
   pub least : (T : Name → Bool) → IsClosed first outside ps T → (k : ℕ) (n : Name) → has marks k ≡ true → name_at ps k ≡ Some n → T n ≡ true
 
 -- in the first slots an object stands without a mark

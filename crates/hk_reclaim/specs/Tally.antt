@@ -1,5 +1,6 @@
 -- Counts, as contracts see them.
-use Rattle.std.specs.Prelude.{◌≡◌, ℕ, ◌+◌, ◌-◌, ◌^◌, ◌<◌, ◌≤◌, ◌==◌, ◌⊎◌, ◌↔◌, nat_lt, Bool, true, not, ◌&&◌, cond, List, [], ◌∷◌, ◌++◌, length, Option, Some, None, IsSome, slice_index, slice_set}
+use Rattle.std.specs.Prelude.{◌≡◌, ℕ, ◌+◌, ◌-◌, ◌^◌, ◌<◌, ◌≤◌, ◌==◌, ◌⊎◌, ◌↔◌, nat_lt, Bool, true, not, ◌&&◌, cond, List, [], ◌∷◌, ◌++◌, length, Option, Some, None, IsSome}
+use Rattle.std.specs.Prelude.{slice_index, slice_set}
 use Rattle.std.specs.List.{list_any}
 use Rattle.hk_links.specs.Chained.{Chained, listed}
 use Rattle.hk_model.specs.declared.names.Name.{Name}

@@ -164,11 +164,13 @@ started ps places n x cpu proc there room runs is idle shows q c = by (c.0 == cp
         ∙ sym (ap (λ (place : Option Proc). has_place place q) (here same) ∙ unlike)
     by false e b f =
         let other : c.0 ≡ cpu.0 → ⊥ = is_other c.0 cpu.0 e in
-        elsewhere b f ∙ sym (ap (λ (place : Option Proc). has_place place q) (set_other None (freed places (process_at ps n).run) cpu.0 c.0 (Some proc) other) ∙ gone (runs_of ps) places n shows q c)
+        elsewhere b f ∙ sym (ap (λ (place : Option Proc). has_place place q) (set_other None (freed places (process_at ps n).run) cpu.0 c.0 (Some proc) other) ∙ gone
+        (runs_of ps) places n shows q c)
       where
         elsewhere : (b : Bool) → (q == n) ≡ b → is_on c (process_at (slice_set ps n x) q).run ≡ cond (q == n) false (is_on c (process_at ps q).run)
         elsewhere true f =
-            ap (λ (p : Process). is_on c p.run) (new (is_same q n f)) ∙ ap (is_on c) runs ∙ turned cpu.0 c.0 ∙ e ∙ sym (ap (λ (t : Bool). cond t false (is_on c (process_at ps q).run)) f)
+            ap (λ (p : Process). is_on c p.run) (new (is_same q n f)) ∙ ap (is_on c) runs ∙ turned cpu.0 c.0 ∙ e ∙ sym
+            (ap (λ (t : Bool). cond t false (is_on c (process_at ps q).run)) f)
         elsewhere false f = ap (λ (p : Process). is_on c p.run) (old (is_other q n f)) ∙ sym (ap (λ (t : Bool). cond t false (is_on c (process_at ps q).run)) f)
 
 -- the places show who runs where
@@ -293,7 +295,9 @@ placed_started ps places left live later n x y cpu proc h there read free room r
     let room_for : cpu.0 < length (freed places (process_at ps n).run) = omega (arith, room, ap (λ (all : List (Option Proc)). length all) freed_is) in
     record {
       few = omega (arith, h.few, length-set ps n x);
-      placed = subst (λ (all : List (Option Proc)). Shows (runs_of (slice_set ps n x)) (slice_set all cpu.0 (Some proc))) freed_is (started ps places n x cpu proc there room_for runs is idle h.placed);
+      placed =
+          subst (λ (all : List (Option Proc)). Shows (runs_of (slice_set ps n x)) (slice_set all cpu.0 (Some proc))) freed_is
+          (started ps places n x cpu proc there room_for runs is idle h.placed);
       counted = omega (arith, h.counted, recount ps n x there, kept, count);
     }
 

@@ -49,7 +49,9 @@ fn runner_lives(run: ProcessState) -> bool
 fn count_live(all: &[Process]) -> usize
     ensures { result ≡ count_by (λ (p : Process). runner_lives p.run) all.now }
 {
-    all.iter().filter(|process| runner_lives(process.run)).count()
+    all.iter()
+        .filter(|process| runner_lives(process.run))
+        .count()
 }
 
 // The number of live processes after one of them does something else.
@@ -59,7 +61,11 @@ fn recounted(live: usize, before: ProcessState, after: ProcessState) -> usize
     ensures { result + weight before ≡ live + weight after }
 {
     let others = if runner_lives(before) { live - 1 } else { live };
-    if runner_lives(after) { others + 1 } else { others }
+    if runner_lives(after) {
+        others + 1
+    } else {
+        others
+    }
 }
 
 // The process in the place of a processor.

@@ -1,5 +1,6 @@
 -- The stacks as a world opens.
-use Rattle.std.proofs.Common.{◌≡◌, ℕ, zero, suc, ◌+◌, ◌-◌, ◌<◌, ◌≤◌, List, [], ◌∷◌, ◌++◌, length, get_or, set, take, replicate, Option, Some, None, refl, sym, ap, ◌∙◌, subst, arith, append_assoc}
+use Rattle.std.proofs.Common.{◌≡◌, ℕ, zero, suc, ◌+◌, ◌-◌, ◌<◌, ◌≤◌, List, [], ◌∷◌, ◌++◌, length, get_or, set, take, replicate, Option, Some, None, refl, sym, ap, ◌∙◌, subst}
+use Rattle.std.proofs.Common.{arith, append_assoc}
 use Rattle.std.specs.Prelude.{slice_get, slice_index_or}
 use Rattle.std.specs.Ordering.{nat_cmp}
 use Rattle.std.specs.declared.cmp.Ordering.TheVariants.{Less}
@@ -36,7 +37,8 @@ one_more es i d space there few e =
     ∙ sym (append_assoc (take i es) (get_or es i d ∷ []) (replicate (64 - (i + 1)) Empty))
     ∙ ap (λ s. s ++ replicate (64 - (i + 1)) Empty) (sym more)
 
-pub one_more_read : (es : List Entry) (i : ℕ) (d : Entry) (space next : List Entry) → i < length es → length es ≤ 64 → d ≡ get_or es i d → space ≡ take i es ++ replicate (64 - i) Empty → next ≡ set space i d
+pub one_more_read : (es : List Entry) (i : ℕ) (d : Entry) (space next : List Entry) → i < length es → length es ≤ 64 → d ≡ get_or es i d
+    → space ≡ take i es ++ replicate (64 - i) Empty → next ≡ set space i d
     → next ≡ take (i + 1) es ++ replicate (64 - (i + 1)) Empty
 one_more_read es i d space next there few read e n = n ∙ ap (set space i) read ∙ one_more es i d space there few e
 
@@ -47,7 +49,8 @@ last_stack n (first ∷ rest) t =
     let same : n + suc (length rest) ≡ n + 1 + length rest = omega arith in
     rw same (ap (λ (stacks : List (List StackFrame)). (base_frame n first.slots ∷ []) ∷ stacks) (last_stack (n + 1) rest t))
 
-pub next_stack : (tasks : List Task) (i : ℕ) (t : Task) (so_far : List (List StackFrame)) (stack : List StackFrame) → i < length tasks → t ≡ get_or tasks i t → so_far ≡ base_stacks 0 (take i tasks) → stack ≡ base_frame i t.slots ∷ []
+pub next_stack : (tasks : List Task) (i : ℕ) (t : Task) (so_far : List (List StackFrame)) (stack : List StackFrame) → i < length tasks → t ≡ get_or tasks i t
+    → so_far ≡ base_stacks 0 (take i tasks) → stack ≡ base_frame i t.slots ∷ []
     → so_far ++ stack ∷ [] ≡ base_stacks 0 (take (i + 1) tasks)
 next_stack tasks i t so_far stack there read before is =
     let many : i ≡ 0 + length (take i tasks) = omega (arith, length-take-le i tasks (omega arith)) in
@@ -68,12 +71,13 @@ base_at n (t ∷ ts) zero zero f e =
 base_at n (t ∷ ts) zero (suc k) f e = absurd (cc)
 base_at n (t ∷ ts) (suc q) k f e = let h = base_at (n + 1) ts q k f e in (omega (arith, h.0), h.1, omega (arith, h.2))
 
-
-pub base_numbered : (tasks : List Task) (i : ℕ) (stacks : List (List StackFrame)) → length tasks ≤ i → stacks ≡ base_stacks 0 (take i tasks) → AreNumbered stacks (record { 0 = length tasks })
-base_numbered tasks i stacks past e = subst (λ (s : List (List StackFrame)). AreNumbered s (record { 0 = length tasks })) (sym (e ∙ ap (base_stacks 0) (take_all i tasks past))) (record {
-  apart = λ p q i j f g a b same. let h = base_at 0 tasks p i f a in let k = base_at 0 tasks q j g b in (omega (arith, h.0, k.0), h.1 ∙ sym k.1);
-  below = λ q k f a. let h = base_at 0 tasks q k f a in omega (arith, h.0, h.2);
-})
+pub base_numbered : (tasks : List Task) (i : ℕ) (stacks : List (List StackFrame)) → length tasks ≤ i → stacks ≡ base_stacks 0 (take i tasks)
+    → AreNumbered stacks (record { 0 = length tasks })
+base_numbered tasks i stacks past e =
+    subst (λ (s : List (List StackFrame)). AreNumbered s (record { 0 = length tasks })) (sym (e ∙ ap (base_stacks 0) (take_all i tasks past))) (record {
+      apart = λ p q i j f g a b same. let h = base_at 0 tasks p i f a in let k = base_at 0 tasks q j g b in (omega (arith, h.0, k.0), h.1 ∙ sym k.1);
+      below = λ q k f a. let h = base_at 0 tasks q k f a in omega (arith, h.0, h.2);
+    })
 
 -- the base incarnations stand by rising number
 first_base : (n : ℕ) (tasks : List Task) (base : Incarnation) → insert_entry inc_cmp (bases (n + 1) tasks) (record { 0 = n }) base ≡ (record { 0 = n }, base) ∷ bases (n + 1) tasks

@@ -31,7 +31,8 @@ standing-read {A} {B} f (Some e ∷ ps) = ap (λ (es : List (Name × B)). insert
 lookup-read : {A B : Type 0} (f : A → B) (test : Name → Bool) (es : List (Name × A)) → lookup test (map (read f) es) ≡ option_map f (lookup test es)
 lookup-read f test [] = refl
 lookup-read f test (e ∷ es) = by (test e.0) (lookup-read f test es) where
-  by : (b : Bool) → lookup test (map (read f) es) ≡ option_map f (lookup test es) → cond b (Some (f e.1)) (lookup test (map (read f) es)) ≡ option_map f (cond b (Some e.1) (lookup test es))
+  by : (b : Bool) → lookup test (map (read f) es) ≡ option_map f (lookup test es)
+      → cond b (Some (f e.1)) (lookup test (map (read f) es)) ≡ option_map f (cond b (Some e.1) (lookup test es))
   by true rest = refl
   by false rest = rest
 
@@ -58,7 +59,8 @@ read-shown [] = refl
 read-shown (None ∷ ps) = ap (λ (es : List (Option (Name × List Entry))). None ∷ es) (read-shown ps)
 read-shown (Some e ∷ ps) = ap (λ (es : List (Option (Name × List Entry))). Some (e.0, e.1.entries) ∷ es) (read-shown ps)
 
-from_read : (os : List (Option (Name × Object))) (ps : List (Option (Name × Body))) (n : Name) → map (option_map (read (λ (o : Object). o.entries))) os ≡ map entries_at ps → (object_in (standing os) n).entries ≡ listed ps n
+from_read : (os : List (Option (Name × Object))) (ps : List (Option (Name × Body))) (n : Name) → map (option_map (read (λ (o : Object). o.entries))) os ≡ map entries_at ps
+    → (object_in (standing os) n).entries ≡ listed ps n
 from_read os ps n same =
     of_one (lookup (same_name n) (standing os))
     ∙ ap (λ (o : Option (List Entry)). unwrap_or o []) (sym (lookup-read (λ (o : Object). o.entries) (same_name n) (standing os))
@@ -78,7 +80,8 @@ change-listed [] s f same = refl
 change-listed (p ∷ ps) zero f same = ap (λ (q : Option (Name × List Entry)). q ∷ map entries_at ps) (same_entries f same p)
 change-listed (p ∷ ps) (suc s) f same = ap (λ (qs : List (Option (Name × List Entry))). entries_at p ∷ qs) (change-listed ps s f same)
 
-pub lists_stay : (ps : List (Option (Name × Body))) (s : ℕ) (f : Body → Body) → ((b : Body) → (f b).entries ≡ b.entries) → (n : Name) → (object (seen ps) n).entries ≡ (object (seen (change ps s f)) n).entries
+pub lists_stay : (ps : List (Option (Name × Body))) (s : ℕ) (f : Body → Body) → ((b : Body) → (f b).entries ≡ b.entries) → (n : Name)
+    → (object (seen ps) n).entries ≡ (object (seen (change ps s f)) n).entries
 lists_stay ps s f same n =
     from_read (map shown_at ps) ps n (read-shown ps)
     ∙ sym (from_read (map shown_at (change ps s f)) ps n (read-shown (change ps s f) ∙ change-listed ps s f same))

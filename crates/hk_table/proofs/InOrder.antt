@@ -1,5 +1,6 @@
 -- The objects and incarnations, put in by rising number from the last on.
-use Rattle.std.proofs.Common.{◌≡◌, ℕ, zero, suc, ◌+◌, ◌-◌, ◌<◌, ◌≤◌, true, List, [], ◌∷◌, length, get_or, drop, Option, Some, None, IfSome, refl, sym, ap, ◌∙◌, subst, arith, option_map}
+use Rattle.std.proofs.Common.{◌≡◌, ℕ, zero, suc, ◌+◌, ◌-◌, ◌<◌, ◌≤◌, true, List, [], ◌∷◌, length, get_or, drop, Option, Some, None, IfSome, refl, sym, ap, ◌∙◌, subst, arith}
+use Rattle.std.proofs.Common.{option_map}
 use Rattle.std.specs.Prelude.{slice_get, slice_index_or}
 use Rattle.std.specs.BTreeMap.{insert_entry}
 use Rattle.hk_model.specs.declared.names.Name.{Name}
@@ -28,14 +29,16 @@ nothing (Some p) procs e = absurd (cc)
 pub nothing_placed : (ps : List (Option (Name × Body))) (ws : List (List Proc)) (s : ℕ) → None ≡ name_at ps s → None ≡ place (whole ps ws) s
 nothing_placed ps ws s e = nothing (place ps s) (slice_index_or ws s []) e ∙ sym (place-whole ps ws s)
 
-something : (p : Option (Name × Body)) (procs waiters : List Proc) (n : Name) (o : Object) → Some n ≡ option_map (λ (e : Name × Body). e.0) p → IfSome p (λ e. o ≡ whole_object e.1 procs) → procs ≡ waiters → Some (n, o) ≡ with_waiters p waiters
+something : (p : Option (Name × Body)) (procs waiters : List Proc) (n : Name) (o : Object) → Some n ≡ option_map (λ (e : Name × Body). e.0) p
+    → IfSome p (λ e. o ≡ whole_object e.1 procs) → procs ≡ waiters → Some (n, o) ≡ with_waiters p waiters
 something None procs waiters n o e is same = absurd (cc)
 something (Some p) procs waiters n o e is same =
     let name : n ≡ p.0 = cc in
     let object : o ≡ whole_object p.1 waiters = is ∙ ap (whole_object p.1) same in
     λ i. Some (name i, object i)
 
-pub something_placed : (ps : List (Option (Name × Body))) (ws : List (List Proc)) (s : ℕ) (procs : List Proc) (n : Name) (o : Object) → Some n ≡ name_at ps s → IfSome (place ps s) (λ e. o ≡ whole_object e.1 procs) → procs ≡ slice_index_or ws s []
+pub something_placed : (ps : List (Option (Name × Body))) (ws : List (List Proc)) (s : ℕ) (procs : List Proc) (n : Name) (o : Object) → Some n ≡ name_at ps s
+    → IfSome (place ps s) (λ e. o ≡ whole_object e.1 procs) → procs ≡ slice_index_or ws s []
     → Some (n, o) ≡ place (whole ps ws) s
 something_placed ps ws s procs n o e is same = something (place ps s) procs (slice_index_or ws s []) n o e is same ∙ sym (place-whole ps ws s)
 
@@ -56,7 +59,8 @@ drop-place [] j n o e = absurd (cc)
 drop-place (p ∷ os) zero n o e = ap (λ (q : Option (Name × Object)). q ∷ os) (sym e)
 drop-place (p ∷ os) (suc j) n o e = drop-place os j n o e
 
-pub objects_more : (os : List (Option (Name × Object))) (k : ℕ) (n : Name) (o : Object) (es new : List (Name × Object)) → 0 < k → Some (n, o) ≡ place os (k - 1) → es ≡ standing (drop k os) → new ≡ insert_entry name_cmp es n o
+pub objects_more : (os : List (Option (Name × Object))) (k : ℕ) (n : Name) (o : Object) (es new : List (Name × Object)) → 0 < k → Some (n, o) ≡ place os (k - 1)
+    → es ≡ standing (drop k os) → new ≡ insert_entry name_cmp es n o
     → new ≡ standing (drop (k - 1) os)
 objects_more os zero n o es new some e before inserted = absurd (omega arith)
 objects_more os (suc j) n o es new some e before inserted =
@@ -81,15 +85,19 @@ drop-frame (g ∷ fs) zero f e = let same : g ≡ f = cc in ap (λ (x : StackFra
 drop-frame (g ∷ fs) (suc j) f e = drop-frame fs j f e
 
 -- one frame more
-pub frames_more : (proc : Proc) (fs : List StackFrame) (k : ℕ) (f : StackFrame) (caller : Option Inc) (i : Incarnation) (base all new : List (Inc × Incarnation)) → 0 < k → slice_get fs (k - 1) ≡ Some f → caller ≡ caller_at None fs (k - 1)
-    → i ≡ incarnation_of proc caller f → all ≡ live_with proc (caller_at None fs k) (drop k fs) base → new ≡ insert_entry inc_cmp all f.inc i → new ≡ live_with proc (caller_at None fs (k - 1)) (drop (k - 1) fs) base
+pub frames_more : (proc : Proc) (fs : List StackFrame) (k : ℕ) (f : StackFrame) (caller : Option Inc) (i : Incarnation) (base all new : List (Inc × Incarnation)) → 0 < k
+    → slice_get fs (k - 1) ≡ Some f → caller ≡ caller_at None fs (k - 1)
+    → i ≡ incarnation_of proc caller f → all ≡ live_with proc (caller_at None fs k) (drop k fs) base → new ≡ insert_entry inc_cmp all f.inc i
+    → new ≡ live_with proc (caller_at None fs (k - 1)) (drop (k - 1) fs) base
 frames_more proc fs zero f caller i base all new some here calls is before inserted = absurd (omega arith)
 frames_more proc fs (suc j) f caller i base all new some here calls is before inserted =
     let same : suc j - 1 ≡ j = omega arith in
     let there : slice_get fs j ≡ Some f = ap (slice_get fs) (sym same) ∙ here in
     inserted
-    ∙ ap (λ (v : List (Inc × Incarnation)). insert_entry inc_cmp v f.inc i) (before ∙ ap (λ (c : Option Inc). live_with proc c (drop (suc j) fs) base) (caller_below None fs j f there))
-    ∙ ap (λ (v : Incarnation). insert_entry inc_cmp (live_with proc (Some f.inc) (drop (suc j) fs) base) f.inc v) (is ∙ ap (λ (c : Option Inc). incarnation_of proc c f) (calls ∙ ap (caller_at None fs) same))
+    ∙ ap (λ (v : List (Inc × Incarnation)). insert_entry inc_cmp v f.inc i)
+    (before ∙ ap (λ (c : Option Inc). live_with proc c (drop (suc j) fs) base) (caller_below None fs j f there))
+    ∙ ap (λ (v : Incarnation). insert_entry inc_cmp (live_with proc (Some f.inc) (drop (suc j) fs) base) f.inc v)
+    (is ∙ ap (λ (c : Option Inc). incarnation_of proc c f) (calls ∙ ap (caller_at None fs) same))
     ∙ ap (λ (v : List StackFrame). live_with proc (caller_at None fs j) v base) (sym (drop-frame fs j f there))
     ∙ ap (λ (m : ℕ). live_with proc (caller_at None fs m) (drop m fs) base) (sym same)
 
@@ -99,5 +107,6 @@ within [] k e = absurd (cc)
 within (p ∷ ps) zero e = omega arith
 within (p ∷ ps) (suc k) e = let h = within ps k e in omega (arith, h)
 
-pub ready_known : (slots : List (Option (Name × Body))) (q : Queued) (ps : List Process) → AreQueued slots q ps → (proc : Proc) → is_queued proc q.ready ≡ true → proc.0 < q.processes
+pub ready_known : (slots : List (Option (Name × Body))) (q : Queued) (ps : List Process) → AreQueued slots q ps → (proc : Proc) → is_queued proc q.ready ≡ true
+    → proc.0 < q.processes
 ready_known slots q ps h proc in' = let k = within ps proc.0 (h.ready proc in') in omega (arith, k, h.all)

@@ -33,14 +33,16 @@ lookup-insert_number n m o es same = ap (λ (k : ℕ). let i : Inc = record { 0 
 abbrev pub IsNoneOf : Inc → List StackFrame → Type 0
 IsNoneOf n fs = (k : ℕ) (f : StackFrame) → slice_get fs k ≡ Some f → f.inc.0 ≡ n.0 → ⊥
 
-pub live-none : (proc : Proc) (caller : Option Inc) (fs : List StackFrame) (es : Ones) (n : Inc) → IsNoneOf n fs → lookup (same_inc n) (live_with proc caller fs es) ≡ lookup (same_inc n) es
+pub live-none : (proc : Proc) (caller : Option Inc) (fs : List StackFrame) (es : Ones) (n : Inc) → IsNoneOf n fs
+    → lookup (same_inc n) (live_with proc caller fs es) ≡ lookup (same_inc n) es
 live-none proc caller [] es n none = refl
 live-none proc caller (f ∷ fs) es n none =
     lookup-insert_other f.inc n (incarnation_of proc caller f) (live_with proc (Some f.inc) fs es) (none 0 f refl)
     ∙ live-none proc (Some f.inc) fs es n (λ k g h. none (suc k) g h)
 
 pub live-there : (proc : Proc) (caller : Option Inc) (fs : List StackFrame) (es : Ones) (k : ℕ) (f : StackFrame) → slice_get fs k ≡ Some f
-    → ((j : ℕ) (g : StackFrame) → slice_get fs j ≡ Some g → g.inc.0 ≡ f.inc.0 → j ≡ k) → lookup (same_inc f.inc) (live_with proc caller fs es) ≡ Some (incarnation_of proc (caller_at caller fs k) f)
+    → ((j : ℕ) (g : StackFrame) → slice_get fs j ≡ Some g → g.inc.0 ≡ f.inc.0 → j ≡ k)
+    → lookup (same_inc f.inc) (live_with proc caller fs es) ≡ Some (incarnation_of proc (caller_at caller fs k) f)
 live-there proc caller [] es k f here one = absurd (cc)
 live-there proc caller (g ∷ fs) es zero f here one =
     let same : g ≡ f = cc in
@@ -64,7 +66,8 @@ found_frame n (fs ∷ rest) (suc q) k f here one =
     ∙ (let e : n + 1 + q ≡ n + suc q = omega arith in ap (λ (m : ℕ). Some (incarnation_of (record { 0 = m }) (caller_at None (slice_index_or rest q []) k) f)) e)
 
 -- a number that no frame has
-pub no_frame : (n : ℕ) (stacks : List (List StackFrame)) (inc : Inc) → ((q k : ℕ) (f : StackFrame) → frame_at stacks q k ≡ Some f → f.inc.0 ≡ inc.0 → ⊥) → lookup (same_inc inc) (live_from n stacks) ≡ None
+pub no_frame : (n : ℕ) (stacks : List (List StackFrame)) (inc : Inc) → ((q k : ℕ) (f : StackFrame) → frame_at stacks q k ≡ Some f → f.inc.0 ≡ inc.0 → ⊥)
+    → lookup (same_inc inc) (live_from n stacks) ≡ None
 no_frame n [] inc none = refl
 no_frame n (fs ∷ rest) inc none = live-none (record { 0 = n }) None fs (live_from (n + 1) rest) inc (none 0) ∙ no_frame (n + 1) rest inc (λ q. none (suc q))
 
@@ -79,7 +82,8 @@ incarnation_or_none proc fs (Some f) = incarnation_of proc (caller_at None fs (l
 pub current_one : (stacks : List (List StackFrame)) (next : Inc) (q : ℕ) (inc : Inc) → AreNumbered stacks next → IsCurrent stacks inc q
     → live_one (live_from 0 stacks) inc ≡ incarnation_or_none (record { 0 = q }) (slice_index_or stacks q []) (top_of (slice_index_or stacks q []))
 current_one stacks next q inc h current = by (top_of (slice_index_or stacks q [])) refl current where
-  by : (o : Option StackFrame) → top_of (slice_index_or stacks q []) ≡ o → IsCurrentOf stacks inc o → live_one (live_from 0 stacks) inc ≡ incarnation_or_none (record { 0 = q }) (slice_index_or stacks q []) o
+  by : (o : Option StackFrame) → top_of (slice_index_or stacks q []) ≡ o → IsCurrentOf stacks inc o
+      → live_one (live_from 0 stacks) inc ≡ incarnation_or_none (record { 0 = q }) (slice_index_or stacks q []) o
   by None e none = ap (λ (o : Option Incarnation). unwrap_or o no_incarnation) (no_frame 0 stacks inc none)
   by (Some f) e same =
       let k : ℕ = length (slice_index_or stacks q []) - 1 in

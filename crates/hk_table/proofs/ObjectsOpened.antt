@@ -1,5 +1,6 @@
 -- The objects as a world opens.
-use Rattle.std.proofs.Common.{◌≡◌, ◌≢◌, ℕ, zero, suc, ◌+◌, ◌<◌, ◌≤◌, List, [], ◌∷◌, ◌++◌, length, get_or, set, take, map, replicate, Option, Some, None, IsSome, IfSome, refl, sym, ap, ◌∙◌, subst, arith, append_assoc, option_map, get_or-set_same}
+use Rattle.std.proofs.Common.{◌≡◌, ◌≢◌, ℕ, zero, suc, ◌+◌, ◌<◌, ◌≤◌, List, [], ◌∷◌, ◌++◌, length, get_or, set, take, map, replicate, Option, Some, None, IsSome, IfSome, refl, sym}
+use Rattle.std.proofs.Common.{ap, ◌∙◌, subst, arith, append_assoc, option_map, get_or-set_same}
 use Rattle.std.specs.Ordering.{nat_cmp}
 use Rattle.std.specs.declared.cmp.Ordering.TheVariants.{Greater}
 use Rattle.std.specs.BTreeMap.{insert_entry}
@@ -22,7 +23,8 @@ use Rattle.hk_walk.proofs.Found.{place-shown, name_at-shown}
 use Rattle.hk_table.specs.Born.{Adds, named}
 
 -- each object seen as the definitions have it stands where it stood
-insert-map : {A B : Type 0} (f : A → B) (es : List (Name × A)) (n : Name) (o : A) → map (λ (e : Name × A). (e.0, f e.1)) (insert_entry name_cmp es n o) ≡ insert_entry name_cmp (map (λ (e : Name × A). (e.0, f e.1)) es) n (f o)
+insert-map : {A B : Type 0} (f : A → B) (es : List (Name × A)) (n : Name) (o : A)
+    → map (λ (e : Name × A). (e.0, f e.1)) (insert_entry name_cmp es n o) ≡ insert_entry name_cmp (map (λ (e : Name × A). (e.0, f e.1)) es) n (f o)
 insert-map f [] n o = refl
 insert-map f (e ∷ es) n o = grind (arith, nat_tests, insert-map f es n o)
 
@@ -80,7 +82,8 @@ semaphore_added old s ws es count made new w e low free above m n =
     (subst (λ (v : List Entry). Adds old new (record (plain_object (record { 0 = 3 }) ws v) { count = count })) e
     (changed old s (new_body (record { 0 = 3 }) ws es) (λ b. record b { count = count }) made new low free above m n))
 
-pub procedure_added : (old : Shelf) (s : ℕ) (ws : List ℕ) (es : List Entry) (code : ℕ) (params : List Param) (made new : Shelf) → ws ≡ [] → s < length old.slots → place old.slots s ≡ None
+pub procedure_added : (old : Shelf) (s : ℕ) (ws : List ℕ) (es : List Entry) (code : ℕ) (params : List Param) (made new : Shelf) → ws ≡ [] → s < length old.slots
+    → place old.slots s ≡ None
     → ((slot : ℕ) (name : Name) → name_at old.slots slot ≡ Some name → name.0 < old.next.0)
     → made ≡ record { slots = set old.slots s (Some (old.next, new_body (record { 0 = 4 }) ws es)); next = record { 0 = old.next.0 + 1 } }
     → new ≡ record made { slots = change made.slots s (λ b. record b { procedure = Some (record { code = code; params = params }) }) }
@@ -90,7 +93,8 @@ procedure_added old s ws es code params made new w low free above m n =
     (changed old s (new_body (record { 0 = 4 }) ws es) (λ b. record b { procedure = Some (record { code = code; params = params }) }) made new low free above m n)
 
 -- a made object stands in its slot
-pub made_there : (old : Shelf) (s : ℕ) (b : Body) (made : Shelf) → s < length old.slots → made ≡ record { slots = set old.slots s (Some (old.next, b)); next = record { 0 = old.next.0 + 1 } } → IsSome (place made.slots s)
+pub made_there : (old : Shelf) (s : ℕ) (b : Body) (made : Shelf) → s < length old.slots
+    → made ≡ record { slots = set old.slots s (Some (old.next, b)); next = record { 0 = old.next.0 + 1 } } → IsSome (place made.slots s)
 made_there old s b made low m =
     subst (λ (p : Option (Name × Body)). IsSome p) (sym (ap (λ (v : Shelf). place v.slots s) m ∙ get_or-set_same old.slots s (Some (old.next, b)) None low)) refl
 
@@ -102,7 +106,8 @@ abbrev name : ℕ → Name
 name n = record { 0 = n }
 
 -- an object with the next name goes to the end
-next_object : (n k : ℕ) (objects : List Object) (o : Object) → k ≡ n + length objects → insert_entry name_cmp (numbered name n objects) (name k) o ≡ numbered name n (objects ++ o ∷ [])
+next_object : (n k : ℕ) (objects : List Object) (o : Object) → k ≡ n + length objects
+    → insert_entry name_cmp (numbered name n objects) (name k) o ≡ numbered name n (objects ++ o ∷ [])
 next_object n k [] o at = ap (λ m. (name m, o) ∷ []) (omega arith)
 next_object n k (first ∷ rest) o at =
     let past : nat_cmp k n ≡ Greater = after n k (omega arith) in
@@ -144,7 +149,8 @@ opened_room shelf os h few =
 kernel_type_more : (n : ℕ) → replicate n no_object ++ no_object ∷ [] ≡ replicate (n + 1) no_object
 kernel_type_more n = replicate-append-replicate n 1 no_object
 
-pub kernel_type_added : (old new : Shelf) (n : ℕ) (ws : List ℕ) (es : List Entry) → ws ≡ [] → es ≡ [] → IsOpened old (replicate n no_object) → Adds old new (plain_object (record { 0 = 0 }) ws es) → IsOpened new (replicate (n + 1) no_object)
+pub kernel_type_added : (old new : Shelf) (n : ℕ) (ws : List ℕ) (es : List Entry) → ws ≡ [] → es ≡ [] → IsOpened old (replicate n no_object)
+    → Adds old new (plain_object (record { 0 = 0 }) ws es) → IsOpened new (replicate (n + 1) no_object)
 kernel_type_added old new n ws es w e h a =
     subst (λ (os : List Object). IsOpened new os) (kernel_type_more n)
     (opened_more old new (replicate n no_object) no_object h
@@ -155,12 +161,14 @@ kernel_type_room shelf n few h = opened_room shelf (replicate n no_object) h (le
 
 -- one more object of the script
 pub born_more : (born : List Born) (i : ℕ) (d : Born) → i < length born → d ≡ get_or born i d
-    → (replicate 7 no_object ++ map (λ (b : Born). object_of b.kind) (take i born)) ++ object_of d.kind ∷ [] ≡ replicate 7 no_object ++ map (λ (b : Born). object_of b.kind) (take (i + 1) born)
+    → (replicate 7 no_object ++ map (λ (b : Born). object_of b.kind) (take i born)) ++ object_of d.kind ∷ [] ≡ replicate 7 no_object ++ map
+    (λ (b : Born). object_of b.kind) (take (i + 1) born)
 born_more born i d there read =
     let so_far : List Object = map (λ (b : Born). object_of b.kind) (take i born) in
     append_assoc (replicate 7 no_object) so_far (object_of d.kind ∷ [])
     ∙ ap (λ (x : Born). replicate 7 no_object ++ (so_far ++ object_of x.kind ∷ [])) read
-    ∙ ap (λ rest. replicate 7 no_object ++ rest) (sym (map-append (λ (b : Born). object_of b.kind) (take i born) (get_or born i d ∷ [])) ∙ sym (ap (map (λ (b : Born). object_of b.kind)) (take_more born i d there)))
+    ∙ ap (λ rest. replicate 7 no_object ++ rest) (sym (map-append (λ (b : Born). object_of b.kind) (take i born) (get_or born i d ∷ [])) ∙ sym
+    (ap (map (λ (b : Born). object_of b.kind)) (take_more born i d there)))
 
 pub born_many : (born : List Born) (i : ℕ) → i ≤ length born → length (replicate 7 no_object ++ map (λ (b : Born). object_of b.kind) (take i born)) ≡ 7 + i
 born_many born i few =
@@ -170,15 +178,18 @@ born_many born i few =
     let d = length-replicate 7 no_object in
     omega (arith, a, b, c, d)
 
-pub born_added : (old new : Shelf) (born : List Born) (i : ℕ) (d : Born) → i < length born → d ≡ get_or born i d → IsOpened old (replicate 7 no_object ++ map (λ (b : Born). object_of b.kind) (take i born)) → Adds old new (object_of d.kind)
+pub born_added : (old new : Shelf) (born : List Born) (i : ℕ) (d : Born) → i < length born → d ≡ get_or born i d
+    → IsOpened old (replicate 7 no_object ++ map (λ (b : Born). object_of b.kind) (take i born)) → Adds old new (object_of d.kind)
     → IsOpened new (replicate 7 no_object ++ map (λ (b : Born). object_of b.kind) (take (i + 1) born))
 born_added old new born i d there read h a =
     subst (λ (os : List Object). IsOpened new os) (born_more born i d there read)
     (opened_more old new (replicate 7 no_object ++ map (λ (b : Born). object_of b.kind) (take i born)) (object_of d.kind) h a)
 
-pub born_room : (shelf : Shelf) (born : List Born) (i : ℕ) → i < length born → length born ≤ 65529 → IsOpened shelf (replicate 7 no_object ++ map (λ (b : Born). object_of b.kind) (take i born)) → length (standing shelf.slots) < 65536
+pub born_room : (shelf : Shelf) (born : List Born) (i : ℕ) → i < length born → length born ≤ 65529
+    → IsOpened shelf (replicate 7 no_object ++ map (λ (b : Born). object_of b.kind) (take i born)) → length (standing shelf.slots) < 65536
 born_room shelf born i there few h =
     opened_room shelf (replicate 7 no_object ++ map (λ (b : Born). object_of b.kind) (take i born)) h (let k = born_many born i (omega arith) in omega (arith, k))
 
-pub born_next : (shelf : Shelf) (born : List Born) (i : ℕ) → i ≤ length born → IsOpened shelf (replicate 7 no_object ++ map (λ (b : Born). object_of b.kind) (take i born)) → shelf.next.0 ≡ 7 + i
+pub born_next : (shelf : Shelf) (born : List Born) (i : ℕ) → i ≤ length born → IsOpened shelf (replicate 7 no_object ++ map (λ (b : Born). object_of b.kind) (take i born))
+    → shelf.next.0 ≡ 7 + i
 born_next shelf born i few h = h.next ∙ born_many born i few

@@ -1,5 +1,6 @@
 -- The queues as a world opens, and the parts of a table joined.
-use Rattle.std.proofs.Common.{◌≡◌, ℕ, zero, suc, ◌+◌, ◌-◌, ◌<◌, ◌≤◌, ◌==◌, ◌||◌, Bool, true, false, List, [], ◌∷◌, ◌++◌, length, get_or, take, map, replicate, Option, Some, None, refl, sym, ap, ◌∙◌, subst, arith}
+use Rattle.std.proofs.Common.{◌≡◌, ℕ, zero, suc, ◌+◌, ◌-◌, ◌<◌, ◌≤◌, ◌==◌, ◌||◌, Bool, true, false, List, [], ◌∷◌, ◌++◌, length, get_or, take, map, replicate, Option, Some, None}
+use Rattle.std.proofs.Common.{refl, sym, ap, ◌∙◌, subst, arith}
 use Rattle.std.specs.Prelude.{slice_get, slice_index_or}
 use Rattle.std.specs.List.{list_any}
 use Rattle.std.proofs.lemmas.List.{length-replicate, length-take-le, take_more}
@@ -53,7 +54,8 @@ numbers_once n (t ∷ ts) = (late_number (n + 1) n ts (record { 0 = n }) refl (o
 number_within : (n : ℕ) (tasks : List Task) (proc : Proc) → is_queued proc (proc_numbers n tasks) ≡ true → (n ≤ proc.0) × (proc.0 < n + length tasks)
 number_within n [] proc h = absurd (cc)
 number_within n (t ∷ ts) proc h = by (proc.0 == n) refl h (number_within (n + 1) ts proc) where
-  by : (b : Bool) → (proc.0 == n) ≡ b → (b || is_queued proc (proc_numbers (n + 1) ts)) ≡ true → (is_queued proc (proc_numbers (n + 1) ts) ≡ true → (n + 1 ≤ proc.0) × (proc.0 < n + 1 + length ts))
+  by : (b : Bool) → (proc.0 == n) ≡ b → (b || is_queued proc (proc_numbers (n + 1) ts)) ≡ true
+      → (is_queued proc (proc_numbers (n + 1) ts) ≡ true → (n + 1 ≤ proc.0) × (proc.0 < n + 1 + length ts))
       → (n ≤ proc.0) × (proc.0 < n + length (t ∷ ts))
   by true e q rest = let same : proc.0 ≡ n = grind (arith, nat_tests) in (omega arith, omega arith)
   by false e q rest = let w = rest q in (omega (arith, w.0), omega (arith, w.1))
@@ -122,7 +124,8 @@ opened_queues slots q ps tasks all ready waiting processes = record {
       subst (λ (procs : List Proc). AreOnce procs) (sym e) tt;
 }
 
-pub opened_joined : (objects : Shelf) (q : Queued) (ps : List Process) (st : Stacked) (w : Remembered) (tasks : List Task) → AreQueued objects.slots q ps → ps ≡ all_ready 0 tasks → st.stacks ≡ base_stacks 0 tasks
+pub opened_joined : (objects : Shelf) (q : Queued) (ps : List Process) (st : Stacked) (w : Remembered) (tasks : List Task) → AreQueued objects.slots q ps → ps ≡ all_ready 0 tasks
+    → st.stacks ≡ base_stacks 0 tasks
     → w ≡ record { capacity = 256; pairs = [] } → IsJoined objects q ps st w
 opened_joined objects q ps st w tasks queued processes stacks none = record {
   queued = queued;
@@ -176,7 +179,8 @@ ready_at_end n (first ∷ rest) t =
     let same : n + suc (length rest) ≡ n + 1 + length rest = omega arith in
     rw same (ap (λ (ps : List Process). record { run = Ready; current = record { 0 = n } } ∷ ps) (ready_at_end (n + 1) rest t))
 
-pub next_ready : (tasks : List Task) (i : ℕ) (d : Task) → i < length tasks → all_ready 0 (take i tasks) ++ record { run = Ready; current = record { 0 = i } } ∷ [] ≡ all_ready 0 (take (i + 1) tasks)
+pub next_ready : (tasks : List Task) (i : ℕ) (d : Task) → i < length tasks
+    → all_ready 0 (take i tasks) ++ record { run = Ready; current = record { 0 = i } } ∷ [] ≡ all_ready 0 (take (i + 1) tasks)
 next_ready tasks i d there =
     let many : i ≡ 0 + length (take i tasks) = omega (arith, length-take-le i tasks (omega arith)) in
     ap (λ (k : ℕ). all_ready 0 (take i tasks) ++ record { run = Ready; current = record { 0 = k } } ∷ []) many
@@ -200,6 +204,7 @@ pub none_running : (n : ℕ) (tasks : List Task) → list_any (λ (p : Process).
 none_running n [] = refl
 none_running n (t ∷ rest) = none_running (n + 1) rest
 
-pub next_queued : (q r : Queued) (tasks : List Task) (i : ℕ) (d : Task) → i < length tasks → q.ready ≡ proc_numbers 0 (take i tasks) → r ≡ record q { ready = q.ready ++ record { 0 = i } ∷ [] } → r.ready ≡ proc_numbers 0 (take (i + 1) tasks)
+pub next_queued : (q r : Queued) (tasks : List Task) (i : ℕ) (d : Task) → i < length tasks → q.ready ≡ proc_numbers 0 (take i tasks)
+    → r ≡ record q { ready = q.ready ++ record { 0 = i } ∷ [] } → r.ready ≡ proc_numbers 0 (take (i + 1) tasks)
 next_queued q r tasks i d there before e =
     ap (λ (v : Queued). v.ready) e ∙ ap (λ (procs : List Proc). procs ++ record { 0 = i } ∷ []) before ∙ next_number tasks i d there

@@ -27,11 +27,13 @@ module _ (ps : List (Option (Name × Body))) (ws : List (List Proc)) (s : ℕ) (
       → y ≡ g (object_in (standing (whole ps ws)) n)
   read_is f g same y read = part_read ps ws s n apart named f g same y (λ b here. subst (λ (p : Option (Name × Body)). IfSome p (λ e. y ≡ f e.1)) here read)
 
-pub missing_is : {Y : Type 0} (ps : List (Option (Name × Body))) (ws : List (List Proc)) (n : Name) (g : Object → Y) → ((k : ℕ) → name_at ps k ≡ Some n → ⊥) → g no_object ≡ g (object_in (standing (whole ps ws)) n)
+pub missing_is : {Y : Type 0} (ps : List (Option (Name × Body))) (ws : List (List Proc)) (n : Name) (g : Object → Y) → ((k : ℕ) → name_at ps k ≡ Some n → ⊥)
+    → g no_object ≡ g (object_in (standing (whole ps ws)) n)
 missing_is ps ws n g none = sym (ap g (missing_read ps ws n none))
 
 -- a part that was written there
-pub part_joined : (objects new : Shelf) (q : Queued) (ps : List Process) (st : Stacked) (w : Remembered) (s : ℕ) (f : Body → Body) → ((b : Body) → (f b).entries ≡ b.entries) → IsJoined objects q ps st w
+pub part_joined : (objects new : Shelf) (q : Queued) (ps : List Process) (st : Stacked) (w : Remembered) (s : ℕ) (f : Body → Body) → ((b : Body) → (f b).entries ≡ b.entries)
+    → IsJoined objects q ps st w
     → new ≡ record objects { slots = change objects.slots s f } → IsJoined new q ps st w
 part_joined objects new q ps st w s f same h e = subst (λ (v : Shelf). IsJoined v q ps st w) (sym e) (record {
   queued = record {
@@ -48,13 +50,15 @@ part_joined objects new q ps st w s f same h e = subst (λ (v : Shelf). IsJoined
 })
 
 pub part_told : (objects new : Shelf) (q : Queued) (ps : List Process) (st : Stacked) (first_new : Name) (events limit s : ℕ) (n : Name) (f : Body → Body) (g : Object → Object)
-    → AreApart objects.slots → name_at objects.slots s ≡ Some n → ((b : Body) (procs : List Proc) → whole_object (f b) procs ≡ g (whole_object b procs)) → new ≡ record objects { slots = change objects.slots s f }
+    → AreApart objects.slots → name_at objects.slots s ≡ Some n → ((b : Body) (procs : List Proc) → whole_object (f b) procs ≡ g (whole_object b procs))
+    → new ≡ record objects { slots = change objects.slots s f }
     → told new q ps st first_new events limit ≡ put_object (told objects q ps st first_new events limit) n (g (object (told objects q ps st first_new events limit) n))
 part_told objects new q ps st first_new events limit s n f g apart named same e =
     ap (λ (v : Shelf). told v q ps st first_new events limit) e
     ∙ (λ i. record (told objects q ps st first_new events limit) { objects = part_written objects.slots q.waiting s n apart named f g same i })
 
-pub missing_told : (objects : Shelf) (q : Queued) (ps : List Process) (st : Stacked) (first_new : Name) (events limit : ℕ) (n : Name) (o : Object) → ((k : ℕ) → name_at objects.slots k ≡ Some n → ⊥)
+pub missing_told : (objects : Shelf) (q : Queued) (ps : List Process) (st : Stacked) (first_new : Name) (events limit : ℕ) (n : Name) (o : Object)
+    → ((k : ℕ) → name_at objects.slots k ≡ Some n → ⊥)
     → told objects q ps st first_new events limit ≡ put_object (told objects q ps st first_new events limit) n o
 missing_told objects q ps st first_new events limit n o none =
     λ i. record (told objects q ps st first_new events limit) { objects = sym (missing_stays objects.slots q.waiting n none o) i }

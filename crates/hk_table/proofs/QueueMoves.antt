@@ -1,5 +1,6 @@
 -- What keeps the queues and the processes together.
-use Rattle.std.proofs.Common.{◌≡◌, ℕ, zero, suc, ◌+◌, ◌-◌, ◌<◌, ◌≤◌, ◌==◌, ◌||◌, Bool, true, false, List, [], ◌∷◌, ◌++◌, length, set, drop, Option, Some, None, refl, sym, ap, ◌∙◌, subst, arith, ⊎_elim}
+use Rattle.std.proofs.Common.{◌≡◌, ℕ, zero, suc, ◌+◌, ◌-◌, ◌<◌, ◌≤◌, ◌==◌, ◌||◌, Bool, true, false, List, [], ◌∷◌, ◌++◌, length, set, drop, Option, Some, None, refl, sym, ap, ◌∙◌}
+use Rattle.std.proofs.Common.{subst, arith, ⊎_elim}
 use Rattle.std.specs.Prelude.{slice_get, slice_set, slice_index_or}
 use Rattle.std.proofs.lemmas.List.{length-set}
 use Rattle.std.proofs.lemmas.Bool.{cases_eq}
@@ -38,7 +39,8 @@ current_stays ps proc run q there =
     ⊎_elim
     (λ (same : q ≡ proc.0).
     let low : proc.0 < length ps = omega arith in
-    ap (λ (k : ℕ). (process_at (with_run ps proc run) k).current) same ∙ ap (λ (p : Process). p.current) (run_same ps proc run low) ∙ ap (λ (k : ℕ). (process_at ps k).current) (sym same))
+    ap (λ (k : ℕ). (process_at (with_run ps proc run) k).current) same ∙ ap (λ (p : Process). p.current) (run_same ps proc run low) ∙ ap
+    (λ (k : ℕ). (process_at ps k).current) (sym same))
     (λ (other : q ≡ proc.0 → ⊥). ap (λ (p : Process). p.current) (run_other ps proc run q other))
     (cases_eq q proc.0)
 

@@ -37,7 +37,8 @@ walk_refused s (Form form) (at ∷ rest) e some h = let same : e ≡ refused.Not
 walk_refused s (Held cap) (at ∷ rest) e some h = absurd (cc)
 
 -- over the slots it goes as over the state
-pub walk_told : (objects : Shelf) (q : Queued) (ps : List Process) (st : Stacked) (first_new : Name) (events limit : ℕ) (first : Entry) (cap : Cap) (rest : List ℕ) (r : Result Entry Refusal)
+pub walk_told : (objects : Shelf) (q : Queued) (ps : List Process) (st : Stacked) (first_new : Name) (events limit : ℕ) (first : Entry) (cap : Cap) (rest : List ℕ)
+    (r : Result Entry Refusal)
     → Ok cap ≡ held first 0 → r ≡ walk_on (seen objects.slots) (Held cap) rest 0 → r ≡ walk_on (told objects q ps st first_new events limit) first rest 0
 walk_told objects q ps st first_new events limit first cap rest r h e =
     e ∙ walk_same (seen objects.slots) (told objects q ps st first_new events limit) (lists_same objects.slots q.waiting) (Held cap) rest 0
@@ -54,7 +55,8 @@ item_none [] at step past = refl
 item_none (x ∷ es) zero step past = absurd (omega arith)
 item_none (x ∷ es) (suc at) step past = item_none es at step (omega arith)
 
-pub slots_told : (objects : Shelf) (q : Queued) (ps : List Process) (st : Stacked) (first_new : Name) (events limit : ℕ) (proc : Proc) (slots : List Entry) → AreNumbered st.stacks st.next
+pub slots_told : (objects : Shelf) (q : Queued) (ps : List Process) (st : Stacked) (first_new : Name) (events limit : ℕ) (proc : Proc) (slots : List Entry)
+    → AreNumbered st.stacks st.next
     → IsCurrent st.stacks (process_at ps proc.0).current proc.0 → slots ≡ slots_of (top_of (slice_index_or st.stacks proc.0 []))
     → slots ≡ (incarnation (told objects q ps st first_new events limit) (process (told objects q ps st first_new events limit) proc).current).slots
 slots_told objects q ps st first_new events limit proc slots numbered current e =

@@ -1,5 +1,6 @@
 -- What a change of a slot, or of a list of those who wait, is to the objects of the state.
-use Rattle.std.proofs.Common.{◌≡◌, ◌≢◌, ℕ, zero, suc, ◌+◌, ◌<◌, Bool, true, false, cond, List, [], ◌∷◌, length, get_or, set, map, replicate, Option, Some, None, IfSome, refl, ap, ◌∙◌, sym, subst, arith, option_map}
+use Rattle.std.proofs.Common.{◌≡◌, ◌≢◌, ℕ, zero, suc, ◌+◌, ◌<◌, Bool, true, false, cond, List, [], ◌∷◌, length, get_or, set, map, replicate, Option, Some, None, IfSome, refl, ap}
+use Rattle.std.proofs.Common.{◌∙◌, sym, subst, arith, option_map}
 use Rattle.std.specs.Prelude.{slice_index_or}
 use Rattle.std.specs.Map.{lookup, set_value}
 use Rattle.std.specs.Option.{unwrap_or}
@@ -20,8 +21,10 @@ nobody (Some e) = refl
 
 pub whole_unwaited : (ps : List (Option (Name × Body))) (k : ℕ) → whole ps (replicate k []) ≡ map shown_at ps
 whole_unwaited [] k = refl
-whole_unwaited (p ∷ ps) zero = ap (λ (q : Option (Name × Object)). q ∷ whole ps []) (nobody p) ∙ ap (λ (qs : List (Option (Name × Object))). shown_at p ∷ qs) (whole_unwaited ps zero)
-whole_unwaited (p ∷ ps) (suc k) = ap (λ (q : Option (Name × Object)). q ∷ whole ps (replicate k [])) (nobody p) ∙ ap (λ (qs : List (Option (Name × Object))). shown_at p ∷ qs) (whole_unwaited ps k)
+whole_unwaited (p ∷ ps) zero =
+    ap (λ (q : Option (Name × Object)). q ∷ whole ps []) (nobody p) ∙ ap (λ (qs : List (Option (Name × Object))). shown_at p ∷ qs) (whole_unwaited ps zero)
+whole_unwaited (p ∷ ps) (suc k) =
+    ap (λ (q : Option (Name × Object)). q ∷ whole ps (replicate k [])) (nobody p) ∙ ap (λ (qs : List (Option (Name × Object))). shown_at p ∷ qs) (whole_unwaited ps k)
 
 -- what stands in a slot, and its name
 pub place-whole : (ps : List (Option (Name × Body))) (ws : List (List Proc)) (s : ℕ) → place (whole ps ws) s ≡ with_waiters (place ps s) (slice_index_or ws s [])
@@ -42,7 +45,8 @@ pub apart-whole : (ps : List (Option (Name × Body))) (ws : List (List Proc)) �
 apart-whole ps ws apart i j n a b = apart i j n (sym (name_at-whole ps ws i) ∙ a) (sym (name_at-whole ps ws j) ∙ b)
 
 -- a slot written
-pub whole-set : (ps : List (Option (Name × Body))) (ws : List (List Proc)) (s : ℕ) (p : Option (Name × Body)) → whole (set ps s p) ws ≡ set (whole ps ws) s (with_waiters p (slice_index_or ws s []))
+pub whole-set : (ps : List (Option (Name × Body))) (ws : List (List Proc)) (s : ℕ) (p : Option (Name × Body))
+    → whole (set ps s p) ws ≡ set (whole ps ws) s (with_waiters p (slice_index_or ws s []))
 whole-set [] ws s p = refl
 whole-set (q ∷ ps) [] zero p = refl
 whole-set (q ∷ ps) [] (suc s) p = ap (λ (qs : List (Option (Name × Object))). with_waiters q [] ∷ qs) (whole-set ps [] s p)
@@ -50,7 +54,8 @@ whole-set (q ∷ ps) (x ∷ ws) zero p = refl
 whole-set (q ∷ ps) (x ∷ ws) (suc s) p = ap (λ (qs : List (Option (Name × Object))). with_waiters q x ∷ qs) (whole-set ps ws s p)
 
 -- a list written
-pub whole-list : (ps : List (Option (Name × Body))) (ws : List (List Proc)) (s : ℕ) (procs : List Proc) → s < length ws → whole ps (set ws s procs) ≡ set (whole ps ws) s (with_waiters (place ps s) procs)
+pub whole-list : (ps : List (Option (Name × Body))) (ws : List (List Proc)) (s : ℕ) (procs : List Proc) → s < length ws
+    → whole ps (set ws s procs) ≡ set (whole ps ws) s (with_waiters (place ps s) procs)
 whole-list [] ws s procs low = refl
 whole-list (q ∷ ps) [] s procs low = absurd (omega arith)
 whole-list (q ∷ ps) (x ∷ ws) zero procs low = refl
@@ -89,7 +94,7 @@ module _ (ps : List (Option (Name × Body))) (ws : List (List Proc)) (s : ℕ) (
       → standing (whole (change ps s f) ws) ≡ set_value (same_name n) (standing (whole ps ws)) (g (object_in (standing (whole ps ws)) n))
   part_written f g same =
       ap standing (whole-set ps ws s (option_map (λ e. (e.0, f e.1)) (place ps s))
-        ∙ ap (λ (p : Option (Name × Body)). set (whole ps ws) s (with_waiters (option_map (λ e. (e.0, f e.1)) p) (slice_index_or ws s []))) there.1)
+      ∙ ap (λ (p : Option (Name × Body)). set (whole ps ws) s (with_waiters (option_map (λ e. (e.0, f e.1)) p) (slice_index_or ws s []))) there.1)
       ∙ standing-put (whole ps ws) s n (whole_object there.0 (slice_index_or ws s [])) (whole_object (f there.0) (slice_index_or ws s [])) stands (apart-whole ps ws apart)
       ∙ ap (set_value (same_name n) (standing (whole ps ws))) (same there.0 (slice_index_or ws s []) ∙ ap g (sym found))
 
@@ -101,7 +106,8 @@ module _ (ps : List (Option (Name × Body))) (ws : List (List Proc)) (s : ℕ) (
       ∙ ap (λ (o : Object). set_value (same_name n) (standing (whole ps ws)) (record o { waiters = procs })) (sym found)
 
 -- a value for a key that is not there changes nothing
-by_test : (test : Name → Bool) (e : Name × Object) (es : List (Name × Object)) (w : Object) (b : Bool) → cond b (Some e.1) (lookup test es) ≡ None → (lookup test es ≡ None → set_value test es w ≡ es) → cond b ((e.0, w) ∷ es) (e ∷ set_value test es w) ≡ e ∷ es
+by_test : (test : Name → Bool) (e : Name × Object) (es : List (Name × Object)) (w : Object) (b : Bool) → cond b (Some e.1) (lookup test es) ≡ None
+    → (lookup test es ≡ None → set_value test es w ≡ es) → cond b ((e.0, w) ∷ es) (e ∷ set_value test es w) ≡ e ∷ es
 by_test test e es w true absent later = absurd (cc)
 by_test test e es w false absent later = ap (λ rest. e ∷ rest) (later absent)
 

@@ -55,7 +55,8 @@ module _ {E : Type 0} where
       (λ (has : Contains v.lists_told l). subst (λ t. IsPrefix t all) has.2 (theirs has.0 l has.1)) h
 
   -- a list extends the passes that are remembered, if it begins with what was seen and told, and is as long as was known
-  extends_of_remembers : (v : View E) (all : List E) (p : Pass E) → IsPrefix v.seen all → All (λ t. IsPrefix t all) v.lists_told → v.known ≤ length all → Remembers v p → Extends all p
+  extends_of_remembers : (v : View E) (all : List E) (p : Pass E) → IsPrefix v.seen all → All (λ t. IsPrefix t all) v.lists_told → v.known ≤ length all → Remembers v p
+      → Extends all p
   extends_of_remembers v all p mine theirs knew h = (prefix_of_heard v all (seen_list p) mine theirs h.0, (let k = h.1 in omega arith))
 
 module _ {T E : Type 0} (stands : T → List E → Type 0) (owner : E → ℕ) (seats : ℕ) where

@@ -7,6 +7,7 @@ use Rattle.hk_plain.proofs.collecting.count_but.Given as goal
 
 abbrev pub invariant-loop-name : goal.invariant-loop-name
 invariant-loop-name l = record {
-  counted : l.count + length (filter (λ (e : Name × Object). is_none_of l.spare.keys e.0) l.name-iterator) ≡ length (filter (λ (e : Name × Object). is_none_of l.spare.keys e.0) l.objects.entries);
+  counted : l.count + length (filter (λ (e : Name × Object). is_none_of l.spare.keys e.0) l.name-iterator) ≡ length
+      (filter (λ (e : Name × Object). is_none_of l.spare.keys e.0) l.objects.entries);
   few : l.count + length l.name-iterator ≤ length l.objects.entries;
 }

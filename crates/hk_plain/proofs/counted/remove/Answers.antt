@@ -10,5 +10,7 @@ use Rattle.hk_plain.proofs.counted.remove.Goals as goal
 
 pub returns-in-Some-clause-counted : goal.returns-in-Some-clause-counted
 returns-in-Some-clause-counted c =
-    subst (λ (es : List (Name × Object)). Moved c.args.counts.now c.release_object.new.self (inner_names es) (inner_names c.args.objects.now.entries)) (sym c.in-Some.ensures.entries)
-    (removed_moved object_names c.args.counts.now c.release_object.new.self (same_name c.args.name) c.args.objects.now.entries c.in-Some.gone (sym c.in-Some.ensures.value) c.release_object.ensures)
+    subst (λ (es : List (Name × Object)). Moved c.args.counts.now c.release_object.new.self (inner_names es) (inner_names c.args.objects.now.entries))
+    (sym c.in-Some.ensures.entries)
+    (removed_moved object_names c.args.counts.now c.release_object.new.self (same_name c.args.name) c.args.objects.now.entries c.in-Some.gone (sym c.in-Some.ensures.value)
+    c.release_object.ensures)

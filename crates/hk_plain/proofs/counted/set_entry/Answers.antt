@@ -14,4 +14,5 @@ returns-in-Some-clause-counted c =
     let w : Object = record c.in-Some.object.now { entries = c.replace.new.entries } in
     subst (λ (es : List (Name × Object)). Moved c.args.counts.now c.replace.new.self (inner_names es) (inner_names c.args.objects.now.entries)) (sym (c.get_mut.follows.holds w).0)
     (written_moved object_names c.args.counts.now c.replace.new.self (same_name c.args.name) c.args.objects.now.entries c.in-Some.object.now w (sym c.in-Some.ensures.value)
-    (beside c.args.counts.now c.replace.new.self c.in-Some.object.now.of (flat_map entry_names c.replace.new.entries) (flat_map entry_names c.in-Some.object.now.entries) c.replace.ensures.counted))
+    (beside c.args.counts.now c.replace.new.self c.in-Some.object.now.of (flat_map entry_names c.replace.new.entries) (flat_map entry_names c.in-Some.object.now.entries)
+    c.replace.ensures.counted))

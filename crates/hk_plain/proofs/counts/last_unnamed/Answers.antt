@@ -11,11 +11,16 @@ use Rattle.hk_plain.proofs.counts.last_unnamed.Goals.{else-contains_key-via-then
 
 pub loop-name-preserved : goal.loop-name-preserved
 loop-name-preserved c =
-    let not_lost : is_some (lookup (same_name c.in-Some.name) c.args.objects.now.entries) ≡ true → is_unnamed c.loop-name.counts c.in-Some.name ≡ true → ⊥ = λ stands unnamed. elim c.else-contains_key.branch [
+    let not_lost : is_some (lookup (same_name c.in-Some.name) c.args.objects.now.entries) ≡ true → is_unnamed c.loop-name.counts c.in-Some.name ≡ true → ⊥ = λ stands unnamed. elim
+    c.else-contains_key.branch [
       | else-contains_key-via-then-contains_key+else-is_unnamed w ↦ true≢false (sym unnamed ∙ sym w.is_unnamed.ensures ∙ w.if-is_unnamed.false)
       | else-contains_key-via-else-contains_key w ↦ true≢false (sym stands ∙ sym c.contains_key.ensures ∙ w.if-contains_key.false)
     ] in
     record {
-      same = only_list c.args.counts.now c.loop-name.counts c.pop_lost.new.self (take (length c.loop-name.counts.lost - 1) c.loop-name.counts.lost) c.loop-name.invariant.same c.pop_lost.ensures;
-      found = found_dropped c.args.counts.now c.loop-name.counts c.pop_lost.new.self c.args.objects.now.entries c.in-Some.name c.loop-name.invariant.same c.in-Some.ensures.some c.pop_lost.ensures not_lost c.loop-name.invariant.found;
+      same =
+          only_list c.args.counts.now c.loop-name.counts c.pop_lost.new.self (take (length c.loop-name.counts.lost - 1) c.loop-name.counts.lost)
+          c.loop-name.invariant.same c.pop_lost.ensures;
+      found =
+          found_dropped c.args.counts.now c.loop-name.counts c.pop_lost.new.self c.args.objects.now.entries c.in-Some.name c.loop-name.invariant.same c.in-Some.ensures.some
+          c.pop_lost.ensures not_lost c.loop-name.invariant.found;
     }

@@ -11,4 +11,5 @@ pub returns-in-Some-clause-counted : goal.returns-in-Some-clause-counted
 returns-in-Some-clause-counted c =
     let w : Incarnation = record c.in-Some.incarnation.now { slots = c.replace.new.entries } in
     subst (λ (es : List (Inc × Incarnation)). Moved c.args.counts.now c.replace.new.self (slot_names es) (slot_names c.args.live.now.entries)) (sym (c.get_mut.follows.holds w).0)
-    (written_moved named_slots c.args.counts.now c.replace.new.self (same_inc c.args.inc) c.args.live.now.entries c.in-Some.incarnation.now w (sym c.in-Some.ensures.value) c.replace.ensures.counted)
+    (written_moved named_slots c.args.counts.now c.replace.new.self (same_inc c.args.inc) c.args.live.now.entries c.in-Some.incarnation.now w (sym c.in-Some.ensures.value)
+    c.replace.ensures.counted)

@@ -16,6 +16,10 @@ loop-n-init c = record {
 
 pub loop-n-preserved : goal.loop-n-preserved
 loop-n-preserved c = record {
-  objects = kernel_type_step c.loop-n.n c.loop-n.objects.entries c.insert.new.objects.entries c.type_object.result c.loop-n.invariant.objects c.type_object.ensures c.in_ok-insert.ensures.ok;
-  counted = through c.args.counts.now c.loop-n.counts c.insert.new.counts [] (inner_names c.loop-n.objects.entries) (inner_names c.insert.new.objects.entries) c.loop-n.invariant.counted c.in_ok-insert.ensures.counted;
+  objects =
+      kernel_type_step c.loop-n.n c.loop-n.objects.entries c.insert.new.objects.entries c.type_object.result c.loop-n.invariant.objects c.type_object.ensures
+      c.in_ok-insert.ensures.ok;
+  counted =
+      through c.args.counts.now c.loop-n.counts c.insert.new.counts [] (inner_names c.loop-n.objects.entries) (inner_names c.insert.new.objects.entries) c.loop-n.invariant.counted
+      c.in_ok-insert.ensures.counted;
 }

@@ -11,7 +11,8 @@ pub loop-line-init : goal.loop-line-init
 loop-line-init c = record {
   good = (first_good c.args.source.now c.args.lines.now c.in-Some.first.now c.in-Some.others.now c.in-Some.ensures.cases.0 c.requires).1;
   read =
-      begins c.args.source.now c.args.lines.now c.in-Some.first.now c.in-Some.others.now _ _ _ _ c.in-Some.ensures.cases.0 c.in_default-header.ensures c.new.ensures c.as_slice.ensures c.new-reading.ensures;
+      begins c.args.source.now c.args.lines.now c.in-Some.first.now c.in-Some.others.now _ _ _ _ c.in-Some.ensures.cases.0 c.in_default-header.ensures c.new.ensures
+      c.as_slice.ensures c.new-reading.ensures;
 }
 
 pub invariant_of-result : goal.invariant_of-result

@@ -9,4 +9,6 @@ pub add_plain-requires-clause-room : goal.add_plain-requires-clause-room
 add_plain-requires-clause-room c = kernel_type_room c.loop-n.objects c.loop-n._n (omega (arith, c.loop-n-test.true)) c.loop-n.invariant
 
 pub loop-n-preserved : goal.loop-n-preserved
-loop-n-preserved c = kernel_type_added c.loop-n.objects c.add_plain.new.objects c.loop-n._n c.new.result c.new-in-loop-n.result c.new.ensures c.new-in-loop-n.ensures c.loop-n.invariant c.add_plain.ensures
+loop-n-preserved c =
+    kernel_type_added c.loop-n.objects c.add_plain.new.objects c.loop-n._n c.new.result c.new-in-loop-n.result c.new.ensures c.new-in-loop-n.ensures
+    c.loop-n.invariant c.add_plain.ensures

@@ -14,5 +14,7 @@ loop-slot-preserved-in_ok-insert c =
     let some : 0 < c.loop-slot.slot = omega (arith, c.loop-slot-test.true) in
     record {
       within = omega (arith, c.loop-slot.invariant.within);
-      all = objects_more (whole c.args.objects.now.slots c.args.queues.now.waiting) c.loop-slot.slot c.in-Some.name c.in-Some.object c.loop-slot.all.entries c.insert.new.self.entries some (sym c.in-Some.is ∙ c.in_ok-name.ensures) c.loop-slot.invariant.all c.in_ok-insert.ensures.entries;
+      all =
+          objects_more (whole c.args.objects.now.slots c.args.queues.now.waiting) c.loop-slot.slot c.in-Some.name c.in-Some.object c.loop-slot.all.entries c.insert.new.self.entries
+          some (sym c.in-Some.is ∙ c.in_ok-name.ensures) c.loop-slot.invariant.all c.in_ok-insert.ensures.entries;
     }

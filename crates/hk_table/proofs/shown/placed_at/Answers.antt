@@ -6,4 +6,5 @@ returns-in-None c = nothing_placed c.args.objects.now.slots c.args.queues.now.wa
 
 pub returns-in_ok-object-in-Some : goal.returns-in_ok-object-in-Some
 returns-in_ok-object-in-Some c =
-    something_placed c.args.objects.now.slots c.args.queues.now.waiting c.args.slot c.in_ok-waiters-in-Some.waiters c.in-Some.name c.in_ok-object-in-Some.object c.in-Some.ensures.name c.in_ok-object-in-Some.ensures c.in_ok-waiters-in-Some.ensures
+    something_placed c.args.objects.now.slots c.args.queues.now.waiting c.args.slot c.in_ok-waiters-in-Some.waiters c.in-Some.name c.in_ok-object-in-Some.object
+    c.in-Some.ensures.name c.in_ok-object-in-Some.ensures c.in_ok-waiters-in-Some.ensures

@@ -9,4 +9,6 @@ returns-then-name-self c = held_opening c.args.self.now c.args.name (omega (arit
 
 pub returns-then-index-lt4294967295 : goal.returns-then-index-lt4294967295
 returns-then-index-lt4294967295 c =
-    held_in c.self.inside.first_new c.self.inside.numbers.items c.self.inside.lost.items c.self.inside.exact c.args.name (c.args.name.0 - c.self.inside.first_new.0) c.index_mut.result.now (omega (arith, c.if-name-self.false)) (omega (arith, c.if-at-len.true, c.len.ensures, c.self.inside.numbers.ok.0)) c.index_mut.ensures.value c.args.self.now c.self.view_is
+    held_in c.self.inside.first_new c.self.inside.numbers.items c.self.inside.lost.items c.self.inside.exact c.args.name (c.args.name.0 - c.self.inside.first_new.0)
+    c.index_mut.result.now (omega (arith, c.if-name-self.false)) (omega (arith, c.if-at-len.true, c.len.ensures, c.self.inside.numbers.ok.0)) c.index_mut.ensures.value
+    c.args.self.now c.self.view_is

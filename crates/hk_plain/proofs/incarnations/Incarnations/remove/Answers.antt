@@ -16,7 +16,8 @@ pub invariant_of-self-2 : goal.invariant_of-self-2
 invariant_of-self-2 c =
     let stacks : List (Proc × List Inc) = c.self.inside.stacks in
     let proc : Proc = c.in-Some.gone.proc in
-    rw c.in-Some.ensures.entries (stacked_removed c.self.inside.live.entries stacks c.forget.new.self c.self.inside.next c.args.inc c.in-Some.gone c.self.invariant (sym c.in-Some.ensures.value) (λ q.
+    rw c.in-Some.ensures.entries (stacked_removed c.self.inside.live.entries stacks c.forget.new.self c.self.inside.next c.args.inc c.in-Some.gone c.self.invariant
+    (sym c.in-Some.ensures.value) (λ q.
     ap (λ (after : List (Proc × List Inc)). stack after q) c.forget.ensures
     ∙ stack_written stacks proc (without c.args.inc (stack stacks proc)) (without c.args.inc) (λ missing. refl) refl q))
 
@@ -27,4 +28,5 @@ returns-clause-counted c =
     let moved =
     removed_moved named_slots c.args.counts.now c.release_entries.new.self (same_inc c.args.inc) c.self.inside.live.entries c.in-Some.gone (sym c.in-Some.ensures.value) released in
     subst (λ (es : List (Inc × Incarnation)). Moved c.args.counts.now c.release_entries.new.self (slot_names es) (slot_names c.args.self.now.live)) (sym c.in-Some.ensures.entries)
-    (subst (λ (ones : LiveOnes). Moved c.args.counts.now c.release_entries.new.self (slot_names (remove_entry (same_inc c.args.inc) c.self.inside.live.entries)) (slot_names ones.live)) c.self.view_is moved)
+    (subst (λ (ones : LiveOnes). Moved c.args.counts.now c.release_entries.new.self (slot_names (remove_entry (same_inc c.args.inc) c.self.inside.live.entries))
+    (slot_names ones.live)) c.self.view_is moved)

@@ -8,7 +8,8 @@ use Rattle.hk_plain.proofs.incarnations.Incarnations.set_slot.Goals as goal
 
 pub invariant_of-self : goal.invariant_of-self
 invariant_of-self c =
-    rw c.write.ensures.live (stacked_written c.self.inside.live.entries c.self.inside.stacks c.self.inside.next c.args.inc (with_slot c.self.inside.live.entries c.args.inc c.args.slot c.args.entry) c.self.invariant refl)
+    rw c.write.ensures.live (stacked_written c.self.inside.live.entries c.self.inside.stacks c.self.inside.next c.args.inc
+    (with_slot c.self.inside.live.entries c.args.inc c.args.slot c.args.entry) c.self.invariant refl)
 
 pub returns-clause-counted : goal.returns-clause-counted
 returns-clause-counted c =

@@ -7,7 +7,8 @@ use Rattle.hk_plain.proofs.processes.Processes.set_current.Goals as goal
 
 pub invariant_of-self : goal.invariant_of-self
 invariant_of-self c =
-    placed_current c.self.inside.all.items c.self.inside.places c.self.inside.live c.args.proc.0 (record { run = c.index_mut.result.now.run; current = c.args.inc }) c.index_mut.result.now c.self.invariant (omega (arith, c.self.inside.all.ok.0)) c.index_mut.ensures.value refl
+    placed_current c.self.inside.all.items c.self.inside.places c.self.inside.live c.args.proc.0 (record { run = c.index_mut.result.now.run; current = c.args.inc })
+    c.index_mut.result.now c.self.invariant (omega (arith, c.self.inside.all.ok.0)) c.index_mut.ensures.value refl
 
 pub returns-then-at-len : goal.returns-then-at-len
 returns-then-at-len c =

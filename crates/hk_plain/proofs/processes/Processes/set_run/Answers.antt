@@ -10,7 +10,9 @@ use Rattle.hk_plain.proofs.processes.Processes.set_run.Goals as goal
 
 pub invariant_of-self : goal.invariant_of-self
 invariant_of-self c =
-    placed_rested c.self.inside.all.items c.self.inside.places c.free.new.places c.self.inside.live c.recounted-self-inside.result c.args.proc.0 (record { run = c.args.run; current = c.index_mut.result.now.current }) c.index.result.now c.self.invariant (omega (arith, c.self.inside.all.ok.0)) c.index.ensures c.free.ensures.value c.requires c.recounted-self-inside.ensures
+    placed_rested c.self.inside.all.items c.self.inside.places c.free.new.places c.self.inside.live c.recounted-self-inside.result c.args.proc.0
+    (record { run = c.args.run; current = c.index_mut.result.now.current }) c.index.result.now c.self.invariant (omega (arith, c.self.inside.all.ok.0)) c.index.ensures
+    c.free.ensures.value c.requires c.recounted-self-inside.ensures
 
 pub returns-then-at-len-clause-value : goal.returns-then-at-len-clause-value
 returns-then-at-len-clause-value c =
@@ -21,4 +23,6 @@ pub returns-then-at-len-clause-counted : goal.returns-then-at-len-clause-counted
 returns-then-at-len-clause-counted c =
     let new : Process = record { run = c.args.run; current = c.index_mut.result.now.current } in
     subst (λ (ps : List Process). Moved c.args.counts.now c.release_run.new.self (waiting_names (set c.self.inside.all.items c.args.proc.0 new)) (waiting_names ps)) c.self.view_is
-    (set_moved (λ (p : Process). run_names p.run) c.args.counts.now c.release_run.new.self c.self.inside.all.items c.args.proc.0 c.index.result.now new (omega (arith, c.if-at-len.true, c.len.ensures, c.self.inside.all.ok.0)) c.index.ensures (replaced c.args.counts.now c.hold_run.new.self c.release_run.new.self (run_names c.args.run) (run_names c.index.result.now.run) c.hold_run.ensures c.release_run.ensures))
+    (set_moved (λ (p : Process). run_names p.run) c.args.counts.now c.release_run.new.self c.self.inside.all.items c.args.proc.0 c.index.result.now new
+    (omega (arith, c.if-at-len.true, c.len.ensures, c.self.inside.all.ok.0)) c.index.ensures
+    (replaced c.args.counts.now c.hold_run.new.self c.release_run.new.self (run_names c.args.run) (run_names c.index.result.now.run) c.hold_run.ensures c.release_run.ensures))

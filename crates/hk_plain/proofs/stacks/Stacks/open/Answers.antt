@@ -8,5 +8,6 @@ use Rattle.hk_plain.proofs.stacks.Stacks.open.Goals as goal
 
 pub returns-clause-same : goal.returns-clause-same
 returns-clause-same c = λ q.
-    stack_opened c.self.inside.stacks.entries c.insert.new.self.entries c.args.proc q c.new.result c.new.ensures (sym c.contains_key.ensures ∙ c.if-contains_key.false) (c.in_ok-insert.ensures.updates.0 q)
+    stack_opened c.self.inside.stacks.entries c.insert.new.self.entries c.args.proc q c.new.result c.new.ensures (sym c.contains_key.ensures ∙ c.if-contains_key.false)
+    (c.in_ok-insert.ensures.updates.0 q)
     ∙ ap (λ (stacks : List (Proc × List Inc)). stack stacks q) c.self.view_is

@@ -10,5 +10,6 @@ use Rattle.hk_plain.proofs.stacks.Stacks.push.Goals as goal
 pub returns-clause-ok : goal.returns-clause-ok
 returns-clause-ok c = λ q.
     ap (λ (stacks : List (Proc × List Inc)). stack stacks q) c.in_ok-push_on.ensures.ok
-    ∙ stack_written c.open.new.self c.args.proc (stack c.open.new.self c.args.proc ++ c.args.inc ∷ []) (λ (xs : List Inc). xs ++ c.args.inc ∷ []) (λ missing. absurd (present (lookup (same_proc c.args.proc) c.open.new.self) c.in_ok-open.ensures.there missing)) refl q
+    ∙ stack_written c.open.new.self c.args.proc (stack c.open.new.self c.args.proc ++ c.args.inc ∷ []) (λ (xs : List Inc). xs ++ c.args.inc ∷ [])
+    (λ missing. absurd (present (lookup (same_proc c.args.proc) c.open.new.self) c.in_ok-open.ensures.there missing)) refl q
     ∙ ap (λ (xs : List Inc). cond (c.args.proc.0 == q.0) (xs ++ c.args.inc ∷ []) xs) (c.in_ok-open.ensures.same q)

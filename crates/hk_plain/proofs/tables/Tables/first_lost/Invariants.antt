@@ -8,6 +8,7 @@ use Rattle.hk_plain.proofs.tables.Tables.first_lost.Given as goal
 -- where those that are left stay, all do; and they stand
 abbrev pub invariant-loop-name : goal.invariant-loop-name
 invariant-loop-name l = record {
-  rest : AllByRecursion (λ (e : Name × Object). are_supporting l.self l.self.objects e.0 ≡ true) l.name-iterator → AllByRecursion (λ (e : Name × Object). are_supporting l.self l.self.objects e.0 ≡ true) l.self.objects;
+  rest : AllByRecursion (λ (e : Name × Object). are_supporting l.self l.self.objects e.0 ≡ true) l.name-iterator
+      → AllByRecursion (λ (e : Name × Object). are_supporting l.self l.self.objects e.0 ≡ true) l.self.objects;
   stand : AllByRecursion (λ (e : Name × Object). stands l.self e.0 ≡ true) l.name-iterator;
 }

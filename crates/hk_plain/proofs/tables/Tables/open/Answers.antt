@@ -16,11 +16,13 @@ use Rattle.hk_plain.proofs.tables.Tables.open.Goals as goal
 pub invariant_of-result : goal.invariant_of-result
 invariant_of-result c =
     let first : Name = record { 0 = 7 + length c.born_of-born.result.now } in
-    counted_opening c.in_ok-incarnations.incarnations.live c.new.result c.in_ok-objects.objects.entries first c.new-counts.result c.objects_of.new.counts c.bases.new.counts c.new-counts.ensures c.in_ok-objects.ensures.counted c.in_ok-incarnations.ensures.counted
+    counted_opening c.in_ok-incarnations.incarnations.live c.new.result c.in_ok-objects.objects.entries first c.new-counts.result c.objects_of.new.counts c.bases.new.counts
+    c.new-counts.ensures c.in_ok-objects.ensures.counted c.in_ok-incarnations.ensures.counted
     (subst (λ (ps : List Process). waiting_names ps ≡ []) (sym (c.new.ensures ∙ c.in_ok-processes.ensures.state)) (waiting_ready 0 c.tasks_of-tasks.result.now))
     (λ k.
     let all : List Object = replicate 7 no_object ++ map (λ (b : Born). object_of b.kind) c.born_of-born.result.now in
     let a = length-append (replicate 7 no_object) (map (λ (b : Born). object_of b.kind) c.born_of-born.result.now) in
     let b = length-map c.born_of-born.result.now (λ (b : Born). object_of b.kind) in
     let d = length-replicate 7 no_object in
-    subst (λ (es : List (Name × Object)). is_some (lookup (same_name (record { 0 = 7 + length c.born_of-born.result.now + k })) es) ≡ false) (sym c.in_ok-objects.ensures.objects) (none_made 0 all (record { 0 = 7 + length c.born_of-born.result.now + k }) (omega (arith, a, b, d))))
+    subst (λ (es : List (Name × Object)). is_some (lookup (same_name (record { 0 = 7 + length c.born_of-born.result.now + k })) es) ≡ false) (sym c.in_ok-objects.ensures.objects)
+    (none_made 0 all (record { 0 = 7 + length c.born_of-born.result.now + k }) (omega (arith, a, b, d))))

@@ -4,4 +4,5 @@ use Rattle.hk_plain.proofs.tables.Tables.remove_incarnation.Goals as goal
 
 pub invariant_of-self : goal.invariant_of-self
 invariant_of-self c =
-    slots_kept c.self.inside.incarnations.live c.remove.new.self.live c.self.inside.processes c.self.inside.objects.entries c.self.inside.counts c.remove.new.counts c.self.invariant c.remove.ensures.counted
+    slots_kept c.self.inside.incarnations.live c.remove.new.self.live c.self.inside.processes c.self.inside.objects.entries c.self.inside.counts c.remove.new.counts
+    c.self.invariant c.remove.ensures.counted

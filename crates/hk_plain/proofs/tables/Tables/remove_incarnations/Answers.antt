@@ -4,4 +4,5 @@ use Rattle.hk_plain.proofs.tables.Tables.remove_incarnations.Goals as goal
 
 pub invariant_of-self : goal.invariant_of-self
 invariant_of-self c =
-    slots_kept c.self.inside.incarnations.live c.remove_process.new.self.live c.self.inside.processes c.self.inside.objects.entries c.self.inside.counts c.remove_process.new.counts c.self.invariant c.remove_process.ensures.counted
+    slots_kept c.self.inside.incarnations.live c.remove_process.new.self.live c.self.inside.processes c.self.inside.objects.entries c.self.inside.counts c.remove_process.new.counts
+    c.self.invariant c.remove_process.ensures.counted

@@ -10,4 +10,5 @@ pub invariant_of-self : goal.invariant_of-self
 invariant_of-self c =
     subst (λ (es : List (Name × Object)). AreCounted c.self.inside.incarnations.live c.self.inside.processes es c.remove.new.counts) (sym c.remove.ensures.objects)
     (counted_removed c.self.inside.incarnations.live c.self.inside.processes c.self.inside.objects.entries c.self.inside.counts c.remove.new.counts c.args.name c.self.invariant
-    (subst (λ (es : List (Name × Object)). Moved c.self.inside.counts c.remove.new.counts (inner_names es) (inner_names c.self.inside.objects.entries)) c.remove.ensures.objects c.remove.ensures.counted))
+    (subst (λ (es : List (Name × Object)). Moved c.self.inside.counts c.remove.new.counts (inner_names es) (inner_names c.self.inside.objects.entries)) c.remove.ensures.objects
+    c.remove.ensures.counted))

@@ -12,6 +12,7 @@ invariant_of-self c = elim c.match-get_mut.branch [
   | in-Some w ↦ rw w.self-inside-is (
       let new : Object = record w.in-Some.object.now { waiters = c.args.waiters } in
       subst (λ (es : List (Name × Object)). AreCounted c.self.inside.incarnations.live c.self.inside.processes es c.self.inside.counts) (sym (c.get_mut.follows.holds new).0)
-      (counted_written c.self.inside.incarnations.live c.self.inside.processes c.self.inside.objects.entries c.self.inside.counts c.args.name w.in-Some.object.now new c.self.invariant (sym w.in-Some.ensures.value) refl))
+      (counted_written c.self.inside.incarnations.live c.self.inside.processes c.self.inside.objects.entries c.self.inside.counts c.args.name w.in-Some.object.now new
+      c.self.invariant (sym w.in-Some.ensures.value) refl))
   | in_default w ↦ rw (w.self-inside-is, c.get_mut.follows.holds-at-none) c.self.invariant
 ]

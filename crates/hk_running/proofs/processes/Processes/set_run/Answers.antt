@@ -7,7 +7,9 @@ use Rattle.hk_running.proofs.processes.Processes.set_run.Goals as goal
 
 pub invariant_of-self : goal.invariant_of-self
 invariant_of-self c =
-    placed_rested c.self.inside.all.items c.self.inside.places c.free.new.places c.self.inside.live c.recounted-self-inside.result c.args.proc.0 (record { run = c.args.run; current = c.index_mut.result.now.current }) c.index.result.now c.self.invariant (omega (arith, c.self.inside.all.ok.0)) c.index.ensures c.free.ensures.value c.requires c.recounted-self-inside.ensures
+    placed_rested c.self.inside.all.items c.self.inside.places c.free.new.places c.self.inside.live c.recounted-self-inside.result c.args.proc.0
+    (record { run = c.args.run; current = c.index_mut.result.now.current }) c.index.result.now c.self.invariant (omega (arith, c.self.inside.all.ok.0)) c.index.ensures
+    c.free.ensures.value c.requires c.recounted-self-inside.ensures
 
 pub returns-then-at-len : goal.returns-then-at-len
 returns-then-at-len c =

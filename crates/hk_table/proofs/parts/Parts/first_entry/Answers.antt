@@ -10,11 +10,13 @@ returns-in-Some c =
     let known : c.args.proc.0 < length c.self.inside.processes = subst (λ (s : State). c.args.proc.0 < length s.processes) (sym c.self.view_is) c.requires in
     item_some c.top_slots.result.now c.args.at 0 c.in-Some.entry.now c.in-Some.ensures.lookup.3.0 c.in-Some.ensures.lookup.1
     ∙ ap (λ (es : List Entry). item_at es c.args.at 0) (rw (← c.self.view_is)
-    (slots_told c.self.inside.objects c.self.inside.queues c.self.inside.processes c.self.inside.stacks c.self.inside.first_new c.self.inside.events c.self.inside.limit c.args.proc c.top_slots.result.now c.top_slots.ensures.numbered (c.self.invariant.current c.args.proc.0 known) c.top_slots.ensures.value))
+    (slots_told c.self.inside.objects c.self.inside.queues c.self.inside.processes c.self.inside.stacks c.self.inside.first_new c.self.inside.events c.self.inside.limit c.args.proc
+    c.top_slots.result.now c.top_slots.ensures.numbered (c.self.invariant.current c.args.proc.0 known) c.top_slots.ensures.value))
 
 pub returns-in-None : goal.returns-in-None
 returns-in-None c =
     let known : c.args.proc.0 < length c.self.inside.processes = subst (λ (s : State). c.args.proc.0 < length s.processes) (sym c.self.view_is) c.requires in
     item_none c.top_slots.result.now c.args.at 0 c.in-None.ensures.lookup.3
     ∙ ap (λ (es : List Entry). item_at es c.args.at 0) (rw (← c.self.view_is)
-    (slots_told c.self.inside.objects c.self.inside.queues c.self.inside.processes c.self.inside.stacks c.self.inside.first_new c.self.inside.events c.self.inside.limit c.args.proc c.top_slots.result.now c.top_slots.ensures.numbered (c.self.invariant.current c.args.proc.0 known) c.top_slots.ensures.value))
+    (slots_told c.self.inside.objects c.self.inside.queues c.self.inside.processes c.self.inside.stacks c.self.inside.first_new c.self.inside.events c.self.inside.limit c.args.proc
+    c.top_slots.result.now c.top_slots.ensures.numbered (c.self.invariant.current c.args.proc.0 known) c.top_slots.ensures.value))

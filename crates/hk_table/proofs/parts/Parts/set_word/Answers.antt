@@ -11,13 +11,18 @@ put-requires-clause-at c =
 
 pub invariant_of-self : goal.invariant_of-self
 invariant_of-self c =
-    part_joined c.self.inside.objects c.put.new.self c.self.inside.queues c.self.inside.processes c.self.inside.stacks c.self.inside.walker c.in-Some.slot.0 (λ b. record b { words = set b.words c.args.at c.args.word }) (λ b. refl) c.self.invariant c.put.ensures
+    part_joined c.self.inside.objects c.put.new.self c.self.inside.queues c.self.inside.processes c.self.inside.stacks c.self.inside.walker c.in-Some.slot.0
+    (λ b. record b { words = set b.words c.args.at c.args.word }) (λ b. refl) c.self.invariant c.put.ensures
 
 pub returns-in-Some : goal.returns-in-Some
 returns-in-Some c =
     rw (← c.self.view_is)
-    (part_told c.self.inside.objects c.put.new.self c.self.inside.queues c.self.inside.processes c.self.inside.stacks c.self.inside.first_new c.self.inside.events c.self.inside.limit c.in-Some.slot.0 c.args.name
-    (λ b. record b { words = set b.words c.args.at c.args.word }) (λ o. record o { words = set o.words c.args.at c.args.word }) c.in-Some.ensures.apart c.in-Some.ensures.found (λ b procs. refl) c.put.ensures)
+    (part_told c.self.inside.objects c.put.new.self c.self.inside.queues c.self.inside.processes c.self.inside.stacks c.self.inside.first_new c.self.inside.events
+    c.self.inside.limit c.in-Some.slot.0 c.args.name
+    (λ b. record b { words = set b.words c.args.at c.args.word }) (λ o. record o { words = set o.words c.args.at c.args.word }) c.in-Some.ensures.apart c.in-Some.ensures.found
+    (λ b procs. refl) c.put.ensures)
 
 pub returns-in_default : goal.returns-in_default
-returns-in_default c = rw (← c.self.view_is) (missing_told c.self.inside.objects c.self.inside.queues c.self.inside.processes c.self.inside.stacks c.self.inside.first_new c.self.inside.events c.self.inside.limit c.args.name _ c.in_default.ensures.none)
+returns-in_default c =
+    rw (← c.self.view_is) (missing_told c.self.inside.objects c.self.inside.queues c.self.inside.processes c.self.inside.stacks c.self.inside.first_new c.self.inside.events
+    c.self.inside.limit c.args.name _ c.in_default.ensures.none)

@@ -5,7 +5,8 @@ use Rattle.hk_table.proofs.parts.Parts.type_of.Goals as goal
 pub returns-in-Some : goal.returns-in-Some
 returns-in-Some c =
     rw (← c.self.view_is)
-    (read_is c.self.inside.objects.slots c.self.inside.queues.waiting c.in-Some.slot.0 c.args.name c.in-Some.ensures.apart c.in-Some.ensures.found (λ b. b.of) (λ o. o.of) (λ b procs. refl) c.of.result c.of.ensures.of)
+    (read_is c.self.inside.objects.slots c.self.inside.queues.waiting c.in-Some.slot.0 c.args.name c.in-Some.ensures.apart c.in-Some.ensures.found (λ b. b.of) (λ o. o.of)
+    (λ b procs. refl) c.of.result c.of.ensures.of)
 
 pub returns-in-None : goal.returns-in-None
 returns-in-None c = rw (← c.self.view_is) (missing_is c.self.inside.objects.slots c.self.inside.queues.waiting c.args.name (λ o. o.of) c.in-None.ensures.none)

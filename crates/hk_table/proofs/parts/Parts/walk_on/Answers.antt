@@ -9,4 +9,5 @@ returns-in-Err-clause-value c =
 
 pub returns-in-Ok-clause-value : goal.returns-in-Ok-clause-value
 returns-in-Ok-clause-value c =
-    rw (← c.self.view_is) (walk_told c.self.inside.objects c.self.inside.queues c.self.inside.processes c.self.inside.stacks c.self.inside.first_new c.self.inside.events c.self.inside.limit c.args.first c.in-Ok.from c.args.rest.now c.walked.result c.in-Ok.ensures c.walked.ensures.value)
+    rw (← c.self.view_is) (walk_told c.self.inside.objects c.self.inside.queues c.self.inside.processes c.self.inside.stacks c.self.inside.first_new c.self.inside.events
+    c.self.inside.limit c.args.first c.in-Ok.from c.args.rest.now c.walked.result c.in-Ok.ensures c.walked.ensures.value)

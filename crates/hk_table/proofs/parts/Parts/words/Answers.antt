@@ -5,7 +5,8 @@ use Rattle.hk_table.proofs.parts.Parts.words.Goals as goal
 pub returns-in-Some-clause-value : goal.returns-in-Some-clause-value
 returns-in-Some-clause-value c =
     rw (← c.self.view_is)
-    (read_is c.self.inside.objects.slots c.self.inside.queues.waiting c.in-Some.slot.0 c.args.name c.in-Some.ensures.apart c.in-Some.ensures.found (λ b. b.words) (λ o. o.words) (λ b procs. refl) c.words.result.now c.words.ensures.words)
+    (read_is c.self.inside.objects.slots c.self.inside.queues.waiting c.in-Some.slot.0 c.args.name c.in-Some.ensures.apart c.in-Some.ensures.found (λ b. b.words) (λ o. o.words)
+    (λ b procs. refl) c.words.result.now c.words.ensures.words)
 
 pub returns-in-None-clause-value : goal.returns-in-None-clause-value
 returns-in-None-clause-value c = rw (← c.self.view_is) (missing_is c.self.inside.objects.slots c.self.inside.queues.waiting c.args.name (λ o. o.words) c.in-None.ensures.none)
