@@ -45,35 +45,48 @@ push_reserved-requires g c =
 pub index_mut-requires : goal.index_mut-requires
 index_mut-requires g c =
     let r = c.requires in let b = c.args.self.now in let t = g.K.Kernel.state c.carry_out.new.kernel in
-    let done = subst (λ (w : WorldValue). turn w (g.K.Kernel.state b.kernel) (process_on (g.K.Kernel.state b.kernel) c.args.cpu) (c.args.todo, c.args.context) ≡ (c.in-Ok.made.what, c.in-Ok.made.reply, t, c.carry_out.new.context))
+    let done = subst (λ (w : WorldValue). turn w (g.K.Kernel.state b.kernel) (process_on (g.K.Kernel.state b.kernel) c.args.cpu) (c.args.todo, c.args.context)
+    ≡ (c.in-Ok.made.what, c.in-Ok.made.reply, t, c.carry_out.new.context))
     r.sound.world c.in-Ok.ensures.made in
-    let made = carries g.K.Kernel.state g.J.Naming.world c.args.cpu b r.sound c.args.proc c.args.inc c.args.todo c.args.context c.in-Ok.made.what c.in-Ok.made.reply t c.carry_out.new.context
+    let made = carries g.K.Kernel.state g.J.Naming.world c.args.cpu b r.sound c.args.proc c.args.inc c.args.todo c.args.context c.in-Ok.made.what c.in-Ok.made.reply
+    t c.carry_out.new.context
     r.cpu r.below r.runs r.next done in
     let there = made.there in let k = b.contexts.ok.0 in omega (arith, there, k)
 
 pub returns-then-made-clause-next : goal.returns-then-made-clause-next
 returns-then-made-clause-next g c =
     let r = c.requires in let b = c.args.self.now in let t = g.K.Kernel.state c.carry_out.new.kernel in
-    let done = subst (λ (w : WorldValue). turn w (g.K.Kernel.state b.kernel) (process_on (g.K.Kernel.state b.kernel) c.args.cpu) (c.args.todo, c.args.context) ≡ (c.in-Ok.made.what, c.in-Ok.made.reply, t, c.carry_out.new.context))
+    let done = subst (λ (w : WorldValue). turn w (g.K.Kernel.state b.kernel) (process_on (g.K.Kernel.state b.kernel) c.args.cpu) (c.args.todo, c.args.context)
+    ≡ (c.in-Ok.made.what, c.in-Ok.made.reply, t, c.carry_out.new.context))
     r.sound.world c.in-Ok.ensures.made in
-    let made = carries g.K.Kernel.state g.J.Naming.world c.args.cpu b r.sound c.args.proc c.args.inc c.args.todo c.args.context c.in-Ok.made.what c.in-Ok.made.reply t c.carry_out.new.context
+    let made = carries g.K.Kernel.state g.J.Naming.world c.args.cpu b r.sound c.args.proc c.args.inc c.args.todo c.args.context c.in-Ok.made.what c.in-Ok.made.reply
+    t c.carry_out.new.context
     r.cpu r.below r.runs r.next done in
     rw c.noted-note.ensures
-    (sound_more g.K.Kernel.state g.J.Naming.world c.args.cpu b r.sound _ _ r.going refl c.push_reserved.ensures.items t refl refl c.push_reserved.ensures.capacity made.steps made.state
+    (sound_more g.K.Kernel.state g.J.Naming.world c.args.cpu b r.sound _ _ r.going refl c.push_reserved.ensures.items t refl refl
+    c.push_reserved.ensures.capacity made.steps made.state
     (gone_keeps g.J.Naming.world b.lines.items b.contexts.items _ c.args.cpu c.args.proc _ t c.carry_out.new.context made refl) refl)
 
 pub returns-then-made-clause-answer : goal.returns-then-made-clause-answer
 returns-then-made-clause-answer g c =
     let r = c.requires in let b = c.args.self.now in let t = g.K.Kernel.state c.carry_out.new.kernel in
-    let done = subst (λ (w : WorldValue). turn w (g.K.Kernel.state b.kernel) (process_on (g.K.Kernel.state b.kernel) c.args.cpu) (c.args.todo, c.args.context) ≡ (c.in-Ok.made.what, c.in-Ok.made.reply, t, c.carry_out.new.context))
+    let done = subst (λ (w : WorldValue). turn w (g.K.Kernel.state b.kernel) (process_on (g.K.Kernel.state b.kernel) c.args.cpu) (c.args.todo, c.args.context)
+    ≡ (c.in-Ok.made.what, c.in-Ok.made.reply, t, c.carry_out.new.context))
     r.sound.world c.in-Ok.ensures.made in
-    let made = carries g.K.Kernel.state g.J.Naming.world c.args.cpu b r.sound c.args.proc c.args.inc c.args.todo c.args.context c.in-Ok.made.what c.in-Ok.made.reply t c.carry_out.new.context
+    let made = carries g.K.Kernel.state g.J.Naming.world c.args.cpu b r.sound c.args.proc c.args.inc c.args.todo c.args.context c.in-Ok.made.what c.in-Ok.made.reply
+    t c.carry_out.new.context
     r.cpu r.below r.runs r.next done in
-    let told = told_is b.world (g.K.Kernel.state b.kernel) (process_on (g.K.Kernel.state b.kernel) c.args.cpu) c.args.todo c.args.context c.in-Ok.made.what c.in-Ok.made.reply t c.carry_out.new.context c.in-Ok.ensures.made in
+    let told = told_is b.world (g.K.Kernel.state b.kernel) (process_on (g.K.Kernel.state b.kernel) c.args.cpu) c.args.todo c.args.context c.in-Ok.made.what c.in-Ok.made.reply t
+    c.carry_out.new.context c.in-Ok.ensures.made in
     let left = left_is g.K.Kernel.state g.J.Naming.world c.args.cpu b r.sound c.args.proc c.args.inc t c.in-Ok.made.gone r.runs c.in-Ok.ensures.gone in
-    let now = shown_now g.K.Kernel.state g.J.Naming.world c.args.cpu b r.sound (record b { lines = c.push_reserved.new.self }) _ r.going refl c.push_reserved.ensures.items t made.state in (
-      subst (λ (what : What). AddsLine g.J.Naming.world c.args.cpu (notes_of_book b) (notes_of_book (record b { lines = c.push_reserved.new.self })) c.args.proc what c.in-Ok.made.reply) told
-          (c.args.inc, adds g.K.Kernel.state g.J.Naming.world c.args.cpu b r.sound (record b { lines = c.push_reserved.new.self }) _ r.going refl c.push_reserved.ensures.items made.steps r.below),
+    let now = shown_now g.K.Kernel.state g.J.Naming.world c.args.cpu b r.sound (record b { lines = c.push_reserved.new.self }) _ r.going refl
+    c.push_reserved.ensures.items t made.state in (
+      subst (λ (what : What). AddsLine g.J.Naming.world c.args.cpu (notes_of_book b) (notes_of_book (record b { lines = c.push_reserved.new.self })) c.args.proc
+          what c.in-Ok.made.reply) told (
+            c.args.inc,
+            adds g.K.Kernel.state g.J.Naming.world c.args.cpu b r.sound (record b { lines = c.push_reserved.new.self }) _ r.going refl
+                c.push_reserved.ensures.items made.steps r.below,
+          ),
       ap (λ (s : State). runner s c.args.cpu) now ∙ made.gone (not_true c.in-Ok.made.gone (is_running (process t c.args.proc).run) c.if-made.true left),
       ap (λ (s : State). not (is_running (process s c.args.proc).run)) now ∙ (sym left ∙ c.if-made.true),
     )
@@ -81,28 +94,39 @@ returns-then-made-clause-answer g c =
 pub returns-clause-next : goal.returns-clause-next
 returns-clause-next g c =
     let r = c.requires in let b = c.args.self.now in let t = g.K.Kernel.state c.carry_out.new.kernel in
-    let done = subst (λ (w : WorldValue). turn w (g.K.Kernel.state b.kernel) (process_on (g.K.Kernel.state b.kernel) c.args.cpu) (c.args.todo, c.args.context) ≡ (c.in-Ok.made.what, c.in-Ok.made.reply, t, c.carry_out.new.context))
+    let done = subst (λ (w : WorldValue). turn w (g.K.Kernel.state b.kernel) (process_on (g.K.Kernel.state b.kernel) c.args.cpu) (c.args.todo, c.args.context)
+    ≡ (c.in-Ok.made.what, c.in-Ok.made.reply, t, c.carry_out.new.context))
     r.sound.world c.in-Ok.ensures.made in
-    let made = carries g.K.Kernel.state g.J.Naming.world c.args.cpu b r.sound c.args.proc c.args.inc c.args.todo c.args.context c.in-Ok.made.what c.in-Ok.made.reply t c.carry_out.new.context
+    let made = carries g.K.Kernel.state g.J.Naming.world c.args.cpu b r.sound c.args.proc c.args.inc c.args.todo c.args.context c.in-Ok.made.what c.in-Ok.made.reply
+    t c.carry_out.new.context
     r.cpu r.below r.runs r.next done in
     let left = left_is g.K.Kernel.state g.J.Naming.world c.args.cpu b r.sound c.args.proc c.args.inc t c.in-Ok.made.gone r.runs c.in-Ok.ensures.gone in
     let runs = not_false c.in-Ok.made.gone (is_running (process t c.args.proc).run) c.if-made.false left in
     rw c.noted-note.ensures
-    (sound_more g.K.Kernel.state g.J.Naming.world c.args.cpu b r.sound _ _ r.going refl c.push_reserved.ensures.items t refl refl c.push_reserved.ensures.capacity made.steps made.state
+    (sound_more g.K.Kernel.state g.J.Naming.world c.args.cpu b r.sound _ _ r.going refl c.push_reserved.ensures.items t refl refl
+    c.push_reserved.ensures.capacity made.steps made.state
     (goes_keeps g.J.Naming.world b.lines.items b.contexts.items c.args.cpu c.args.proc _ t c.carry_out.new.context made runs) refl)
 
 pub returns-clause-answer : goal.returns-clause-answer
 returns-clause-answer g c =
     let r = c.requires in let b = c.args.self.now in let t = g.K.Kernel.state c.carry_out.new.kernel in
-    let done = subst (λ (w : WorldValue). turn w (g.K.Kernel.state b.kernel) (process_on (g.K.Kernel.state b.kernel) c.args.cpu) (c.args.todo, c.args.context) ≡ (c.in-Ok.made.what, c.in-Ok.made.reply, t, c.carry_out.new.context))
+    let done = subst (λ (w : WorldValue). turn w (g.K.Kernel.state b.kernel) (process_on (g.K.Kernel.state b.kernel) c.args.cpu) (c.args.todo, c.args.context)
+    ≡ (c.in-Ok.made.what, c.in-Ok.made.reply, t, c.carry_out.new.context))
     r.sound.world c.in-Ok.ensures.made in
-    let made = carries g.K.Kernel.state g.J.Naming.world c.args.cpu b r.sound c.args.proc c.args.inc c.args.todo c.args.context c.in-Ok.made.what c.in-Ok.made.reply t c.carry_out.new.context
+    let made = carries g.K.Kernel.state g.J.Naming.world c.args.cpu b r.sound c.args.proc c.args.inc c.args.todo c.args.context c.in-Ok.made.what c.in-Ok.made.reply
+    t c.carry_out.new.context
     r.cpu r.below r.runs r.next done in
-    let told = told_is b.world (g.K.Kernel.state b.kernel) (process_on (g.K.Kernel.state b.kernel) c.args.cpu) c.args.todo c.args.context c.in-Ok.made.what c.in-Ok.made.reply t c.carry_out.new.context c.in-Ok.ensures.made in
+    let told = told_is b.world (g.K.Kernel.state b.kernel) (process_on (g.K.Kernel.state b.kernel) c.args.cpu) c.args.todo c.args.context c.in-Ok.made.what c.in-Ok.made.reply t
+    c.carry_out.new.context c.in-Ok.ensures.made in
     let left = left_is g.K.Kernel.state g.J.Naming.world c.args.cpu b r.sound c.args.proc c.args.inc t c.in-Ok.made.gone r.runs c.in-Ok.ensures.gone in
     let runs = not_false c.in-Ok.made.gone (is_running (process t c.args.proc).run) c.if-made.false left in (
-      subst (λ (what : What). AddsLine g.J.Naming.world c.args.cpu (notes_of_book b) (notes_of_book (record b { lines = c.push_reserved.new.self })) c.args.proc what c.in-Ok.made.reply) told
-          (c.args.inc, adds g.K.Kernel.state g.J.Naming.world c.args.cpu b r.sound (record b { lines = c.push_reserved.new.self }) _ r.going refl c.push_reserved.ensures.items made.steps r.below),
-      hands_out g.K.Kernel.state g.J.Naming.world c.args.cpu b r.sound (record b { lines = c.push_reserved.new.self }) _ r.going refl c.push_reserved.ensures.items t c.args.proc c.carry_out.new.context
+      subst (λ (what : What). AddsLine g.J.Naming.world c.args.cpu (notes_of_book b) (notes_of_book (record b { lines = c.push_reserved.new.self })) c.args.proc
+          what c.in-Ok.made.reply) told (
+            c.args.inc,
+            adds g.K.Kernel.state g.J.Naming.world c.args.cpu b r.sound (record b { lines = c.push_reserved.new.self }) _ r.going refl
+                c.push_reserved.ensures.items made.steps r.below,
+          ),
+      hands_out g.K.Kernel.state g.J.Naming.world c.args.cpu b r.sound (record b { lines = c.push_reserved.new.self }) _ r.going refl c.push_reserved.ensures.items t
+          c.args.proc c.carry_out.new.context
           made.steps made.state (made.goes runs) made.context,
     )
