@@ -4,3 +4,4 @@ mod Bounded
 mod Kept
 mod Opened
 mod Law
+mod OpeningObjects

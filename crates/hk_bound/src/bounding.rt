@@ -1,0 +1,73 @@
+// The bounds of all processes of a world.
+
+use crate::forms::{all_forms, Form};
+use crate::gaps::{Gap, Table};
+use crate::opening::{is_general, is_listed, object_count, type_of};
+use crate::rows::Rows;
+use hk_model::{Name, NoMemory, World};
+use hk_rights::{Right, Rights};
+use std::alloc::Global;
+
+// Fills gaps.
+fn fill(rows: &mut Rows, gaps: &[Gap]) {
+    for gap in gaps {
+        rows.join(gap.process, gap.column, gap.rights);
+    }
+}
+
+// Gives each process what the rules give it from what the rows have; whether that was anything.
+fn round(alloc: Global, world: &World, forms: &[Form], rows: &mut Rows) -> Result<bool, NoMemory> {
+    let mut grown = false;
+    for (process, task) in world.tasks().iter().enumerate() {
+        let mut gaps = Vec::new(alloc);
+        let table = Table { world, forms, rows: &*rows };
+        table.process_gaps(process, task.slots.as_slice(), &mut gaps)?;
+        if !gaps.is_empty() {
+            fill(rows, &gaps);
+            grown = true;
+        }
+    }
+    Ok(grown)
+}
+
+// All that the processes can come to have.
+fn closed_rows(alloc: Global, world: &World, forms: &[Form]) -> Result<Rows, NoMemory> {
+    let width = object_count(world) + world.tasks().len() + forms.len();
+    let mut rows = Rows::new(alloc, world.tasks().len(), width)?;
+    while round(alloc, world, forms, &mut rows)? {}
+    Ok(rows)
+}
+
+// Whether some of these rights, beside MODIFY, change an object of a type.
+fn changes(of: Name, rights: Rights) -> bool {
+    rights.has(Right::MODIFY)
+        && ((is_general(of) && (rights.has(Right::PUTDATA) || rights.has(Right::ADDDATA)))
+            || (is_listed(of) && (rights.has(Right::STORE) || rights.has(Right::APPEND) || rights.has(Right::KILL)))
+            || (of.0 == 3 && (rights.has(Right::A0) || rights.has(Right::A1))))
+}
+
+// The objects that a row may change, names rising.
+fn bound_of(alloc: Global, world: &World, rows: &Rows, process: usize) -> Result<Vec<Name>, NoMemory> {
+    let mut names = Vec::new(alloc);
+    for name in 0..object_count(world) {
+        if let Some(rights) = rows.get(process, name) {
+            if changes(type_of(world, name), rights) {
+                names.push(Name(name as u64))?;
+            }
+        }
+    }
+    Ok(names)
+}
+
+/// The static bound of each process (`docs/RULES.md`, "The static bound"): the objects of the opening
+/// that it may ever change, whatever the programs do, in rising order of their names. One list for each
+/// process, in their order. `NoMemory` where memory does not suffice.
+pub fn bound(alloc: Global, world: &World) -> Result<Vec<Vec<Name>>, NoMemory> {
+    let forms = all_forms(alloc, world)?;
+    let rows = closed_rows(alloc, world, &forms)?;
+    let mut bounds = Vec::new(alloc);
+    for process in 0..world.tasks().len() {
+        bounds.push(bound_of(alloc, world, &rows, process)?)?;
+    }
+    Ok(bounds)
+}
