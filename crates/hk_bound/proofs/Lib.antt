@@ -5,3 +5,4 @@ mod Kept
 mod Opened
 mod Law
 mod OpeningObjects
+mod EachLemmas

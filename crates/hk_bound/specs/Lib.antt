@@ -1,3 +1,5 @@
 pub mod Taking
 pub mod Bounds
+pub mod Each
 pub mod Columns
+pub mod Forms
