@@ -6,3 +6,6 @@ mod Opened
 mod Law
 mod OpeningObjects
 mod EachLemmas
+mod Passing
+mod Reductions
+mod Sources

@@ -7,14 +7,15 @@ use Rattle.hk_model.specs.declared.entries.Entry.{Entry}
 use Rattle.hk_model.specs.declared.entries.Param.{Param}
 use Rattle.hk_model.specs.declared.world.Born.{Born}
 use Rattle.hk_model.specs.declared.objects.Object.{Object}
-use Rattle.hk_rights.specs.Rights.{has, IsRightsWord, env_right}
+use Rattle.hk_rights.specs.Rights.{has, all_rights, IsRightsWord, env_right}
 use Rattle.hk_model.specs.Setup.{Setup}
 use Rattle.hk_model.specs.State.{no_object, object}
 use Rattle.hk_model.specs.Opening.{opening, object_of}
 use Rattle.hk_model.specs.Targets.{kernel_types}
 use Rattle.hk_bound.specs.declared.forms.Form.{Form}
 use Rattle.hk_bound.specs.declared.gaps.Gap.{Gap}
-use Rattle.hk_bound.specs.Taking.{Thing, Old, MadeBy, Slots, Has, Right, Amplifies, Follows, type_of}
+use Rattle.hk_bound.specs.Each.{Each}
+use Rattle.hk_bound.specs.Taking.{Thing, Old, MadeBy, Holder, Slots, Has, Right, Amplifies, Follows, type_of}
 
 abbrev pub name_at : ℕ → Name
 name_at n = record { 0 = n }
@@ -75,31 +76,31 @@ pub record AreRows (w : Setup) (forms : List Form) (rows : List (List (Option �
   pub count : length rows ≡ length w.tasks
   pub width : (p : ℕ) → p < length rows → length (slice_index_or rows p []) ≡ width_of w forms
 
--- it follows that a process comes to have a thing with these rights
-pub record ThingFollows (w : Setup) (p : ℕ) (x : Thing) (rights : ℕ) : Type 0 where
-  pub had : Follows w (Has (Slots (proc_at p)) x)
-  pub given : (n : ℕ) → IsTrue (has rights n) → Follows w (Right (Slots (proc_at p)) x n)
+-- it follows that a holder comes to have a thing with these rights
+pub record ThingFollows (w : Setup) (h : Holder) (x : Thing) (rights : ℕ) : Type 0 where
+  pub had : Follows w (Has h x)
+  pub given : (n : ℕ) → IsTrue (has all_rights n) → IsTrue (has rights n) → Follows w (Right h x n)
 
--- it follows what a cell with these rights tells of a process
-pub record CellFollows (w : Setup) (forms : List Form) (p column rights : ℕ) : Type 0 where
-  pub word : IsRightsWord rights
-  pub old : column < object_count w → ThingFollows w p (Old (name_at column)) rights
-  pub made : (maker : ℕ) → maker < length w.tasks → column ≡ object_count w + maker → ThingFollows w p (MadeBy (proc_at maker)) rights
-  pub form : (place : ℕ) (f : Form) → slice_get forms place ≡ Some f → column ≡ thing_count w + place → IsTrue (has rights env_right) → Follows w (Amplifies (Slots (proc_at p)) f.of f.check f.give)
+-- it follows what a column with these rights tells of a holder
+pub record CellFollows (w : Setup) (forms : List Form) (h : Holder) (column rights : ℕ) : Type 0 where
+  pub old : column < object_count w → ThingFollows w h (Old (name_at column)) rights
+  pub made : (maker : ℕ) → maker < length w.tasks → column ≡ object_count w + maker → ThingFollows w h (MadeBy (proc_at maker)) rights
+  pub form : (place : ℕ) (f : Form) → slice_get forms place ≡ Some f → column ≡ thing_count w + place → IsTrue (has rights env_right) → Follows w (Amplifies h f.of f.check f.give)
 
 -- all that rows tell follows
 abbrev pub RowsFollow : Setup → List Form → List (List (Option ℕ)) → Type 0
-RowsFollow w forms rows = (p column rights : ℕ) → cell rows p column ≡ Some rights → CellFollows w forms p column rights
+RowsFollow w forms rows = (p column rights : ℕ) → cell rows p column ≡ Some rights → CellFollows w forms (Slots (proc_at p)) column rights
 
 -- a gap: what follows, is in the range of the rows, and is not in them
 pub record IsGap (w : Setup) (forms : List Form) (rows : List (List (Option ℕ))) (gap : Gap) : Type 0 where
-  pub follows : CellFollows w forms gap.process gap.column gap.rights
+  pub follows : CellFollows w forms (Slots (proc_at gap.process)) gap.column gap.rights
   pub process : gap.process < length w.tasks
   pub column : gap.column < width_of w forms
+  pub word : IsRightsWord gap.rights
   pub lacking : covers (cell rows gap.process gap.column) gap.rights ≡ false
 
 abbrev pub AreGaps : Setup → List Form → List (List (Option ℕ)) → List Gap → Type 0
-AreGaps w forms rows gaps = (k : ℕ) (gap : Gap) → slice_get gaps k ≡ Some gap → IsGap w forms rows gap
+AreGaps w forms rows gaps = Each (IsGap w forms rows) gaps
 
 -- gaps that are found of a rule: where none is new, the rule holds
 pub record Finds (w : Setup) (forms : List Form) (rows : List (List (Option ℕ))) (Rule : Type 0) (before after : List Gap) : Type 0 where

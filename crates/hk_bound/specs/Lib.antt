@@ -3,3 +3,4 @@ pub mod Bounds
 pub mod Each
 pub mod Columns
 pub mod Forms
+pub mod Rules

@@ -29,9 +29,9 @@ pub(crate) struct Table<'a> {
 #[derive(Clone, Copy, Debug)]
 pub(crate) struct Taking {
     /// Through these rights.
-    by: Rights,
+    pub by: Rights,
     /// Only what is held with ENV, by a Copy.
-    copied: bool,
+    pub copied: bool,
 }
 
 /// What is obtained through a capability with the rights `by`.
