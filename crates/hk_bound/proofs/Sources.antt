@@ -23,7 +23,7 @@ use Rattle.hk_bound.specs.declared.forms.Form.{Form}
 use Rattle.hk_bound.specs.declared.gaps.Taking.{Taking}
 use Rattle.hk_bound.specs.Taking.{Thing, Old, MadeBy, Holder, Slots, ListOf, Has, Right, Amplifies, Follows, at_opening, type_of, STORE+APPEND, open_has, open_gives, open_form, made_has, made_gives}
 use Rattle.hk_bound.specs.Columns.{name_at, proc_at, opening_entries, object_count, thing_count, width_of, cell, ThingFollows, CellFollows, RowsFollow}
-use Rattle.hk_bound.specs.Rules.{env_in, stores_in, taking_of, IsHeld, ListedWithEnv, ByEntry, ByProcess, Passes, share_made}
+use Rattle.hk_bound.specs.Rules.{env_in, stores_in, taking_of, IsHeld, ListedWithEnv, Passes, share_made}
 use Rattle.hk_bound.proofs.Opened.{opening_next}
 use Rattle.hk_bound.proofs.Bounded.{lacks}
 use Rattle.hk_bound.proofs.Passing.{load_follows, enter_follows, store_follows, copy_follows, load_made}
@@ -48,7 +48,7 @@ module _ (w : Setup) (forms : List Form) where
     made = λ maker low e. absurd (omega (arith, is, low, e));
     form = λ place f at' e env.
         let same : place ≡ held.0.0 = omega (arith, is, e) in
-        let form : record { of = of; check = check; give = give } ≡ f = same_some (sym held.0.1 ∙ subst (λ k. slice_get forms k ≡ Some f) same at') in
+        let form : record { of = of; check = check; give = give } ≡ f = same_some (sym held.0.1.is ∙ subst (λ k. slice_get forms k ≡ Some f) same at') in
         subst (λ (g : Form). Follows w (Amplifies h g.of g.check g.give)) form (open_form h index of check give at);
   }
   held_follows h index (entry.Form (template.Create of give)) column rights at below held = absurd held
@@ -57,7 +57,7 @@ module _ (w : Setup) (forms : List Form) where
   held_column entry.Empty column rights below held = absurd held
   held_column (entry.Held cap) column rights below held = let e = held.0 in omega (arith, below, e)
   held_column (entry.Form (template.Amplify None check give)) column rights below held = absurd held
-  held_column (entry.Form (template.Amplify (Some of) check give)) column rights below held = let e = held.0.2 in let r = slice_get_within forms held.0.0 (record { of = of; check = check; give = give }) held.0.1 in omega (arith, e, r)
+  held_column (entry.Form (template.Amplify (Some of) check give)) column rights below held = let e = held.0.2 in let r = slice_get_within forms held.0.0 (record { of = of; check = check; give = give }) held.0.1.is in omega (arith, e, r)
   held_column (entry.Form (template.Create of give)) column rights below held = absurd held
 
   pub opens_below : IsWorld w → (p : Place) → IsBelow (object_count w) (standing (opening w) p)
@@ -101,12 +101,12 @@ module _ (w : Setup) (forms : List Form) where
     HasEnvAt name column = (s : ℕ) × IsTrue (has s env_right) × CellFollows w forms (ListOf (Old (name_at name))) column s
 
     pub listed_follows : IsWorld w → (name column : ℕ) → name < object_count w → ListedWithEnv w forms rows name column → HasEnvAt name column
-    listed_follows world name column low (ByEntry index e rights at held env) = (rights, env, entry_follows world name index e column rights at held)
-    listed_follows world name column low (ByProcess q runs stores env) = by (cell rows q column) refl env
+    listed_follows world name column low (inl o) = (o.rights, o.env, entry_follows world name o.index o.item column o.rights o.at o.held)
+    listed_follows world name column low (inr t) = by (cell rows t.process column) refl t.env
       where
-        by : (o : Option ℕ) → cell rows q column ≡ o → env_in o ≡ true → HasEnvAt name column
+        by : (o : Option ℕ) → cell rows t.process column ≡ o → env_in o ≡ true → HasEnvAt name column
         by None e h = absurd (false≢true h)
-        by (Some r) e h = (r, h, stored_follows q name column r low stores h (follow q column r e))
+        by (Some r) e h = (r, h, stored_follows t.process name column r low t.stores h (follow t.process column r e))
 
     pub taking_follows : (p name : ℕ) (t : Taking) (column r : ℕ) → p < length w.tasks → name < object_count w → taking_of (type_of w (name_at name)) (cell rows p name) ≡ Some t
         → (t.copied ≡ true → HasEnvAt name column) → CellFollows w forms (ListOf (Old (name_at name))) column r → CellFollows w forms (Slots (proc_at p)) column (reduced_rights t.by r)

@@ -34,6 +34,11 @@ pub record Holds (forms : List Form) (form : Form) : Type 0 where
   pub place : ℕ
   pub is : slice_get forms place ≡ Some form
 
+-- the first place of a template among these
+pub record IsFirst (forms : List Form) (form : Form) (place : ℕ) : Type 0 where
+  pub is : slice_get forms place ≡ Some form
+  pub first : (k : ℕ) → k < place → slice_get forms k ≡ Some form → ⊥
+
 -- what is among the first is among the second
 abbrev pub KeepsForms : List Form → List Form → Type 0
 KeepsForms old new = (form : Form) → Holds old form → Holds new form

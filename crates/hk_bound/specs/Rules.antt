@@ -1,5 +1,5 @@
 -- The rules of taking over rows of cells: what a process gets where the rows have the cells of a rule.
-use Rattle.std.specs.Prelude.{◌≡◌, ◌==◌, ◌&&◌, ◌||◌, ◌⊎◌, ℕ, ◌+◌, ◌-◌, ◌<◌, Bool, true, false, List, length, Option, Some, None, IsTrue, IsSome, is_some, IfSome, slice_get, if◌then◌else◌, bit_or, nat_lt}
+use Rattle.std.specs.Prelude.{◌≡◌, ◌==◌, ◌&&◌, ◌||◌, ◌⊎◌, ℕ, ◌+◌, ◌-◌, ◌<◌, Bool, true, false, List, length, Option, Some, None, IsTrue, IsSome, is_some, IfSome, MatchOption, slice_get, if◌then◌else◌, bit_or, nat_lt}
 use Rattle.hk_model.specs.declared.names.Name.{Name}
 use Rattle.hk_model.specs.declared.entries.Entry.{Entry}
 use Rattle.hk_model.specs.declared.entries.Entry.TheVariants as entry
@@ -15,7 +15,7 @@ use Rattle.hk_bound.specs.declared.forms.Form.{Form}
 use Rattle.hk_bound.specs.declared.gaps.Taking.{Taking}
 use Rattle.hk_bound.specs.Taking.{Holder, Slots, type_of}
 use Rattle.hk_bound.specs.Each.{Each}
-use Rattle.hk_bound.specs.Forms.{AreForms, entry_form, param_form, made_form}
+use Rattle.hk_bound.specs.Forms.{AreForms, IsFirst, entry_form, param_form, made_form}
 use Rattle.hk_bound.specs.Columns.{name_at, proc_at, opening_entries, opening_params, object_count, thing_count, width_of, cell, covers, AreRows, CellFollows, RowsFollow}
 
 -- what is known of rows
@@ -47,13 +47,34 @@ IsHeld w forms entry.Empty column rights = ⊥
 IsHeld w forms (entry.Held cap) column rights = (column ≡ cap.name.0) × (rights ≡ cap.rights)
 IsHeld w forms (entry.Form (template.Amplify None check give)) column rights = ⊥
 IsHeld w forms (entry.Form (template.Amplify (Some of) check give)) column rights =
-    ((place : ℕ) × (slice_get forms place ≡ Some (record { of = of; check = check; give = give })) × (column ≡ thing_count w + place)) × (rights ≡ ENV)
+    ((place : ℕ) × IsFirst forms (record { of = of; check = check; give = give }) place × (column ≡ thing_count w + place)) × (rights ≡ ENV)
 IsHeld w forms (entry.Form (template.Create of give)) column rights = ⊥
 
--- what the list of an object has for a column has ENV: by an opening entry, or since a process may store it there
-pub data ListedWithEnv (w : Setup) (forms : List Form) (rows : List (List (Option ℕ))) (name column : ℕ) : Type 0 where
-  ByEntry : (index : ℕ) (e : Entry) (rights : ℕ) → slice_get (opening_entries w name) index ≡ Some e → IsHeld w forms e column rights → has rights env_right ≡ true → ListedWithEnv w forms rows name column
-  ByProcess : (q : ℕ) → q < length w.tasks → stores_in (type_of w (name_at name)) (cell rows q name) ≡ true → env_in (cell rows q column) ≡ true → ListedWithEnv w forms rows name column
+-- what an entry counts for: nothing, or one column with rights
+abbrev pub IsHeldAs : Setup → List Form → Entry → Option (ℕ × ℕ) → Type 0
+IsHeldAs w forms e found = MatchOption found
+    ((column rights : ℕ) → IsHeld w forms e column rights → ⊥)
+    (λ held. IsHeld w forms e held.0 held.1 × ((column rights : ℕ) → IsHeld w forms e column rights → (column ≡ held.0) × (rights ≡ held.1)))
+
+-- an opening entry of an object has ENV for a column
+pub record OpensWithEnv (w : Setup) (forms : List Form) (name column : ℕ) : Type 0 where
+  pub index : ℕ
+  pub item : Entry
+  pub rights : ℕ
+  pub at : slice_get (opening_entries w name) index ≡ Some item
+  pub held : IsHeld w forms item column rights
+  pub env : IsTrue (has rights env_right)
+
+-- a process may store something with ENV for a column into the list of an object
+pub record StoredWithEnv (w : Setup) (rows : List (List (Option ℕ))) (name column : ℕ) : Type 0 where
+  pub process : ℕ
+  pub runs : process < length w.tasks
+  pub stores : stores_in (type_of w (name_at name)) (cell rows process name) ≡ true
+  pub env : env_in (cell rows process column) ≡ true
+
+-- what the list of an object has for a column has ENV
+abbrev pub ListedWithEnv : Setup → List Form → List (List (Option ℕ)) → ℕ → ℕ → Type 0
+ListedWithEnv w forms rows name column = OpensWithEnv w forms name column ⊎ StoredWithEnv w rows name column
 
 -- a cell has these rights
 abbrev pub Offered : List (List (Option ℕ)) → ℕ → ℕ → ℕ → Type 0

@@ -1,7 +1,7 @@
 // The templates of a world that a merge can use.
 
 ghost use Rattle.std.specs.Prelude.{◌≡◌, IfOk, OnOk, IfSome, IsSome, slice_get};
-ghost use Rattle.hk_bound.specs.Forms.{entry_form, param_form, made_form, Holds, KeepsForms, HaveEntryForms, HaveParamForms, HaveObjectForms, AreForms};
+ghost use Rattle.hk_bound.specs.Forms.{entry_form, param_form, made_form, Holds, IsFirst, KeepsForms, HaveEntryForms, HaveParamForms, HaveObjectForms, AreForms};
 
 use crate::opening::{entries_of, object_count, params_of, type_of};
 use hk_model::{Entry, Name, NoMemory, Param, Template, World};
@@ -61,7 +61,7 @@ pub(crate) fn param_form(param: &Param) -> Option<Form>
 
 /// The place of a template among others.
 pub(crate) fn place_of(forms: &[Form], form: &Form) -> Option<usize>
-    ensures found { IfSome result (λ place. slice_get forms.now place ≡ Some form.now) }
+    ensures found { IfSome result (λ place. IsFirst forms.now form.now place) }
     ensures some { Holds forms.now form.now → IsSome result }
 {
     forms.iter().position(|other| *other == *form)
