@@ -9,3 +9,4 @@ mod EachLemmas
 mod Passing
 mod Reductions
 mod Sources
+mod FindsLemmas

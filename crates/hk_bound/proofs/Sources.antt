@@ -11,17 +11,18 @@ use Rattle.hk_model.specs.declared.entries.Cap.{Cap}
 use Rattle.hk_model.specs.declared.entries.Entry.{Entry}
 use Rattle.hk_model.specs.declared.entries.Entry.TheVariants as entry
 use Rattle.hk_model.specs.declared.entries.Template.TheVariants as template
-use Rattle.hk_rights.specs.Rights.{has, all_rights, ENV, load_right, copy_right, modify_right, env_right, unconf_right, a0_right, store_right, append_right}
-use Rattle.hk_rights.proofs.Sets.{has-bit_or, has-bit_or_cases, left_of, right_of}
+use Rattle.hk_rights.specs.Rights.{has, all_rights, all_but, minus, special_rights, HasAll, ENV, load_right, copy_right, modify_right, env_right, unconf_right, a0_right, store_right, append_right}
+use Rattle.hk_rights.proofs.Sets.{has-bit_or, has-bit_or_cases, has-bit_and_left, has-bit_and_right, left_of, right_of}
 use Rattle.hk_model.specs.Setup.{Setup, IsWorld}
 use Rattle.hk_model.specs.Opening.{opening}
 use Rattle.hk_model.specs.Walking.{reduced_rights}
+use Rattle.hk_model.specs.Merging.{merged_rights}
 use Rattle.hk_model.specs.Targets.{PROCEDURE, is_general, is_listed}
 use Rattle.hk_model.specs.Places.{Place, SlotOf, EntryOf, standing}
 use Rattle.hk_model.proofs.NamesGiven.{IsBelow, opening_given}
 use Rattle.hk_bound.specs.declared.forms.Form.{Form}
 use Rattle.hk_bound.specs.declared.gaps.Taking.{Taking}
-use Rattle.hk_bound.specs.Taking.{Thing, Old, MadeBy, Holder, Slots, ListOf, Has, Right, Amplifies, Follows, at_opening, type_of, STORE+APPEND, open_has, open_gives, open_form, made_has, made_gives}
+use Rattle.hk_bound.specs.Taking.{Thing, Old, MadeBy, Holder, Slots, ListOf, Has, Right, Amplifies, Follows, at_opening, type_of, STORE+APPEND, open_has, open_gives, open_form, made_has, made_gives, merge_gives}
 use Rattle.hk_bound.specs.Columns.{name_at, proc_at, opening_entries, object_count, thing_count, width_of, cell, ThingFollows, CellFollows, RowsFollow}
 use Rattle.hk_bound.specs.Rules.{env_in, stores_in, taking_of, IsHeld, ListedWithEnv, Passes, share_made}
 use Rattle.hk_bound.proofs.Opened.{opening_next}
@@ -168,3 +169,56 @@ module _ (w : Setup) (forms : List Form) where
         by (Some x) b e f g = load_made w forms p q all_rights column r (had p q x q_runs e) (store q (made_has (proc_at q) q_runs))
         by None (Some x) e f g = load_made w forms p p all_rights column r (made_has (proc_at p) p_runs) (store p (had q p x p_runs f))
         by None None e f g = absurd (false≢true g)
+
+    -- ---- templates
+
+    -- what a process has for a merge
+    pub merge_follows : (p name by place : ℕ) (f : Form) → name < object_count w → cell rows p name ≡ Some by → slice_get forms place ≡ Some f → f.of ≡ type_of w (name_at name) → HasAll by f.check
+        → env_in (cell rows p (thing_count w + place)) ≡ true → CellFollows w forms (Slots (proc_at p)) name (merged_rights by (Some f.of) f.give)
+    merge_follows p name by place f low e at type checked env = record {
+      old = λ l. record {
+        had = ((follow p name by e).old low).had;
+        given = λ n is there. merge_gives (proc_at p) (name_at name) f.check f.give n low
+            (subst (λ (t : Name). Follows w (Amplifies (Slots (proc_at p)) t f.check f.give)) type (has_form (cell rows p (thing_count w + place)) refl env))
+            ((follow p name by e).old low).had
+            (λ m right asked. cell_right p name by m low e right (checked m asked))
+            is (in_give n there) (λ special. cell_right p name by n low e is (in_by n there special));
+      };
+      made = λ maker l same. absurd (omega (arith, low, same));
+      form = λ k g at' same has_env. absurd (omega (arith, low, same));
+    }
+      where
+        has_form : (o : Option ℕ) → cell rows p (thing_count w + place) ≡ o → env_in o ≡ true → Follows w (Amplifies (Slots (proc_at p)) f.of f.check f.give)
+        has_form None e h = absurd (false≢true h)
+        has_form (Some r) e h = (follow p (thing_count w + place) r e).form place f at refl h
+
+        in_give : (n : ℕ) → has (merged_rights by (Some f.of) f.give) n ≡ true → has f.give n ≡ true
+        in_give n there = elim (has-bit_or_cases (minus f.give special_rights) (bit_and (bit_and f.give special_rights) by) n there) [
+          | inl k ↦ has-bit_and_left f.give (all_but special_rights) n k
+          | inr k ↦ has-bit_and_left f.give special_rights n (has-bit_and_left (bit_and f.give special_rights) by n k)
+        ]
+
+        in_by : (n : ℕ) → has (merged_rights by (Some f.of) f.give) n ≡ true → has special_rights n ≡ true → has by n ≡ true
+        in_by n there special = elim (has-bit_or_cases (minus f.give special_rights) (bit_and (bit_and f.give special_rights) by) n there) [
+          | inl k ↦ absurd (true≢false (sym (has-bit_and_right f.give (all_but special_rights) n k) ∙ lacks special_rights (all_but special_rights) n refl special))
+          | inr k ↦ has-bit_and_right (bit_and f.give special_rights) by n k
+        ]
+
+  -- a template
+  pub form_follows : (h : Holder) (f : Form) (place column : ℕ) → slice_get forms place ≡ Some f → column ≡ thing_count w + place → Follows w (Amplifies h f.of f.check f.give) → CellFollows w forms h column ENV
+  form_follows h f place column at same follows = record {
+    old = λ low. absurd (omega (arith, same, low));
+    made = λ maker low e. absurd (omega (arith, same, low, e));
+    form = λ k g at' e env.
+        let k_is : k ≡ place = omega (arith, same, e) in
+        let g_is : f ≡ g = same_some (sym at ∙ subst (λ m. slice_get forms m ≡ Some g) k_is at') in
+        subst (λ (x : Form). Follows w (Amplifies h x.of x.check x.give)) g_is follows;
+  }
+
+  -- what is made
+  pub made_follows : (h : Holder) (maker column : ℕ) → maker < length w.tasks → column ≡ object_count w + maker → Follows w (Has h (MadeBy (proc_at maker))) → CellFollows w forms h column all_rights
+  made_follows h maker column runs same had = record {
+    old = λ low. absurd (omega (arith, same, low));
+    made = λ m low e. let is : maker ≡ m = omega (arith, same, e) in subst (λ (x : ℕ). ThingFollows w h (MadeBy (proc_at x)) all_rights) is (record { had = had; given = λ n right there. made_gives h (proc_at maker) n had right });
+    form = λ k g at e env. absurd (omega (arith, runs, same, e));
+  }

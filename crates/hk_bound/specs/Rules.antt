@@ -1,5 +1,5 @@
 -- The rules of taking over rows of cells: what a process gets where the rows have the cells of a rule.
-use Rattle.std.specs.Prelude.{◌≡◌, ◌==◌, ◌&&◌, ◌||◌, ◌⊎◌, ℕ, ◌+◌, ◌-◌, ◌<◌, Bool, true, false, List, length, Option, Some, None, IsTrue, IsSome, is_some, IfSome, MatchOption, slice_get, if◌then◌else◌, bit_or, nat_lt}
+use Rattle.std.specs.Prelude.{◌≡◌, ◌==◌, ◌&&◌, ◌||◌, ◌⊎◌, ℕ, ◌+◌, ◌-◌, ◌<◌, Bool, true, false, List, length, Option, Some, None, IsTrue, IsSome, is_some, IfSome, MatchOption, slice_get, if◌then◌else◌, bit_or, nat_lt, option_map}
 use Rattle.hk_model.specs.declared.names.Name.{Name}
 use Rattle.hk_model.specs.declared.entries.Entry.{Entry}
 use Rattle.hk_model.specs.declared.entries.Entry.TheVariants as entry
@@ -7,19 +7,20 @@ use Rattle.hk_model.specs.declared.entries.Param.{Param}
 use Rattle.hk_model.specs.declared.entries.Template.TheVariants as template
 use Rattle.hk_model.specs.declared.world.Task.{Task}
 use Rattle.hk_rights.specs.Rights.{has, all_rights, HasAll, ENV, load_right, store_right, append_right, copy_right, modify_right, env_right, a0_right}
-use Rattle.hk_model.specs.Setup.{Setup}
+use Rattle.hk_model.specs.Setup.{Setup, IsWorld}
 use Rattle.hk_model.specs.Walking.{reduced_rights}
 use Rattle.hk_model.specs.Merging.{merged_rights}
 use Rattle.hk_model.specs.Targets.{TYPE, PROCEDURE, is_general, is_listed}
 use Rattle.hk_bound.specs.declared.forms.Form.{Form}
 use Rattle.hk_bound.specs.declared.gaps.Taking.{Taking}
-use Rattle.hk_bound.specs.Taking.{Holder, Slots, type_of}
+use Rattle.hk_bound.specs.Taking.{Holder, Slots, at_opening, type_of}
 use Rattle.hk_bound.specs.Each.{Each}
 use Rattle.hk_bound.specs.Forms.{AreForms, IsFirst, entry_form, param_form, made_form}
-use Rattle.hk_bound.specs.Columns.{name_at, proc_at, opening_entries, opening_params, object_count, thing_count, width_of, cell, covers, AreRows, CellFollows, RowsFollow}
+use Rattle.hk_bound.specs.Columns.{name_at, proc_at, joined, opening_entries, opening_params, object_count, thing_count, width_of, cell, covers, AreRows, CellFollows, RowsFollow}
 
 -- what is known of rows
 pub record IsKnown (w : Setup) (forms : List Form) (rows : List (List (Option ℕ))) : Type 0 where
+  pub world : IsWorld w
   pub forms_are : AreForms w forms
   pub follow : RowsFollow w forms rows
 
@@ -96,10 +97,14 @@ EntriesRule w forms rows p name =
 abbrev pub FormRule : Setup → List Form → List (List (Option ℕ)) → ℕ → Form → Type 0
 FormRule w forms rows p form = (place : ℕ) × (slice_get forms place ≡ Some form) × Offered rows p (thing_count w + place) ENV
 
+-- of a parameter
+abbrev pub ParamRule : Setup → List Form → List (List (Option ℕ)) → ℕ → Param → Type 0
+ParamRule w forms rows p param = IfSome (param_form param) (FormRule w forms rows p)
+
 -- of the parameters of a procedure
 abbrev pub ParamsRule : Setup → List Form → List (List (Option ℕ)) → ℕ → ℕ → ℕ → Type 0
 ParamsRule w forms rows p name by =
-    has by a0_right ≡ true → (type_of w (name_at name)).0 ≡ PROCEDURE → Each (λ (param : Param). IfSome (param_form param) (FormRule w forms rows p)) (opening_params w name)
+    has by a0_right ≡ true → (type_of w (name_at name)).0 ≡ PROCEDURE → Each (ParamRule w forms rows p) (opening_params w name)
 
 -- of a type
 abbrev pub TypeRule : Setup → List Form → List (List (Option ℕ)) → ℕ → ℕ → ℕ → Type 0
@@ -107,12 +112,13 @@ TypeRule w forms rows p name by =
     has by a0_right ≡ true → has by env_right ≡ true → (type_of w (name_at name)).0 ≡ TYPE → FormRule w forms rows p (made_form (name_at name))
 
 -- of one template for an object
-abbrev pub MergeRule : Setup → List Form → List (List (Option ℕ)) → ℕ → ℕ → ℕ → ℕ → Form → Type 0
-MergeRule w forms rows p name by place form =
-    form.of ≡ type_of w (name_at name) → HasAll by form.check → env_in (cell rows p (thing_count w + place)) ≡ true → Offered rows p name (merged_rights by (Some form.of) form.give)
+abbrev pub MergeRule : Setup → List Form → List (List (Option ℕ)) → ℕ → ℕ → ℕ → ℕ → Type 0
+MergeRule w forms rows p name by place =
+    (form : Form) → slice_get forms place ≡ Some form → form.of ≡ type_of w (name_at name) → HasAll by form.check → env_in (cell rows p (thing_count w + place)) ≡ true
+    → Offered rows p name (merged_rights by (Some form.of) form.give)
 
 abbrev pub MergesRule : Setup → List Form → List (List (Option ℕ)) → ℕ → ℕ → ℕ → Type 0
-MergesRule w forms rows p name by = (place : ℕ) (form : Form) → slice_get forms place ≡ Some form → MergeRule w forms rows p name by place form
+MergesRule w forms rows p name by = (place : ℕ) → place < length forms → MergeRule w forms rows p name by place
 
 -- by what it has for an object of the opening
 pub record ObjectRule (w : Setup) (forms : List Form) (rows : List (List (Option ℕ))) (p name : ℕ) : Type 0 where
@@ -132,11 +138,19 @@ Passes w forms p q by =
 abbrev pub share_made : Setup → List (List (Option ℕ)) → ℕ → ℕ → Bool
 share_made w rows p q = is_some (cell rows p (object_count w + q)) || is_some (cell rows q (object_count w + p))
 
+-- the rights through which a process takes from an object into which another stores, by their cells for it
+abbrev pub through_in : Name → Option ℕ → Option ℕ → Option ℕ
+through_in of mine theirs = if stores_in of theirs then option_map (λ (t : Taking). t.by) (taking_of of mine) else None
+
+-- a cell with the rights of another besides
+abbrev pub joined_cells : Option ℕ → Option ℕ → Option ℕ
+joined_cells cell None = cell
+joined_cells cell (Some rights) = joined cell rights
+
 -- the rights have those through which a process takes from the objects into which the other stores
 abbrev pub HasTakings : Setup → List (List (Option ℕ)) → ℕ → ℕ → ℕ → Option ℕ → Type 0
 HasTakings w rows p q n by =
-    (name : ℕ) (t : Taking) → name < n → stores_in (type_of w (name_at name)) (cell rows q name) ≡ true → taking_of (type_of w (name_at name)) (cell rows p name) ≡ Some t
-    → (all : ℕ) × (by ≡ Some all) × HasAll all t.by
+    (name more : ℕ) → name < n → through_in (type_of w (name_at name)) (cell rows p name) (cell rows q name) ≡ Some more → (all : ℕ) × (by ≡ Some all) × HasAll all more
 
 -- what the other has with ENV is there, through these rights
 abbrev pub CellRule : List (List (Option ℕ)) → ℕ → ℕ → ℕ → ℕ → Type 0
@@ -147,9 +161,18 @@ PassedRule w forms rows p q by = (column : ℕ) → column < width_of w forms �
 
 pub record StoredRule (w : Setup) (forms : List Form) (rows : List (List (Option ℕ))) (p q : ℕ) : Type 0 where
   pub made : share_made w rows p q ≡ true → PassedRule w forms rows p q all_rights
-  pub stored : (name : ℕ) (t : Taking) → name < object_count w → stores_in (type_of w (name_at name)) (cell rows q name) ≡ true → taking_of (type_of w (name_at name)) (cell rows p name) ≡ Some t → PassedRule w forms rows p q t.by
+  pub stored : share_made w rows p q ≡ false → (name more : ℕ) → name < object_count w → through_in (type_of w (name_at name)) (cell rows p name) (cell rows q name) ≡ Some more
+      → (all : ℕ) × HasAll all more × PassedRule w forms rows p q all
 
 -- ---- what a process has at the opening and makes
+
+-- the process has this entry in a slot at the opening
+pub record OpensWith (w : Setup) (p : ℕ) (e : Entry) : Type 0 where
+  pub index : ℕ
+  pub at : at_opening w (Slots (proc_at p)) index ≡ e
+  pub task : Task
+  pub is : slice_get w.tasks p ≡ Some task
+  pub slot : slice_get task.slots index ≡ Some e
 
 abbrev pub SlotRule : Setup → List Form → List (List (Option ℕ)) → ℕ → Entry → Type 0
 SlotRule w forms rows p e = (column rights : ℕ) → IsHeld w forms e column rights → Offered rows p column rights

@@ -21,7 +21,7 @@ fn round(alloc: Global, world: &World, forms: &[Form], rows: &mut Rows) -> Resul
     for (process, task) in world.tasks().iter().enumerate() {
         let mut gaps = Vec::new(alloc);
         let table = Table { world, forms, rows: &*rows };
-        table.process_gaps(process, task.slots.as_slice(), &mut gaps)?;
+        table.process_gaps(process, task, &mut gaps)?;
         if !gaps.is_empty() {
             fill(rows, &gaps);
             grown = true;

@@ -1,19 +1,21 @@
 // What the rules give to processes, and the rows do not have.
 
-ghost use Rattle.std.specs.Prelude.{◌≡◌, ◌↔◌, IsTrue, ◌<◌, ◌+◌, ◌^◌, ℕ, true, Some, IfSome, IsSome, OnOk, length, slice_get};
-ghost use Rattle.hk_rights.specs.Rights.{HasAll, all_rights};
+ghost use Rattle.std.specs.Prelude.{◌≡◌, ◌⊎◌, false, ◌↔◌, IsTrue, ◌<◌, ◌+◌, ◌^◌, ℕ, true, Some, IfSome, IsSome, OnOk, length, slice_get};
+ghost use Rattle.hk_rights.specs.Rights.{HasAll, all_rights, a0_right};
 ghost use Rattle.hk_model.specs.Walking.{reduced_rights};
 ghost use Rattle.hk_model.specs.Merging.{merged_rights};
-ghost use Rattle.hk_bound.specs.Taking.{Slots, type_of};
+ghost use Rattle.hk_model.specs.Targets.{PROCEDURE};
+ghost use Rattle.hk_model.specs.declared.names.Name.{Name as NameOf};
+ghost use Rattle.hk_bound.specs.Taking.{Slots, Old, Right as RightOf, Amplifies, Follows, type_of};
 ghost use Rattle.hk_bound.specs.Each.{Among, Each};
 ghost use Rattle.hk_bound.specs.Columns.{name_at, proc_at, opening_entries, object_count, thing_count, width_of, cell, CellFollows, Finds};
 ghost use Rattle.hk_bound.specs.Forms.{entry_form, Holds, IsFirst};
-ghost use Rattle.hk_bound.specs.Rules.{IsKnown, IsHeldAs, env_in, stores_in, taking_of, OpensWithEnv, StoredWithEnv, Offered, EntryRule, EntriesRule, FormRule, ParamsRule, TypeRule, MergeRule, MergesRule, ObjectRule, Passes, share_made, HasTakings, PassedRule, StoredRule, SlotRule, MadeRule, ProcessRule};
+ghost use Rattle.hk_bound.specs.Rules.{IsKnown, IsHeldAs, env_in, stores_in, taking_of, OpensWithEnv, StoredWithEnv, ListedWithEnv, Offered, EntryRule, EntriesRule, FormRule, ParamRule, ParamsRule, TypeRule, MergeRule, MergesRule, ObjectRule, Passes, share_made, HasTakings, through_in, joined_cells, CellRule, PassedRule, StoredRule, OpensWith, SlotRule, MadeRule, ProcessRule};
 
 use crate::forms::{entry_form, made_form, param_form, place_of, Form};
 use crate::opening::{entries_of, is_general, is_listed, object_count, params_of, type_of};
 use crate::rows::{covers, joined, Rows};
-use hk_model::{Entry, Name, NoMemory, World};
+use hk_model::{Entry, Name, NoMemory, Param, Task, World};
 use hk_rights::{Right, Rights};
 
 /// Rights that the rules give to a process, and that its row lacks.
@@ -57,6 +59,24 @@ fn reduced_rights(by: Rights, rights: Rights) -> Rights
         kept
     } else {
         kept.without(Rights::ENV)
+    }
+}
+
+// What a merge gives: the rights of `give`, but of the special rights those alone that were there.
+fn merged_rights(by: Rights, give: Rights) -> Rights
+    ensures { (of : NameOf) → result ≡ merged_rights by (Some of) give }
+{
+    let special = give.intersection(Rights::SPECIAL).intersection(by);
+    give.without(Rights::SPECIAL).union(special)
+}
+
+// A cell with the rights of another besides.
+fn joined_cells(cell: Option<Rights>, more: Option<Rights>) -> Option<Rights>
+    ensures { result ≡ joined_cells cell more }
+{
+    match more {
+        None => cell,
+        Some(rights) => joined(cell, rights),
     }
 }
 
@@ -190,17 +210,26 @@ impl<'a> Table<'a> {
         false
     }
 
+    // Whether what the list of an object has for a column is taken.
+    fn takes(&self, taking: &Taking, name: usize, column: usize) -> bool
+        requires known { IsKnown self.now.world.now self.now.forms.now self.now.rows.now }
+        requires name { name < object_count self.now.world.now }
+        ensures { IsTrue result ↔ ((taking.now.copied ≡ false) ⊎ ListedWithEnv self.now.world.now self.now.forms.now self.now.rows.now name column) }
+    {
+        !taking.copied || self.opens_with_env(name, column) || self.stored_with_env(name, column)
+    }
+
     // What a process takes of one entry in the list of an object.
-    fn take_entry(&self, process: usize, name: usize, taking: Taking, entry: &Entry, gaps: &mut Vec<Gap>) -> Result<(), NoMemory>
+    fn take_entry(&self, process: usize, name: usize, taking: &Taking, entry: &Entry, gaps: &mut Vec<Gap>) -> Result<(), NoMemory>
         requires known { IsKnown self.now.world.now self.now.forms.now self.now.rows.now }
         requires process { process < length self.now.world.now.tasks }
         requires name { name < object_count self.now.world.now }
-        requires takes { taking_of (type_of self.now.world.now (name_at name)) (cell self.now.rows.now process name) ≡ Some taking }
+        requires takes { taking_of (type_of self.now.world.now (name_at name)) (cell self.now.rows.now process name) ≡ Some taking.now }
         requires among { Among (opening_entries self.now.world.now name) entry.now }
-        ensures { OnOk result (Finds self.now.world.now self.now.forms.now self.now.rows.now (EntryRule self.now.world.now self.now.forms.now self.now.rows.now process name taking entry.now) gaps.old.items gaps.new.items) }
+        ensures { OnOk result (Finds self.now.world.now self.now.forms.now self.now.rows.now (EntryRule self.now.world.now self.now.forms.now self.now.rows.now process name taking.now entry.now) gaps.old.items gaps.new.items) }
     {
         if let Some((column, rights)) = self.held(entry) {
-            if !taking.copied || self.opens_with_env(name, column) || self.stored_with_env(name, column) {
+            if self.takes(taking, name, column) {
                 let rights = reduced_rights(taking.by, rights);
                 self.offer(Gap { process, column, rights }, gaps)?;
             }
@@ -215,131 +244,305 @@ impl<'a> Table<'a> {
         requires name { name < object_count self.now.world.now }
         ensures { OnOk result (Finds self.now.world.now self.now.forms.now self.now.rows.now (EntriesRule self.now.world.now self.now.forms.now self.now.rows.now process name) gaps.old.items gaps.new.items) }
     {
-        if let Some(taking) = self.taking(process, name) {
-            for entry in entries_of(self.world, name) {
-                self.take_entry(process, name, taking, entry, gaps)?;
-            }
+        let Some(taking) = self.taking(process, name) else {
+            return Ok(());
+        };
+        for entry in entries_of(self.world, name) {
+            self.take_entry(process, name, &taking, entry, gaps)?;
         }
         Ok(())
     }
 
     // A template that a process has.
-    fn offer_form(&self, process: usize, form: &Form, gaps: &mut Vec<Gap>) -> Result<(), NoMemory> {
+    fn offer_form(&self, process: usize, form: &Form, gaps: &mut Vec<Gap>) -> Result<(), NoMemory>
+        requires process { process < length self.now.world.now.tasks }
+        requires holds { Holds self.now.forms.now form.now }
+        requires follows { Follows self.now.world.now (Amplifies (Slots (proc_at process)) form.now.of form.now.check form.now.give) }
+        ensures { OnOk result (Finds self.now.world.now self.now.forms.now self.now.rows.now (FormRule self.now.world.now self.now.forms.now self.now.rows.now process form.now) gaps.old.items gaps.new.items) }
+    {
         if let Some(column) = self.form_column(form) {
             self.offer(Gap { process, column, rights: Rights::ENV }, gaps)?;
         }
         Ok(())
     }
 
+    // The template that a process has of a parameter of a procedure that it may call.
+    fn take_param(&self, process: usize, name: usize, param: &Param, gaps: &mut Vec<Gap>) -> Result<(), NoMemory>
+        requires known { IsKnown self.now.world.now self.now.forms.now self.now.rows.now }
+        requires process { process < length self.now.world.now.tasks }
+        requires name { name < object_count self.now.world.now }
+        requires procedure { (type_of self.now.world.now (name_at name)).0 ≡ PROCEDURE }
+        requires call { Follows self.now.world.now (RightOf (Slots (proc_at process)) (Old (name_at name)) a0_right) }
+        requires among { Among (opening_params self.now.world.now name) param.now }
+        ensures { OnOk result (Finds self.now.world.now self.now.forms.now self.now.rows.now (ParamRule self.now.world.now self.now.forms.now self.now.rows.now process param.now) gaps.old.items gaps.new.items) }
+    {
+        if let Some(form) = param_form(param) {
+            self.offer_form(process, &form, gaps)?;
+        }
+        Ok(())
+    }
+
     // The templates that a process has of the parameters of a procedure that it may call.
-    fn take_params(&self, process: usize, name: usize, by: Rights, gaps: &mut Vec<Gap>) -> Result<(), NoMemory> {
-        if by.has(Right::A0) && type_of(self.world, name).0 == 4 {
-            for param in params_of(self.world, name) {
-                if let Some(form) = param_form(param) {
-                    self.offer_form(process, &form, gaps)?;
-                }
-            }
+    fn take_params(&self, process: usize, name: usize, by: Rights, gaps: &mut Vec<Gap>) -> Result<(), NoMemory>
+        requires known { IsKnown self.now.world.now self.now.forms.now self.now.rows.now }
+        requires process { process < length self.now.world.now.tasks }
+        requires name { name < object_count self.now.world.now }
+        requires cell { cell self.now.rows.now process name ≡ Some by }
+        ensures { OnOk result (Finds self.now.world.now self.now.forms.now self.now.rows.now (ParamsRule self.now.world.now self.now.forms.now self.now.rows.now process name by) gaps.old.items gaps.new.items) }
+    {
+        if !by.has(Right::A0) || type_of(self.world, name).0 != 4 {
+            return Ok(());
+        }
+        for param in params_of(self.world, name) {
+            self.take_param(process, name, param, gaps)?;
         }
         Ok(())
     }
 
     // The template that a process can make of a type.
-    fn make_form(&self, process: usize, name: usize, by: Rights, gaps: &mut Vec<Gap>) -> Result<(), NoMemory> {
+    fn make_form(&self, process: usize, name: usize, by: Rights, gaps: &mut Vec<Gap>) -> Result<(), NoMemory>
+        requires known { IsKnown self.now.world.now self.now.forms.now self.now.rows.now }
+        requires process { process < length self.now.world.now.tasks }
+        requires name { name < object_count self.now.world.now }
+        requires cell { cell self.now.rows.now process name ≡ Some by }
+        ensures { OnOk result (Finds self.now.world.now self.now.forms.now self.now.rows.now (TypeRule self.now.world.now self.now.forms.now self.now.rows.now process name by) gaps.old.items gaps.new.items) }
+    {
         if by.has(Right::A0) && by.has(Right::ENV) && type_of(self.world, name).0 == 0 {
             self.offer_form(process, &made_form(Name(name as u64)), gaps)?;
         }
         Ok(())
     }
 
+    // What a merge with one template gives to a process for an object.
+    fn merge(&self, process: usize, name: usize, by: Rights, place: usize, gaps: &mut Vec<Gap>) -> Result<(), NoMemory>
+        requires known { IsKnown self.now.world.now self.now.forms.now self.now.rows.now }
+        requires process { process < length self.now.world.now.tasks }
+        requires name { name < object_count self.now.world.now }
+        requires cell { cell self.now.rows.now process name ≡ Some by }
+        requires place { place < length self.now.forms.now }
+        ensures { OnOk result (Finds self.now.world.now self.now.forms.now self.now.rows.now (MergeRule self.now.world.now self.now.forms.now self.now.rows.now process name by place) gaps.old.items gaps.new.items) }
+    {
+        let form = &self.forms[place];
+        if form.of == type_of(self.world, name) && by.contains(form.check) && self.has_env(process, self.thing_count() + place) {
+            let rights = merged_rights(by, form.give);
+            self.offer(Gap { process, column: name, rights }, gaps)?;
+        }
+        Ok(())
+    }
+
     // What merges give to a process for an object.
-    fn merge(&self, process: usize, name: usize, by: Rights, gaps: &mut Vec<Gap>) -> Result<(), NoMemory> {
-        let of = type_of(self.world, name);
-        for (place, form) in self.forms.iter().enumerate() {
-            if form.of == of && by.contains(form.check) && self.has_env(process, self.thing_count() + place) {
-                let special = form.give.intersection(Rights::SPECIAL).intersection(by);
-                let rights = form.give.without(Rights::SPECIAL).union(special);
-                self.offer(Gap { process, column: name, rights }, gaps)?;
-            }
+    fn merge_all(&self, process: usize, name: usize, by: Rights, gaps: &mut Vec<Gap>) -> Result<(), NoMemory>
+        requires known { IsKnown self.now.world.now self.now.forms.now self.now.rows.now }
+        requires process { process < length self.now.world.now.tasks }
+        requires name { name < object_count self.now.world.now }
+        requires cell { cell self.now.rows.now process name ≡ Some by }
+        ensures { OnOk result (Finds self.now.world.now self.now.forms.now self.now.rows.now (MergesRule self.now.world.now self.now.forms.now self.now.rows.now process name by) gaps.old.items gaps.new.items) }
+    {
+        for place in 0..self.forms.len() {
+            self.merge(process, name, by, place, gaps)?;
         }
         Ok(())
     }
 
     // All that a process gets by what it has for one object of the opening.
-    fn object_gaps(&self, process: usize, name: usize, gaps: &mut Vec<Gap>) -> Result<(), NoMemory> {
-        if let Some(by) = self.rows.get(process, name) {
-            self.take_entries(process, name, gaps)?;
-            self.take_params(process, name, by, gaps)?;
-            self.make_form(process, name, by, gaps)?;
-            self.merge(process, name, by, gaps)?;
-        }
-        Ok(())
+    fn object_gaps(&self, process: usize, name: usize, gaps: &mut Vec<Gap>) -> Result<(), NoMemory>
+        requires known { IsKnown self.now.world.now self.now.forms.now self.now.rows.now }
+        requires process { process < length self.now.world.now.tasks }
+        requires name { name < object_count self.now.world.now }
+        ensures { OnOk result (Finds self.now.world.now self.now.forms.now self.now.rows.now (ObjectRule self.now.world.now self.now.forms.now self.now.rows.now process name) gaps.old.items gaps.new.items) }
+    {
+        self.take_entries(process, name, gaps)?;
+        let Some(by) = self.rows.get(process, name) else {
+            return Ok(());
+        };
+        self.take_params(process, name, by, gaps)?;
+        self.make_form(process, name, by, gaps)?;
+        self.merge_all(process, name, by, gaps)
     }
 
-    // The rights through which a process takes what another stores: of the objects that the other
-    // stores into and it takes from, and all where one of them has what the other makes.
-    fn through(&self, process: usize, other: usize) -> Option<Rights> {
-        let mine = object_count(self.world) + process;
-        let theirs = object_count(self.world) + other;
-        if self.rows.get(process, theirs).is_some() || self.rows.get(other, mine).is_some() {
-            return Some(Rights::all());
+    // Whether one of two processes has what the other makes.
+    fn share_made(&self, process: usize, other: usize) -> bool
+        requires process { process < length self.now.world.now.tasks }
+        requires other { other < length self.now.world.now.tasks }
+        ensures { result ≡ share_made self.now.world.now self.now.rows.now process other }
+    {
+        let count = object_count(self.world);
+        self.rows.get(process, count + other).is_some() || self.rows.get(other, count + process).is_some()
+    }
+
+    // The rights through which a process takes from an object into which another stores.
+    fn through_object(&self, process: usize, other: usize, name: usize) -> Option<Rights>
+        ensures { result ≡ through_in (type_of self.now.world.now (name_at name)) (cell self.now.rows.now process name) (cell self.now.rows.now other name) }
+    {
+        if !self.stores(other, name) {
+            return None;
         }
+        match self.taking(process, name) {
+            None => None,
+            Some(taking) => Some(taking.by),
+        }
+    }
+
+    // The rights through which a process takes what another stores, of all objects.
+    fn through_objects(&self, process: usize, other: usize) -> Option<Rights>
+        requires known { IsKnown self.now.world.now self.now.forms.now self.now.rows.now }
+        requires process { process < length self.now.world.now.tasks }
+        ensures passes { IfSome result (λ by. Passes self.now.world.now self.now.forms.now process other by) }
+        ensures all { HasTakings self.now.world.now self.now.rows.now process other (object_count self.now.world.now) result }
+    {
         let mut by = None;
         for name in 0..object_count(self.world) {
-            if self.stores(other, name) {
-                if let Some(taking) = self.taking(process, name) {
-                    by = joined(by, taking.by);
-                }
-            }
+            by = joined_cells(by, self.through_object(process, other, name));
         }
         by
     }
 
-    // What a process takes of what another stores.
-    fn take_stored(&self, process: usize, other: usize, gaps: &mut Vec<Gap>) -> Result<(), NoMemory> {
-        if let Some(by) = self.through(process, other) {
-            for column in 0..self.width() {
-                if let Some(rights) = self.rows.get(other, column) {
-                    if rights.has(Right::ENV) {
-                        let rights = reduced_rights(by, rights);
-                        self.offer(Gap { process, column, rights }, gaps)?;
-                    }
-                }
-            }
+    // The rights through which a process takes what another stores: all where one of them has what the
+    // other makes.
+    fn through(&self, process: usize, other: usize) -> Option<Rights>
+        requires known { IsKnown self.now.world.now self.now.forms.now self.now.rows.now }
+        requires process { process < length self.now.world.now.tasks }
+        requires other { other < length self.now.world.now.tasks }
+        ensures passes { IfSome result (λ by. Passes self.now.world.now self.now.forms.now process other by) }
+        ensures made { share_made self.now.world.now self.now.rows.now process other ≡ true → result ≡ Some all_rights }
+        ensures all { share_made self.now.world.now self.now.rows.now process other ≡ false → HasTakings self.now.world.now self.now.rows.now process other (object_count self.now.world.now) result }
+    {
+        if self.share_made(process, other) {
+            Some(Rights::all())
+        } else {
+            self.through_objects(process, other)
         }
-        Ok(())
     }
 
-    // What a process opens with.
-    fn opening_gaps(&self, process: usize, slots: &[Entry], gaps: &mut Vec<Gap>) -> Result<(), NoMemory> {
-        for entry in slots {
-            if let Some((column, rights)) = self.held(entry) {
+    // What a process takes of one thing that another stores.
+    fn take_cell(&self, process: usize, other: usize, by: Rights, column: usize, gaps: &mut Vec<Gap>) -> Result<(), NoMemory>
+        requires known { IsKnown self.now.world.now self.now.forms.now self.now.rows.now }
+        requires process { process < length self.now.world.now.tasks }
+        requires passes { Passes self.now.world.now self.now.forms.now process other by }
+        requires column { column < width_of self.now.world.now self.now.forms.now }
+        ensures { OnOk result (Finds self.now.world.now self.now.forms.now self.now.rows.now (CellRule self.now.rows.now process other by column) gaps.old.items gaps.new.items) }
+    {
+        if let Some(rights) = self.rows.get(other, column) {
+            if rights.has(Right::ENV) {
+                let rights = reduced_rights(by, rights);
                 self.offer(Gap { process, column, rights }, gaps)?;
             }
         }
         Ok(())
     }
 
-    // All rights for what processes make, where a process has it; it has what it makes itself.
-    fn made_gaps(&self, process: usize, gaps: &mut Vec<Gap>) -> Result<(), NoMemory> {
+    // What a process takes of all that another stores, through these rights.
+    fn take_row(&self, process: usize, other: usize, by: Rights, gaps: &mut Vec<Gap>) -> Result<(), NoMemory>
+        requires known { IsKnown self.now.world.now self.now.forms.now self.now.rows.now }
+        requires process { process < length self.now.world.now.tasks }
+        requires passes { Passes self.now.world.now self.now.forms.now process other by }
+        ensures { OnOk result (Finds self.now.world.now self.now.forms.now self.now.rows.now (PassedRule self.now.world.now self.now.forms.now self.now.rows.now process other by) gaps.old.items gaps.new.items) }
+    {
+        for column in 0..self.width() {
+            self.take_cell(process, other, by, column, gaps)?;
+        }
+        Ok(())
+    }
+
+    // What a process takes of what another stores.
+    fn take_stored(&self, process: usize, other: usize, gaps: &mut Vec<Gap>) -> Result<(), NoMemory>
+        requires known { IsKnown self.now.world.now self.now.forms.now self.now.rows.now }
+        requires process { process < length self.now.world.now.tasks }
+        requires other { other < length self.now.world.now.tasks }
+        ensures { OnOk result (Finds self.now.world.now self.now.forms.now self.now.rows.now (StoredRule self.now.world.now self.now.forms.now self.now.rows.now process other) gaps.old.items gaps.new.items) }
+    {
+        match self.through(process, other) {
+            None => Ok(()),
+            Some(by) => self.take_row(process, other, by, gaps),
+        }
+    }
+
+    // What a process has of one of its opening slots.
+    fn slot_gap(&self, process: usize, entry: &Entry, gaps: &mut Vec<Gap>) -> Result<(), NoMemory>
+        requires known { IsKnown self.now.world.now self.now.forms.now self.now.rows.now }
+        requires process { process < length self.now.world.now.tasks }
+        requires opens { OpensWith self.now.world.now process entry.now }
+        ensures { OnOk result (Finds self.now.world.now self.now.forms.now self.now.rows.now (SlotRule self.now.world.now self.now.forms.now self.now.rows.now process entry.now) gaps.old.items gaps.new.items) }
+    {
+        if let Some((column, rights)) = self.held(entry) {
+            self.offer(Gap { process, column, rights }, gaps)?;
+        }
+        Ok(())
+    }
+
+    // What a process opens with.
+    fn opening_gaps(&self, process: usize, task: &Task, gaps: &mut Vec<Gap>) -> Result<(), NoMemory>
+        requires known { IsKnown self.now.world.now self.now.forms.now self.now.rows.now }
+        requires process { process < length self.now.world.now.tasks }
+        requires task { slice_get self.now.world.now.tasks process ≡ Some task.now }
+        ensures { OnOk result (Finds self.now.world.now self.now.forms.now self.now.rows.now (Each (SlotRule self.now.world.now self.now.forms.now self.now.rows.now process) task.now.slots) gaps.old.items gaps.new.items) }
+    {
+        for entry in task.slots.as_slice() {
+            self.slot_gap(process, entry, gaps)?;
+        }
+        Ok(())
+    }
+
+    // All rights for what one process makes, where another has it; a process has what it makes itself.
+    fn made_gap(&self, process: usize, maker: usize, gaps: &mut Vec<Gap>) -> Result<(), NoMemory>
+        requires known { IsKnown self.now.world.now self.now.forms.now self.now.rows.now }
+        requires process { process < length self.now.world.now.tasks }
+        requires maker { maker < length self.now.world.now.tasks }
+        ensures { OnOk result (Finds self.now.world.now self.now.forms.now self.now.rows.now (MadeRule self.now.world.now self.now.rows.now process maker) gaps.old.items gaps.new.items) }
+    {
+        let column = object_count(self.world) + maker;
+        if maker == process || self.rows.get(process, column).is_some() {
+            self.offer(Gap { process, column, rights: Rights::all() }, gaps)?;
+        }
+        Ok(())
+    }
+
+    // All rights for what processes make, where a process has it.
+    fn made_gaps(&self, process: usize, gaps: &mut Vec<Gap>) -> Result<(), NoMemory>
+        requires known { IsKnown self.now.world.now self.now.forms.now self.now.rows.now }
+        requires process { process < length self.now.world.now.tasks }
+        ensures { OnOk result (Finds self.now.world.now self.now.forms.now self.now.rows.now ((maker : ℕ) → maker < length self.now.world.now.tasks → MadeRule self.now.world.now self.now.rows.now process maker) gaps.old.items gaps.new.items) }
+    {
         for maker in 0..self.world.tasks().len() {
-            let column = object_count(self.world) + maker;
-            if maker == process || self.rows.get(process, column).is_some() {
-                self.offer(Gap { process, column, rights: Rights::all() }, gaps)?;
-            }
+            self.made_gap(process, maker, gaps)?;
+        }
+        Ok(())
+    }
+
+    // What a process gets by what it has for objects of the opening.
+    fn objects_gaps(&self, process: usize, gaps: &mut Vec<Gap>) -> Result<(), NoMemory>
+        requires known { IsKnown self.now.world.now self.now.forms.now self.now.rows.now }
+        requires process { process < length self.now.world.now.tasks }
+        ensures { OnOk result (Finds self.now.world.now self.now.forms.now self.now.rows.now ((name : ℕ) → name < object_count self.now.world.now → ObjectRule self.now.world.now self.now.forms.now self.now.rows.now process name) gaps.old.items gaps.new.items) }
+    {
+        for name in 0..object_count(self.world) {
+            self.object_gaps(process, name, gaps)?;
+        }
+        Ok(())
+    }
+
+    // What a process takes of what others store.
+    fn others_gaps(&self, process: usize, gaps: &mut Vec<Gap>) -> Result<(), NoMemory>
+        requires known { IsKnown self.now.world.now self.now.forms.now self.now.rows.now }
+        requires process { process < length self.now.world.now.tasks }
+        ensures { OnOk result (Finds self.now.world.now self.now.forms.now self.now.rows.now ((q : ℕ) → q < length self.now.world.now.tasks → StoredRule self.now.world.now self.now.forms.now self.now.rows.now process q) gaps.old.items gaps.new.items) }
+    {
+        for other in 0..self.world.tasks().len() {
+            self.take_stored(process, other, gaps)?;
         }
         Ok(())
     }
 
     /// All gaps of a process.
-    pub(crate) fn process_gaps(&self, process: usize, slots: &[Entry], gaps: &mut Vec<Gap>) -> Result<(), NoMemory> {
-        self.opening_gaps(process, slots, gaps)?;
+    pub(crate) fn process_gaps(&self, process: usize, task: &Task, gaps: &mut Vec<Gap>) -> Result<(), NoMemory>
+        requires known { IsKnown self.now.world.now self.now.forms.now self.now.rows.now }
+        requires process { process < length self.now.world.now.tasks }
+        requires task { slice_get self.now.world.now.tasks process ≡ Some task.now }
+        ensures { OnOk result (Finds self.now.world.now self.now.forms.now self.now.rows.now (ProcessRule self.now.world.now self.now.forms.now self.now.rows.now process) gaps.old.items gaps.new.items) }
+    {
+        self.opening_gaps(process, task, gaps)?;
         self.made_gaps(process, gaps)?;
-        for name in 0..object_count(self.world) {
-            self.object_gaps(process, name, gaps)?;
-        }
-        for other in 0..self.world.tasks().len() {
-            self.take_stored(process, other, gaps)?;
-        }
-        Ok(())
+        self.objects_gaps(process, gaps)?;
+        self.others_gaps(process, gaps)
     }
 }

@@ -26,7 +26,8 @@ impl Model for Rows {
 
 /// Whether a cell has all of these rights.
 pub(crate) fn covers(cell: Option<Rights>, rights: Rights) -> bool
-    ensures { result ≡ covers cell rights }
+    ensures value { result ≡ covers cell rights }
+    ensures word { IsRightsWord rights }
 {
     match cell {
         None => false,
