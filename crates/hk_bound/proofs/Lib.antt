@@ -10,3 +10,5 @@ mod Passing
 mod Reductions
 mod Sources
 mod FindsLemmas
+mod Complete
+mod TaskSlots

@@ -114,7 +114,7 @@ TypeRule w forms rows p name by =
 -- of one template for an object
 abbrev pub MergeRule : Setup → List Form → List (List (Option ℕ)) → ℕ → ℕ → ℕ → ℕ → Type 0
 MergeRule w forms rows p name by place =
-    (form : Form) → slice_get forms place ≡ Some form → form.of ≡ type_of w (name_at name) → HasAll by form.check → env_in (cell rows p (thing_count w + place)) ≡ true
+    (form : Form) → slice_get forms place ≡ Some form → form.of ≡ type_of w (name_at name) → ((n : ℕ) → IsTrue (has all_rights n) → IsTrue (has form.check n) → IsTrue (has by n)) → env_in (cell rows p (thing_count w + place)) ≡ true
     → Offered rows p name (merged_rights by (Some form.of) form.give)
 
 abbrev pub MergesRule : Setup → List Form → List (List (Option ℕ)) → ℕ → ℕ → ℕ → Type 0

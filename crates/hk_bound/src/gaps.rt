@@ -1,14 +1,14 @@
 // What the rules give to processes, and the rows do not have.
 
-ghost use Rattle.std.specs.Prelude.{◌≡◌, ◌⊎◌, false, ◌↔◌, IsTrue, ◌<◌, ◌+◌, ◌^◌, ℕ, true, Some, IfSome, IsSome, OnOk, length, slice_get};
-ghost use Rattle.hk_rights.specs.Rights.{HasAll, all_rights, a0_right};
+ghost use Rattle.std.specs.Prelude.{◌≡◌, ◌⊎◌, false, ◌↔◌, IsTrue, ◌<◌, ◌+◌, ◌^◌, ℕ, true, Some, IfSome, IsSome, OnOk, is_some, length, slice_get};
+ghost use Rattle.hk_rights.specs.Rights.{HasAll, IsRightsWord, all_rights, a0_right};
 ghost use Rattle.hk_model.specs.Walking.{reduced_rights};
 ghost use Rattle.hk_model.specs.Merging.{merged_rights};
 ghost use Rattle.hk_model.specs.Targets.{PROCEDURE};
 ghost use Rattle.hk_model.specs.declared.names.Name.{Name as NameOf};
-ghost use Rattle.hk_bound.specs.Taking.{Slots, Old, Right as RightOf, Amplifies, Follows, type_of};
+ghost use Rattle.hk_bound.specs.Taking.{Slots, Old, MadeBy, Has, Right as RightOf, Amplifies, Follows, type_of};
 ghost use Rattle.hk_bound.specs.Each.{Among, Each};
-ghost use Rattle.hk_bound.specs.Columns.{name_at, proc_at, opening_entries, object_count, thing_count, width_of, cell, CellFollows, Finds};
+ghost use Rattle.hk_bound.specs.Columns.{name_at, proc_at, opening_entries, opening_params, object_count, thing_count, width_of, cell, CellFollows, Finds};
 ghost use Rattle.hk_bound.specs.Forms.{entry_form, Holds, IsFirst};
 ghost use Rattle.hk_bound.specs.Rules.{IsKnown, IsHeldAs, env_in, stores_in, taking_of, OpensWithEnv, StoredWithEnv, ListedWithEnv, Offered, EntryRule, EntriesRule, FormRule, ParamRule, ParamsRule, TypeRule, MergeRule, MergesRule, ObjectRule, Passes, share_made, HasTakings, through_in, joined_cells, CellRule, PassedRule, StoredRule, OpensWith, SlotRule, MadeRule, ProcessRule};
 
@@ -60,6 +60,14 @@ fn reduced_rights(by: Rights, rights: Rights) -> Rights
     } else {
         kept.without(Rights::ENV)
     }
+}
+
+// Whether all of some rights are there.
+fn has_rights(by: Rights, check: Rights) -> bool
+    ensures value { IsTrue result ↔ HasAll by check }
+    ensures word { IsRightsWord check }
+{
+    by.contains(check)
 }
 
 // What a merge gives: the rights of `give`, but of the special rights those alone that were there.
@@ -228,11 +236,12 @@ impl<'a> Table<'a> {
         requires among { Among (opening_entries self.now.world.now name) entry.now }
         ensures { OnOk result (Finds self.now.world.now self.now.forms.now self.now.rows.now (EntryRule self.now.world.now self.now.forms.now self.now.rows.now process name taking.now entry.now) gaps.old.items gaps.new.items) }
     {
-        if let Some((column, rights)) = self.held(entry) {
-            if self.takes(taking, name, column) {
-                let rights = reduced_rights(taking.by, rights);
-                self.offer(Gap { process, column, rights }, gaps)?;
-            }
+        let Some(held) = self.held(entry) else {
+            return Ok(());
+        };
+        if self.takes(taking, name, held.0) {
+            let rights = reduced_rights(taking.by, held.1);
+            self.offer(Gap { process, column: held.0, rights }, gaps)?;
         }
         Ok(())
     }
@@ -323,7 +332,7 @@ impl<'a> Table<'a> {
         ensures { OnOk result (Finds self.now.world.now self.now.forms.now self.now.rows.now (MergeRule self.now.world.now self.now.forms.now self.now.rows.now process name by place) gaps.old.items gaps.new.items) }
     {
         let form = &self.forms[place];
-        if form.of == type_of(self.world, name) && by.contains(form.check) && self.has_env(process, self.thing_count() + place) {
+        if form.of == type_of(self.world, name) && has_rights(by, form.check) && self.has_env(process, self.thing_count() + place) {
             let rights = merged_rights(by, form.give);
             self.offer(Gap { process, column: name, rights }, gaps)?;
         }
@@ -424,8 +433,8 @@ impl<'a> Table<'a> {
     {
         if let Some(rights) = self.rows.get(other, column) {
             if rights.has(Right::ENV) {
-                let rights = reduced_rights(by, rights);
-                self.offer(Gap { process, column, rights }, gaps)?;
+                let reduced = reduced_rights(by, rights);
+                self.offer(Gap { process, column, rights: reduced }, gaps)?;
             }
         }
         Ok(())
@@ -464,8 +473,8 @@ impl<'a> Table<'a> {
         requires opens { OpensWith self.now.world.now process entry.now }
         ensures { OnOk result (Finds self.now.world.now self.now.forms.now self.now.rows.now (SlotRule self.now.world.now self.now.forms.now self.now.rows.now process entry.now) gaps.old.items gaps.new.items) }
     {
-        if let Some((column, rights)) = self.held(entry) {
-            self.offer(Gap { process, column, rights }, gaps)?;
+        if let Some(held) = self.held(entry) {
+            self.offer(Gap { process, column: held.0, rights: held.1 }, gaps)?;
         }
         Ok(())
     }
@@ -483,6 +492,24 @@ impl<'a> Table<'a> {
         Ok(())
     }
 
+    // Whether a process has what one process makes: its own, or by its row.
+    fn has_made(&self, process: usize, maker: usize) -> bool
+        requires known { IsKnown self.now.world.now self.now.forms.now self.now.rows.now }
+        requires process { process < length self.now.world.now.tasks }
+        requires maker { maker < length self.now.world.now.tasks }
+        ensures had { result ≡ true → Follows self.now.world.now (Has (Slots (proc_at process)) (MadeBy (proc_at maker))) }
+        ensures own { maker ≡ process → result ≡ true }
+        ensures row { is_some (cell self.now.rows.now process (object_count self.now.world.now + maker)) ≡ true → result ≡ true }
+    {
+        if maker == process {
+            return true;
+        }
+        match self.rows.get(process, object_count(self.world) + maker) {
+            None => false,
+            Some(_) => true,
+        }
+    }
+
     // All rights for what one process makes, where another has it; a process has what it makes itself.
     fn made_gap(&self, process: usize, maker: usize, gaps: &mut Vec<Gap>) -> Result<(), NoMemory>
         requires known { IsKnown self.now.world.now self.now.forms.now self.now.rows.now }
@@ -490,8 +517,8 @@ impl<'a> Table<'a> {
         requires maker { maker < length self.now.world.now.tasks }
         ensures { OnOk result (Finds self.now.world.now self.now.forms.now self.now.rows.now (MadeRule self.now.world.now self.now.rows.now process maker) gaps.old.items gaps.new.items) }
     {
-        let column = object_count(self.world) + maker;
-        if maker == process || self.rows.get(process, column).is_some() {
+        if self.has_made(process, maker) {
+            let column = object_count(self.world) + maker;
             self.offer(Gap { process, column, rights: Rights::all() }, gaps)?;
         }
         Ok(())
