@@ -13,10 +13,11 @@ use Rattle.hk_model.specs.declared.entries.Entry.{Entry}
 use Rattle.hk_model.specs.declared.entries.Entry.TheVariants.{Empty, Held, Form as Templated}
 use Rattle.hk_model.specs.declared.entries.Template.TheVariants as template
 use Rattle.hk_model.specs.declared.world.Task.{Task}
-use Rattle.hk_rights.specs.Rights.{has, all_rights, special_rights, HasAll, ENV, load_right, copy_right, modify_right, env_right, unconf_right, a0_right, store_right, append_right}
-use Rattle.hk_rights.proofs.Sets.{has-bit_or, has-zero, or_right, HasAll-from_bit_and, has-pow}
+use Rattle.hk_rights.specs.Rights.{has, all_rights, special_rights, HasAll, STORE, APPEND, ENV, load_right, copy_right, modify_right, env_right, unconf_right, a0_right, store_right, append_right}
+use Rattle.hk_rights.proofs.Sets.{has-bit_or, has-bit_or_cases, has-zero, or_right, HasAll-from_bit_and, has-pow}
 use Rattle.hk_model.specs.Setup.{Setup, IsWorld}
 use Rattle.hk_model.specs.Walking.{reduced_rights}
+use Rattle.hk_model.specs.Merging.{merged_rights}
 use Rattle.hk_model.specs.Places.{SlotOf, EntryOf, is_empty}
 use Rattle.hk_model.proofs.NamesGiven.{IsBelow}
 use Rattle.hk_model.specs.Targets.{TYPE, PROCEDURE, is_general, is_listed}
@@ -29,7 +30,7 @@ use Rattle.hk_bound.specs.Columns.{name_at, proc_at, opening_entries, opening_pa
 use Rattle.hk_bound.specs.Rules.{env_in, stores_in, taking_of, IsHeld, OpensWithEnv, StoredWithEnv, ListedWithEnv, Offered, share_made, through_in, ProcessRule}
 use Rattle.hk_bound.proofs.Sources.{opens_below}
 use Rattle.hk_bound.proofs.TaskSlots.{opens_to}
-use Rattle.hk_bound.proofs.Reductions.{reduced_keeps}
+use Rattle.hk_bound.proofs.Reductions.{reduced_keeps, merged_keeps}
 
 -- ---- cells
 
@@ -114,12 +115,18 @@ copy_takes of b g copy env = by (of.0 == PROCEDURE && has b a0_right) (has b loa
     by false true e f = record { taking = record { by = b; copied = false }; is = rw (e, f) refl; more = self_has b }
     by false false e f = record { taking = record { by = b; copied = true }; is = rw (e, f, g, copy, env) refl; more = self_has b }
 
+takes_at : (of : Name) (o : Option ℕ) (b : ℕ) (t : Taking) → o ≡ Some b → taking_of of (Some b) ≡ Some t → taking_of of o ≡ Some t
+takes_at of o b t e h = ap (taking_of of) e ∙ h
+
 stores_is : (of : Name) (o : Option ℕ) (how : ℕ) → is_listed of ≡ true → HasIn o modify_right → has STORE+APPEND how ≡ true → HasIn o how → stores_in of o ≡ true
 stores_is of None how l m s h = absurd m
 stores_is of (Some b) how l m s h = by (has b store_right) (has b append_right) refl refl
   where
     store_or_append : (how ≡ store_right) ⊎ (how ≡ append_right)
-    store_or_append = ?
+    store_or_append = elim (has-bit_or_cases STORE APPEND how s) [
+      | inl k ↦ inl (let e : (how == store_right) ≡ true = sym (has-pow store_right how) ∙ k in grind (arith, nat_tests, e))
+      | inr k ↦ inr (let e : (how == append_right) ≡ true = sym (has-pow append_right how) ∙ k in grind (arith, nat_tests, e))
+    ]
 
     by : (x y : Bool) → has b store_right ≡ x → has b append_right ≡ y → (is_listed of && (has b modify_right && (has b store_right || has b append_right))) ≡ true
     by true y e f = rw (l, m, e) refl
@@ -181,33 +188,33 @@ IsThing w (Old x) = x.0 < object_count w
 IsThing w (MadeBy q) = q.0 < length w.tasks
 
 module _ (w : Setup) (forms : List Form) (rows : List (List (Option ℕ))) where
-  abbrev at : Proc → Thing → Option ℕ
+  abbrev pub at : Proc → Thing → Option ℕ
   at p x = cell rows p.0 (column_of w x)
 
-  record InRow (p : Proc) (y : Thing) (P : Option ℕ → Type 0) : Type 0 where
-    runs : p.0 < length w.tasks
-    thing : IsThing w y
-    there : P (at p y)
+  pub record InRow (p : Proc) (y : Thing) (P : Option ℕ → Type 0) : Type 0 where
+    pub runs : p.0 < length w.tasks
+    pub thing : IsThing w y
+    pub there : P (at p y)
 
   -- what the list of an object has for a thing: by an opening entry, or by what a process may store
-  data InList (x : Name) (y : Thing) (P : ℕ → Type 0) : Type 0 where
+  pub data InList (x : Name) (y : Thing) (P : ℕ → Type 0) : Type 0 where
     ByOpening : (index : ℕ) (cap : Cap) → slice_get (opening_entries w x.0) index ≡ Some (Held cap) → y ≡ Old cap.name → IsThing w y → P cap.rights → InList x y P
     ByStore : (q : Proc) (r : ℕ) → q.0 < length w.tasks → IsThing w y → stores_in (type_of w x) (at q (Old x)) ≡ true → at q y ≡ Some r → has r env_right ≡ true → P r → InList x y P
 
-  record HasForm (p : Proc) (f : Form) : Type 0 where
-    runs : p.0 < length w.tasks
-    place : ℕ
-    is : slice_get forms place ≡ Some f
-    there : env_in (cell rows p.0 (thing_count w + place)) ≡ true
+  pub record HasForm (p : Proc) (f : Form) : Type 0 where
+    pub runs : p.0 < length w.tasks
+    pub place : ℕ
+    pub is : slice_get forms place ≡ Some f
+    pub there : env_in (cell rows p.0 (thing_count w + place)) ≡ true
 
-  data InListForm (x : Name) (f : Form) : Type 0 where
+  pub data InListForm (x : Name) (f : Form) : Type 0 where
     ByEntry : (index : ℕ) → slice_get (opening_entries w x.0) index ≡ Some (Templated (template.Amplify (Some f.of) f.check f.give)) → InListForm x f
     ByStored : (q : Proc) → stores_in (type_of w x) (at q (Old x)) ≡ true → HasForm q f → InListForm x f
 
-  abbrev form_at : Name → ℕ → ℕ → Form
+  abbrev pub form_at : Name → ℕ → ℕ → Form
   form_at type check give = record { of = type; check = check; give = give }
 
-  abbrev Says : Fact → Type 0
+  abbrev pub Says : Fact → Type 0
   Says (Has (Slots p) y) = InRow p y IsSome
   Says (Right (Slots p) y n) = InRow p y (λ o. HasIn o n)
   Says (Amplifies (Slots p) type check give) = HasForm p (form_at type check give)
@@ -301,6 +308,10 @@ module _ (w : Setup) (forms : List Form) (rows : List (List (Option ℕ))) where
     has_some None n h = absurd h
     has_some (Some r) n h = refl
 
+    some_cell : (o : Option ℕ) → IsSome o → (r : ℕ) × (o ≡ Some r)
+    some_cell None h = absurd (false≢true h)
+    some_cell (Some r) h = (r, refl)
+
     -- ---- the opening
 
     entry_at : (es : List Entry) (k : ℕ) (e : Entry) → slice_index_or es k Empty ≡ e → is_empty e ≡ false → slice_get es k ≡ Some e
@@ -349,7 +360,7 @@ module _ (w : Setup) (forms : List Form) (rows : List (List (Option ℕ))) where
         let b = right_cell (at p (Old x)) load_right c.there in
         let t = load_takes (type_of w x) b.rights b.there in
         let l = complete h in
-        let f = found p x y t.taking b.rights (λ r. Unit {0}) c.runs c.thing (rw b.is t.is) t.more (inl t.all) l in
+        let f = found p x y t.taking b.rights (λ r. Unit {0}) c.runs c.thing (takes_at (type_of w x) (at p (Old x)) b.rights t.taking b.is t.is) t.more (inl t.all) l in
         record { runs = c.runs; thing = list_thing x y (λ r. Unit {0}) l; there = taken_some p.0 (column_of w y) f.rights b.rights f.taken }
     complete (load_has p (MadeBy r) y a h) =
         let c = complete a in
@@ -362,7 +373,7 @@ module _ (w : Setup) (forms : List Form) (rows : List (List (Option ℕ))) where
         let b = right_cell (at p (Old x)) load_right c.there in
         let t = load_takes (type_of w x) b.rights b.there in
         let l = complete h in
-        let f = found p x y t.taking b.rights (λ r. has r n ≡ true) c.runs c.thing (rw b.is t.is) t.more (inl t.all) l in
+        let f = found p x y t.taking b.rights (λ r. has r n ≡ true) c.runs c.thing (takes_at (type_of w x) (at p (Old x)) b.rights t.taking b.is t.is) t.more (inl t.all) l in
         record { runs = c.runs; thing = list_thing x y (λ r. has r n ≡ true) l; there = taken_has p.0 (column_of w y) f.rights b.rights n f.taken (right_is h) f.told
             (λ k. right_of_cell (at p (Old x)) b.rights unconf_right b.is (complete (u k)).there) (λ k. right_of_cell (at p (Old x)) b.rights env_right b.is (complete (e k)).there) }
     complete (load_gives p (MadeBy r) y n a h u e) =
@@ -396,4 +407,72 @@ module _ (w : Setup) (forms : List Form) (rows : List (List (Option ℕ))) where
           taken_has r.0 (column_of w y) b.rights all_rights env_right t refl b.env (λ k. refl) (λ k. refl),
           taken_has r.0 (column_of w y) b.rights all_rights v t (right_is h) (right_of_cell (at p y) b.rights v b.is (complete h).there) (λ k. refl) (λ k. refl),
         ) }
+    complete (made_gives (ListOf (Old x)) p n a is) = by (complete a)
+      where
+        by : InList x (MadeBy p) (λ r. Unit {0}) → InList x (MadeBy p) (λ r. has r n ≡ true)
+        by (ByOpening index c e same thing told) = absurd (cc)
+        by (ByStore q r q_runs thing stores e env told) = ByStore q r q_runs thing stores e env (right_of_cell (at q (MadeBy p)) r n e (made_all q p n q_runs thing (rw e refl) is))
+    complete (made_gives (ListOf (MadeBy r)) p n a is) = let h = complete a in record { runs = h.runs; thing = h.thing; there = (h.there, made_all r p n h.runs h.thing (has_some (at r (MadeBy p)) env_right h.there) is) }
+    complete (copy_has p (Old x) y v a e h k) =
+        let c = complete a in
+        let b = right_cell (at p (Old x)) copy_right c.there in
+        let env = right_of_cell (at p (Old x)) b.rights env_right b.is (complete e).there in
+        let t = copy_takes (type_of w x) b.rights v b.there env in
+        let l = complete k in
+        let f = found p x y t.taking b.rights (λ r. has r env_right ≡ true) c.runs c.thing (takes_at (type_of w x) (at p (Old x)) b.rights t.taking b.is t.is) t.more (inr (listed x y l)) l in
+        record { runs = c.runs; thing = list_thing x y (λ r. has r env_right ≡ true) l; there = taken_has p.0 (column_of w y) f.rights b.rights env_right f.taken refl f.told (λ k. absurd (false≢true k)) (λ k. env) }
+    complete (copy_has p (MadeBy r) y v a e h k) =
+        let c = complete a in
+        let l = complete k in
+        let b = env_cell (at r y) (env_is (at r y) l.there.0) in
+        let t = shared p r (column_of w y) b.rights all_rights c.runs l.runs (thing_within y l.thing) (share p r (has_some (at p (MadeBy r)) copy_right c.there)) b.is b.env in
+        record { runs = c.runs; thing = l.thing; there = taken_has p.0 (column_of w y) b.rights all_rights env_right t refl b.env (λ k. refl) (λ k. refl) }
+    complete (copy_gives p (Old x) y n v a e k h u) =
+        let c = complete a in
+        let b = right_cell (at p (Old x)) copy_right c.there in
+        let env = right_of_cell (at p (Old x)) b.rights env_right b.is (complete e).there in
+        let t = copy_takes (type_of w x) b.rights v b.there env in
+        let l = complete k in
+        let m = complete h in
+        let passes = listed x y l in
+        let takes = takes_at (type_of w x) (at p (Old x)) b.rights t.taking b.is t.is in
+        let f = found p x y t.taking b.rights (λ r. has r env_right ≡ true) c.runs c.thing takes t.more (inr passes) l in
+        let g = found p x y t.taking b.rights (λ r. has r n ≡ true) c.runs c.thing takes t.more (inr passes) m in
+        record { runs = c.runs; thing = list_thing x y (λ r. has r env_right ≡ true) l; there = (
+          taken_has p.0 (column_of w y) f.rights b.rights env_right f.taken refl f.told (λ k. absurd (false≢true k)) (λ k. env),
+          taken_has p.0 (column_of w y) g.rights b.rights n g.taken (right_is h) g.told (λ k. right_of_cell (at p (Old x)) b.rights unconf_right b.is (complete (u k)).there) (λ k. env),
+        ) }
+    complete (copy_gives p (MadeBy r) y n v a e k h u) =
+        let c = complete a in
+        let l = complete k in
+        let m = complete h in
+        let b = env_cell (at r y) (env_is (at r y) l.there.0) in
+        let t = shared p r (column_of w y) b.rights all_rights c.runs l.runs (thing_within y l.thing) (share p r (has_some (at p (MadeBy r)) copy_right c.there)) b.is b.env in
+        record { runs = c.runs; thing = l.thing; there = (
+          taken_has p.0 (column_of w y) b.rights all_rights env_right t refl b.env (λ k. refl) (λ k. refl),
+          taken_has p.0 (column_of w y) b.rights all_rights n t (right_is h) (right_of_cell (at r y) b.rights n b.is m.there.1) (λ k. refl) (λ k. refl),
+        ) }
+    complete (enter_has p q y t a h) =
+        let c = complete a in
+        let b = right_cell (at p (Old q)) a0_right c.there in
+        let k = call_takes (type_of w q) b.rights t b.there in
+        let l = complete h in
+        let f = found p q y k.0.taking k.0.taking.by (λ r. Unit {0}) c.runs c.thing (takes_at (type_of w q) (at p (Old q)) b.rights k.0.taking b.is k.0.is) (self_has k.0.taking.by) (inl k.0.all) l in
+        record { runs = c.runs; thing = list_thing q y (λ r. Unit {0}) l; there = taken_some p.0 (column_of w y) f.rights k.0.taking.by f.taken }
+    complete (enter_gives p q y n t a h u) =
+        let c = complete a in
+        let b = right_cell (at p (Old q)) a0_right c.there in
+        let k = call_takes (type_of w q) b.rights t b.there in
+        let l = complete h in
+        let f = found p q y k.0.taking k.0.taking.by (λ r. has r n ≡ true) c.runs c.thing (takes_at (type_of w q) (at p (Old q)) b.rights k.0.taking b.is k.0.is) (self_has k.0.taking.by) (inl k.0.all) l in
+        record { runs = c.runs; thing = list_thing q y (λ r. has r n ≡ true) l; there = taken_has p.0 (column_of w y) f.rights k.0.taking.by n f.taken (right_is h) f.told
+            (λ j. k.0.more unconf_right (right_of_cell (at p (Old q)) b.rights unconf_right b.is (complete (u j)).there)) (λ j. k.1) }
+    complete (merge_gives p x check give n low f h all is g s) =
+        let c = complete h in
+        let t = complete f in
+        let b = some_cell (at p (Old x)) c.there in
+        let rule = ((rules p.0 c.runs).objects x.0 low).merges b.0 b.1 t.place (slice_get_within forms t.place (form_at (type_of w x) check give) t.is) (form_at (type_of w x) check give) t.is refl
+            (λ m right asked. right_of_cell (at p (Old x)) b.0 m b.1 (complete (all m right asked)).there) t.there in
+        record { runs = c.runs; thing = c.thing; there = offered_has (at p (Old x)) (merged_rights b.0 (Some (type_of w x)) give) n rule
+            (merged_keeps b.0 give n (type_of w x) is g (λ k. right_of_cell (at p (Old x)) b.0 n b.1 (complete (s k)).there)) }
     complete f = ?

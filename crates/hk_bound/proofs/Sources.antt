@@ -1,6 +1,6 @@
 -- What rows get by the rules follows, where all that they tell follows.
 use Rattle.std.proofs.Common.{◌≡◌, ℕ, ◌+◌, ◌-◌, ◌<◌, ◌≤◌, List, length, Bool, true, false, Option, Some, None, refl, sym, ◌∙◌, ap, subst, arith, bit_and, bit_or, cond}
-use Rattle.std.specs.Prelude.{IsTrue, slice_get, slice_index_or, ◌⊎◌, ◌||◌, ◌&&◌, ◌==◌, is_some}
+use Rattle.std.specs.Prelude.{IsTrue, slice_get, slice_index_or, ◌⊎◌, ◌||◌, ◌&&◌, ◌==◌, is_some, option_map}
 use mathlib.Core.Logic.{inl, inr}
 use Rattle.std.proofs.lemmas.Bool.{true≢false, false≢true}
 use Rattle.std.proofs.lemmas.Bool.Decides.{nat_tests}
@@ -10,8 +10,9 @@ use Rattle.hk_model.specs.declared.names.Proc.{Proc}
 use Rattle.hk_model.specs.declared.entries.Cap.{Cap}
 use Rattle.hk_model.specs.declared.entries.Entry.{Entry}
 use Rattle.hk_model.specs.declared.entries.Entry.TheVariants as entry
+use Rattle.hk_model.specs.declared.entries.Param.{Param}
 use Rattle.hk_model.specs.declared.entries.Template.TheVariants as template
-use Rattle.hk_rights.specs.Rights.{has, all_rights, all_but, minus, special_rights, HasAll, ENV, load_right, copy_right, modify_right, env_right, unconf_right, a0_right, store_right, append_right}
+use Rattle.hk_rights.specs.Rights.{has, all_rights, all_but, minus, special_rights, HasAll, IsRightsWord, ENV, load_right, copy_right, modify_right, env_right, unconf_right, a0_right, store_right, append_right}
 use Rattle.hk_rights.proofs.Sets.{has-bit_or, has-bit_or_cases, has-bit_and_left, has-bit_and_right, left_of, right_of}
 use Rattle.hk_model.specs.Setup.{Setup, IsWorld}
 use Rattle.hk_model.specs.Opening.{opening}
@@ -22,14 +23,15 @@ use Rattle.hk_model.specs.Places.{Place, SlotOf, EntryOf, standing}
 use Rattle.hk_model.proofs.NamesGiven.{IsBelow, opening_given}
 use Rattle.hk_bound.specs.declared.forms.Form.{Form}
 use Rattle.hk_bound.specs.declared.gaps.Taking.{Taking}
-use Rattle.hk_bound.specs.Taking.{Thing, Old, MadeBy, Holder, Slots, ListOf, Has, Right, Amplifies, Follows, at_opening, type_of, STORE+APPEND, open_has, open_gives, open_form, made_has, made_gives, merge_gives}
-use Rattle.hk_bound.specs.Columns.{name_at, proc_at, opening_entries, object_count, thing_count, width_of, cell, ThingFollows, CellFollows, RowsFollow}
+use Rattle.hk_bound.specs.Taking.{Thing, Old, MadeBy, Holder, Slots, ListOf, Has, Right, Amplifies, Follows, at_opening, type_of, STORE+APPEND, open_has, open_gives, open_form, made_has, made_gives, enter_param, merge_gives}
+use Rattle.hk_bound.specs.Columns.{name_at, proc_at, opening_entries, opening_params, object_count, thing_count, width_of, cell, ThingFollows, CellFollows, RowsFollow}
+use Rattle.hk_bound.specs.Forms.{param_form}
 use Rattle.hk_bound.specs.Rules.{env_in, stores_in, taking_of, IsHeld, ListedWithEnv, Passes, share_made}
 use Rattle.hk_bound.proofs.Opened.{opening_next}
 use Rattle.hk_bound.proofs.Bounded.{lacks}
 use Rattle.hk_bound.proofs.Passing.{load_follows, enter_follows, store_follows, copy_follows, load_made}
 
-same_some : {A : Type 0} {x y : A} → ◌≡◌ {A = Option A} (Some x) (Some y) → x ≡ y
+pub same_some : {A : Type 0} {x y : A} → ◌≡◌ {A = Option A} (Some x) (Some y) → x ≡ y
 same_some e = cc
 
 module _ (w : Setup) (forms : List Form) where
@@ -222,3 +224,18 @@ module _ (w : Setup) (forms : List Form) where
     made = λ m low e. let is : maker ≡ m = omega (arith, same, e) in subst (λ (x : ℕ). ThingFollows w h (MadeBy (proc_at x)) all_rights) is (record { had = had; given = λ n right there. made_gives h (proc_at maker) n had right });
     form = λ k g at e env. absurd (omega (arith, runs, same, e));
   }
+
+  -- a parameter of a procedure that is called
+  pub param_follows : (p name index : ℕ) (param : Param) (f : Form) → (type_of w (name_at name)).0 ≡ PROCEDURE → Follows w (Right (Slots (proc_at p)) (Old (name_at name)) a0_right) → slice_get (opening_params w name) index ≡ Some param
+      → param_form param ≡ Some f → Follows w (Amplifies (Slots (proc_at p)) f.of f.check f.give)
+  param_follows p name index param f t a is e = by param.of refl e
+    where
+      by : (o : Option Name) → param.of ≡ o → option_map (λ (of : Name). let x : Form = record { of = of; check = param.check; give = param.give } in x) o ≡ Some f → Follows w (Amplifies (Slots (proc_at p)) f.of f.check f.give)
+      by None g h = absurd (cc)
+      by (Some of) g h =
+          let same : record { of = of; check = param.check; give = param.give } ≡ f = same_some h in
+          subst (λ (x : Form). Follows w (Amplifies (Slots (proc_at p)) x.of x.check x.give)) same (enter_param (proc_at p) (name_at name) of index param t a is g)
+
+-- a set of rights has no others
+pub word_right : (a n : ℕ) → IsRightsWord a → has a n ≡ true → has all_rights n ≡ true
+word_right a n word h = has-bit_and_right a all_rights n (subst (λ (b : ℕ). has b n ≡ true) (sym word) h)

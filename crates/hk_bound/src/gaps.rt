@@ -332,10 +332,17 @@ impl<'a> Table<'a> {
         ensures { OnOk result (Finds self.now.world.now self.now.forms.now self.now.rows.now (MergeRule self.now.world.now self.now.forms.now self.now.rows.now process name by place) gaps.old.items gaps.new.items) }
     {
         let form = &self.forms[place];
-        if form.of == type_of(self.world, name) && has_rights(by, form.check) && self.has_env(process, self.thing_count() + place) {
-            let rights = merged_rights(by, form.give);
-            self.offer(Gap { process, column: name, rights }, gaps)?;
+        if form.of != type_of(self.world, name) {
+            return Ok(());
         }
+        if !has_rights(by, form.check) {
+            return Ok(());
+        }
+        if !self.has_env(process, self.thing_count() + place) {
+            return Ok(());
+        }
+        let rights = merged_rights(by, form.give);
+        self.offer(Gap { process, column: name, rights }, gaps)?;
         Ok(())
     }
 
@@ -366,7 +373,8 @@ impl<'a> Table<'a> {
         };
         self.take_params(process, name, by, gaps)?;
         self.make_form(process, name, by, gaps)?;
-        self.merge_all(process, name, by, gaps)
+        self.merge_all(process, name, by, gaps)?;
+        Ok(())
     }
 
     // Whether one of two processes has what the other makes.
@@ -460,10 +468,11 @@ impl<'a> Table<'a> {
         requires other { other < length self.now.world.now.tasks }
         ensures { OnOk result (Finds self.now.world.now self.now.forms.now self.now.rows.now (StoredRule self.now.world.now self.now.forms.now self.now.rows.now process other) gaps.old.items gaps.new.items) }
     {
-        match self.through(process, other) {
-            None => Ok(()),
-            Some(by) => self.take_row(process, other, by, gaps),
-        }
+        let Some(by) = self.through(process, other) else {
+            return Ok(());
+        };
+        self.take_row(process, other, by, gaps)?;
+        Ok(())
     }
 
     // What a process has of one of its opening slots.
@@ -570,6 +579,7 @@ impl<'a> Table<'a> {
         self.opening_gaps(process, task, gaps)?;
         self.made_gaps(process, gaps)?;
         self.objects_gaps(process, gaps)?;
-        self.others_gaps(process, gaps)
+        self.others_gaps(process, gaps)?;
+        Ok(())
     }
 }
