@@ -25,9 +25,9 @@ use Rattle.hk_bound.specs.declared.forms.Form.{Form}
 use Rattle.hk_bound.specs.declared.gaps.Taking.{Taking}
 use Rattle.hk_bound.specs.Taking.{Thing, Old, MadeBy, Holder, Slots, ListOf, Fact, Has, Right, Amplifies, type_of, has_words, has_list, STORE+APPEND, confined_away, Follows, at_opening, open_has, open_gives, open_form, made_has, made_gives, load_has, load_gives, load_form, store_has, store_gives, store_form, copy_has, copy_gives, copy_form, enter_has, enter_gives, enter_form, enter_param, merge_gives, make_form}
 use Rattle.hk_bound.specs.Each.{Each}
-use Rattle.hk_bound.specs.Forms.{AreForms, Holds, IsFirst, entry_form, made_form}
+use Rattle.hk_bound.specs.Forms.{AreForms, Holds, IsFirst, entry_form, param_form, made_form}
 use Rattle.hk_bound.specs.Columns.{name_at, proc_at, opening_entries, opening_params, object_count, thing_count, width_of, cell, covers}
-use Rattle.hk_bound.specs.Rules.{env_in, stores_in, taking_of, IsHeld, OpensWithEnv, StoredWithEnv, ListedWithEnv, Offered, share_made, through_in, ProcessRule}
+use Rattle.hk_bound.specs.Rules.{env_in, stores_in, taking_of, IsHeld, OpensWithEnv, StoredWithEnv, ListedWithEnv, Offered, share_made, through_in, FormRule, ProcessRule}
 use Rattle.hk_bound.proofs.Sources.{opens_below}
 use Rattle.hk_bound.proofs.TaskSlots.{opens_to}
 use Rattle.hk_bound.proofs.Reductions.{reduced_keeps, merged_keeps}
@@ -312,6 +312,33 @@ module _ (w : Setup) (forms : List Form) (rows : List (List (Option ℕ))) where
     some_cell None h = absurd (false≢true h)
     some_cell (Some r) h = (r, refl)
 
+    -- ---- templates
+
+    form_rule : (p : Proc) (f : Form) → p.0 < length w.tasks → FormRule w forms rows p.0 f → HasForm p f
+    form_rule p f runs h = record { runs = runs; place = h.0; is = h.1; there = env_is (cell rows p.0 (thing_count w + h.0)) (offered_has (cell rows p.0 (thing_count w + h.0)) ENV env_right h.2 refl) }
+
+    shared_form : (p q : Proc) (f : Form) → p.0 < length w.tasks → share_made w rows p.0 q.0 ≡ true → HasForm q f → HasForm p f
+    shared_form p q f runs share h =
+        let b = env_cell (cell rows q.0 (thing_count w + h.place)) h.there in
+        let low = slice_get_within forms h.place f h.is in
+        let t = shared p q (thing_count w + h.place) b.rights all_rights runs h.runs (omega (arith, low)) share b.is b.env in
+        record { runs = runs; place = h.place; is = h.is; there = env_is (cell rows p.0 (thing_count w + h.place)) (taken_has p.0 (thing_count w + h.place) b.rights all_rights env_right t refl b.env (λ k. refl) (λ k. refl)) }
+
+    found_form : (p : Proc) (x : Name) (t : Taking) (b : ℕ) (f : Form) → p.0 < length w.tasks → x.0 < object_count w → taking_of (type_of w x) (cell rows p.0 x.0) ≡ Some t → HasAll t.by b → has b env_right ≡ true
+        → (t.copied ≡ false) ⊎ Unit {0} → InListForm x f → HasForm p f
+    found_form p x t b f runs low takes more env passes (ByEntry index is) =
+        let held = (are.objects x.0 low).entries index (Templated (template.Amplify (Some f.of) f.check f.give)) is in
+        let first = first_of forms f held.place held.is in
+        let listed : ListedWithEnv w forms rows x.0 (thing_count w + first.0) = inl (record { index = index; item = Templated (template.Amplify (Some f.of) f.check f.give); rights = ENV; at = is; held = ((first.0, first.1, refl), refl); env = refl }) in
+        let offered = ((rules p.0 runs).objects x.0 low).entries t takes index (Templated (template.Amplify (Some f.of) f.check f.give)) is (thing_count w + first.0) ENV ((first.0, first.1, refl), refl) (inr listed) in
+        let taken : Taken p.0 (thing_count w + first.0) ENV b = record { by = t.by; more = bits_of t.by b more; offered = offered } in
+        record { runs = runs; place = first.0; is = first.1.is; there = env_is (cell rows p.0 (thing_count w + first.0)) (taken_has p.0 (thing_count w + first.0) ENV b env_right taken refl refl (λ k. absurd (false≢true k)) (λ k. env)) }
+    found_form p x t b f runs low takes more env passes (ByStored q stores h) =
+        let c = env_cell (cell rows q.0 (thing_count w + h.place)) h.there in
+        let within = slice_get_within forms h.place f h.is in
+        let taken = stored p q x t (thing_count w + h.place) c.rights b runs h.runs low (omega (arith, within)) stores takes more c.is c.env in
+        record { runs = runs; place = h.place; is = h.is; there = env_is (cell rows p.0 (thing_count w + h.place)) (taken_has p.0 (thing_count w + h.place) c.rights b env_right taken refl c.env (λ k. absurd (false≢true k)) (λ k. env)) }
+
     -- ---- the opening
 
     entry_at : (es : List Entry) (k : ℕ) (e : Entry) → slice_index_or es k Empty ≡ e → is_empty e ≡ false → slice_get es k ≡ Some e
@@ -475,4 +502,49 @@ module _ (w : Setup) (forms : List Form) (rows : List (List (Option ℕ))) where
             (λ m right asked. right_of_cell (at p (Old x)) b.0 m b.1 (complete (all m right asked)).there) t.there in
         record { runs = c.runs; thing = c.thing; there = offered_has (at p (Old x)) (merged_rights b.0 (Some (type_of w x)) give) n rule
             (merged_keeps b.0 give n (type_of w x) is g (λ k. right_of_cell (at p (Old x)) b.0 n b.1 (complete (s k)).there)) }
-    complete f = ?
+    complete (open_form (Slots p) index type check give e) =
+        let o = opens_to w p.0 index (Templated (template.Amplify (Some type) check give)) e refl in
+        let runs = slice_get_within w.tasks p.0 o.task o.is in
+        let held = are.slots p.0 o.task o.is o.index (Templated (template.Amplify (Some type) check give)) o.slot in
+        let first = first_of forms (form_at type check give) held.place held.is in
+        let offered = (rules p.0 runs).slots o.task o.is o.index (Templated (template.Amplify (Some type) check give)) o.slot (thing_count w + first.0) ENV ((first.0, first.1, refl), refl) in
+        record { runs = runs; place = first.0; is = first.1.is; there = env_is (cell rows p.0 (thing_count w + first.0)) (offered_has (cell rows p.0 (thing_count w + first.0)) ENV env_right offered refl) }
+    complete (open_form (ListOf (Old x)) index type check give e) = ByEntry index (entry_at (opening_entries w x.0) index (Templated (template.Amplify (Some type) check give)) e refl)
+    complete (open_form (ListOf (MadeBy r)) index type check give e) = absurd (cc)
+    complete (load_form p (Old x) type check give a e f) =
+        let c = complete a in
+        let b = right_cell (at p (Old x)) load_right c.there in
+        let env = right_of_cell (at p (Old x)) b.rights env_right b.is (complete e).there in
+        let t = load_takes (type_of w x) b.rights b.there in
+        found_form p x t.taking b.rights (form_at type check give) c.runs c.thing (takes_at (type_of w x) (at p (Old x)) b.rights t.taking b.is t.is) t.more env (inl t.all) (complete f)
+    complete (load_form p (MadeBy r) type check give a e f) = let c = complete a in shared_form p r (form_at type check give) c.runs (share p r (has_some (at p (MadeBy r)) load_right c.there)) (complete f)
+    complete (store_form p (Old x) n type check give l m s a f) = ByStored p (stores_is (type_of w x) (at p (Old x)) n l (complete m).there s (complete a).there) (complete f)
+    complete (store_form p (MadeBy r) n type check give l m s a f) = let c = complete m in shared_form r p (form_at type check give) c.thing (share_other r p (has_some (at p (MadeBy r)) modify_right c.there)) (complete f)
+    complete (copy_form p (Old x) type check give v a e f) =
+        let c = complete a in
+        let b = right_cell (at p (Old x)) copy_right c.there in
+        let env = right_of_cell (at p (Old x)) b.rights env_right b.is (complete e).there in
+        let t = copy_takes (type_of w x) b.rights v b.there env in
+        let l = complete f in
+        found_form p x t.taking b.rights (form_at type check give) c.runs c.thing (takes_at (type_of w x) (at p (Old x)) b.rights t.taking b.is t.is) t.more env (inr tt) l
+    complete (copy_form p (MadeBy r) type check give v a e f) = let c = complete a in shared_form p r (form_at type check give) c.runs (share p r (has_some (at p (MadeBy r)) copy_right c.there)) (complete f)
+    complete (enter_form p q type check give t a f) =
+        let c = complete a in
+        let b = right_cell (at p (Old q)) a0_right c.there in
+        let k = call_takes (type_of w q) b.rights t b.there in
+        found_form p q k.0.taking k.0.taking.by (form_at type check give) c.runs c.thing (takes_at (type_of w q) (at p (Old q)) b.rights k.0.taking b.is k.0.is) (self_has k.0.taking.by) k.1 (inl k.0.all) (complete f)
+    complete (enter_param p q type index param t a is e) =
+        let c = complete a in
+        let b = right_cell (at p (Old q)) a0_right c.there in
+        let rule = ((rules p.0 c.runs).objects q.0 c.thing).params b.rights b.is b.there t index param is in
+        let some : param_form param ≡ Some (form_at type param.check param.give) = rw e refl in
+        form_rule p (form_at type param.check param.give) c.runs (subst (λ (o : Option Form). IfSome o (FormRule w forms rows p.0)) some rule)
+    complete (make_form p t low type e a) =
+        let c = complete a in
+        let b = right_cell (at p (Old t)) a0_right c.there in
+        form_rule p (form_at t 0 all_rights) c.runs (((rules p.0 c.runs).objects t.0 low).types b.rights b.is b.there (right_of_cell (at p (Old t)) b.rights env_right b.is (complete e).there) type)
+
+-- so they tell each right of a process for an object of the opening
+pub all_rights_told : (w : Setup) (forms : List Form) (rows : List (List (Option ℕ))) → ((p : ℕ) → p < length w.tasks → ProcessRule w forms rows p) → AreForms w forms → IsWorld w → (p : Proc) (x : Name) (n : ℕ)
+    → Follows w (Right (Slots p) (Old x) n) → HasIn (cell rows p.0 x.0) n
+all_rights_told w forms rows rules are world p x n h = (complete w forms rows rules are world h).there

@@ -66,3 +66,6 @@ module _ (w : Setup) (forms : List Form) (rows : List (List (Option ℕ))) where
 
   pub finds_from : (P : ℕ → Type 0) (xs : List Gap) → Finds w forms rows (Below 0 P) xs xs
   finds_from P xs = finds_none (Below 0 P) xs (λ k h. absurd (omega (arith, h)))
+
+  pub finds_four : (P Q R S : Type 0) (a b c d e : List Gap) → Finds w forms rows P a b → Finds w forms rows Q b c → Finds w forms rows R c d → Finds w forms rows S d e → Finds w forms rows ((P × Q) × (R × S)) a e
+  finds_four P Q R S a b c d e f g h i = finds_then (P × Q) (R × S) a c e (finds_then P Q a b c f g) (finds_then R S c d e h i)

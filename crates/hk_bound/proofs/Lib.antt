@@ -12,3 +12,4 @@ mod Sources
 mod FindsLemmas
 mod Complete
 mod TaskSlots
+mod Through

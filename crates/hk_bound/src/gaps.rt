@@ -299,7 +299,10 @@ impl<'a> Table<'a> {
         requires cell { cell self.now.rows.now process name ≡ Some by }
         ensures { OnOk result (Finds self.now.world.now self.now.forms.now self.now.rows.now (ParamsRule self.now.world.now self.now.forms.now self.now.rows.now process name by) gaps.old.items gaps.new.items) }
     {
-        if !by.has(Right::A0) || type_of(self.world, name).0 != 4 {
+        if !by.has(Right::A0) {
+            return Ok(());
+        }
+        if type_of(self.world, name).0 != 4 {
             return Ok(());
         }
         for param in params_of(self.world, name) {
