@@ -13,3 +13,5 @@ mod FindsLemmas
 mod Complete
 mod TaskSlots
 mod Through
+mod Growth
+mod Filling

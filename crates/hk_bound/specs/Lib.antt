@@ -4,3 +4,5 @@ pub mod Each
 pub mod Columns
 pub mod Forms
 pub mod Rules
+pub mod Weights
+pub mod Rounds

@@ -74,7 +74,8 @@ impl Rows {
     /// Adds rights to a cell.
     pub(crate) fn join(&mut self, process: usize, column: usize, rights: Rights)
         requires { process < length self.old }
-        ensures { self.new ≡ joined_rows self.old process column rights }
+        ensures value { self.new ≡ joined_rows self.old process column rights }
+        ensures word { IfSome (joined (cell self.old process column) rights) (λ r. IsRightsWord r) }
     {
         let next = joined(self.get(process, column), rights);
         let row = &mut self.rows[process];
