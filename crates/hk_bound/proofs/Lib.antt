@@ -15,3 +15,4 @@ mod TaskSlots
 mod Through
 mod Growth
 mod Filling
+mod Exact

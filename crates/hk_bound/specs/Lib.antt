@@ -6,3 +6,4 @@ pub mod Forms
 pub mod Rules
 pub mod Weights
 pub mod Rounds
+pub mod Listed

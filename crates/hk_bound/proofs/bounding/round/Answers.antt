@@ -8,5 +8,4 @@ loop-process-init c = record { follow = c.requires.follow; are = c.requires.are;
 
 pub loop-process-preserved : goal.loop-process-preserved
 loop-process-preserved c =
-    let s = c.in_ok-settle.ensures in
-    rounding_more c.args.world.now c.args.forms.now c.args.rows.now c.loop-process.rows c.settle.new.rows c.loop-process.process c.loop-process.grown c.in_ok-settle.field-0 c.loop-process.invariant ?
+    rounding_more c.args.world.now c.args.forms.now c.args.rows.now c.loop-process.rows c.settle.new.rows c.loop-process.process c.loop-process.grown _ c.loop-process.invariant (c.in_ok-grown.ensures {u = tt})
