@@ -1,6 +1,6 @@
 -- Rows that keep the rules are exact, and so is the bound that is read off them.
 use Rattle.std.proofs.Common.{◌≡◌, ℕ, zero, suc, ◌+◌, ◌<◌, ◌≤◌, List, [], ◌∷◌, ◌++◌, length, Bool, true, false, Option, Some, None, refl, sym, ◌∙◌, ap, subst, arith, length-append}
-use Rattle.std.specs.Prelude.{IsTrue, slice_get, ◌⊎◌, ◌||◌, ◌&&◌, ◌==◌, ◌^◌, bit_or}
+use Rattle.std.specs.Prelude.{IsTrue, IfSome, slice_get, ◌⊎◌, ◌||◌, ◌&&◌, ◌==◌, ◌^◌, bit_or}
 use mathlib.Core.Logic.{inl, inr}
 use Rattle.std.proofs.lemmas.Bool.{true≢false, false≢true}
 use Rattle.std.proofs.lemmas.Bool.Decides.{nat_tests}
@@ -167,7 +167,7 @@ same_names : (x : Name) (n : ℕ) → x.0 ≡ n → name_at n ≡ x
 same_names x n e = ap (λ (m : ℕ). name_at m) (sym e)
 
 pub listing_skip : (w : Setup) (proc : Proc) (n : ℕ) (names : List Name) → (IsInBound w proc (name_at n) → ⊥) → Listing w proc n names → Listing w proc (n + 1) names
-listing_skip w proc n names no h = record {
+listing_skip w proc n names never h = record {
   sound = h.sound;
   all = λ x low b. by x b (less_or_same x.0 n low);
   rising = h.rising;
@@ -176,11 +176,11 @@ listing_skip w proc n names no h = record {
   where
     by : (x : Name) → IsInBound w proc x → (x.0 < n) ⊎ (x.0 ≡ n) → Among names x
     by x b (inl less) = h.all x less b
-    by x b (inr same) = absurd (no (subst (IsInBound w proc) (sym (same_names x n same)) b))
+    by x b (inr same) = absurd (never (subst (IsInBound w proc) (sym (same_names x n same)) b))
 
 pub listing_push : (w : Setup) (proc : Proc) (n : ℕ) (names : List Name) → IsInBound w proc (name_at n) → Listing w proc n names → Listing w proc (n + 1) (names ++ name_at n ∷ [])
-listing_push w proc n names yes h = record {
-  sound = λ k x e. elim (push_cases names (name_at n) x k e) [ inl before ↦ h.sound k x before | inr last ↦ subst (IsInBound w proc) last.1 yes ];
+listing_push w proc n names new h = record {
+  sound = λ k x e. elim (push_cases names (name_at n) x k e) [ inl before ↦ h.sound k x before | inr last ↦ subst (IsInBound w proc) last.1 new ];
   all = λ x low b. by x b (less_or_same x.0 n low);
   rising = λ k x y e f. rises k x y (push_cases names (name_at n) x k e) (push_cases names (name_at n) y (suc k) f);
   below = λ k x e. elim (push_cases names (name_at n) x k e) [ inl before ↦ (let low = h.below k x before in omega (arith, low)) | inr last ↦ (let same : n ≡ x.0 = ap (λ (m : Name). m.0) last.1 in omega (arith, same)) ];
@@ -197,14 +197,28 @@ listing_push w proc n names yes h = record {
     rises k x y (inr a) (inr b) = let e = a.0 in let f = b.0 in absurd (omega (arith, e, f))
 
 pub listing_none : (w : Setup) (proc : Proc) (names : List Name) → names ≡ [] → Listing w proc 0 names
-listing_none w proc names e = subst (Listing w proc 0) (sym e) (record { sound = none (IsInBound w proc); all = λ x low b. absurd (omega (arith, low)); rising = λ k x y a b. absurd (no k x a); below = none (λ (x : Name). x.0 < 0) })
+listing_none w proc names e = subst (Listing w proc 0) (sym e) (record { sound = none (IsInBound w proc); all = λ x low b. absurd (omega (arith, low)); rising = λ k x y a b. absurd (empty k x a); below = none (λ (x : Name). x.0 < 0) })
   where
-    no : (k : ℕ) (x : Name) → slice_get [] k ≡ Some x → ⊥
-    no zero x a = absurd (cc)
-    no (suc k) x a = absurd (cc)
+    empty : (k : ℕ) (x : Name) → slice_get [] k ≡ Some x → ⊥
+    empty zero x a = absurd (cc)
+    empty (suc k) x a = absurd (cc)
 
     none : (P : Name → Type 0) → Each P []
-    none P k x a = absurd (no k x a)
+    none P k x a = absurd (empty k x a)
 
 pub listing_all : (w : Setup) (proc : Proc) (names : List Name) (n : ℕ) → object_count w ≤ n → Listing w proc n names → IsBoundOf w proc names
 listing_all w proc names n end h = record { sound = h.sound; all = λ x b. h.all x (let low = b.opening in omega (arith, low, end)) b; rising = h.rising }
+
+pub exact_push : {V : Type 0} (P : ℕ → V → Type 0) (xs : List V) (y : V) → ((p : ℕ) → IfSome (slice_get xs p) (P p)) → P (length xs) y → (p : ℕ) → IfSome (slice_get (xs ++ y ∷ []) p) (P p)
+exact_push P [] y h new zero = new
+exact_push P [] y h new (suc zero) = tt
+exact_push P [] y h new (suc (suc p)) = tt
+exact_push P (x ∷ xs) y h new zero = h zero
+exact_push P (x ∷ xs) y h new (suc p) = exact_push (λ k. P (suc k)) xs y (λ k. h (suc k)) new p
+
+pub exact_none : {V : Type 0} (P : ℕ → V → Type 0) (xs : List V) → xs ≡ [] → (p : ℕ) → IfSome (slice_get xs p) (P p)
+exact_none {V} P xs e p = subst (λ (l : List V). IfSome (slice_get l p) (P p)) (sym e) (by p)
+  where
+    by : (k : ℕ) → IfSome (slice_get [] k) (P k)
+    by zero = tt
+    by (suc k) = tt

@@ -122,10 +122,11 @@ pub fn bound(alloc: Global, world: &World) -> Result<Vec<Vec<Name>>, NoMemory>
     ensures exact { IfOk result
         (λ bounds. (p : ℕ) → IfSome (slice_get bounds.items p) (λ names. IsBoundOf world.now (proc_at p) names.items)) }
 {
+    let processes = world.tasks().len();
     let forms = all_forms(alloc, world)?;
     let rows = closed_rows(alloc, world, &forms)?;
     let mut bounds = Vec::new(alloc);
-    for process in 0..world.tasks().len() {
+    for process in 0..processes {
         bounds.push(bound_of(alloc, world, &rows, process)?)?;
     }
     Ok(bounds)
