@@ -1,5 +1,6 @@
 -- The pieces of a line are seen in their texts, in which no space, no arrow and no line feed stands.
-use Rattle.std.proofs.Common.{◌≡◌, ℕ, zero, suc, ◌<◌, ◌≤◌, ◌==◌, ◌^◌, Bool, true, false, cond, eqb, ltb, List, [], ◌∷◌, ◌++◌, length, map, refl, sym, ap, subst, ◌∙◌, arith, ◌||◌, ◌&&◌, not, Some, None, Ok, IsTrue, get_or, ⊎_elim}
+use Rattle.std.proofs.Common.{◌≡◌, ℕ, zero, suc, ◌<◌, ◌≤◌, ◌==◌, ◌^◌, Bool, true, false, cond, eqb, ltb, List, [], ◌∷◌, ◌++◌, length, map, refl, sym, ap, subst, ◌∙◌, arith, ◌||◌}
+use Rattle.std.proofs.Common.{◌&&◌, not, Some, None, Ok, IsTrue, get_or, ⊎_elim}
 use Rattle.std.specs.Prelude.{codes}
 use Rattle.std.specs.List.{AllByRecursion, list_all, list_any, join_with_byte}
 use Rattle.std.specs.Fmt.{decimal}
@@ -24,19 +25,21 @@ use Rattle.hk_model.specs.declared.lines.Line.{Line}
 use Rattle.hk_model.specs.Labels.{between, first, is_digit, is_lower, is_word, same_text}
 use Rattle.hk_format.specs.Pieces.{Piece, Word, Upper, Dash, Number, Path, piece_of, is_piece, is_index, spell, spell_index, is_number, value, is_upper}
 use Rattle.hk_format.specs.Operands.{path_piece, slot_piece, rights_piece, rights_set_piece}
-use Rattle.hk_format.specs.RightsTexts.{rights_of, rights_text}
+use Rattle.hk_format.specs.RightsTexts.{rights_spelled, rights_text}
 use Rattle.hk_format.specs.Syntax.{IsRightsText}
 use Rattle.hk_format.specs.LineReading.{inc_bound, widened, wide_pieces, halves}
 use Rattle.hk_format.specs.AuditLines.{arrow, call_pieces, what_pieces, full_word, reply_pieces, event_pieces}
 use Rattle.hk_format.specs.LineRanges.{IsPathValue, IsAnySlot, IsCall, IsWhat, IsReply, IsLine}
-use Rattle.hk_model.specs.Setup.{IsWord32}
+use Rattle.hk_model.specs.WorldValue.{IsWord32}
 use Rattle.hk_format.proofs.Cutting.{all_weaker, all_joined, none_of, split_joined}
 use Rattle.hk_format.proofs.ItemsGood.{rights_good}
 use Rattle.hk_format.proofs.LineAgain.{same_is}
 use Rattle.hk_format.proofs.PieceAgain.{is_name_byte, names_bytes, digits_number, value_decimal, number_again, number_large, piece_again}
 use Rattle.hk_format.proofs.RightsAgain.{rights_again}
-use Rattle.hk_audit.specs.Seen.{is_numeral, numeral_of, is_index_numeral, indices_of, path_of, rights_spelled, seen}
-use Rattle.hk_audit.proofs.DigitTexts.{numeral_text}
+use Rattle.hk_text.specs.Numerals.{is_numeral, numeral_of}
+use Rattle.hk_audit.specs.TextPieces.{is_index_numeral, indices_of, indices_spelled, canonical_rights, seen}
+use Rattle.hk_text.proofs.NumeralTexts.{numeral_decimal, numeral_again}
+use Rattle.hk_print.proofs.Pieces.{spelled_rights}
 use Rattle.hk_audit.proofs.Spelled.{same_self}
 use Rattle.hk_audit.proofs.SeenForms.{seen_numeral, seen_path_of, seen_spelled}
 use Rattle.hk_audit.proofs.LinesAgain.{right_among}
@@ -51,20 +54,6 @@ pub record Clear (p : Piece) : Type 0 where
   pub wide : widened (spell p) (piece_of (spell p)) ≡ Ok p
 
 -- numbers
-
-zero_text : decimal 0 ≡ 48 ∷ []
-zero_text = numeral_text (48 ∷ []) refl (omega arith)
-
-pub numeral_decimal : (n : ℕ) → n < 2 ^ 64 → is_numeral (decimal n) ≡ true
-numeral_decimal zero h = rw zero_text refl
-numeral_decimal (suc n) h = go (decimal (suc n)) (digits_number (suc n) h) (first_decimal (suc n) (omega arith) h)
-  where
-    go : (ds : List ℕ) → is_number ds ≡ true → 48 < get_or ds 0 0 → is_numeral ds ≡ true
-    go [] k e = absurd (false≢true k)
-    go (d ∷ ds) k e = let other : eqb d 48 ≡ false = grind (arith, nat_tests) in rw (k, other) refl
-
-pub numeral_again : (n : ℕ) → n < 2 ^ 64 → numeral_of (decimal n) ≡ Some n
-numeral_again n h = rw (numeral_decimal n h, value_decimal n h, lt-ltb n inc_bound h) refl
 
 digits_of : (n : ℕ) → n < 2 ^ 64 → list_all is_digit (decimal n) ≡ true
 digits_of n h = (and_parts (is_digit (first (decimal n))) (list_all is_digit (decimal n)) (digits_number n h)).1
@@ -139,24 +128,21 @@ clear_path (n ∷ []) h = clear_number n (let small = h.2.0 in omega arith)
 clear_path (x ∷ y ∷ more) h =
     let all = path_texts (x ∷ y ∷ more) h.2 in
     let cut = split_joined (λ b. b == 46) 46 (decimal x) (map spell_index (map Fixed (y ∷ more))) all.free refl in
-    let few : between 2 8 (length (map spell_index (map Fixed (x ∷ y ∷ more)))) ≡ true = let size = length-map (map Fixed (x ∷ y ∷ more)) spell_index in let size-1 = length-map (x ∷ y ∷ more) Fixed in let most = h.1 in grind (arith, nat_tests) in
+    let few : between 2 8 (length (map spell_index (map Fixed (x ∷ y ∷ more)))) ≡ true = let size = length-map (map Fixed (x ∷ y ∷ more)) spell_index in let size-1 =
+        length-map (x ∷ y ∷ more) Fixed in let most = h.1 in grind (arith, nat_tests) in
     let text : List ℕ = join_with_byte 46 (map spell_index (map Fixed (x ∷ y ∷ more))) in
-    let several : path_of (join_with_byte 46 (map spell_index (map Fixed (x ∷ y ∷ more)))) ≡ Some (x ∷ y ∷ more) = ap indices_of cut ∙ rw (few, all.good) (ap Some all.values) in
+    let several : indices_spelled (join_with_byte 46 (map spell_index (map Fixed (x ∷ y ∷ more)))) ≡ Some (x ∷ y ∷ more) = ap indices_of cut
+        ∙ rw (few, all.good) (ap Some all.values) in
     let none = no_number (join_with_byte 46 (map spell_index (map Fixed (x ∷ y ∷ more)))) (with_point (decimal x) (join_with_byte 46 (map spell_index (map Fixed (y ∷ more))))) in
     record {
       seen = seen_path_of (join_with_byte 46 (map spell_index (map Fixed (x ∷ y ∷ more)))) (x ∷ y ∷ more) none several;
       plain = all_joined is_plain 46 (map spell_index (map Fixed (x ∷ y ∷ more))) all.plain refl;
-      wide = rw (piece_again (Path (map Fixed (x ∷ y ∷ more))) (and_from _ _ (indices_few (x ∷ y ∷ more) (let most = h.1 in grind (arith, nat_tests))) (indices_small (x ∷ y ∷ more) h.2))) refl;
+      wide =
+          rw (piece_again (Path (map Fixed (x ∷ y ∷ more))) (and_from _ _ (indices_few (x ∷ y ∷ more) (let most = h.1 in grind (arith, nat_tests)))
+              (indices_small (x ∷ y ∷ more) h.2))) refl;
     }
 
 -- rights
-
-pub spelled_rights : (t : List ℕ) → spell (rights_piece t) ≡ t
-spelled_rights t = go (same_text t (codes "-")) refl
-  where
-    go : (b : Bool) → same_text t (codes "-") ≡ b → spell (cond b Dash (Upper t)) ≡ t
-    go true e = sym (same_is t (codes "-") e)
-    go false e = refl
 
 rights_plain : (t : List ℕ) → IsRightsText t → list_all is_plain t ≡ true
 rights_plain t h = go (same_text t (codes "-")) refl h
@@ -175,7 +161,7 @@ rights_piece_good t h = go (same_text t (codes "-")) h
 pub clear_rights : (w : ℕ) → IsRightsWord w → Clear (rights_set_piece w)
 clear_rights w word =
     let text = spelled_rights (rights_text w) in
-    let spelled : rights_spelled (rights_text w) ≡ Some w = rw (rights_again w word, same_self (rights_text w)) refl in
+    let spelled : canonical_rights (rights_text w) ≡ Some w = rw (rights_again w word, same_self (rights_text w)) refl in
     record {
       seen = ap seen text ∙ seen_spelled (rights_text w) w spelled;
       plain = rw text (rights_plain (rights_text w) (rights_good w word));
@@ -186,8 +172,12 @@ IsClearName : ℕ → Type 0
 IsClearName n = (seen (name_of n) ≡ Upper (name_of n)) × (list_all is_plain (name_of n) ≡ true) × (is_upper (name_of n) ≡ true)
 
 all_clear : AllByRecursion IsClearName right_numbers
-unfolding IsClearName seen right_table right_numbers number_named name_of rights_of rights_text
-all_clear = ((refl, refl, refl), ((refl, refl, refl), ((refl, refl, refl), ((refl, refl, refl), ((refl, refl, refl), ((refl, refl, refl), ((refl, refl, refl), ((refl, refl, refl), ((refl, refl, refl), ((refl, refl, refl), ((refl, refl, refl), ((refl, refl, refl), ((refl, refl, refl), ((refl, refl, refl), ((refl, refl, refl), ((refl, refl, refl), ((refl, refl, refl), ((refl, refl, refl), ((refl, refl, refl), tt)))))))))))))))))))
+unfolding IsClearName seen right_table right_numbers number_named name_of rights_spelled rights_text
+all_clear =
+    ((refl, refl, refl), ((refl, refl, refl), ((refl, refl, refl), ((refl, refl, refl), ((refl, refl, refl),
+        ((refl, refl, refl), ((refl, refl, refl), ((refl, refl, refl), ((refl, refl, refl),
+        ((refl, refl, refl), ((refl, refl, refl), ((refl, refl, refl), ((refl, refl, refl),
+        ((refl, refl, refl), ((refl, refl, refl), ((refl, refl, refl), ((refl, refl, refl), ((refl, refl, refl), ((refl, refl, refl), tt)))))))))))))))))))
 
 clear_right : (n : ℕ) → IsTrue (is_right n) → Clear (Upper (name_of n))
 unfolding IsClearName
@@ -195,7 +185,7 @@ clear_right n right = let known = right_among IsClearName n all_clear right in r
 
 -- words
 
-clear_word : (t : List ℕ) → numeral_of t ≡ None → path_of t ≡ None → is_lower (first t) ≡ true → list_all is_plain t ≡ true → is_word t ≡ true → Clear (Word t)
+clear_word : (t : List ℕ) → numeral_of t ≡ None → indices_spelled t ≡ None → is_lower (first t) ≡ true → list_all is_plain t ≡ true → is_word t ≡ true → Clear (Word t)
 unfolding seen
 clear_word t number path low plain word = record { seen = rw (number, path, low) refl; plain = plain; wide = rw (piece_again (Word t) word) refl }
 
@@ -224,8 +214,12 @@ clear_call (call.Erase list at) h = (clear_word (codes "erase") refl refl refl r
 clear_call (call.Drop slot) h = (clear_word (codes "drop") refl refl refl refl refl, (clear_slot slot h, tt))
 clear_call (call.Restrict slot keep) h = (clear_word (codes "restrict") refl refl refl refl refl, (clear_slot slot h.0, (clear_rights keep h.1, tt)))
 clear_call (call.Look of) h = (clear_word (codes "look") refl refl refl refl refl, (clear_path of h, tt))
-clear_call (call.MakeTemplate of (making.Amplify check give) into) h = (clear_word (codes "template") refl refl refl refl refl, (clear_path of h.0, (clear_word (codes "amplify") refl refl refl refl refl, (clear_rights check h.1.0, (clear_rights give h.1.1, (clear_slot into h.2, tt))))))
-clear_call (call.MakeTemplate of (making.Create give) into) h = (clear_word (codes "template") refl refl refl refl refl, (clear_path of h.0, (clear_word (codes "create") refl refl refl refl refl, (clear_rights give h.1, (clear_slot into h.2, tt)))))
+clear_call (call.MakeTemplate of (making.Amplify check give) into) h =
+    (clear_word (codes "template") refl refl refl refl refl, (clear_path of h.0, (clear_word (codes "amplify") refl refl refl refl refl,
+        (clear_rights check h.1.0, (clear_rights give h.1.1, (clear_slot into h.2, tt))))))
+clear_call (call.MakeTemplate of (making.Create give) into) h =
+    (clear_word (codes "template") refl refl refl refl refl, (clear_path of h.0, (clear_word (codes "create") refl refl refl refl refl,
+        (clear_rights give h.1, (clear_slot into h.2, tt)))))
 clear_call (call.Create by into) h = (clear_word (codes "create") refl refl refl refl refl, (clear_path by h.0, (clear_slot into h.1, tt)))
 clear_call (call.Merge with held into) h = (clear_word (codes "merge") refl refl refl refl refl, (clear_path with h.0, (clear_slot held h.1, (clear_slot into h.2, tt))))
 clear_call (call.Copy of into) h = (clear_word (codes "copy") refl refl refl refl refl, (clear_path of h.0, (clear_slot into h.1, tt)))
@@ -259,7 +253,8 @@ clear_reply (reply.No (refused.Full kind)) h = (clear_word (codes "full") refl r
 clear_reply (reply.No refused.Deep) h = (clear_word (codes "deep") refl refl refl refl refl, tt)
 
 pub clear_event : (l : Line) → IsLine l → AllByRecursion Clear (event_pieces l)
-clear_event l h = (clear_number l.cpu.0 (let a = h.cpu in omega arith), (clear_number l.proc.0 (let b = h.proc in omega arith), (clear_number l.inc.0 h.inc, clear_what l.what h.what)))
+clear_event l h =
+    (clear_number l.cpu.0 (let a = h.cpu in omega arith), (clear_number l.proc.0 (let b = h.proc in omega arith), (clear_number l.inc.0 h.inc, clear_what l.what h.what)))
 
 -- what is plain is no arrow
 not_arrow : (t : List ℕ) → list_all is_plain t ≡ true → same_text t arrow ≡ false

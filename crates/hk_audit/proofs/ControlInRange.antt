@@ -20,9 +20,10 @@ use Rattle.hk_model.specs.declared.frames.Todo.{Todo}
 use Rattle.hk_model.specs.declared.frames.Todo.TheVariants.{Do, Halt}
 use Rattle.hk_model.specs.declared.world.Code.{Code}
 use Rattle.hk_model.specs.Limits.{local_limit, slot_limit, slot_bound, index_bound}
-use Rattle.hk_model.specs.Setup.{Setup, IsWorld, IsWord32, IsIndex, IsOperand, IsRoute, IsSlotOrNone, BeginsAtSlot, IsInstr, IsCode}
+use Rattle.hk_model.specs.WorldValue.{WorldValue, IsWorld, IsWord32, IsIndex, IsOperand, IsRoute, IsSlotOrNone, BeginsAtSlot, IsInstr, IsCode}
 use Rattle.hk_format.specs.LineRanges.{IsPathValue, IsAnySlotOrNone, IsCall, IsReply}
-use Rattle.hk_model.specs.Control.{Context, new_frame, operand, index_of, path_of, Meaning, Calls, Local, step_over, go_to, meaning, steps_of, here, next_from, next, target_register, with_word, behind, frames_after, after}
+use Rattle.hk_model.specs.Control.{Context, new_frame, operand, index_of, indices_spelled, Meaning, Calls, Local, step_over, go_to, meaning, steps_of, here, next_from, next}
+use Rattle.hk_model.specs.Control.{target_register, with_word, behind, frames_after, after}
 use Rattle.hk_audit.proofs.Every.{every_set, every_or, every_at, every_mapped}
 
 -- its registers hold words
@@ -46,7 +47,7 @@ index_in : (f : Frame) (i : Index) → IsIndex i → index_of f i < index_bound
 index_in f (Fixed n) g = g
 index_in f (ByReg r) g = omega arith
 
-path_in : (f : Frame) (route : Route) → IsRoute route → IsPathValue (path_of f route)
+path_in : (f : Frame) (route : Route) → IsRoute route → IsPathValue (indices_spelled f route)
 path_in f route h =
     let same = length-map route.at (index_of f) in
     (by route.at h.0, let few = h.1 in omega arith, every_mapped IsIndex (λ index. index < index_bound) (index_of f) (index_in f) route.at h.2)
@@ -115,7 +116,8 @@ abbrev pub TodoIn : Todo → Type 0
 TodoIn (Do c) = IsCall c
 TodoIn Halt = Unit {0}
 
-next_from_in : (len budget : ℕ) (steps : List Instr) (f : Frame) (m : Meaning) → AllByRecursion (IsInstr len) steps → FrameIn f → MeaningIn m → TodoIn (next_from budget steps f m).0 × FrameIn (next_from budget steps f m).1
+next_from_in : (len budget : ℕ) (steps : List Instr) (f : Frame) (m : Meaning) → AllByRecursion (IsInstr len) steps → FrameIn f → MeaningIn m
+    → TodoIn (next_from budget steps f m).0 × FrameIn (next_from budget steps f m).1
 unfolding next_from
 next_from_in len zero steps f (Calls c) all h g = (g, h)
 next_from_in len (suc budget) steps f (Calls c) all h g = (g, h)
@@ -126,7 +128,7 @@ next_from_in len (suc budget) steps f (Local k) all h g = next_from_in len budge
 abbrev StepsIn : List Instr → Type 0
 StepsIn steps = (len : ℕ) × AllByRecursion (IsInstr len) steps
 
-steps_in : (w : Setup) → IsWorld w → (code : ℕ) → StepsIn (steps_of w code)
+steps_in : (w : WorldValue) → IsWorld w → (code : ℕ) → StepsIn (steps_of w code)
 steps_in w h code = by (slice_get w.codes code) (every_at IsCode w.codes code h.codes_are)
   where
     by : (found : Option Code) → IfSome found IsCode → StepsIn (elim found as (λ x. List Instr) [ None ↦ [] | Some c ↦ c.steps ])
@@ -134,7 +136,7 @@ steps_in w h code = by (slice_get w.codes code) (every_at IsCode w.codes code h.
     by (Some c) g = (length c.steps, g.1)
 
 -- what a process does next, and its frames behind its local instructions
-pub next_in : (w : Setup) → IsWorld w → (frames : Context) → ContextIn frames → TodoIn (next w frames).0 × ContextIn (next w frames).1
+pub next_in : (w : WorldValue) → IsWorld w → (frames : Context) → ContextIn frames → TodoIn (next w frames).0 × ContextIn (next w frames).1
 unfolding next
 next_in w h [] g = (tt, tt)
 next_in w h (f ∷ rest) g =
@@ -159,7 +161,7 @@ frames_after_in c reply (Some code) frames h = (new_frame_in code, h)
 frames_after_in (call.Leave give) Done None (f ∷ rest) h = h.1
 frames_after_in _ reply None frames h = h
 
-pub after_in : (w : Setup) (frames : Context) (c : Call) (reply : Reply) (code : Option ℕ) → ContextIn frames → IsReply reply → ContextIn (after w frames c reply code)
+pub after_in : (w : WorldValue) (frames : Context) (c : Call) (reply : Reply) (code : Option ℕ) → ContextIn frames → IsReply reply → ContextIn (after w frames c reply code)
 unfolding after
 after_in w [] c reply code h g = tt
 after_in w (f ∷ rest) c reply code h g = frames_after_in c reply code (behind w f reply ∷ rest) (with_word_in f (slice_get (steps_of w f.code) f.at) reply h.0 g, h.1)

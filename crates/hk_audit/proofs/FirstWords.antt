@@ -17,7 +17,8 @@ word_first {A} word literal other b x y pieces r e same test h = go (same_text w
     go false k = cc
 
 -- the reader for other words
-pub word_later : {A : Type 0} (word literal other : List ℕ) (b : Bool) (x y : Reads A) (pieces : List Piece) (r : Found A) → b ≡ same_text word literal → literal ≡ other → b ≡ false
+pub word_later : {A : Type 0} (word literal other : List ℕ) (b : Bool) (x y : Reads A) (pieces : List Piece) (r : Found A) → b ≡ same_text word literal → literal ≡ other
+    → b ≡ false
     → y pieces ≡ r → cond (same_text word other) x y pieces ≡ r
 word_later {A} word literal other b x y pieces r e same test h = go (same_text word other) (test_is word literal other b false e same test)
   where

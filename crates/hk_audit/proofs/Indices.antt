@@ -6,7 +6,7 @@ use Rattle.std.proofs.lemmas.List.{take_more_set, length-append, length-map, len
 use mathlib.Core.List.{append_assoc, append-nil}
 use Rattle.hk_model.specs.Labels.{between}
 use Rattle.hk_format.specs.Pieces.{value}
-use Rattle.hk_audit.specs.Seen.{is_index_numeral, indices_of}
+use Rattle.hk_audit.specs.TextPieces.{is_index_numeral, indices_of}
 
 -- what is known where the first of the texts that are left was asked for its index
 index_some : (t : List ℕ) (v : ℕ) → Some v ≡ cond (is_index_numeral t) (Some (value t)) None → (is_index_numeral t ≡ true) × (v ≡ value t)
@@ -48,7 +48,8 @@ index_bad cut before after t e none good =
 many : (cut : List (List ℕ)) → between 2 8 (length cut) ≡ false → ◌≡◌ {A = Option (List ℕ)} None (indices_of cut)
 many cut e = rw e refl
 
-size_of : (cut left : List (List ℕ)) (indices : List ℕ) (count : ℕ) → count ≤ length indices → take count indices ++ map value left ≡ map value cut → count + length left ≡ length cut
+size_of : (cut left : List (List ℕ)) (indices : List ℕ) (count : ℕ) → count ≤ length indices → take count indices ++ map value left ≡ map value cut
+    → count + length left ≡ length cut
 size_of cut left indices count inside values =
     let a = length-append (take count indices) (map value left) in
     let b = length-take count indices in

@@ -26,10 +26,12 @@ path_spelled first [] = sym (append-nil (decimal first))
 path_spelled first (index ∷ rest) = indices_joined first (index ∷ rest)
 
 -- the slots of the arguments, and the last one behind them
-pub slots_spelled : (front : List ℕ) (args : List ℕ) (into : Slot) → (front ++ flat_map (λ slot. 32 ∷ decimal slot) args) ++ 32 ∷ decimal into.0 ≡ join_with_byte 32 (front ∷ map spell (argument_pieces args into))
+pub slots_spelled : (front : List ℕ) (args : List ℕ) (into : Slot)
+    → (front ++ flat_map (λ slot. 32 ∷ decimal slot) args) ++ 32 ∷ decimal into.0 ≡ join_with_byte 32 (front ∷ map spell (argument_pieces args into))
 slots_spelled front [] into = ap (λ (t : List ℕ). t ++ 32 ∷ decimal into.0) (append-nil front)
 slots_spelled front (slot ∷ slots) into =
-    append_assoc front (32 ∷ (decimal slot ++ flat_map (λ n. 32 ∷ decimal n) slots)) (32 ∷ decimal into.0) ∙ ap (λ (t : List ℕ). front ++ 32 ∷ t) (slots_spelled (decimal slot) slots into)
+    append_assoc front (32 ∷ (decimal slot ++ flat_map (λ n. 32 ∷ decimal n) slots)) (32 ∷ decimal into.0)
+        ∙ ap (λ (t : List ℕ). front ++ 32 ∷ t) (slots_spelled (decimal slot) slots into)
 
 -- all of the indices behind the first are taken
 behind_first : (rest : List ℕ) (taken : ℕ) → length rest ≤ taken → take taken (take (suc (length rest) - 1) rest) ≡ rest
@@ -38,7 +40,9 @@ behind_first rest taken all =
     rw (same, take_all (length rest) rest (omega arith)) (take_all taken rest all)
 
 -- a path of one index at least, by its first index and the others
-pub path_whole : (path old begun new : List ℕ) (taken : ℕ) → 0 < length path → length path ≤ taken + 1 → begun ≡ old ++ decimal (slice_index path 0) → new ≡ begun ++ flat_map (λ index. 46 ∷ decimal index) (take taken (take (length path - 1) (drop 1 path))) → new ≡ old ++ spell (path_piece path)
+pub path_whole : (path old begun new : List ℕ) (taken : ℕ) → 0 < length path → length path ≤ taken + 1 → begun ≡ old ++ decimal (slice_index path 0)
+    → new ≡ begun ++ flat_map (λ index. 46 ∷ decimal index) (take taken (take (length path - 1) (drop 1 path))) → new ≡ old ++ spell (path_piece path)
 path_whole [] old begun new taken some all b n = absurd (omega arith)
 path_whole (first ∷ rest) old begun new taken some all b n =
-    n ∙ rw (b, behind_first rest taken (omega arith)) (append_assoc old (decimal first) (flat_map (λ index. 46 ∷ decimal index) rest) ∙ ap (λ (t : List ℕ). old ++ t) (sym (path_spelled first rest)))
+    n ∙ rw (b, behind_first rest taken (omega arith)) (append_assoc old (decimal first) (flat_map (λ index. 46 ∷ decimal index) rest)
+        ∙ ap (λ (t : List ℕ). old ++ t) (sym (path_spelled first rest)))

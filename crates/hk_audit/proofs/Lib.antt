@@ -7,7 +7,6 @@ mod LineTexts
 mod StatesInRange
 pub mod StepsInRange
 mod TestsInRange
-pub mod DigitTexts
 pub mod Cuts
 pub mod Indices
 pub mod Spelled
@@ -20,7 +19,6 @@ pub mod Clear
 pub mod SeenFits
 pub mod LineCuts
 pub mod ReadAgain
-mod Passes
 mod RecordSplits
 mod RecordEvents
 mod RecordAudits

@@ -1,5 +1,6 @@
 -- The text of a line, cut at its arrow and at its spaces.
-use Rattle.std.proofs.Common.{◌≡◌, ℕ, ◌+◌, ◌-◌, ◌==◌, Bool, true, false, List, [], ◌∷◌, ◌++◌, length, map, take, drop, refl, sym, ap, subst, ◌∙◌, arith, ◌||◌, not, Option, Some, None, Ok, Err}
+use Rattle.std.proofs.Common.{◌≡◌, ℕ, ◌+◌, ◌-◌, ◌==◌, Bool, true, false, List, [], ◌∷◌, ◌++◌, length, map, take, drop, refl, sym, ap, subst, ◌∙◌, arith, ◌||◌, not, Option, Some}
+use Rattle.std.proofs.Common.{None, Ok, Err}
 use Rattle.std.specs.Prelude.{nat_eq, MatchOption, IfSome, IfNone}
 use Rattle.hk_format.specs.declared.causes.ParseCause.{ParseCause}
 use Rattle.std.specs.List.{AllByRecursion, list_all, list_any, slice_split, join_with_byte}
@@ -21,7 +22,7 @@ use Rattle.hk_format.specs.LineRanges.{IsLine}
 use Rattle.hk_format.proofs.Cutting.{all_joined, none_of, split_at, split_none, split_joined}
 use Rattle.hk_format.proofs.LineAgain.{same_is}
 use Rattle.hk_text.proofs.Turns.{cut_turn}
-use Rattle.hk_audit.specs.Seen.{seen}
+use Rattle.hk_audit.specs.TextPieces.{seen}
 use Rattle.hk_audit.specs.Halves.{halves_text, HasNoArrow}
 use Rattle.hk_audit.proofs.Spelled.{same_self}
 use Rattle.hk_audit.proofs.Clear.{Clear, clear_event, clear_reply, clear_texts}
@@ -62,12 +63,14 @@ cut_halves a b ha hb =
     none [] h = refl
     none (c ∷ cs) h = go (c == 62) h (none cs)
       where
-        go : (x : Bool) → (x || list_any (λ d. d == 62) cs) ≡ false → (HasNoArrow cs → HasNoArrow (cs ++ 32 ∷ 45 ∷ [])) → (x || list_any (λ d. d == 62) (cs ++ 32 ∷ 45 ∷ [])) ≡ false
+        go : (x : Bool) → (x || list_any (λ d. d == 62) cs) ≡ false → (HasNoArrow cs → HasNoArrow (cs ++ 32 ∷ 45 ∷ []))
+            → (x || list_any (λ d. d == 62) (cs ++ 32 ∷ 45 ∷ [])) ≡ false
         go true k more = absurd (false≢true (sym k))
         go false k more = more k
 
 -- the parts are those of a text that has such halves
-pub halves_parts : (body x y a b : List ℕ) → slice_split (λ c. c == 62) body ≡ x ∷ y ∷ [] → HasNoArrow a → HasNoArrow b → halves_text a b ≡ body → (a ++ 32 ∷ 45 ∷ [] ≡ x) × (32 ∷ b ≡ y)
+pub halves_parts : (body x y a b : List ℕ) → slice_split (λ c. c == 62) body ≡ x ∷ y ∷ [] → HasNoArrow a → HasNoArrow b → halves_text a b ≡ body
+    → (a ++ 32 ∷ 45 ∷ [] ≡ x) × (32 ∷ b ≡ y)
 halves_parts body x y a b cut ha hb e =
     let both : (a ++ 32 ∷ 45 ∷ []) ∷ (32 ∷ b) ∷ [] ≡ x ∷ y ∷ [] = sym (cut_halves a b ha hb) ∙ ap (slice_split (λ c. c == 62)) e ∙ cut in
     (ap (first_text []) both, ap (second_text []) both)
@@ -98,7 +101,8 @@ same_front a b end e = sym (front a) ∙ ap (λ (t : List ℕ). take (length t -
         seam [] = refl
         seam (c ∷ cs) = ap (λ (v : List ℕ). c ∷ v) (seam cs)
 
-pub halves_only : (body x y a b c d : List ℕ) → slice_split (λ e. e == 62) body ≡ x ∷ y ∷ [] → c ++ 32 ∷ 45 ∷ [] ≡ x → 32 ∷ d ≡ y → HasNoArrow a → HasNoArrow b → halves_text a b ≡ body → (a ≡ c) × (b ≡ d)
+pub halves_only : (body x y a b c d : List ℕ) → slice_split (λ e. e == 62) body ≡ x ∷ y ∷ [] → c ++ 32 ∷ 45 ∷ [] ≡ x → 32 ∷ d ≡ y → HasNoArrow a → HasNoArrow b
+    → halves_text a b ≡ body → (a ≡ c) × (b ≡ d)
 halves_only body x y a b c d cut e f ha hb whole =
     let parts = halves_parts body x y a b cut ha hb whole in
     (same_front a c (32 ∷ 45 ∷ []) (parts.0 ∙ sym e), ap (drop 1) (parts.1 ∙ sym f))
@@ -110,33 +114,41 @@ parts_none body a b none ha hb e = none (a ++ 32 ∷ 45 ∷ []) (32 ∷ b) (sym 
 
 -- texts, an arrow, and texts
 
-join_arrow : (x : List ℕ) (xs : List (List ℕ)) (y : List ℕ) (ys : List (List ℕ)) → join_with_byte 32 ((x ∷ xs) ++ arrow ∷ y ∷ ys) ≡ halves_text (join_with_byte 32 (x ∷ xs)) (join_with_byte 32 (y ∷ ys))
+join_arrow : (x : List ℕ) (xs : List (List ℕ)) (y : List ℕ) (ys : List (List ℕ))
+    → join_with_byte 32 ((x ∷ xs) ++ arrow ∷ y ∷ ys) ≡ halves_text (join_with_byte 32 (x ∷ xs)) (join_with_byte 32 (y ∷ ys))
 join_arrow x [] y ys = refl
-join_arrow x (z ∷ zs) y ys = ap (λ (t : List ℕ). x ++ 32 ∷ t) (join_arrow z zs y ys) ∙ sym (append_assoc x (32 ∷ join_with_byte 32 (z ∷ zs)) (32 ∷ 45 ∷ 62 ∷ 32 ∷ join_with_byte 32 (y ∷ ys)))
+join_arrow x (z ∷ zs) y ys =
+    ap (λ (t : List ℕ). x ++ 32 ∷ t) (join_arrow z zs y ys) ∙ sym (append_assoc x (32 ∷ join_with_byte 32 (z ∷ zs)) (32 ∷ 45 ∷ 62 ∷ 32 ∷ join_with_byte 32 (y ∷ ys)))
 
 -- texts of which one at least is cut from a text
 joined_cuts : (a b : List ℕ) → join_with_byte 32 (slice_split (λ c. c == 32) a ++ arrow ∷ slice_split (λ c. c == 32) b) ≡ halves_text a b
-joined_cuts a b = go (slice_split (λ c. c == 32) a) (cut_turn (λ c. c == 32) a) (slice_split (λ c. c == 32) b) (cut_turn (λ c. c == 32) b) (join_with_byte-slice_split 32 a) (join_with_byte-slice_split 32 b)
+joined_cuts a b =
+    go (slice_split (λ c. c == 32) a) (cut_turn (λ c. c == 32) a) (slice_split (λ c. c == 32) b) (cut_turn (λ c. c == 32) b) (join_with_byte-slice_split 32 a)
+        (join_with_byte-slice_split 32 b)
   where
-    go : (xs : List (List ℕ)) {x : List ℕ} {more : List (List ℕ)} → xs ≡ x ∷ more → (ys : List (List ℕ)) {y : List ℕ} {others : List (List ℕ)} → ys ≡ y ∷ others → join_with_byte 32 xs ≡ a → join_with_byte 32 ys ≡ b → join_with_byte 32 (xs ++ arrow ∷ ys) ≡ halves_text a b
+    go : (xs : List (List ℕ)) {x : List ℕ} {more : List (List ℕ)} → xs ≡ x ∷ more → (ys : List (List ℕ)) {y : List ℕ} {others : List (List ℕ)} → ys ≡ y ∷ others
+        → join_with_byte 32 xs ≡ a → join_with_byte 32 ys ≡ b → join_with_byte 32 (xs ++ arrow ∷ ys) ≡ halves_text a b
     go [] e ys f j k = absurd (false≢true (sym (ap is_none e)))
     go (x ∷ xs) e [] f j k = absurd (false≢true (sym (ap is_none f)))
     go (x ∷ xs) e (y ∷ ys) f j k = join_arrow x xs y ys ∙ ap (λ (t : List ℕ). halves_text t (join_with_byte 32 (y ∷ ys))) j ∙ ap (halves_text a) k
 
 body_is : (l : Line) (es rs : List (List ℕ)) → es ≡ map spell (event_pieces l) → rs ≡ map spell (reply_pieces l.reply) → join_with_byte 32 (es ++ arrow ∷ rs) ≡ line_body l
 unfolding line_body
-body_is l es rs e f = ap (λ (ts : List (List ℕ)). join_with_byte 32 (ts ++ arrow ∷ rs)) e ∙ ap (λ (ts : List (List ℕ)). join_with_byte 32 (map spell (event_pieces l) ++ arrow ∷ ts)) f
+body_is l es rs e f =
+    ap (λ (ts : List (List ℕ)). join_with_byte 32 (ts ++ arrow ∷ rs)) e ∙ ap (λ (ts : List (List ℕ)). join_with_byte 32 (map spell (event_pieces l) ++ arrow ∷ ts)) f
 
 -- what was read of both halves is the line of the whole
 pub line_found : (body a b : List ℕ) (g : Reply → Line) (r : Reply) (left right : List Piece) → halves_text a b ≡ body
-    → event_line (map seen (slice_split (λ c. c == 32) a)) ≡ Ok (g, left) → reply_line (map seen (slice_split (λ c. c == 32) b)) ≡ Ok (r, right) → IsLine (g r) × (line_body (g r) ≡ body)
+    → event_line (map seen (slice_split (λ c. c == 32) a)) ≡ Ok (g, left) → reply_line (map seen (slice_split (λ c. c == 32) b)) ≡ Ok (r, right)
+        → IsLine (g r) × (line_body (g r) ≡ body)
 line_found body a b g r left right whole first second =
     let event = (sound_event seen_forms).sound (slice_split (λ c. c == 32) a) g left first in
     let answer = (sound_reply seen_forms).sound (slice_split (λ c. c == 32) b) r right second in
     let same = event.0.event r in
     let own = event.0.reply r in (
       event.0.line r answer.0,
-      sym (body_is (g r) (slice_split (λ c. c == 32) a) (slice_split (λ c. c == 32) b) (event.1 ∙ ap (λ (ps : List Piece). map spell ps) (sym same)) (answer.1 ∙ ap (λ (q : Reply). map spell (reply_pieces q)) (sym own))) ∙ joined_cuts a b ∙ whole,
+      sym (body_is (g r) (slice_split (λ c. c == 32) a) (slice_split (λ c. c == 32) b) (event.1 ∙ ap (λ (ps : List Piece). map spell ps) (sym same))
+          (answer.1 ∙ ap (λ (q : Reply). map spell (reply_pieces q)) (sym own))) ∙ joined_cuts a b ∙ whole,
     )
 
 -- the halves of a line's text, and what is read of them
@@ -161,8 +173,10 @@ line_halves l h = go (reply_pieces l.reply) refl (clear_reply l.reply h.reply) (
     go (p ∷ ps) same c e =
         let first = clear_texts (event_pieces l) (clear_event l h) in
         let second = clear_texts (p ∷ ps) c in
-        let cut-1 : slice_split (λ c. c == 32) (join_with_byte 32 (map spell (event_pieces l))) ≡ map spell (event_pieces l) = split_joined (λ c. c == 32) 32 (decimal l.cpu.0) (map spell (Number l.proc.0 ∷ Number l.inc.0 ∷ what_pieces l.what)) first.free refl in
-        let cut-2 : slice_split (λ c. c == 32) (join_with_byte 32 (map spell (p ∷ ps))) ≡ map spell (p ∷ ps) = split_joined (λ c. c == 32) 32 (spell p) (map spell ps) second.free refl in
+        let cut-1 : slice_split (λ c. c == 32) (join_with_byte 32 (map spell (event_pieces l))) ≡ map spell (event_pieces l) =
+            split_joined (λ c. c == 32) 32 (decimal l.cpu.0) (map spell (Number l.proc.0 ∷ Number l.inc.0 ∷ what_pieces l.what)) first.free refl in
+        let cut-2 : slice_split (λ c. c == 32) (join_with_byte 32 (map spell (p ∷ ps))) ≡ map spell (p ∷ ps) =
+            split_joined (λ c. c == 32) 32 (spell p) (map spell ps) second.free refl in
         record {
           event = join_with_byte 32 (map spell (event_pieces l));
           reply = join_with_byte 32 (map spell (p ∷ ps));
@@ -176,7 +190,8 @@ line_halves l h = go (reply_pieces l.reply) refl (clear_reply l.reply h.reply) (
 -- answers of what is stripped
 
 pub stripped_end : {X : Type 0} (view : X → List ℕ) (r : Option X) (text end : List ℕ)
-    → MatchOption r (pointwise nat_eq (drop (length text - length end) text) end ≡ false) (λ x. (pointwise nat_eq (drop (length text - length end) text) end ≡ true) × (view x ≡ take (length text - length end) text) × (length (view x) + length end ≡ length text))
+    → MatchOption r (pointwise nat_eq (drop (length text - length end) text) end ≡ false) (λ x. (pointwise nat_eq (drop (length text - length end) text) end ≡ true)
+        × (view x ≡ take (length text - length end) text) × (length (view x) + length end ≡ length text))
     → IfSome r (λ x. view x ++ end ≡ text) × IfNone r ((t : List ℕ) → t ++ end ≡ text → ⊥)
 stripped_end view (Some x) text end h = (ends_so text end (view x) h.0 h.1, tt)
 stripped_end view None text end h = (tt, λ t e. ends_otherwise text end t h e)
@@ -197,7 +212,8 @@ begins_otherwise text start t h e =
     seam (c ∷ cs) = ap (λ (v : List ℕ). c ∷ v) (seam cs)
 
 pub stripped_start : {X : Type 0} (view : X → List ℕ) (r : Option X) (text start : List ℕ)
-    → MatchOption r (pointwise nat_eq (take (length start) text) start ≡ false) (λ x. (pointwise nat_eq (take (length start) text) start ≡ true) × (view x ≡ drop (length start) text) × (length (view x) + length start ≡ length text))
+    → MatchOption r (pointwise nat_eq (take (length start) text) start ≡ false) (λ x. (pointwise nat_eq (take (length start) text) start ≡ true)
+        × (view x ≡ drop (length start) text) × (length (view x) + length start ≡ length text))
     → IfSome r (λ x. start ++ view x ≡ text) × IfNone r ((t : List ℕ) → start ++ t ≡ text → ⊥)
 stripped_start view (Some x) text start h = (begins_so text start (view x) h.0 h.1, tt)
 stripped_start view None text start h = (tt, λ t e. begins_otherwise text start t h e)
@@ -209,7 +225,8 @@ pub event_refused : (a b : List ℕ) (cause : ParseCause) → event_line (map se
 event_refused a b cause bad l h ha hb e =
     let known = line_halves l h in
     let same = halves_only (halves_text a b) _ _ known.event known.reply a b (cut_halves a b ha hb) refl refl known.event_free known.reply_free (known.text ∙ e) in
-    let read : event_line (map seen (slice_split (λ c. c == 32) a)) ≡ Ok (line_with l.cpu.0 l.proc.0 l.inc.0 l.what, []) = subst (λ (t : List ℕ). event_line (map seen (slice_split (λ c. c == 32) t)) ≡ Ok (line_with l.cpu.0 l.proc.0 l.inc.0 l.what, [])) same.0 known.event_read in
+    let read : event_line (map seen (slice_split (λ c. c == 32) a)) ≡ Ok (line_with l.cpu.0 l.proc.0 l.inc.0 l.what, []) =
+        subst (λ (t : List ℕ). event_line (map seen (slice_split (λ c. c == 32) t)) ≡ Ok (line_with l.cpu.0 l.proc.0 l.inc.0 l.what, [])) same.0 known.event_read in
     let both : Err cause ≡ Ok (line_with l.cpu.0 l.proc.0 l.inc.0 l.what, []) = sym bad ∙ read in
     cc
 
@@ -218,7 +235,8 @@ pub reply_refused : (a b : List ℕ) (cause : ParseCause) → reply_line (map se
 reply_refused a b cause bad l h ha hb e =
     let known = line_halves l h in
     let same = halves_only (halves_text a b) _ _ known.event known.reply a b (cut_halves a b ha hb) refl refl known.event_free known.reply_free (known.text ∙ e) in
-    let read : reply_line (map seen (slice_split (λ c. c == 32) b)) ≡ Ok (l.reply, []) = subst (λ (t : List ℕ). reply_line (map seen (slice_split (λ c. c == 32) t)) ≡ Ok (l.reply, [])) same.1 known.reply_read in
+    let read : reply_line (map seen (slice_split (λ c. c == 32) b)) ≡ Ok (l.reply, []) = subst
+        (λ (t : List ℕ). reply_line (map seen (slice_split (λ c. c == 32) t)) ≡ Ok (l.reply, [])) same.1 known.reply_read in
     let both : Err cause ≡ Ok (l.reply, []) = sym bad ∙ read in
     cc
 
@@ -239,11 +257,13 @@ pub body_none : (r : Option Line) (body a b : List ℕ) → ((c d : List ℕ) �
 body_none (Some x) body a b only whole none = tt
 body_none None body a b only whole none = line_refused body a b only whole none
 
-pub text_some : (r : Option Line) (body bytes : List ℕ) → body ++ 10 ∷ [] ≡ bytes → IfSome r (λ l. IsLine l × (line_body l ≡ body)) → IfSome r (λ l. IsLine l × (line_text l ≡ bytes))
+pub text_some : (r : Option Line) (body bytes : List ℕ) → body ++ 10 ∷ [] ≡ bytes → IfSome r (λ l. IsLine l × (line_body l ≡ body))
+    → IfSome r (λ l. IsLine l × (line_text l ≡ bytes))
 text_some (Some l) body bytes e h = (h.0, ap (λ (t : List ℕ). t ++ 10 ∷ []) h.1 ∙ e)
 text_some None body bytes e h = tt
 
-pub text_none : (r : Option Line) (body bytes : List ℕ) → body ++ 10 ∷ [] ≡ bytes → IfNone r ((l : Line) → IsLine l → line_body l ≡ body → ⊥) → IfNone r ((l : Line) → IsLine l → line_text l ≡ bytes → ⊥)
+pub text_none : (r : Option Line) (body bytes : List ℕ) → body ++ 10 ∷ [] ≡ bytes → IfNone r ((l : Line) → IsLine l → line_body l ≡ body → ⊥)
+    → IfNone r ((l : Line) → IsLine l → line_text l ≡ bytes → ⊥)
 text_none (Some l) body bytes e h = tt
 text_none None body bytes e h = λ l k f. h l k (same_front (line_body l) body (10 ∷ []) (f ∙ sym e))
 
@@ -254,7 +274,8 @@ stripped_some event reply (Some f) body x y cut h = halves_join body x y (event 
 stripped_some event reply None body x y cut h = tt
 
 pub stripped_only : {X : Type 0} (event reply : X → List ℕ) (r : Option X) (body x y : List ℕ) → slice_split (λ c. c == 62) body ≡ x ∷ y ∷ []
-    → IfSome r (λ f. (event f ++ 32 ∷ 45 ∷ [] ≡ x) × (32 ∷ reply f ≡ y)) → IfSome r (λ f. (a b : List ℕ) → HasNoArrow a → HasNoArrow b → halves_text a b ≡ body → (a ≡ event f) × (b ≡ reply f))
+    → IfSome r (λ f. (event f ++ 32 ∷ 45 ∷ [] ≡ x) × (32 ∷ reply f ≡ y)) → IfSome r (λ f. (a b : List ℕ) → HasNoArrow a → HasNoArrow b → halves_text a b ≡ body
+        → (a ≡ event f) × (b ≡ reply f))
 stripped_only event reply (Some f) body x y cut h = λ a b ha hb e. halves_only body x y a b (event f) (reply f) cut h.0 h.1 ha hb e
 stripped_only event reply None body x y cut h = tt
 

@@ -1,5 +1,6 @@
 -- The pieces of a line are read as that line.
-use Rattle.std.proofs.Common.{◌≡◌, ℕ, zero, suc, ◌<◌, ◌≤◌, ◌==◌, Bool, true, false, cond, List, [], ◌∷◌, ◌++◌, length, map, refl, sym, ap, subst, ◌∙◌, arith, ◌||◌, Option, Some, None, Result, Ok, Err, IsTrue}
+use Rattle.std.proofs.Common.{◌≡◌, ℕ, zero, suc, ◌<◌, ◌≤◌, ◌==◌, Bool, true, false, cond, List, [], ◌∷◌, ◌++◌, length, map, refl, sym, ap, subst, ◌∙◌, arith, ◌||◌, Option, Some}
+use Rattle.std.proofs.Common.{None, Result, Ok, Err, IsTrue}
 use Rattle.std.specs.Prelude.{codes}
 use Rattle.std.specs.List.{AllByRecursion, list_all, list_any}
 use Rattle.std.proofs.lemmas.Bool.{and_from, false≢true, lt-ltb, le-leb, eqb-true}
@@ -24,12 +25,13 @@ use Rattle.hk_format.specs.Pieces.{Piece, Word, Upper, Dash, Number}
 use Rattle.hk_format.specs.Operands.{path_piece, slot_piece, rights_set_piece}
 use Rattle.hk_format.specs.declared.causes.ParseCause.{ParseCause}
 use Rattle.hk_format.specs.Reading.{Reads, ◌>>=◌, onward, taken, wanted, at_most, end}
-use Rattle.hk_format.specs.RightsTexts.{rights_of, rights_text}
+use Rattle.hk_format.specs.RightsTexts.{rights_spelled, rights_text}
 use Rattle.hk_format.specs.Forms.{as_word, as_number_below}
-use Rattle.hk_format.specs.LineReading.{is_number_index, index_number, as_path, as_any_slot, as_rights_set, as_right, as_word32, as_full, what_of, reply_line, event_line, line_with, inc_bound}
+use Rattle.hk_format.specs.LineReading.{is_number_index, index_number, as_path, as_any_slot, as_rights_set, as_right, as_word32, as_full, what_of, reply_line, event_line}
+use Rattle.hk_format.specs.LineReading.{line_with, inc_bound}
 use Rattle.hk_format.specs.AuditLines.{what_pieces, full_word, reply_pieces, event_pieces}
 use Rattle.hk_format.specs.LineRanges.{IsPathValue, IsAnySlot, IsCall, IsWhat, IsReply, IsLine}
-use Rattle.hk_model.specs.Setup.{IsWord32}
+use Rattle.hk_model.specs.WorldValue.{IsWord32}
 use Rattle.hk_format.proofs.LineAgain.{same_is, verb_again}
 use Rattle.hk_format.proofs.RightsAgain.{rights_again}
 use Rattle.hk_format.specs.WrittenLines.{before_last, last_of}
@@ -55,12 +57,12 @@ below_again : (bound n : ℕ) → n < bound → as_number_below bound (Number n)
 below_again bound n h = rw (lt-ltb n bound h) refl
 
 rights_set_again : (w : ℕ) → IsRightsWord w → as_rights_set (rights_set_piece w) ≡ Ok w
-unfolding rights_of
+unfolding rights_spelled
 rights_set_again w word = go (same_text (rights_text w) (codes "-")) refl (rights_again w word)
   where
-    go : (b : Bool) → same_text (rights_text w) (codes "-") ≡ b → rights_of (rights_text w) ≡ Some w → as_rights_set (cond b Dash (Upper (rights_text w))) ≡ Ok w
+    go : (b : Bool) → same_text (rights_text w) (codes "-") ≡ b → rights_spelled (rights_text w) ≡ Some w → as_rights_set (cond b Dash (Upper (rights_text w))) ≡ Ok w
     go true e k =
-        let zero : ◌≡◌ {A = Option ℕ} (Some 0) (Some w) = ap rights_of (sym (same_is (rights_text w) (codes "-") e)) ∙ k in
+        let zero : ◌≡◌ {A = Option ℕ} (Some 0) (Some w) = ap rights_spelled (sym (same_is (rights_text w) (codes "-") e)) ∙ k in
         let same : 0 ≡ w = cc in ap Ok same
     go false e k = rw k refl
 
@@ -117,7 +119,8 @@ last_put x (z ∷ zs) y = last_put z zs y
 abbrev pub what_line : Reads What
 what_line = wanted as_word >>= what_of
 
-call_again : (proc : List ℕ) (args : List ℕ) (into : Slot) → IsCall (call.Enter proc args into) → what_line (what_pieces (what.Call (call.Enter proc args into))) ≡ Ok (what.Call (call.Enter proc args into), [])
+call_again : (proc : List ℕ) (args : List ℕ) (into : Slot) → IsCall (call.Enter proc args into)
+    → what_line (what_pieces (what.Call (call.Enter proc args into))) ≡ Ok (what.Call (call.Enter proc args into), [])
 call_again proc [] into h = rw (verb_again, path_again proc h.0, below_again 256 into.0 h.2)
 call_again proc (x ∷ xs) into h =
     let rest : at_most 8 (as_number_below 256) (map Number (xs ++ into.0 ∷ [])) ≡ Ok (xs ++ into.0 ∷ [], []) =
@@ -139,8 +142,10 @@ what_again (what.Call (call.Erase list at)) h = rw (verb_again, path_again list 
 what_again (what.Call (call.Drop slot)) h = rw (verb_again, slot_again slot h)
 what_again (what.Call (call.Restrict slot keep)) h = rw (verb_again, slot_again slot h.0, rights_set_again keep h.1)
 what_again (what.Call (call.Look of)) h = rw (verb_again, path_again of h)
-what_again (what.Call (call.MakeTemplate of (making.Amplify check give) into)) h = rw (verb_again, path_again of h.0, verb_again verb.Amplify, rights_set_again check h.1.0, rights_set_again give h.1.1, slot_again into h.2)
-what_again (what.Call (call.MakeTemplate of (making.Create give) into)) h = rw (verb_again, path_again of h.0, verb_again verb.Create, rights_set_again give h.1, slot_again into h.2)
+what_again (what.Call (call.MakeTemplate of (making.Amplify check give) into)) h =
+    rw (verb_again, path_again of h.0, verb_again verb.Amplify, rights_set_again check h.1.0, rights_set_again give h.1.1, slot_again into h.2)
+what_again (what.Call (call.MakeTemplate of (making.Create give) into)) h =
+    rw (verb_again, path_again of h.0, verb_again verb.Create, rights_set_again give h.1, slot_again into h.2)
 what_again (what.Call (call.Create by into)) h = rw (verb_again, path_again by h.0, slot_again into h.1)
 what_again (what.Call (call.Merge with held into)) h = rw (verb_again, path_again with h.0, slot_again held h.1, slot_again into h.2)
 what_again (what.Call (call.Copy of into)) h = rw (verb_again, path_again of h.0, slot_again into h.1)
@@ -175,4 +180,6 @@ joined (p ∷ ps) next = go (as_word p)
 
 -- an event is read as what any reply makes this line
 pub event_again : (l : Line) → IsLine l → event_line (event_pieces l) ≡ Ok (line_with l.cpu.0 l.proc.0 l.inc.0 l.what, [])
-event_again l h = rw (below_again 16 l.cpu.0 h.cpu, below_again 256 l.proc.0 h.proc, below_again inc_bound l.inc.0 h.inc) (joined (what_pieces l.what) (λ event. end (line_with l.cpu.0 l.proc.0 l.inc.0 event)) ∙ rw (what_again l.what h.what) refl)
+event_again l h =
+    rw (below_again 16 l.cpu.0 h.cpu, below_again 256 l.proc.0 h.proc, below_again inc_bound l.inc.0 h.inc)
+        (joined (what_pieces l.what) (λ event. end (line_with l.cpu.0 l.proc.0 l.inc.0 event)) ∙ rw (what_again l.what h.what) refl)

@@ -1,5 +1,6 @@
 -- The definition reads a line where its text stands, and nowhere else.
-use Rattle.std.proofs.Common.{◌≡◌, ℕ, ◌<◌, ◌==◌, Bool, true, false, cond, leb, ltb, List, [], ◌∷◌, ◌++◌, length, map, refl, ap, subst, ◌∙◌, arith, ◌↔◌, not, ◌&&◌, Option, Some, None, Result, Ok, Err, IsTrue}
+use Rattle.std.proofs.Common.{◌≡◌, ℕ, ◌<◌, ◌==◌, Bool, true, false, cond, leb, ltb, List, [], ◌∷◌, ◌++◌, length, map, refl, ap, subst, ◌∙◌, arith, ◌↔◌, not, ◌&&◌, Option, Some}
+use Rattle.std.proofs.Common.{None, Result, Ok, Err, IsTrue}
 use Rattle.std.specs.List.{AllByRecursion, list_all, list_any}
 use Rattle.std.specs.Fmt.{decimal}
 use Rattle.std.proofs.lemmas.Bool.{and_parts, false≢true, ltb-true, leb-true}
@@ -17,18 +18,19 @@ use Rattle.hk_model.specs.declared.lines.Line.{Line}
 use Rattle.hk_model.specs.Labels.{between, same_text}
 use Rattle.hk_format.specs.Pieces.{Piece, Word, Upper, Dash, Number, Path, piece_of, is_number, is_piece, is_index, value, spell}
 use Rattle.hk_format.specs.Reading.{Found, Reads}
-use Rattle.hk_format.specs.RightsTexts.{rights_of}
+use Rattle.hk_format.specs.RightsTexts.{rights_spelled}
 use Rattle.hk_format.specs.Forms.{as_number_below, slot_numbered}
-use Rattle.hk_format.specs.LineReading.{inc_bound, is_number_index, index_number, set_found, as_path, as_any_slot, as_rights_set, as_right, as_word32, event_line, reply_line, line_with, widened, wide_pieces, Halves, halves, kept, read_by, applied, from_halves, guess, if_spelled, read_body}
+use Rattle.hk_format.specs.LineReading.{inc_bound, is_number_index, index_number, set_found, as_path, as_any_slot, as_rights_set, as_right, as_word32, event_line, reply_line}
+use Rattle.hk_format.specs.LineReading.{line_with, widened, wide_pieces, Halves, halves, kept, read_by, applied, from_halves, guess, if_spelled, read_body}
 use Rattle.hk_format.specs.Texts.{piece_onto}
 use Rattle.hk_format.specs.AuditLines.{what_pieces, event_pieces, reply_pieces, arrow, line_body}
 use Rattle.hk_format.specs.LineRanges.{IsPathValue, IsAnySlot, IsLine}
-use Rattle.hk_model.specs.Setup.{IsWord32}
+use Rattle.hk_model.specs.WorldValue.{IsWord32}
 use Rattle.hk_format.proofs.Cutting.{all_both, split_joined}
 use Rattle.hk_format.proofs.LineAgain.{same_is}
 use Rattle.hk_format.proofs.LoadGood.{rights_word}
 use Rattle.hk_text.proofs.PiecesGood.{GoodPiece, piece_good}
-use Rattle.hk_audit.specs.Seen.{nothing}
+use Rattle.hk_audit.specs.TextPieces.{nothing}
 use Rattle.hk_audit.proofs.Spelled.{same_self}
 use Rattle.hk_audit.proofs.Clear.{clear_event, clear_reply, clear_texts}
 use Rattle.hk_audit.proofs.LinesAgain.{event_again, reply_again}
@@ -41,9 +43,12 @@ unfolding line_body
 guess_again l h =
     let first = clear_texts (event_pieces l) (clear_event l h) in
     let second = clear_texts (reply_pieces l.reply) (clear_reply l.reply h.reply) in
-    let free : list_all (λ t. not (list_any (λ b. b == 32) t)) (map spell (event_pieces l) ++ arrow ∷ map spell (reply_pieces l.reply)) ≡ true = all_both (λ t. not (list_any (λ b. b == 32) t)) (map spell (event_pieces l)) (arrow ∷ map spell (reply_pieces l.reply)) first.free second.free in
-    let cut = split_joined (λ b. b == 32) 32 (decimal l.cpu.0) (map spell (Number l.proc.0 ∷ Number l.inc.0 ∷ what_pieces l.what) ++ arrow ∷ map spell (reply_pieces l.reply)) free refl in
-    let event : read_by event_line (wide_pieces (map spell (event_pieces l))) ≡ Some (line_with l.cpu.0 l.proc.0 l.inc.0 l.what) = ap (read_by event_line) first.wide ∙ ap kept (event_again l h) in
+    let free : list_all (λ t. not (list_any (λ b. b == 32) t)) (map spell (event_pieces l) ++ arrow ∷ map spell (reply_pieces l.reply)) ≡ true =
+        all_both (λ t. not (list_any (λ b. b == 32) t)) (map spell (event_pieces l)) (arrow ∷ map spell (reply_pieces l.reply)) first.free second.free in
+    let cut = split_joined (λ b. b == 32) 32 (decimal l.cpu.0) (map spell (Number l.proc.0 ∷ Number l.inc.0 ∷ what_pieces l.what)
+        ++ arrow ∷ map spell (reply_pieces l.reply)) free refl in
+    let event : read_by event_line (wide_pieces (map spell (event_pieces l))) ≡ Some (line_with l.cpu.0 l.proc.0 l.inc.0 l.what) = ap (read_by event_line) first.wide
+        ∙ ap kept (event_again l h) in
     let answer : read_by reply_line (wide_pieces (map spell (reply_pieces l.reply))) ≡ Some l.reply = ap (read_by reply_line) second.wide ∙ ap kept (reply_again l.reply h.reply) in
     ap (λ (ts : List (List ℕ)). from_halves (halves ts)) cut
     ∙ ap from_halves (first.apart (map spell (reply_pieces l.reply)))
@@ -72,7 +77,8 @@ unfolding wide_view piece_or
 wide_seen [] ps h = let same : [] ≡ ps = cc in same
 wide_seen (t ∷ ts) ps h = go (widened t (piece_of t)) (wide_pieces ts) h (λ qs e. wide_seen ts qs e)
   where
-    go : (r : Result Piece TextCause) (s : Result (List Piece) TextCause) → piece_onto r s ≡ Ok ps → ((qs : List Piece) → s ≡ Ok qs → map wide_view ts ≡ qs) → piece_or r ∷ map wide_view ts ≡ ps
+    go : (r : Result Piece TextCause) (s : Result (List Piece) TextCause) → piece_onto r s ≡ Ok ps → ((qs : List Piece) → s ≡ Ok qs → map wide_view ts ≡ qs)
+        → piece_or r ∷ map wide_view ts ≡ ps
     go (Ok p) (Ok qs) e more = let same : p ∷ qs ≡ ps = cc in ap (λ (us : List Piece). p ∷ us) (more qs refl) ∙ same
     go (Ok p) (Err cause) e more = cc
     go (Err cause) s e more = cc
@@ -171,7 +177,7 @@ rights_value (Word u) x e = cc
 rights_value (Number n) x e = cc
 rights_value (Path steps) x e = cc
 rights_value Dash x e = let same : 0 ≡ x = cc in subst IsRightsWord same refl
-rights_value (Upper u) x e = rights_word u x (rw (found_some (rights_of u) x e) refl)
+rights_value (Upper u) x e = rights_word u x (rw (found_some (rights_spelled u) x e) refl)
 
 right_value : (p : Piece) (x : ℕ) → as_right p ≡ Ok x → IsTrue (is_right x)
 right_value (Word u) x e = cc
@@ -208,7 +214,8 @@ read_found {A} reads ts x h = go (wide_pieces ts) refl h
 guess_line : (h : Halves) (l : Line) → from_halves h ≡ Some l → IsLine l
 guess_line h l e = go (read_by event_line (wide_pieces h.event)) refl (read_by reply_line (wide_pieces h.reply)) refl e
   where
-    go : (g : Option (Reply → Line)) → read_by event_line (wide_pieces h.event) ≡ g → (r : Option Reply) → read_by reply_line (wide_pieces h.reply) ≡ r → applied g r ≡ Some l → IsLine l
+    go : (g : Option (Reply → Line)) → read_by event_line (wide_pieces h.event) ≡ g → (r : Option Reply) → read_by reply_line (wide_pieces h.reply) ≡ r → applied g r ≡ Some l
+        → IsLine l
     go (Some line) i (Some answer) j k =
         let first = read_found event_line h.event line i in
         let second = read_found reply_line h.reply answer j in

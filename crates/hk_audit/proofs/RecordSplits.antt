@@ -1,5 +1,6 @@
 -- A record, cut where its script ends.
-use Rattle.std.proofs.Common.{◌≡◌, ℕ, suc, ◌+◌, ◌-◌, ◌<◌, ◌≤◌, Bool, true, false, cond, eqb, ltb, List, [], ◌∷◌, ◌++◌, length, refl, sym, ap, subst, ◌∙◌, arith, take, drop, Some, None, not}
+use Rattle.std.proofs.Common.{◌≡◌, ℕ, suc, ◌+◌, ◌-◌, ◌<◌, ◌≤◌, Bool, true, false, cond, eqb, ltb, List, [], ◌∷◌, ◌++◌, length, refl, sym, ap, subst, ◌∙◌, arith, take, drop, Some}
+use Rattle.std.proofs.Common.{None, not}
 use Rattle.std.specs.List.{slice_range, position_or_len, join_with_byte, list_any, list_all, onto_first}
 use Rattle.std.proofs.lemmas.Bool.{false≢true, le-ltb, and_parts}
 use Rattle.std.proofs.lemmas.List.{take_all, drop_all, length-drop, length-take}
@@ -94,7 +95,8 @@ last_so x h = go (is_record x) refl
       lines = rw (take_all (length x + 1 + 0) x more, drop_all (length x + 1 + 0) x more) (all_lines (lines_of x));
     }
 
-next_so : (x y : List ℕ) (more : List (List ℕ)) → have_none (x ∷ y ∷ more) ≡ true → CutSo (y ∷ more) (script_length (y ∷ more)) (join_with_byte 10 (y ∷ more)) → CutSo (x ∷ y ∷ more) (script_length (x ∷ y ∷ more)) (join_with_byte 10 (x ∷ y ∷ more))
+next_so : (x y : List ℕ) (more : List (List ℕ)) → have_none (x ∷ y ∷ more) ≡ true → CutSo (y ∷ more) (script_length (y ∷ more)) (join_with_byte 10 (y ∷ more))
+    → CutSo (x ∷ y ∷ more) (script_length (x ∷ y ∷ more)) (join_with_byte 10 (x ∷ y ∷ more))
 next_so x y more h rest = go (is_record x) refl
   where
     clear : list_any (λ b. eqb b 10) x ≡ false
@@ -141,7 +143,8 @@ texts_at at bytes = cond (ltb (length bytes) at) [] (texts_of (drop at bytes))
 abbrev pub FirstFeed : List ℕ → ℕ → ℕ → Type 0
 FirstFeed bytes start len = len ≡ position_or_len (λ b. eqb b 10) (slice_range bytes start (length bytes))
 
-texts_turn : (bytes : List ℕ) (start len : ℕ) → start < length bytes → FirstFeed bytes start len → texts_at start bytes ≡ slice_range bytes start (start + len) ∷ texts_at (start + (len + 1)) bytes
+texts_turn : (bytes : List ℕ) (start len : ℕ) → start < length bytes → FirstFeed bytes start len
+    → texts_at start bytes ≡ slice_range bytes start (start + len) ∷ texts_at (start + (len + 1)) bytes
 texts_turn bytes start len inside place =
     let low : ltb (length bytes) start ≡ false = le-ltb _ _ (omega arith) in
     let size = length-drop start bytes in
@@ -149,12 +152,14 @@ texts_turn bytes start len inside place =
     let first : start + len - start ≡ len = omega arith in
     left_next bytes 10 start len low place ∙ rw (whole, first)
 
-pub record_here : (bytes : List ℕ) (start len : ℕ) → start < length bytes → FirstFeed bytes start len → is_record (slice_range bytes start (start + len)) ≡ true → script_length (texts_at start bytes) ≡ 0
+pub record_here : (bytes : List ℕ) (start len : ℕ) → start < length bytes → FirstFeed bytes start len → is_record (slice_range bytes start (start + len)) ≡ true
+    → script_length (texts_at start bytes) ≡ 0
 record_here bytes start len inside place e =
     ap script_length (texts_turn bytes start len inside place)
     ∙ ap (λ (b : Bool). cond b 0 (length (slice_range bytes start (start + len)) + 1 + script_length (texts_at (start + (len + 1)) bytes))) e
 
-pub line_passed : (bytes : List ℕ) (start len total : ℕ) → start < length bytes → FirstFeed bytes start len → len ≤ length (slice_range bytes start (length bytes)) → is_record (slice_range bytes start (start + len)) ≡ false
+pub line_passed : (bytes : List ℕ) (start len total : ℕ) → start < length bytes → FirstFeed bytes start len → len ≤ length (slice_range bytes start (length bytes))
+    → is_record (slice_range bytes start (start + len)) ≡ false
     → start + script_length (texts_at start bytes) ≡ total → start + (len + 1) + script_length (texts_at (start + (len + 1)) bytes) ≡ total
 line_passed bytes start len total inside place within e h =
     let turn = ap script_length (texts_turn bytes start len inside place)
@@ -165,10 +170,12 @@ line_passed bytes start len total inside place within e h =
 
 -- where the script ends
 
-pub ends_at : (bytes : List ℕ) (k : ℕ) → k ≡ script_length (texts_of bytes) → (cut_at_record (texts_of bytes) ≡ cut (lines_of (take k bytes)) (behind_first (drop k bytes))) × (lines_of bytes ≡ lines_of (take k bytes) ++ lines_of (drop k bytes))
+pub ends_at : (bytes : List ℕ) (k : ℕ) → k ≡ script_length (texts_of bytes)
+    → (cut_at_record (texts_of bytes) ≡ cut (lines_of (take k bytes)) (behind_first (drop k bytes))) × (lines_of bytes ≡ lines_of (take k bytes) ++ lines_of (drop k bytes))
 ends_at bytes k e = let so = bytes_so bytes in rw e (so.cut_is, so.lines)
 
-pub ends_nowhere : (bytes : List ℕ) (k : ℕ) → k ≡ length bytes → k ≤ script_length (texts_of bytes) → (cut_at_record (texts_of bytes) ≡ cut (lines_of (take k bytes)) (behind_first (drop k bytes))) × (lines_of bytes ≡ lines_of (take k bytes) ++ lines_of (drop k bytes))
+pub ends_nowhere : (bytes : List ℕ) (k : ℕ) → k ≡ length bytes → k ≤ script_length (texts_of bytes)
+    → (cut_at_record (texts_of bytes) ≡ cut (lines_of (take k bytes)) (behind_first (drop k bytes))) × (lines_of bytes ≡ lines_of (take k bytes) ++ lines_of (drop k bytes))
 ends_nowhere bytes k e h =
     let so = bytes_so bytes in
     let front : take (script_length (texts_of bytes)) bytes ≡ take k bytes = take_all _ bytes (omega arith) ∙ sym (take_all k bytes (omega arith)) in

@@ -1,5 +1,6 @@
 -- What the forms take of the piece that a text spells.
-use Rattle.std.proofs.Common.{◌≡◌, ℕ, ◌<◌, ◌≤◌, ◌==◌, Bool, true, false, cond, eqb, ltb, List, [], ◌∷◌, length, map, refl, sym, ap, subst, ◌∙◌, arith, ◌&&◌, ◌||◌, Option, Some, None, Result, Ok, Err}
+use Rattle.std.proofs.Common.{◌≡◌, ℕ, ◌<◌, ◌≤◌, ◌==◌, Bool, true, false, cond, eqb, ltb, List, [], ◌∷◌, length, map, refl, sym, ap, subst, ◌∙◌, arith, ◌&&◌, ◌||◌, Option, Some}
+use Rattle.std.proofs.Common.{None, Result, Ok, Err}
 use Rattle.std.specs.Prelude.{codes, find}
 use Rattle.std.specs.List.{AllByRecursion, list_all, slice_split, onto_first}
 use Rattle.std.proofs.lemmas.Bool.{and_parts, and_from, false≢true, lt-ltb, le-ltb, le-leb, lt-leb, ltb-true}
@@ -14,23 +15,25 @@ use Rattle.hk_format.specs.Verbs.{verb_word, all_verbs}
 use Rattle.hk_model.specs.Labels.{between, first, is_lower, is_capital, is_digit, same_text}
 use Rattle.hk_format.specs.Pieces.{Piece, Word, Upper, Dash, Number, Path, value, is_upper}
 use Rattle.hk_format.specs.Operands.{rights_piece}
-use Rattle.hk_format.specs.RightsTexts.{rights_of, rights_text}
+use Rattle.hk_format.specs.RightsTexts.{rights_spelled, rights_text}
 use Rattle.hk_format.specs.Syntax.{IsRightsText}
 use Rattle.hk_format.specs.Forms.{as_verb, verb_found, as_number_below, as_word, slot_numbered}
 use Rattle.hk_format.specs.LineReading.{inc_bound, as_word32, as_any_slot, is_number_index, index_number, as_path, as_rights_set, as_right, set_found}
 use Rattle.hk_format.proofs.ItemsGood.{rights_good}
 use Rattle.hk_format.proofs.LineAgain.{same_is}
 use Rattle.hk_format.proofs.LoadGood.{rights_word}
-use Rattle.hk_audit.specs.Seen.{is_numeral, numeral_of, is_index_numeral, indices_of, path_of, if_canonical, rights_spelled, nothing, seen_rights, seen_path, seen_number, seen}
+use Rattle.hk_text.specs.Numerals.{is_numeral, numeral_of}
+use Rattle.hk_audit.specs.TextPieces.{is_index_numeral, indices_of, indices_spelled, if_canonical, canonical_rights, nothing, seen_rights, seen_path, seen_number, seen}
 use Rattle.hk_audit.proofs.Spelled.{named_row}
 
 -- by cases on what a text spells
 
 -- a form that takes no rights, no path and no word, of what is no number
-pub not_number : {A : Type 0} (form : Piece → Result A ParseCause) (t : List ℕ) → ((x : List ℕ) → form (Word x) ≡ Err UnknownWord) → ((x : List ℕ) → form (Upper x) ≡ Err UnknownWord)
+pub not_number : {A : Type 0} (form : Piece → Result A ParseCause) (t : List ℕ) → ((x : List ℕ) → form (Word x) ≡ Err UnknownWord)
+    → ((x : List ℕ) → form (Upper x) ≡ Err UnknownWord)
     → form Dash ≡ Err UnknownWord → ((x : List Index) → form (Path x) ≡ Err UnknownWord) → numeral_of t ≡ None → form (seen t) ≡ Err UnknownWord
 unfolding seen
-not_number form t word upper dash path e = rw e (by_path (path_of t))
+not_number form t word upper dash path e = rw e (by_path (indices_spelled t))
   where
     by_rights : (o : Option ℕ) → form (seen_rights t o) ≡ Err UnknownWord
     by_rights (Some w) = go (same_text t (codes "-"))
@@ -44,13 +47,13 @@ not_number form t word upper dash path e = rw e (by_path (path_of t))
     by_path (Some p) = path (map Fixed p)
     by_path None = go (is_lower (first t))
       where
-        go : (b : Bool) → form (cond b (Word t) (seen_rights t (rights_spelled t))) ≡ Err UnknownWord
+        go : (b : Bool) → form (cond b (Word t) (seen_rights t (canonical_rights t))) ≡ Err UnknownWord
         go true = word t
-        go false = by_rights (rights_spelled t)
+        go false = by_rights (canonical_rights t)
 
 -- a form that takes no rights and no word, of what is no number and no path
 pub not_path : {A : Type 0} (form : Piece → Result A ParseCause) (t : List ℕ) → ((x : List ℕ) → form (Word x) ≡ Err UnknownWord) → ((x : List ℕ) → form (Upper x) ≡ Err UnknownWord)
-    → form Dash ≡ Err UnknownWord → numeral_of t ≡ None → path_of t ≡ None → form (seen t) ≡ Err UnknownWord
+    → form Dash ≡ Err UnknownWord → numeral_of t ≡ None → indices_spelled t ≡ None → form (seen t) ≡ Err UnknownWord
 unfolding seen
 not_path form t word upper dash e f = rw (e, f) (go (is_lower (first t)))
   where
@@ -62,9 +65,9 @@ not_path form t word upper dash e f = rw (e, f) (go (is_lower (first t)))
         go false = upper t
     by_rights None = upper []
 
-    go : (b : Bool) → form (cond b (Word t) (seen_rights t (rights_spelled t))) ≡ Err UnknownWord
+    go : (b : Bool) → form (cond b (Word t) (seen_rights t (canonical_rights t))) ≡ Err UnknownWord
     go true = word t
-    go false = by_rights (rights_spelled t)
+    go false = by_rights (canonical_rights t)
 
 -- a number
 pub seen_numeral : (t : List ℕ) (n : ℕ) → numeral_of t ≡ Some n → seen t ≡ Number n
@@ -76,7 +79,7 @@ seen_numeral t n e = rw e refl
 no_numeral : (t : List ℕ) → is_digit (first t) ≡ false → is_numeral t ≡ false
 no_numeral t h = rw h refl
 
-pub no_digit : (t : List ℕ) → is_digit (first t) ≡ false → (numeral_of t ≡ None) × (path_of t ≡ None)
+pub no_digit : (t : List ℕ) → is_digit (first t) ≡ false → (numeral_of t ≡ None) × (indices_spelled t ≡ None)
 no_digit t h = (rw (no_numeral t h) refl, parts t h)
   where
     bad : (x : List ℕ) (xs : List (List ℕ)) → is_digit (first x) ≡ false → indices_of (x ∷ xs) ≡ None
@@ -86,7 +89,7 @@ no_digit t h = (rw (no_numeral t h) refl, parts t h)
         go true = refl
         go false = refl
 
-    parts : (u : List ℕ) → is_digit (first u) ≡ false → path_of u ≡ None
+    parts : (u : List ℕ) → is_digit (first u) ≡ false → indices_spelled u ≡ None
     parts [] k = bad [] [] refl
     parts (b ∷ bs) k = cut (eqb b 46) (slice_split (λ c. eqb c 46) bs)
       where
@@ -103,10 +106,11 @@ seen_word t h =
     rw (none.0, none.1, h) refl
 
 -- a path
-pub path_taken : (t : List ℕ) (p : List ℕ) → path_of t ≡ Some p → as_path (Path (map Fixed p)) ≡ Ok p
+pub path_taken : (t : List ℕ) (p : List ℕ) → indices_spelled t ≡ Some p → as_path (Path (map Fixed p)) ≡ Ok p
 path_taken t p e = go (slice_split (λ b. b == 46) t) e
   where
-    numbers : (ts : List (List ℕ)) → list_all is_index_numeral ts ≡ true → (list_all is_number_index (map Fixed (map value ts)) ≡ true) × (map index_number (map Fixed (map value ts)) ≡ map value ts)
+    numbers : (ts : List (List ℕ)) → list_all is_index_numeral ts ≡ true
+        → (list_all is_number_index (map Fixed (map value ts)) ≡ true) × (map index_number (map Fixed (map value ts)) ≡ map value ts)
     numbers [] h = (refl, refl)
     numbers (x ∷ xs) h =
         let parts = and_parts (is_index_numeral x) (list_all is_index_numeral xs) h in
@@ -131,7 +135,7 @@ path_taken t p e = go (slice_split (λ b. b == 46) t) e
             none true h = absurd (let none : None ≡ Some p = h in cc)
             none false h = absurd (let none : None ≡ Some p = h in cc)
 
-pub seen_path_of : (t : List ℕ) (p : List ℕ) → numeral_of t ≡ None → path_of t ≡ Some p → seen t ≡ Path (map Fixed p)
+pub seen_path_of : (t : List ℕ) (p : List ℕ) → numeral_of t ≡ None → indices_spelled t ≡ Some p → seen t ≡ Path (map Fixed p)
 unfolding seen
 seen_path_of t p e f = rw (e, f) refl
 
@@ -140,14 +144,14 @@ seen_path_of t p e f = rw (e, f) refl
 -- what the canonical spelling of a set is known to be
 pub record IsSpelling (t : List ℕ) (w : ℕ) : Type 0 where
   pub text : rights_text w ≡ t
-  pub meant : rights_of t ≡ Some w
+  pub meant : rights_spelled t ≡ Some w
   pub word : IsRightsWord w
   pub good : IsRightsText t
 
-pub spelled_is : (t : List ℕ) (w : ℕ) → rights_spelled t ≡ Some w → IsSpelling t w
-spelled_is t w e = go (rights_of t) refl e
+pub spelled_is : (t : List ℕ) (w : ℕ) → canonical_rights t ≡ Some w → IsSpelling t w
+spelled_is t w e = go (rights_spelled t) refl e
   where
-    go : (o : Option ℕ) → rights_of t ≡ o → if_canonical t o ≡ Some w → IsSpelling t w
+    go : (o : Option ℕ) → rights_spelled t ≡ o → if_canonical t o ≡ Some w → IsSpelling t w
     go None k h = absurd (let none : None ≡ Some w = h in cc)
     go (Some r) k h = by (same_text (rights_text r) t) refl h
       where
@@ -172,7 +176,7 @@ first_upper t h = go (same_text t (codes "-")) refl h
     go true e k = let same = same_is t (codes "-") e in rw same (refl, refl)
     go false e k = capital t k
 
-pub seen_spelled : (t : List ℕ) (w : ℕ) → rights_spelled t ≡ Some w → seen t ≡ rights_piece t
+pub seen_spelled : (t : List ℕ) (w : ℕ) → canonical_rights t ≡ Some w → seen t ≡ rights_piece t
 unfolding seen
 seen_spelled t w e =
     let known = spelled_is t w e in
@@ -180,12 +184,12 @@ seen_spelled t w e =
     let none = no_digit t first.0 in
     rw (none.0, none.1, first.1, e) refl
 
-none_meant : rights_of [] ≡ None
-unfolding rights_of number_named right_table
+none_meant : rights_spelled [] ≡ None
+unfolding rights_spelled number_named right_table
 none_meant = refl
 
-pub rights_taken : (t : List ℕ) (w : ℕ) → rights_spelled t ≡ Some w → as_rights_set (seen t) ≡ Ok w
-unfolding rights_of
+pub rights_taken : (t : List ℕ) (w : ℕ) → canonical_rights t ≡ Some w → as_rights_set (seen t) ≡ Ok w
+unfolding rights_spelled
 rights_taken t w e = rw (seen_spelled t w e) (go (same_text t (codes "-")) refl)
   where
     known : IsSpelling t w
@@ -193,12 +197,12 @@ rights_taken t w e = rw (seen_spelled t w e) (go (same_text t (codes "-")) refl)
 
     go : (b : Bool) → same_text t (codes "-") ≡ b → as_rights_set (cond b Dash (Upper t)) ≡ Ok w
     go true k =
-        let meant : ◌≡◌ {A = Option ℕ} (rights_of (codes "-")) (Some w) = sym (ap rights_of (same_is t (codes "-") k)) ∙ known.meant in
+        let meant : ◌≡◌ {A = Option ℕ} (rights_spelled (codes "-")) (Some w) = sym (ap rights_spelled (same_is t (codes "-") k)) ∙ known.meant in
         let zero : ◌≡◌ {A = Option ℕ} (Some 0) (Some w) = meant in
         let same : 0 ≡ w = cc in ap Ok same
     go false k = rw known.meant refl
 
-pub rights_refused : (t : List ℕ) → rights_spelled t ≡ None → as_rights_set (seen t) ≡ Err UnknownWord
+pub rights_refused : (t : List ℕ) → canonical_rights t ≡ None → as_rights_set (seen t) ≡ Err UnknownWord
 unfolding seen
 rights_refused t e = by_number (numeral_of t)
   where
@@ -212,7 +216,7 @@ rights_refused t e = by_number (numeral_of t)
 
     by_number : (o : Option ℕ) → as_rights_set (seen_number t o) ≡ Err UnknownWord
     by_number (Some n) = refl
-    by_number None = by_path (path_of t)
+    by_number None = by_path (indices_spelled t)
 
 -- a right
 
@@ -220,7 +224,7 @@ IsSeen : Row → Type 0
 IsSeen row = seen row.0 ≡ Upper row.0
 
 all_seen : AllByRecursion IsSeen right_table
-unfolding IsSeen seen right_table right_numbers number_named name_of rights_of rights_text
+unfolding IsSeen seen right_table right_numbers number_named name_of rights_spelled rights_text
 all_seen = (refl, (refl, (refl, (refl, (refl, (refl, (refl, (refl, (refl, (refl, (refl, (refl, (refl, (refl, (refl, (refl, (refl, (refl, (refl, tt)))))))))))))))))))
 
 pub seen_right : (t : List ℕ) (n : ℕ) → number_named t ≡ Some n → seen t ≡ Upper t
@@ -252,17 +256,18 @@ right_refused t e = by_number (numeral_of t)
     by_path (Some p) = refl
     by_path None = go (is_lower (first t))
       where
-        go : (b : Bool) → as_right (cond b (Word t) (seen_rights t (rights_spelled t))) ≡ Err UnknownWord
+        go : (b : Bool) → as_right (cond b (Word t) (seen_rights t (canonical_rights t))) ≡ Err UnknownWord
         go true = refl
-        go false = by_rights (rights_spelled t)
+        go false = by_rights (canonical_rights t)
 
     by_number : (o : Option ℕ) → as_right (seen_number t o) ≡ Err UnknownWord
     by_number (Some n) = refl
-    by_number None = by_path (path_of t)
+    by_number None = by_path (indices_spelled t)
 
 -- what is no word
 pub not_word : {A : Type 0} (form : Piece → Result A ParseCause) (t : List ℕ) → ((x : List ℕ) → form (Upper x) ≡ Err UnknownWord)
-    → form Dash ≡ Err UnknownWord → ((x : List Index) → form (Path x) ≡ Err UnknownWord) → ((n : ℕ) → form (Number n) ≡ Err UnknownWord) → is_lower (first t) ≡ false → form (seen t) ≡ Err UnknownWord
+    → form Dash ≡ Err UnknownWord → ((x : List Index) → form (Path x) ≡ Err UnknownWord) → ((n : ℕ) → form (Number n) ≡ Err UnknownWord) → is_lower (first t) ≡ false
+        → form (seen t) ≡ Err UnknownWord
 unfolding seen
 not_word form t upper dash path number h = by_number (numeral_of t)
   where
@@ -276,11 +281,11 @@ not_word form t upper dash path number h = by_number (numeral_of t)
 
     by_path : (o : Option (List ℕ)) → form (seen_path t o) ≡ Err UnknownWord
     by_path (Some p) = path (map Fixed p)
-    by_path None = rw h (by_rights (rights_spelled t))
+    by_path None = rw h (by_rights (canonical_rights t))
 
     by_number : (o : Option ℕ) → form (seen_number t o) ≡ Err UnknownWord
     by_number (Some n) = number n
-    by_number None = by_path (path_of t)
+    by_number None = by_path (indices_spelled t)
 
 -- the forms of numbers, of what is none
 
@@ -293,10 +298,10 @@ word32_refused t e = not_number as_word32 t (λ x. refl) (λ x. refl) refl (λ x
 pub slot_refused : (t : List ℕ) → numeral_of t ≡ None → as_any_slot (seen t) ≡ Err UnknownWord
 slot_refused t e = not_number as_any_slot t (λ x. refl) (λ x. refl) refl (λ x. refl) e
 
-pub path_refused : (t : List ℕ) → numeral_of t ≡ None → path_of t ≡ None → as_path (seen t) ≡ Err UnknownWord
+pub path_refused : (t : List ℕ) → numeral_of t ≡ None → indices_spelled t ≡ None → as_path (seen t) ≡ Err UnknownWord
 path_refused t e f = not_path as_path t (λ x. refl) (λ x. refl) refl e f
 
-pub several_taken : (t : List ℕ) (p : List ℕ) → numeral_of t ≡ None → path_of t ≡ Some p → as_path (seen t) ≡ Ok p
+pub several_taken : (t : List ℕ) (p : List ℕ) → numeral_of t ≡ None → indices_spelled t ≡ Some p → as_path (seen t) ≡ Ok p
 several_taken t p e f = rw (seen_path_of t p e f) (path_taken t p f)
 
 pub word_refused : (t : List ℕ) → is_lower (first t) ≡ false → as_word (seen t) ≡ Err UnknownWord

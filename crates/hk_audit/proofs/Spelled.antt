@@ -1,5 +1,6 @@
 -- Names of rights, read one after another and compared with the canonical spelling.
-use Rattle.std.proofs.Common.{◌≡◌, ℕ, zero, suc, ltb, ◌+◌, ◌<◌, ◌≤◌, ◌^◌, ◌==◌, Bool, true, false, cond, List, [], ◌∷◌, length, map, drop, get_or, refl, sym, ap, subst, ◌∙◌, arith, ◌||◌, not, Option, Some, None, IsTrue}
+use Rattle.std.proofs.Common.{◌≡◌, ℕ, zero, suc, ltb, ◌+◌, ◌<◌, ◌≤◌, ◌^◌, ◌==◌, Bool, true, false, cond, List, [], ◌∷◌, length, map, drop, get_or, refl, sym, ap, subst, ◌∙◌, arith}
+use Rattle.std.proofs.Common.{◌||◌, not, Option, Some, None, IsTrue}
 use Rattle.std.specs.Prelude.{bit_or, option_map, find}
 use Rattle.std.specs.List.{AllByRecursion, list_all, list_any, filter, slice_split, join_with_byte}
 use Rattle.std.specs.Int.Bits.{or_zero_l, or_zero_r}
@@ -25,7 +26,9 @@ use Rattle.hk_audit.specs.Names.{same_texts}
 -- the set, name by name
 
 or_three : (a b c : ℕ) → bit_or a (bit_or b c) ≡ bit_or (bit_or a b) c
-or_three a b c = same_rights (bit_or a (bit_or b c)) (bit_or (bit_or a b) c) (λ n. has-bit_or a (bit_or b c) n ∙ rw (has-bit_or b c n, has-bit_or (bit_or a b) c n, has-bit_or a b n) (three (has a n) (has b n) (has c n)))
+or_three a b c =
+    same_rights (bit_or a (bit_or b c)) (bit_or (bit_or a b) c) (λ n. has-bit_or a (bit_or b c) n
+        ∙ rw (has-bit_or b c n, has-bit_or (bit_or a b) c n, has-bit_or a b n) (three (has a n) (has b n) (has c n)))
   where
     three : (x y z : Bool) → (x || (y || z)) ≡ (x || y || z)
     three true y z = refl
@@ -51,13 +54,6 @@ union_begins r (Some x) e = rw e (ap Some (or_zero_l x))
 union_begins r None e = refl
 
 -- a set has no number that is no right
-pub has_right : (rights n : ℕ) → IsRightsWord rights → (IsTrue (is_right n) → ⊥) → has rights n ≡ false
-has_right rights n word none = go (has rights n) refl
-  where
-    go : (b : Bool) → has rights n ≡ b → b ≡ false
-    go true e = absurd (none (sym (has-all_rights n) ∙ HasAll-all_rights rights word n e))
-    go false e = refl
-
 -- the names, one by one
 
 pub same_self : (t : List ℕ) → same_text t t ≡ true
@@ -94,7 +90,8 @@ joined_same x xs t free = together _ _
     (λ h.
     let e : join_with_byte 43 (x ∷ xs) ≡ t = same_is (join_with_byte 43 (x ∷ xs)) t h in
     let cut : slice_split (λ b. b == 43) (join_with_byte 43 (x ∷ xs)) ≡ x ∷ xs = split_joined (λ b. b == 43) 43 x xs free refl in
-    subst (λ (z : List ℕ). same_texts (x ∷ xs) (slice_split (λ b. b == 43) z) ≡ true) e (subst (λ (z : List (List ℕ)). same_texts (x ∷ xs) z ≡ true) (sym cut) (texts_self (x ∷ xs))))
+    subst (λ (z : List ℕ). same_texts (x ∷ xs) (slice_split (λ b. b == 43) z) ≡ true) e (subst (λ (z : List (List ℕ)). same_texts (x ∷ xs) z ≡ true) (sym cut)
+        (texts_self (x ∷ xs))))
 
 IsFree : ℕ → Type 0
 IsFree n = not (list_any (λ b. b == 43) (name_of n)) ≡ true
@@ -108,7 +105,8 @@ unfolding IsFree
 kept_free test [] h = refl
 kept_free test (n ∷ ns) h = go (test n) (kept_free test ns h.1)
   where
-    go : (b : Bool) → list_all (λ y. not (list_any (λ b. b == 43) y)) (map name_of (filter test ns)) ≡ true → list_all (λ y. not (list_any (λ b. b == 43) y)) (map name_of (cond b (n ∷ filter test ns) (filter test ns))) ≡ true
+    go : (b : Bool) → list_all (λ y. not (list_any (λ b. b == 43) y)) (map name_of (filter test ns)) ≡ true
+        → list_all (λ y. not (list_any (λ b. b == 43) y)) (map name_of (cond b (n ∷ filter test ns) (filter test ns))) ≡ true
     go true rest = and_from _ _ h.0 rest
     go false rest = rest
 
@@ -118,7 +116,8 @@ pub names_same : (w : ℕ) (t : List ℕ) → IsRightsWord w → (w == 0) ≡ fa
 unfolding word_of
 names_same w t word some = go (filter (has w) right_numbers) refl (kept_free (has w) right_numbers all_free)
   where
-    go : (ns : List ℕ) → filter (has w) right_numbers ≡ ns → list_all (λ y. not (list_any (λ b. b == 43) y)) (map name_of ns) ≡ true → same_texts (map name_of ns) (slice_split (λ b. b == 43) t) ≡ same_text (join_with_byte 43 (map name_of ns)) t
+    go : (ns : List ℕ) → filter (has w) right_numbers ≡ ns → list_all (λ y. not (list_any (λ b. b == 43) y)) (map name_of ns) ≡ true
+        → same_texts (map name_of ns) (slice_split (λ b. b == 43) t) ≡ same_text (join_with_byte 43 (map name_of ns)) t
     go [] e free = absurd (eqb-false w 0 some (sym (word_again w word) ∙ ap word_of e))
     go (n ∷ ns) e free = joined_same (name_of n) (map name_of ns) t free
 
@@ -127,7 +126,8 @@ found_row : (P : Row → Type 0) (t : List ℕ) (rows : List Row) (row : Row) �
 found_row P t [] row h e = absurd (let none : None ≡ Some row = e in cc)
 found_row P t (r ∷ rows) row h e = go (same_text r.0 t) refl e (λ k. found_row P t rows row h.1 k)
   where
-    go : (b : Bool) → same_text r.0 t ≡ b → cond b (Some r) (find (λ q. pointwise nat_eq q.0 t) rows) ≡ Some row → (find (λ q. pointwise nat_eq q.0 t) rows ≡ Some row → P row × (row.0 ≡ t)) → P row × (row.0 ≡ t)
+    go : (b : Bool) → same_text r.0 t ≡ b → cond b (Some r) (find (λ q. pointwise nat_eq q.0 t) rows) ≡ Some row
+        → (find (λ q. pointwise nat_eq q.0 t) rows ≡ Some row → P row × (row.0 ≡ t)) → P row × (row.0 ≡ t)
     go true k e more = let same : r ≡ row = cc in (subst P same h.0, ap (λ (q : Row). q.0) (sym same) ∙ same_is r.0 t k)
     go false k e more = more e
 
@@ -167,14 +167,6 @@ no_name t bad = go (number_named t) refl
 
 -- the names that are left
 
-pub asked_some : (has : Bool) (n given : ℕ) (answer : Option ℕ) → answer ≡ cond has (Some n) None → answer ≡ Some given → (has ≡ true) × (given ≡ n)
-asked_some true n given answer e is = (refl, let same = sym is ∙ e in cc)
-asked_some false n given answer e is = absurd (let same = sym is ∙ e in cc)
-
-pub asked_none : (has : Bool) (n : ℕ) (answer : Option ℕ) → answer ≡ cond has (Some n) None → answer ≡ None → has ≡ false
-asked_none true n answer e is = absurd (let same = sym is ∙ e in cc)
-asked_none false n answer e is = refl
-
 -- a name that is there
 pub names_taken : (test : ℕ → Bool) (numbers : List ℕ) (i d : ℕ) (before after : List (List ℕ)) (t : List ℕ) (whole : Bool) → i < length numbers → test (get_or numbers i d) ≡ true
     → before ≡ t ∷ after → name_of (get_or numbers i d) ≡ t → same_texts (map name_of (filter test (drop i numbers))) before ≡ whole
@@ -210,6 +202,7 @@ unfolding right_numbers right_table
 numbers_known = refl
 
 -- the answer for all numbers
-pub names_answer : (numbers : List ℕ) (w : ℕ) (t : List ℕ) (r : Bool) → r ≡ same_texts (map name_of (filter (has w) numbers)) (slice_split (λ b. b == 43) t) → numbers ≡ right_numbers
+pub names_answer : (numbers : List ℕ) (w : ℕ) (t : List ℕ) (r : Bool) → r ≡ same_texts (map name_of (filter (has w) numbers)) (slice_split (λ b. b == 43) t)
+    → numbers ≡ right_numbers
     → IsRightsWord w → (w == 0) ≡ false → r ≡ same_text (join_with_byte 43 (map name_of (filter (has w) right_numbers))) t
 names_answer numbers w t r h e word some = (rw e at h) ∙ names_same w t word some

@@ -3,7 +3,7 @@ use Rattle.std.specs.Prelude.{ℕ, ◌==◌, List, [], length, drop, nat_lt, if�
 use Rattle.std.specs.List.{slice_split}
 use Rattle.hk_format.specs.Pieces.{Piece}
 use Rattle.hk_audit.specs.declared.parts.Parts.{Parts}
-use Rattle.hk_audit.specs.Seen.{seen}
+use Rattle.hk_audit.specs.TextPieces.{seen}
 
 -- the texts that are left
 abbrev pub texts : Parts → List (List ℕ)

@@ -1,9 +1,8 @@
-pub mod Seen
+pub mod TextPieces
 pub mod Left
 pub mod Names
 pub mod Refusals
 pub mod Events
 pub mod Halves
-pub mod RecordRefusals
 pub mod RecordCuts
 pub mod RecordEvents

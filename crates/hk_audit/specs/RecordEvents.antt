@@ -8,8 +8,8 @@ use Rattle.hk_format.specs.Worlds.{Refused}
 use Rattle.hk_audit.specs.declared.record_lines.Found.{Found}
 use Rattle.hk_audit.specs.declared.record_lines.Found.TheVariants as found
 use Rattle.hk_audit.specs.declared.record_lines.Events.{Events}
-use Rattle.hk_audit.specs.declared.record_errors.RecordError.{RecordError}
-use Rattle.hk_audit.specs.declared.record_errors.RecordError.TheVariants as read_error
+use Rattle.hk_format.specs.declared.errors.ReadError.{ReadError}
+use Rattle.hk_format.specs.declared.errors.ReadError.TheVariants as read_error
 
 -- what the first of these texts is, and so what all of them tell, from any line on
 abbrev pub Finds : Result Found Cause → List (List ℕ) → List (List ℕ) → Type 0
@@ -24,7 +24,7 @@ have_no_byte (x ∷ []) = is_none x
 have_no_byte (x ∷ y ∷ more) = false
 
 -- the lines and the end word are those that are given, or the refusal is; want of memory says nothing
-abbrev pub GivesEvents : Result Events RecordError → Result audits.Events Refused → Type 0
+abbrev pub GivesEvents : Result Events (ReadError Cause) → Result audits.Events Refused → Type 0
 GivesEvents (Ok found) given = given ≡ Ok (events found.lines found.end)
 GivesEvents (Err (read_error.Refused line cause)) given = given ≡ Err (line, cause)
 GivesEvents (Err read_error.NoMemory) given = Unit {0}

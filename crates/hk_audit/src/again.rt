@@ -7,8 +7,10 @@ ghost use Rattle.hk_format.specs.LineReading.{read_body};
 ghost use Rattle.hk_format.specs.LineRanges.{IsLine};
 ghost use Rattle.hk_format.specs.Audits.{audit, audited, events};
 ghost use Rattle.hk_format.specs.Records.{record_text};
+ghost use Rattle.hk_format.specs.StepTexts.{HasTextOf};
+ghost use Rattle.hk_model.specs.Control.{Calls, meaning};
 
-use hk_model::{End, Line, World};
+use hk_model::{Call, End, Frame, Instr, Line, World};
 
 /// The definition reads a line in exactly the bytes on which that line stands, before its line
 /// feed. The function does nothing; its contract is the law.
@@ -50,4 +52,17 @@ pub fn record_text_is_of_one(
 {
     let _limits = (world.limit(), other_world.limit());
     let _counts = (lines.len(), other_lines.len());
+}
+
+/// A call has the text of the instruction that makes it, with the path and the operands resolved, and
+/// without the register that takes a word reply (`docs/FORMATS.md`, "Texts of calls"). The function
+/// does nothing; its contract is the law.
+#[tactic(auto, using(hk_format::proofs::StepCalls::step_text))]
+pub fn call_has_text_of_its_step(frame: &Frame, step: &Instr, call: &Call)
+    requires { meaning frame.now step.now ≡ Calls call.now }
+    ensures { HasTextOf frame.now step.now call.now }
+{
+    let _at = frame.at;
+    let _step = step;
+    let _call = call;
 }

@@ -1,11 +1,11 @@
-// Records and scripts that are read, and bytes that are refused, against answers that were written
+// Records that are read, and bytes that are refused, against answers that were written
 // out by hand.
 
 ghost use Rattle.std.specs.Prelude.{◌<◌, ◌^◌, length};
 
-use crate::{Audit, RecordError, read_record, read_world};
+use crate::{Audit, RecordError, read_record};
 use hk_format::{Cause, LoadCause, ParseCause, TextCause};
-use hk_model::{Cpu, End, Inc, Line, Proc, Reply, What, World};
+use hk_model::{Cpu, End, Inc, Line, Proc, Reply, What};
 use std::alloc::Global;
 use std::test::Fail;
 
@@ -15,14 +15,6 @@ fn read(alloc: Global, bytes: &[u8]) -> Result<Audit, RecordError>
     requires { length bytes.now < 2 ^ 31 }
 {
     read_record(alloc, bytes)
-}
-
-// Reads a script of few bytes.
-#[tactic(auto, using(hk_text::proofs::LineCount::lines_few))]
-fn script(alloc: Global, bytes: &[u8]) -> Result<World, RecordError>
-    requires { length bytes.now < 2 ^ 31 }
-{
-    read_world(alloc, bytes)
 }
 
 // How many processes the world has, how many lines there are, and the end word.
@@ -125,24 +117,6 @@ fn refuses_a_script_before_what_stands_behind(rt: HostRuntime) -> Result<(), Fai
     for (bytes, line, cause) in rows {
         let found = read(rt.alloc(), bytes).map(|audit| size(&audit));
         assert_eq!(rt; found, Err(RecordError::Refused { line, cause }));
-    }
-    Ok(())
-}
-
-#[test]
-fn reads_a_script_or_refuses_it(rt: HostRuntime) -> Result<(), Fail> {
-    let unknown = RecordError::Refused {
-        line: 2,
-        cause: Cause::OfLoad(LoadCause::UnknownName),
-    };
-    let rows: [(&[u8], Result<usize, RecordError>); 3] = [
-        (b"hydra 1\n", Ok(0)),
-        (b"hydra 1\ncode c\nend\nprocess p c\nend\n", Ok(1)),
-        (b"hydra 1\nprocess p c\nend\n", Err(unknown)),
-    ];
-    for (bytes, wanted) in rows {
-        let found = script(rt.alloc(), bytes).map(|world| world.tasks().len());
-        assert_eq!(rt; found, wanted);
     }
     Ok(())
 }

@@ -4,14 +4,18 @@ ghost use Rattle.std.specs.Prelude.{◌≡◌, ◌<◌, ◌-◌, ◌^◌, ℕ, O
 ghost use Rattle.hk_format.specs.declared.causes.Cause.{Cause};
 ghost use Rattle.hk_format.specs.Texts.{lines_of};
 ghost use Rattle.hk_format.specs.Audits.{audit};
-ghost use Rattle.hk_audit.specs.RecordRefusals.{IsRefused};
+ghost use Rattle.hk_format.specs.Outcomes.{IsRefused};
 
-use crate::record_errors::RecordError;
 use crate::record_lines::read_events;
-use crate::scripts::{line_count, read_world, script_length};
+use crate::scripts::{line_count, script_length};
+use hk_format::{Cause, ReadError};
+use hk_load::read_world;
 use hk_model::{End, Items, Line, Template, World};
 use std::alloc::Global;
 use std::marker::{Model, PhantomData};
+
+/// Why bytes are no record. Lines are numbered from 1 in the whole record.
+pub type RecordError = ReadError<Cause>;
 
 /// What a record tells: its world, its audit lines and its end word.
 #[derive(Drop)]

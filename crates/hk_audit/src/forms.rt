@@ -6,15 +6,15 @@ ghost use Rattle.hk_model.specs.Labels.{first, is_lower};
 ghost use Rattle.hk_format.specs.Pieces.{Number};
 ghost use Rattle.hk_format.specs.Forms.{as_verb, as_word, as_number_below};
 ghost use Rattle.hk_format.specs.LineReading.{as_path, as_any_slot, as_rights_set, as_right, as_word32, as_full, inc_bound};
-ghost use Rattle.hk_audit.specs.Seen.{seen};
+ghost use Rattle.hk_audit.specs.TextPieces.{seen};
 
-use crate::numerals::numeral;
 use crate::paths::path_in;
 use crate::rights::{right_in, rights_in};
 use hk_format::{ParseCause, Verb};
 use hk_model::{Path, Slot, What8};
 use hk_rights::{Right, Rights};
 use hk_script::verb_of;
+use hk_text::numeral;
 
 /// A number below the bound.
 pub fn number_below(text: &[u8], bound: u64) -> Result<u64, ParseCause>

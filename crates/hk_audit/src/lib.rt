@@ -1,5 +1,5 @@
-//! Audit lines and records as text, and read from their texts; and scripts, read as worlds
-//! (`docs/FORMATS.md`, "Audit lines and records").
+//! Audit lines and records as text, and read from their texts (`docs/FORMATS.md`, "Audit lines and
+//! records").
 #![tactic(auto)]
 
 mod again;
@@ -10,7 +10,6 @@ mod calls;
 mod events;
 mod forms;
 mod lines;
-mod numerals;
 mod parts;
 mod paths;
 mod ranges;
@@ -19,7 +18,6 @@ mod read_replies;
 #[cfg(test)]
 mod read_tests;
 mod reading;
-mod record_errors;
 mod record_lines;
 mod records;
 mod replies;
@@ -29,12 +27,11 @@ mod scripts;
 mod tests;
 mod wanted;
 
-pub use again::{line_is_read_again, record_is_read_again, record_text_is_of_one};
-pub use audits::{Audit, read_record};
+pub use again::{
+    call_has_text_of_its_step, line_is_read_again, record_is_read_again, record_text_is_of_one,
+};
+pub use audits::{Audit, RecordError, read_record};
 pub use lines::line_text;
-pub use numerals::numeral;
 pub use ranges::steps_have_texts;
 pub use reading::{read_body, read_line};
-pub use record_errors::RecordError;
 pub use records::record_text;
-pub use scripts::read_world;

@@ -1,9 +1,9 @@
 //! The texts that a byte separates, one after another.
 
-ghost use Rattle.std.specs.Prelude.{◌≡◌, ◌≤◌, ◌==◌, length};
-ghost use Rattle.std.specs.List.{position_or_len};
+ghost use Rattle.std.specs.Prelude.{◌≡◌, ◌==◌};
 
 use hk_format::ParseCause;
+use hk_text::first_of;
 
 /// What is left of texts that a byte separates.
 #[derive(Drop)]
@@ -51,16 +51,5 @@ impl<'a> Parts<'a> {
         let len = first_of(rest, self.separator);
         self.at += len + 1;
         Ok(&rest[..len])
-    }
-}
-
-/// The place of the first such byte, or the length.
-pub fn first_of(text: &[u8], byte: u8) -> usize
-    ensures place { result ≡ position_or_len (λ b. b == byte) text.now }
-    ensures within { result ≤ length text.now }
-{
-    match text.iter().position(|b| *b == byte) {
-        Some(at) => at,
-        None => text.len(),
     }
 }

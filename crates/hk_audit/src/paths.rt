@@ -2,16 +2,16 @@
 
 ghost use Rattle.std.specs.Prelude.{◌≡◌, Some, None, if◌then◌else◌};
 ghost use Rattle.hk_format.specs.Pieces.{value};
-ghost use Rattle.hk_audit.specs.Seen.{is_index_numeral, path_of};
+ghost use Rattle.hk_audit.specs.TextPieces.{is_index_numeral, indices_spelled};
 
-use crate::numerals::numeral;
 use crate::parts::Parts;
 use hk_model::Path;
+use hk_text::numeral;
 
 /// The path whose indices points join in the text. None where they are not two to eight numbers
 /// below 65,536.
 pub fn path_in(text: &[u8]) -> Option<Path>
-    ensures { result ≡ path_of text.now }
+    ensures { result ≡ indices_spelled text.now }
 {
     let mut parts = Parts::new(text, b'.');
     let mut indices = [0; 8];

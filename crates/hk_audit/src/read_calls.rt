@@ -3,7 +3,7 @@
 ghost use Rattle.std.specs.Prelude.{◌≡◌};
 ghost use Rattle.hk_format.specs.declared.syntax.Verb.TheVariants as verb;
 ghost use Rattle.hk_format.specs.Reading.{taken};
-ghost use Rattle.hk_format.specs.LineReading.{call_of, template_of, template_end};
+ghost use Rattle.hk_format.specs.LineReading.{call_of, template_call, template_call_end};
 ghost use Rattle.hk_audit.specs.Left.{rest};
 
 use crate::parts::Parts;
@@ -216,8 +216,8 @@ impl<'a> Parts<'a> {
     }
 
     /// `amplify CHECK GIVE INTO` or `create GIVE INTO`
-    fn template_of(&mut self, of: Path, kind: Verb) -> Result<Call, ParseCause>
-        ensures { template_of of kind (rest self.old) ≡ taken result (rest self.new) }
+    fn template_call(&mut self, of: Path, kind: Verb) -> Result<Call, ParseCause>
+        ensures { template_call of kind (rest self.old) ≡ taken result (rest self.new) }
     {
         match kind {
             Verb::Amplify => {
@@ -234,8 +234,8 @@ impl<'a> Parts<'a> {
     }
 
     /// The slot behind the rights of a template.
-    fn template_end(&mut self, of: Path, making: Making) -> Result<Call, ParseCause>
-        ensures { template_end of making (rest self.old) ≡ taken result (rest self.new) }
+    fn template_call_end(&mut self, of: Path, making: Making) -> Result<Call, ParseCause>
+        ensures { template_call_end of making (rest self.old) ≡ taken result (rest self.new) }
     {
         let into = self.slot()?;
         self.end()?;

@@ -1,7 +1,7 @@
 //! The lines behind the script of a record (`docs/FORMATS.md`, "Audit lines and records").
 
 ghost use Rattle.std.specs.Prelude.{◌≡◌, ◌<◌, ◌+◌, ◌^◌, ◌∷◌, [], ℕ, List, Err, IfOk, length};
-ghost use Rattle.hk_format.specs.Audits.{end_of, events_behind, events_from};
+ghost use Rattle.hk_format.specs.Audits.{end_spelled, events_behind, events_from};
 ghost use Rattle.hk_format.specs.Texts.{lines_of, without_last_empty};
 ghost use Rattle.hk_audit.specs.Left.{texts};
 ghost use Rattle.hk_audit.specs.RecordCuts.{behind_first};
@@ -9,7 +9,7 @@ ghost use Rattle.hk_audit.specs.RecordEvents.{Finds, GivesEvents, have_no_byte};
 
 use crate::parts::Parts;
 use crate::reading::read_body;
-use crate::record_errors::RecordError;
+use crate::audits::RecordError;
 use hk_format::{Cause, ParseCause};
 use hk_model::{End, Items, Line, Template};
 use std::alloc::Global;
@@ -105,7 +105,7 @@ fn why_last(text: &[u8]) -> Cause
 fn whole_line(text: &[u8]) -> Result<Found, Cause>
     ensures { (y : List ℕ) (more : List (List ℕ)) → Finds result (text.now ∷ y ∷ more) (y ∷ more) }
 {
-    if let Some(end) = end_of(text) {
+    if let Some(end) = end_spelled(text) {
         return Ok(Found::End(end));
     }
     match read_body(text) {
@@ -115,8 +115,8 @@ fn whole_line(text: &[u8]) -> Result<Found, Cause>
 }
 
 // The end word that the line is.
-fn end_of(line: &[u8]) -> Option<End>
-    ensures { result ≡ end_of line.now }
+fn end_spelled(line: &[u8]) -> Option<End>
+    ensures { result ≡ end_spelled line.now }
 {
     if line == b"end done".as_slice() {
         return Some(End::Done);

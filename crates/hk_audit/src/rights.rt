@@ -1,19 +1,20 @@
 //! Sets of rights in their canonical spelling (`docs/FORMATS.md`, "Rights").
 
-ghost use Rattle.std.specs.Prelude.{◌≡◌, ◌==◌, false, Some, None, map, if◌then◌else◌};
+ghost use Rattle.std.specs.Prelude.{◌≡◌, ◌==◌, false, map};
 ghost use Rattle.std.specs.List.{filter, join_with_byte, slice_split};
 ghost use Rattle.hk_rights.specs.Rights.{has, IsRightsWord, name_of, number_named, right_numbers};
 ghost use Rattle.hk_model.specs.Labels.{same_text};
-ghost use Rattle.hk_format.specs.RightsTexts.{rights_of, rights_text, union_of};
-ghost use Rattle.hk_audit.specs.Seen.{rights_spelled};
+ghost use Rattle.hk_format.specs.RightsTexts.{rights_spelled, rights_text, union_of};
+ghost use Rattle.hk_audit.specs.TextPieces.{canonical_rights};
 ghost use Rattle.hk_audit.specs.Names.{same_texts};
 
 use crate::parts::Parts;
+use hk_print::{RIGHT_NUMBERS, right_of};
 use hk_rights::{Right, Rights};
 
 /// The set of which the text is the canonical spelling, if there is one.
 pub fn rights_in(text: &[u8]) -> Option<Rights>
-    ensures { result ≡ rights_spelled text.now }
+    ensures { result ≡ canonical_rights text.now }
 {
     let rights = rights_meant(text)?;
     if is_spelling(rights, text) {
@@ -24,9 +25,9 @@ pub fn rights_in(text: &[u8]) -> Option<Rights>
 }
 
 // The set that the text means, in any spelling.
-#[tactic(auto, unfolding(hk_format::specs::RightsTexts::rights_of))]
+#[tactic(auto, unfolding(hk_format::specs::RightsTexts::rights_spelled))]
 fn rights_meant(text: &[u8]) -> Option<Rights>
-    ensures { result ≡ rights_of text.now }
+    ensures { result ≡ rights_spelled text.now }
 {
     if text == b"-".as_slice() {
         return Some(Rights::none());
@@ -81,13 +82,8 @@ fn are_names(rights: Rights, text: &[u8]) -> bool
     requires some { (rights == 0) ≡ false }
     ensures { result ≡ same_text (join_with_byte 43 (map name_of (filter (has rights) right_numbers))) text.now }
 {
-    are_names_among(&NUMBERS, rights, text)
+    are_names_among(&RIGHT_NUMBERS, rights, text)
 }
-
-/// The numbers of the rights, rising.
-const NUMBERS: [u8; 19] = [
-    0, 1, 2, 3, 4, 5, 6, 7, 8, 9, 10, 16, 17, 18, 19, 20, 21, 22, 23,
-];
 
 // Whether the texts that `+` joins are the names of those of these rights that the set has.
 fn are_names_among(numbers: &[u8], rights: Rights, text: &[u8]) -> bool
@@ -108,15 +104,4 @@ fn are_names_among(numbers: &[u8], rights: Rights, text: &[u8]) -> bool
         }
     }
     parts.is_read()
-}
-
-// The right of this number, if the set has it.
-fn right_of(rights: Rights, number: u8) -> Option<Right>
-    requires { IsRightsWord rights }
-    ensures { result ≡ (if has rights number then Some number else None) }
-{
-    match Right::new(number) {
-        Some(right) => { if rights.has(right) { Some(right) } else { None } }
-        None => None,
-    }
 }

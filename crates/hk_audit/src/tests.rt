@@ -4,13 +4,14 @@
 ghost use Rattle.std.specs.Prelude.{◌≡◌, ◌<◌, ◌≤◌, [], length, map};
 ghost use Rattle.hk_model.specs.Limits.{event_limit};
 ghost use Rattle.hk_format.specs.LineRanges.{IsCall, IsLine, IsReply, IsPathValue, IsWhat};
-ghost use Rattle.hk_model.specs.Setup.{setup};
+ghost use Rattle.hk_model.specs.WorldValue.{world_value};
 
 use crate::{
-    line_text, record_is_read_again, record_text, record_text_is_of_one, steps_have_texts,
+    call_has_text_of_its_step, line_text, record_is_read_again, record_text, record_text_is_of_one,
+    steps_have_texts,
 };
 use hk_model::{
-    Args, Call, Cpu, End, Inc, Items, Line, Making, NoMemory, Path, Proc, Refusal, Reply, Slot,
+    Args, Call, Cpu, End, Frame, Inc, Instr, Items, Line, Making, NoMemory, Path, Proc, Refusal, Reply, Slot,
     Text, What, What8, World,
 };
 use hk_rights::{Right, Rights};
@@ -293,7 +294,7 @@ fn replies_are_written(rt: HostRuntime) -> Result<(), Fail> {
 fn empty_world(alloc: Global, limit: u32) -> World
     requires some { 0 < limit }
     requires few { limit ≤ event_limit }
-    ensures { result ≡ setup limit [] [] [] }
+    ensures { result ≡ world_value limit [] [] [] }
 {
     World::new(
         limit,
@@ -349,4 +350,15 @@ fn records_are_written(rt: HostRuntime) -> Result<(), Fail> {
         "hydra 1\nlimit 2\nrecord\n0 1 1 dispatch -> done\n0 1 1 return -> done\nend limit\n",
     );
     Ok(())
+}
+
+#[test]
+fn a_call_has_the_text_of_its_step() {
+    let frame = Frame {
+        code: 0,
+        at: 0,
+        registers: [0; 8],
+        refused: false,
+    };
+    call_has_text_of_its_step(&frame, &Instr::Yield, &Call::Yield);
 }

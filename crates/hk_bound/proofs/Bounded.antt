@@ -17,17 +17,17 @@ use Rattle.hk_model.specs.declared.entries.Entry.{Entry}
 use Rattle.hk_model.specs.declared.entries.Entry.TheVariants.{Empty, Held, Form}
 use Rattle.hk_model.specs.declared.calls.Call.{Call}
 use Rattle.hk_rights.specs.Rights.{has, all_rights, all_but, special_rights, LOAD, COPY, MODIFY, ENV, A0, load_right, copy_right, modify_right, env_right, unconf_right, a0_right}
-use Rattle.hk_model.specs.Setup.{Setup, IsObject}
+use Rattle.hk_model.specs.WorldValue.{WorldValue, IsObject}
 use Rattle.hk_model.specs.Opening.{opening}
 use Rattle.hk_model.specs.State.{State, object, incarnation}
 use Rattle.hk_model.specs.Refusing.{◌>>=◌, allowed, item_at}
-use Rattle.hk_model.specs.Walking.{walk, walk_on, hop, obtained, reduced_rights, confined_rights, local_rights}
+use Rattle.hk_model.specs.Walking.{walk, walk_on, hop_on, obtained, reduced_rights, confined_rights, local_rights}
 use Rattle.hk_model.specs.Merging.{inherited}
-use Rattle.hk_model.specs.Targets.{TYPE, SEMAPHORE, PROCEDURE, kernel_types, is_general, is_listed, is_type, ENV+A0}
+use Rattle.hk_model.specs.Targets.{TYPE, SEMAPHORE, PROCEDURE, kernel_types, is_general, is_listed, is_of_type, ENV+A0}
 use Rattle.hk_model.specs.Rule.{copied, made_form}
 use Rattle.hk_model.specs.Places.{SlotOf, EntryOf, standing}
 use Rattle.hk_model.specs.Lines.{makes_object}
-use Rattle.hk_model.specs.Ways.{Way, Walked, Stored, Lessened, Merged, Inherited, Copied, CopyOf, Created, Formed, Gone, LeadsTo, IsMerged, Writes, Within, HasEnv}
+use Rattle.hk_model.specs.Ways.{Way, Walked, Stored, Lessened, Merged, Inherited, Copied, CopyOf, Created, Formed, Emptied, LeadsTo, IsMerged, Writes, Within, HasEnv}
 use Rattle.hk_model.specs.Descent.{Others, Amplified}
 use Rattle.hk_model.proofs.TestLemmas.{then_is, and_is, if_ok, allowed_is, item_is}
 use Rattle.hk_model.proofs.RightsWithin.{HasAll-reduced, Within-has, reduced_needs_unconf}
@@ -87,17 +87,17 @@ other_right n h s = by (has other_rights n) (has-bit_or special_rights other_rig
 -- ---- bounds
 
 -- some template that follows asks for no more, and gives no less
-pub record IsKnown (w : Setup) (h : Holder) (type : Name) (check give : ℕ) : Type 0 where
+pub record IsKnown (w : WorldValue) (h : Holder) (type : Name) (check give : ℕ) : Type 0 where
   pub asks : ℕ
   pub gives : ℕ
   pub follows : Follows w (Amplifies h type asks gives)
   pub asked : (n : ℕ) → IsTrue (has all_rights n) → IsTrue (has asks n) → IsTrue (has check n)
   pub given : (n : ℕ) → IsTrue (has all_rights n) → IsTrue (has give n) → IsTrue (has gives n)
 
-known_up : (w : Setup) (h g : Holder) (type : Name) (check give : ℕ) → ((asks gives : ℕ) → Follows w (Amplifies h type asks gives) → Follows w (Amplifies g type asks gives)) → IsKnown w h type check give → IsKnown w g type check give
+known_up : (w : WorldValue) (h g : Holder) (type : Name) (check give : ℕ) → ((asks gives : ℕ) → Follows w (Amplifies h type asks gives) → Follows w (Amplifies g type asks gives)) → IsKnown w h type check give → IsKnown w g type check give
 known_up w h g type check give f k = record { asks = k.asks; gives = k.gives; follows = f k.asks k.gives k.follows; asked = k.asked; given = k.given }
 
-module _ (w : Setup) (own : Name → Proc) where
+module _ (w : WorldValue) (own : Name → Proc) where
   -- what an object counts as: itself, or what its maker makes
   abbrev pub thing : Name → Thing
   thing name = cond (nat_lt name.0 (kernel_types + length w.objects)) (Old name) (MadeBy (own name))
@@ -139,7 +139,7 @@ module _ (w : Setup) (own : Name → Proc) where
       (slots : (n : ℕ) → Bounds (Slots p) (standing s (SlotOf inc n)))
       (lists : (name : Name) (n : ℕ) → Bounds (ListOf (thing name)) (standing s (EntryOf name n)))
       (kinds : (name : Name) → IsObject w name → IsSameKind (object (opening w) name) (object s name))
-      (plain : (name : Name) → kernel_types + length w.objects ≤ name.0 → is_type PROCEDURE (object s name).of ≡ false)
+      (plain : (name : Name) → kernel_types + length w.objects ≤ name.0 → is_of_type PROCEDURE (object s name).of ≡ false)
       (typed : (name : Name) → IsObject w (type_of w name)) where
     right_of : (cap : Cap) (rights n : ℕ) → BoundsCap (Slots p) cap.name cap.rights → Within rights cap.rights → IsTrue (has all_rights n) → IsTrue (has rights n) → Follows w (Right (Slots p) (thing cap.name) n)
     right_of cap rights n b h is there = b.1 n is (Within-has rights cap.rights n h is there)
@@ -157,7 +157,7 @@ module _ (w : Setup) (own : Name → Proc) where
         and_is (Bounds (Slots p)) (allowed cap.rights ENV step) (Ok (Form form)) (λ u h.
         form_up (ListOf (thing cap.name)) (Slots p) (λ type asks gives g. load_form p (thing cap.name) type asks gives (right_of cap LOAD load_right b load refl refl) (right_of cap ENV env_right b (allowed_is cap.rights ENV step u h) refl refl) g) form l)
 
-    hop_bounds : (cap : Cap) (at step : ℕ) → BoundsCap (Slots p) cap.name cap.rights → IfOk (hop s (Held cap) at step) (Bounds (Slots p))
+    hop_bounds : (cap : Cap) (at step : ℕ) → BoundsCap (Slots p) cap.name cap.rights → IfOk (hop_on s (Held cap) at step) (Bounds (Slots p))
     hop_bounds cap at step b =
         and_is (Bounds (Slots p)) (allowed cap.rights LOAD step) (item_at (object s cap.name).entries at (step + 1) >>= (λ next. obtained cap.rights next step)) (λ u h.
         then_is (Bounds (Slots p)) (item_at (object s cap.name).entries at (step + 1)) (λ next. obtained cap.rights next step) (λ next g.
@@ -169,8 +169,8 @@ module _ (w : Setup) (own : Name → Proc) where
     walk_on_bounds Empty (at ∷ rest) step b = tt
     walk_on_bounds (Form form) (at ∷ rest) step b = tt
     walk_on_bounds (Held cap) (at ∷ rest) step b =
-        then_is (Bounds (Slots p)) (hop s (Held cap) at step) (λ next. walk_on s next rest (step + 1)) (λ next g.
-        walk_on_bounds next rest (step + 1) (if_ok (Bounds (Slots p)) (hop s (Held cap) at step) next (hop_bounds cap at step b) g))
+        then_is (Bounds (Slots p)) (hop_on s (Held cap) at step) (λ next. walk_on s next rest (step + 1)) (λ next g.
+        walk_on_bounds next rest (step + 1) (if_ok (Bounds (Slots p)) (hop_on s (Held cap) at step) next (hop_bounds cap at step b) g))
 
     pub walk_bounds : (path : List ℕ) (x : Entry) → walk s inc path ≡ Ok x → Bounds (Slots p) x
     walk_bounds [] x e = absurd (cc)
@@ -193,11 +193,11 @@ module _ (w : Setup) (own : Name → Proc) where
       | inr made ↦ subst (λ (t : Thing). IsTrue (has_words w t)) (sym made.1) refl
     ]
 
-    type_is : (name : Name) (n : ℕ) → IsObject w name → is_type n (object s name).of ≡ true → (type_of w name).0 ≡ n
-    type_is name n old h = let k : ((type_of w name).0 == n) ≡ true = sym (ap (is_type n) (kinds name old).of) ∙ h in grind (arith, nat_tests)
+    type_is : (name : Name) (n : ℕ) → IsObject w name → is_of_type n (object s name).of ≡ true → (type_of w name).0 ≡ n
+    type_is name n old h = let k : ((type_of w name).0 == n) ≡ true = sym (ap (is_of_type n) (kinds name old).of) ∙ h in grind (arith, nat_tests)
 
     -- no procedure is made
-    procedure_old : (name : Name) → is_type PROCEDURE (object s name).of ≡ true → IsObject w name
+    procedure_old : (name : Name) → is_of_type PROCEDURE (object s name).of ≡ true → IsObject w name
     procedure_old name h = elim (thing_is name) [
       | inl old ↦ old.0
       | inr made ↦ absurd (true≢false (sym h ∙ plain name made.0))
@@ -323,7 +323,7 @@ module _ (w : Setup) (own : Name → Proc) where
         subst (Bounds (Slots p)) (sym h.is) (subst (λ (q : Name). BoundsCap (Slots p) q h.new.rights) (sym a.same) here)
 
     -- ---- a MakeTemplate
-    formed_bounds : (cap : Cap) (kind : Making) → BoundsCap (Slots p) cap.name cap.rights → is_type TYPE (object s cap.name).of ≡ true → Within ENV+A0 cap.rights → Bounds (Slots p) (Form (made_form kind cap.name))
+    formed_bounds : (cap : Cap) (kind : Making) → BoundsCap (Slots p) cap.name cap.rights → is_of_type TYPE (object s cap.name).of ≡ true → Within ENV+A0 cap.rights → Bounds (Slots p) (Form (made_form kind cap.name))
     formed_bounds cap (making.Create give) b type allows = tt
     formed_bounds cap (making.Amplify check give) b type allows = λ old. record {
       asks = 0;
@@ -354,9 +354,9 @@ module _ (w : Setup) (own : Name → Proc) where
       slot_bounds i m (Created path) x goes shown h = subst (Bounds (Slots p)) (sym h.is) (new_bounds goes.0 (walks_live s inc path (Form (template.Create h.of h.give)) h.leads) h.give)
       slot_bounds i m (Formed path kind) x goes shown h =
           let same : shown.cap ≡ h.cap = same_target path shown.cap h.cap shown.is.leads h.leads in
-          let type : is_type TYPE (object s h.cap.name).of ≡ true = subst (λ (a : Cap). is_type TYPE (object s a.name).of ≡ true) same shown.is.typed in
+          let type : is_of_type TYPE (object s h.cap.name).of ≡ true = subst (λ (a : Cap). is_of_type TYPE (object s a.name).of ≡ true) same shown.is.typed in
           subst (Bounds (Slots p)) (sym h.is) (formed_bounds h.cap kind (walk_bounds path (Held h.cap) h.leads) type h.allowed)
-      slot_bounds i m Gone x goes shown h = subst (Bounds (Slots p)) (sym h) tt
+      slot_bounds i m Emptied x goes shown h = subst (Bounds (Slots p)) (sym h) tt
 
       -- into a list
       pub list_bounds : (name : Name) (m : ℕ) (v : Way) (x : Entry) → GoesTo s inc c v (EntryOf name m) → ShownBy s inc v (EntryOf name m) → Writes s inc v x → Bounds (ListOf (thing name)) x
@@ -379,7 +379,7 @@ module _ (w : Setup) (own : Name → Proc) where
       list_bounds name m (CopyOf path) x goes shown h = absurd goes.1
       list_bounds name m (Created path) x goes shown h = absurd goes.1
       list_bounds name m (Formed path kind) x goes shown h = absurd goes
-      list_bounds name m Gone x goes shown h = subst (Bounds (ListOf (thing name))) (sym h) tt
+      list_bounds name m Emptied x goes shown h = subst (Bounds (ListOf (thing name))) (sym h) tt
 
     -- ---- what is changed
 
@@ -395,7 +395,7 @@ module _ (w : Setup) (own : Name → Proc) where
         inr (inl (sym (ap is_listed (kinds cap.name old).of) ∙ subst (λ (a : Cap). is_listed (object s a.name).of ≡ true) same g.typed, one_of cap list_changes g.how old b g.right g.changes (subst (λ (a : Cap). has a.rights g.how ≡ true) same g.held)))
     changing cap old b path leads (inr (inr g)) =
         let same : g.cap ≡ cap = same_target path g.cap cap g.leads leads in
-        inr (inr (type_is cap.name SEMAPHORE old (subst (λ (a : Cap). is_type SEMAPHORE (object s a.name).of ≡ true) same g.typed), one_of cap count_changes g.how old b g.right g.changes (subst (λ (a : Cap). has a.rights g.how ≡ true) same g.held)))
+        inr (inr (type_is cap.name SEMAPHORE old (subst (λ (a : Cap). is_of_type SEMAPHORE (object s a.name).of ≡ true) same g.typed), one_of cap count_changes g.how old b g.right g.changes (subst (λ (a : Cap). has a.rights g.how ≡ true) same g.held)))
 
     pub in_bound : (path : List ℕ) (cap : Cap) → LeadsTo s inc path cap → IsObject w cap.name → Within MODIFY cap.rights → ShowsChange s inc path → IsInBound w p cap.name
     in_bound path cap leads old modify shown =

@@ -15,7 +15,7 @@ use Rattle.hk_model.specs.declared.entries.Template.TheVariants as template
 use Rattle.hk_model.specs.declared.world.Task.{Task}
 use Rattle.hk_rights.specs.Rights.{has, all_rights, special_rights, HasAll, STORE, APPEND, ENV, load_right, copy_right, modify_right, env_right, unconf_right, a0_right, store_right, append_right}
 use Rattle.hk_rights.proofs.Sets.{has-bit_or, has-bit_or_cases, has-zero, or_right, HasAll-from_bit_and, has-pow}
-use Rattle.hk_model.specs.Setup.{Setup, IsWorld}
+use Rattle.hk_model.specs.WorldValue.{WorldValue, IsWorld}
 use Rattle.hk_model.specs.Walking.{reduced_rights}
 use Rattle.hk_model.specs.Merging.{merged_rights}
 use Rattle.hk_model.specs.Places.{SlotOf, EntryOf, is_empty}
@@ -178,16 +178,16 @@ first_of (g ∷ gs) f (suc k) e = by (decide_form g f) (first_of gs f k e)
 
 -- ---- what rows tell
 
-abbrev pub column_of : Setup → Thing → ℕ
+abbrev pub column_of : WorldValue → Thing → ℕ
 column_of w (Old x) = x.0
 column_of w (MadeBy q) = object_count w + q.0
 
 -- an object of the opening, or what one of the processes makes
-abbrev pub IsThing : Setup → Thing → Type 0
+abbrev pub IsThing : WorldValue → Thing → Type 0
 IsThing w (Old x) = x.0 < object_count w
 IsThing w (MadeBy q) = q.0 < length w.tasks
 
-module _ (w : Setup) (forms : List Form) (rows : List (List (Option ℕ))) where
+module _ (w : WorldValue) (forms : List Form) (rows : List (List (Option ℕ))) where
   abbrev pub at : Proc → Thing → Option ℕ
   at p x = cell rows p.0 (column_of w x)
 
@@ -545,6 +545,6 @@ module _ (w : Setup) (forms : List Form) (rows : List (List (Option ℕ))) where
         form_rule p (form_at t 0 all_rights) c.runs (((rules p.0 c.runs).objects t.0 low).types b.rights b.is b.there (right_of_cell (at p (Old t)) b.rights env_right b.is (complete e).there) type)
 
 -- so they tell each right of a process for an object of the opening
-pub all_rights_told : (w : Setup) (forms : List Form) (rows : List (List (Option ℕ))) → ((p : ℕ) → p < length w.tasks → ProcessRule w forms rows p) → AreForms w forms → IsWorld w → (p : Proc) (x : Name) (n : ℕ)
+pub all_rights_told : (w : WorldValue) (forms : List Form) (rows : List (List (Option ℕ))) → ((p : ℕ) → p < length w.tasks → ProcessRule w forms rows p) → AreForms w forms → IsWorld w → (p : Proc) (x : Name) (n : ℕ)
     → Follows w (Right (Slots p) (Old x) n) → HasIn (cell rows p.0 x.0) n
 all_rights_told w forms rows rules are world p x n h = (complete w forms rows rules are world h).there

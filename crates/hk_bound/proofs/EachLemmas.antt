@@ -7,7 +7,7 @@ use Rattle.hk_bound.specs.Each.{Each, EachBelow}
 use Rattle.hk_bound.specs.declared.forms.Form.{Form}
 use Rattle.hk_model.specs.declared.entries.Entry.{Entry}
 use Rattle.hk_model.specs.declared.entries.Param.{Param}
-use Rattle.hk_model.specs.Setup.{Setup}
+use Rattle.hk_model.specs.WorldValue.{WorldValue}
 use Rattle.hk_bound.specs.Columns.{name_at, opening_entries, opening_params}
 use Rattle.hk_bound.specs.Forms.{Holds, KeepsForms, HaveEntryForms, HaveParamForms, HaveObjectForms, entry_form, param_form, made_form}
 
@@ -59,14 +59,14 @@ entry_forms_stay old new entries keeps h k e at = forms_stay old new (entry_form
 pub param_forms_stay : (old new : List Form) (params : List Param) → KeepsForms old new → HaveParamForms old params → HaveParamForms new params
 param_forms_stay old new params keeps h k p at = forms_stay old new (param_form p) keeps (h k p at)
 
-pub object_forms_stay : (w : Setup) (old new : List Form) (name : ℕ) → KeepsForms old new → HaveObjectForms w old name → HaveObjectForms w new name
+pub object_forms_stay : (w : WorldValue) (old new : List Form) (name : ℕ) → KeepsForms old new → HaveObjectForms w old name → HaveObjectForms w new name
 object_forms_stay w old new name keeps h = record {
   entries = entry_forms_stay old new (opening_entries w name) keeps h.entries;
   params = param_forms_stay old new (opening_params w name) keeps h.params;
   made = λ e. keeps (made_form (name_at name)) (h.made e);
 }
 
-pub objects_more : (w : Setup) (old new : List Form) (n : ℕ) → KeepsForms old new → ((name : ℕ) → name < n → HaveObjectForms w old name) → HaveObjectForms w new n → (name : ℕ) → name < n + 1 → HaveObjectForms w new name
+pub objects_more : (w : WorldValue) (old new : List Form) (n : ℕ) → KeepsForms old new → ((name : ℕ) → name < n → HaveObjectForms w old name) → HaveObjectForms w new n → (name : ℕ) → name < n + 1 → HaveObjectForms w new name
 objects_more w old new n keeps below here name h = by (below_or_last name n h)
   where
     by : (name < n) ⊎ (name ≡ n) → HaveObjectForms w new name

@@ -9,7 +9,7 @@ use Rattle.hk_model.specs.declared.names.Name.{Name}
 use Rattle.hk_model.specs.declared.names.Proc.{Proc}
 use Rattle.hk_rights.specs.Rights.{has, all_rights, PUTDATA, ADDDATA, STORE, APPEND, KILL, A0, A1, putdata_right, adddata_right, store_right, append_right, kill_right, modify_right, a0_right, a1_right}
 use Rattle.hk_rights.proofs.Sets.{has-bit_or_cases, has-pow, left_of, right_of, or_right}
-use Rattle.hk_model.specs.Setup.{Setup, IsWorld, IsObject}
+use Rattle.hk_model.specs.WorldValue.{WorldValue, IsWorld, IsObject}
 use Rattle.hk_model.specs.Targets.{SEMAPHORE, is_general, is_listed}
 use Rattle.hk_bound.specs.declared.forms.Form.{Form}
 use Rattle.hk_bound.specs.Taking.{Old, Slots, Right, Follows, type_of}
@@ -25,7 +25,7 @@ told : (o : Option ℕ) (n : ℕ) → HasIn o n → has_in o n ≡ true
 told None n h = absurd h
 told (Some r) n h = h
 
-pub exact : (w : Setup) (forms : List Form) (rows : List (List (Option ℕ))) → IsWorld w → AreForms w forms → RowsFollow w forms rows → ((p : ℕ) → p < length w.tasks → ProcessRule w forms rows p) → AreExact w rows
+pub exact : (w : WorldValue) (forms : List Form) (rows : List (List (Option ℕ))) → IsWorld w → AreForms w forms → RowsFollow w forms rows → ((p : ℕ) → p < length w.tasks → ProcessRule w forms rows p) → AreExact w rows
 exact w forms rows world are follow rules = record {
   sound = λ p x n low is h. by p x n low is (cell rows p x) refl h;
   all = λ p x n h. told (cell rows p.0 x.0) n (all_rights_told w forms rows rules are world p x n h);
@@ -54,7 +54,7 @@ one_pow one n h = let e : (n == one) ≡ true = sym (has-pow one n) ∙ h in gri
 two_of : (a b n : ℕ) → has (bit_or (2 ^ a) (2 ^ b)) n ≡ true → (n ≡ a) ⊎ (n ≡ b)
 two_of a b n h = elim (has-bit_or_cases (2 ^ a) (2 ^ b) n h) [ inl k ↦ inl (one_pow a n k) | inr k ↦ inr (one_pow b n k) ]
 
-module _ (w : Setup) (rows : List (List (Option ℕ))) (are : AreExact w rows) where
+module _ (w : WorldValue) (rows : List (List (Option ℕ))) (are : AreExact w rows) where
   module _ (p x r : ℕ) (low : x < object_count w) (at : cell rows p x ≡ Some r) where
     gives : (n : ℕ) → has all_rights n ≡ true → has r n ≡ true → Follows w (Right (Slots (proc_at p)) (Old (name_at x)) n)
     gives n is h = are.sound p x n low is (ap (λ (o : Option ℕ). has_in o n) at ∙ h)
@@ -166,7 +166,7 @@ less_or_same k n h = grind arith
 same_names : (x : Name) (n : ℕ) → x.0 ≡ n → name_at n ≡ x
 same_names x n e = ap (λ (m : ℕ). name_at m) (sym e)
 
-pub listing_skip : (w : Setup) (proc : Proc) (n : ℕ) (names : List Name) → (IsInBound w proc (name_at n) → ⊥) → Listing w proc n names → Listing w proc (n + 1) names
+pub listing_skip : (w : WorldValue) (proc : Proc) (n : ℕ) (names : List Name) → (IsInBound w proc (name_at n) → ⊥) → Listing w proc n names → Listing w proc (n + 1) names
 listing_skip w proc n names never h = record {
   sound = h.sound;
   all = λ x low b. by x b (less_or_same x.0 n low);
@@ -178,7 +178,7 @@ listing_skip w proc n names never h = record {
     by x b (inl less) = h.all x less b
     by x b (inr same) = absurd (never (subst (IsInBound w proc) (sym (same_names x n same)) b))
 
-pub listing_push : (w : Setup) (proc : Proc) (n : ℕ) (names : List Name) → IsInBound w proc (name_at n) → Listing w proc n names → Listing w proc (n + 1) (names ++ name_at n ∷ [])
+pub listing_push : (w : WorldValue) (proc : Proc) (n : ℕ) (names : List Name) → IsInBound w proc (name_at n) → Listing w proc n names → Listing w proc (n + 1) (names ++ name_at n ∷ [])
 listing_push w proc n names new h = record {
   sound = λ k x e. elim (push_cases names (name_at n) x k e) [ inl before ↦ h.sound k x before | inr last ↦ subst (IsInBound w proc) last.1 new ];
   all = λ x low b. by x b (less_or_same x.0 n low);
@@ -196,7 +196,7 @@ listing_push w proc n names new h = record {
     rises k x y (inr a) (inl b) = let within = slice_get_within names (suc k) y b in let e = a.0 in absurd (omega (arith, within, e))
     rises k x y (inr a) (inr b) = let e = a.0 in let f = b.0 in absurd (omega (arith, e, f))
 
-pub listing_none : (w : Setup) (proc : Proc) (names : List Name) → names ≡ [] → Listing w proc 0 names
+pub listing_none : (w : WorldValue) (proc : Proc) (names : List Name) → names ≡ [] → Listing w proc 0 names
 listing_none w proc names e = subst (Listing w proc 0) (sym e) (record { sound = none (IsInBound w proc); all = λ x low b. absurd (omega (arith, low)); rising = λ k x y a b. absurd (empty k x a); below = none (λ (x : Name). x.0 < 0) })
   where
     empty : (k : ℕ) (x : Name) → slice_get [] k ≡ Some x → ⊥
@@ -206,7 +206,7 @@ listing_none w proc names e = subst (Listing w proc 0) (sym e) (record { sound =
     none : (P : Name → Type 0) → Each P []
     none P k x a = absurd (empty k x a)
 
-pub listing_all : (w : Setup) (proc : Proc) (names : List Name) (n : ℕ) → object_count w ≤ n → Listing w proc n names → IsBoundOf w proc names
+pub listing_all : (w : WorldValue) (proc : Proc) (names : List Name) (n : ℕ) → object_count w ≤ n → Listing w proc n names → IsBoundOf w proc names
 listing_all w proc names n end h = record { sound = h.sound; all = λ x b. h.all x (let low = b.opening in omega (arith, low, end)) b; rising = h.rising }
 
 pub exact_push : {V : Type 0} (P : ℕ → V → Type 0) (xs : List V) (y : V) → ((p : ℕ) → IfSome (slice_get xs p) (P p)) → P (length xs) y → (p : ℕ) → IfSome (slice_get (xs ++ y ∷ []) p) (P p)

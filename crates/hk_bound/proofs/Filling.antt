@@ -5,7 +5,7 @@ use mathlib.Core.Logic.{inl, inr}
 use Rattle.std.proofs.lemmas.Bool.{true≢false, false≢true}
 use Rattle.std.proofs.lemmas.Option.{slice_get_read}
 use Rattle.hk_rights.specs.Rights.{IsRightsWord}
-use Rattle.hk_model.specs.Setup.{Setup}
+use Rattle.hk_model.specs.WorldValue.{WorldValue}
 use Rattle.hk_bound.specs.declared.forms.Form.{Form}
 use Rattle.hk_bound.specs.declared.gaps.Gap.{Gap}
 use Rattle.hk_bound.specs.Columns.{cell, covers, joined, joined_rows, width_of, AreRows, RowsFollow, IsGap, AreGaps, Finds}
@@ -14,7 +14,7 @@ use Rattle.hk_bound.specs.Weights.{rows_weight, most_weight}
 use Rattle.hk_bound.specs.Rounds.{Settles, Rounds}
 use Rattle.hk_bound.proofs.Growth.{joined_follow, joined_rows_are, joined_no_less, joined_more, rows_most}
 
-module _ (w : Setup) (forms : List Form) where
+module _ (w : WorldValue) (forms : List Form) where
   no_gaps : (rows : List (List (Option ℕ))) (gaps : List Gap) → gaps ≡ [] → AreGaps w forms rows gaps
   no_gaps rows gaps e = subst (AreGaps w forms rows) (sym e) none
     where

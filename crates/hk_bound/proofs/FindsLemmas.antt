@@ -2,7 +2,7 @@
 use Rattle.std.proofs.Common.{◌≡◌, ℕ, zero, suc, ◌+◌, ◌<◌, ◌≤◌, List, [], ◌∷◌, ◌++◌, length, Bool, true, false, Option, Some, None, refl, sym, ◌∙◌, ap, subst, arith, length-append}
 use Rattle.std.specs.Prelude.{slice_get, ◌⊎◌}
 use mathlib.Core.Logic.{inl, inr}
-use Rattle.hk_model.specs.Setup.{Setup}
+use Rattle.hk_model.specs.WorldValue.{WorldValue}
 use Rattle.hk_bound.specs.declared.forms.Form.{Form}
 use Rattle.hk_bound.specs.declared.gaps.Gap.{Gap}
 use Rattle.hk_bound.specs.Each.{Each, EachBelow}
@@ -16,7 +16,7 @@ push_cases [] y x (suc (suc k)) e = absurd (cc)
 push_cases (z ∷ xs) y x zero e = inl e
 push_cases (z ∷ xs) y x (suc k) e = push_cases xs y x k e
 
-module _ (w : Setup) (forms : List Form) (rows : List (List (Option ℕ))) where
+module _ (w : WorldValue) (forms : List Form) (rows : List (List (Option ℕ))) where
   pub finds_none : (P : Type 0) (xs : List Gap) → P → Finds w forms rows P xs xs
   finds_none P xs p = record { more = omega arith; gaps = λ h. h; none = λ e. p }
 

@@ -8,7 +8,7 @@ use Rattle.std.proofs.lemmas.Bool.Decides.{nat_tests}
 use Rattle.hk_rights.specs.Rights.{has, HasAll, IsRightsWord, first_missing, right_numbers, right_table, env_right}
 use Rattle.hk_rights.proofs.Missing.{HasAll-from_first_missing}
 use Rattle.hk_rights.proofs.Sets.{has-bit_or, has-bit_or_cases, same_rights, bit_and-from_HasAll}
-use Rattle.hk_model.specs.Setup.{Setup}
+use Rattle.hk_model.specs.WorldValue.{WorldValue}
 use Rattle.hk_bound.specs.declared.forms.Form.{Form}
 use Rattle.hk_bound.specs.Taking.{Thing, Old, MadeBy, Holder, Slots}
 use Rattle.hk_bound.specs.Columns.{name_at, proc_at, cell, covers, joined, joined_rows, empty_rows, width_of, AreRows, ThingFollows, CellFollows, RowsFollow}
@@ -179,7 +179,7 @@ joined_at rows p c r q j = by (set_at rows p q (slice_set (slice_index_or rows p
     by (inl h) = in_row h.0 (slice_index_or (joined_rows rows p c r) q []) h.1 (set_at (slice_index_or rows p []) c j (joined (cell rows p c) r) None)
     by (inr h) = inr (ap (λ (l : List (Option ℕ)). slice_index_or l j None) h)
 
-module _ (w : Setup) (forms : List Form) where
+module _ (w : WorldValue) (forms : List Form) where
   pub joined_rows_are : (rows : List (List (Option ℕ))) (p c r : ℕ) → AreRows w forms rows → AreRows w forms (joined_rows rows p c r)
   joined_rows_are rows p c r are = record {
     count = rows_length rows p (slice_set (slice_index_or rows p []) c (joined (cell rows p c) r)) ∙ are.count;
@@ -241,8 +241,8 @@ empty_width zero width p h = absurd (omega (arith, h))
 empty_width (suc n) width zero h = many_cells width
 empty_width (suc n) width (suc p) h = empty_width n width p (omega (arith, h))
 
-pub empty_follow : (w : Setup) (forms : List Form) (count width : ℕ) → RowsFollow w forms (empty_rows count width)
+pub empty_follow : (w : WorldValue) (forms : List Form) (count width : ℕ) → RowsFollow w forms (empty_rows count width)
 empty_follow w forms count width p j r e = let none = nothing count width p j in absurd (let clash : None ≡ Some r = sym none ∙ e in cc)
 
-pub empty_are : (w : Setup) (forms : List Form) → AreRows w forms (empty_rows (length w.tasks) (width_of w forms))
+pub empty_are : (w : WorldValue) (forms : List Form) → AreRows w forms (empty_rows (length w.tasks) (width_of w forms))
 empty_are w forms = record { count = empty_count (length w.tasks) (width_of w forms); width = empty_width (length w.tasks) (width_of w forms) }

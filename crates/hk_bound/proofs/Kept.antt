@@ -17,10 +17,10 @@ use Rattle.hk_model.specs.declared.lines.Line.{Line}
 use Rattle.hk_model.specs.declared.objects.Incarnation.{Incarnation}
 use Rattle.hk_rights.specs.Rights.{has, all_rights}
 use Rattle.hk_model.specs.Effects.{IsSameKind}
-use Rattle.hk_model.specs.Setup.{Setup, IsObject}
+use Rattle.hk_model.specs.WorldValue.{WorldValue, IsObject}
 use Rattle.hk_model.specs.Opening.{opening}
 use Rattle.hk_model.specs.State.{State, object, incarnation, same_inc, no_incarnation}
-use Rattle.hk_model.specs.Targets.{PROCEDURE, kernel_types, is_type}
+use Rattle.hk_model.specs.Targets.{PROCEDURE, kernel_types, is_of_type}
 use Rattle.hk_model.specs.Places.{Place, SlotOf, EntryOf, standing, is_empty}
 use Rattle.hk_model.specs.Lines.{done_call, changes_path, changed}
 use Rattle.hk_model.specs.Under.{is_live}
@@ -44,13 +44,13 @@ use Rattle.hk_model.specs.Keeping.{is_opening}
 use Rattle.std.proofs.lemmas.Bool.{true≢false}
 use Rattle.hk_bound.proofs.Bounded.{thing, thing_made, Bounds, slot_bounds, list_bounds, in_bound}
 
-pub record Kept (w : Setup) (own : Name → Proc) (s : State) : Type 0 where
+pub record Kept (w : WorldValue) (own : Name → Proc) (s : State) : Type 0 where
   pub slots : (i : Inc) (n : ℕ) (x : Activation) → look_up i (activations_in s.incarnations) ≡ Some x → Bounds w own (Slots x.proc) (standing s (SlotOf i n))
   pub lists : (name : Name) (n : ℕ) → Bounds w own (ListOf (thing w own name)) (standing s (EntryOf name n))
   pub procs : (i : Inc) (x : Activation) → look_up i (activations_in s.incarnations) ≡ Some x → x.proc.0 < length w.tasks
   -- the objects of the opening keep their kinds, and no procedure is made
   pub kinds : (name : Name) → IsObject w name → IsSameKind (object (opening w) name) (object s name)
-  pub plain : (name : Name) → kernel_types + length w.objects ≤ name.0 → is_type PROCEDURE (object s name).of ≡ false
+  pub plain : (name : Name) → kernel_types + length w.objects ≤ name.0 → is_of_type PROCEDURE (object s name).of ≡ false
   pub low : kernel_types + length w.objects ≤ s.next_name.0
   pub first : s.first_new.0 ≡ kernel_types + length w.objects
 
@@ -60,7 +60,7 @@ pub record Kept (w : Setup) (own : Name → Proc) (s : State) : Type 0 where
 abbrev pub next_own : State → Proc → (Name → Proc) → Name → Proc
 next_own s p own name = cond (nat_lt name.0 s.next_name.0) (own name) p
 
-module _ (w : Setup) (s : State) (p : Proc) (own : Name → Proc) where
+module _ (w : WorldValue) (s : State) (p : Proc) (own : Name → Proc) where
   same_thing : (name : Name) → name.0 < s.next_name.0 → thing w (next_own s p own) name ≡ thing w own name
   same_thing name h = let e : nat_lt name.0 s.next_name.0 ≡ true = grind (arith, nat_tests) in rw e refl
 
@@ -119,7 +119,7 @@ some_same e = cc
 
 -- ---- one line
 
-module _ (w : Setup) (own : Name → Proc) (s : State) (line : Line) (t : State) (kept : Kept w own s) (sound : Sound s) (typed : (name : Name) → IsObject w (type_of w name)) (shown : ShownIf s line.inc (done_call line)) where
+module _ (w : WorldValue) (own : Name → Proc) (s : State) (line : Line) (t : State) (kept : Kept w own s) (sound : Sound s) (typed : (name : Name) → IsObject w (type_of w name)) (shown : ShownIf s line.inc (done_call line)) where
   -- the slots of an incarnation that is of this process where it lives
   slots_of : (i : Inc) (n : ℕ) (q : Proc) → ((x : Activation) → look_up i (activations_in s.incarnations) ≡ Some x → x.proc ≡ q) → Bounds w own (Slots q) (standing s (SlotOf i n))
   slots_of i n q h = by (lookup (same_inc i) s.incarnations) refl
@@ -219,8 +219,8 @@ module _ (w : Setup) (own : Name → Proc) (s : State) (line : Line) (t : State)
         let opens : is_opening s name ≡ true = let first = kept.first in grind (arith, nat_tests) in
         absurd (true≢false (sym opens ∙ gone.0))
 
-    line_plain : (name : Name) → kernel_types + length w.objects ≤ name.0 → KeepsKind s name (object t name) → is_type PROCEDURE (object t name).of ≡ false
-    line_plain name new (inl k) = ap (is_type PROCEDURE) k.of ∙ kept.plain name new
+    line_plain : (name : Name) → kernel_types + length w.objects ≤ name.0 → KeepsKind s name (object t name) → is_of_type PROCEDURE (object t name).of ≡ false
+    line_plain name new (inl k) = ap (is_of_type PROCEDURE) k.of ∙ kept.plain name new
     line_plain name new (inr (inl k)) = k.1
     line_plain name new (inr (inr gone)) = rw gone.1 refl
 

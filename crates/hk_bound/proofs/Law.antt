@@ -7,7 +7,7 @@ use Rattle.hk_model.specs.declared.names.Proc.{Proc}
 use Rattle.hk_model.specs.declared.entries.Cap.{Cap}
 use Rattle.hk_model.specs.declared.calls.Call.{Call}
 use Rattle.hk_model.specs.declared.lines.Line.{Line}
-use Rattle.hk_model.specs.Setup.{Setup, IsWorld}
+use Rattle.hk_model.specs.WorldValue.{WorldValue, IsWorld}
 use Rattle.hk_model.specs.Opening.{opening}
 use Rattle.hk_model.specs.State.{State}
 use Rattle.hk_model.specs.Running.{opened, moved, machine_at, state_at, AreStepsOf}
@@ -34,10 +34,10 @@ laws_each =
     (each_both (λ s line t. IsOwn s line) (λ s line t. Steady s t) own_each steady_each)
 
 -- what every state keeps, with some maker of each object
-abbrev AllKept : Setup → State → Type 0
+abbrev AllKept : WorldValue → State → Type 0
 AllKept w s = Sound s × NamesGiven s × ((own : Name → Proc) × Kept w own s)
 
-module _ (w : Setup) (world : IsWorld w) where
+module _ (w : WorldValue) (world : IsWorld w) where
   line_keeps : (s : State) (line : Line) (t : State) → Laws s line t → AllKept w s → AllKept w t
   line_keeps s line t laws (sound, given, (own, kept)) =
       let known = laws.0.0 sound in
@@ -47,10 +47,10 @@ module _ (w : Setup) (world : IsWorld w) where
         (next_own s line.proc own, line_kept w (next_own s line.proc own) s line t (next_kept w s line.proc own given kept) sound (types_old w world) laws.0.1 known laws.1.0 laws.1.1 (next_thing w s line.proc own kept.low)),
       )
 
-  opening_keeps : (other : Setup) → DiffersInCodes w other → AllKept w (opening other)
+  opening_keeps : (other : WorldValue) → DiffersInCodes w other → AllKept w (opening other)
   opening_keeps other d = subst (AllKept w) (sym (same_opening w other d)) (record { rises = opening_rises w; stacked = opening_stacked w }, opening_given w world, ((λ name. record { 0 = 0 }), opening_kept w (λ name. record { 0 = 0 }) world))
 
-  all_kept : (other : Setup) (lines : List Line) (moment : ℕ) → DiffersInCodes w other → AreStepsOf other lines → AllKept w (state_at other lines moment)
+  all_kept : (other : WorldValue) (lines : List Line) (moment : ℕ) → DiffersInCodes w other → AreStepsOf other lines → AllKept w (state_at other lines moment)
   unfolding opened
   all_kept other lines moment d h =
       state_kept (AllKept w) (each_more Laws (λ s line t. AllKept w s → AllKept w t) line_keeps laws_each) other (opened other) (take moment lines) (first_steps other (opened other) lines moment h) (opening_keeps other d)
@@ -62,7 +62,7 @@ module _ (w : Setup) (world : IsWorld w) where
       by None f = absurd (cc)
       by (Some c) f = refl
 
-  pub bound : (other : Setup) (lines : List Line) → DiffersInCodes w other → AreStepsOf other lines → BoundLaw w other lines
+  pub bound : (other : WorldValue) (lines : List Line) → DiffersInCodes w other → AreStepsOf other lines → BoundLaw w other lines
   bound other lines d h moment line name is old change =
       by (all_kept other lines moment d h)
     where
@@ -79,5 +79,5 @@ module _ (w : Setup) (world : IsWorld w) where
       by (sound, given, (own, kept)) =
           change_in_bound w own (state_at other lines moment) line (moved other (machine_at other lines moment) line.cpu).state kept sound (types_old w world) laws.0.1 (laws.1.0 (changed_done (state_at other lines moment) line name change)) (laws.0.0 sound) name old change
 
-pub law : (w other : Setup) (lines : List Line) → IsWorld w → DiffersInCodes w other → AreStepsOf other lines → BoundLaw w other lines
+pub law : (w other : WorldValue) (lines : List Line) → IsWorld w → DiffersInCodes w other → AreStepsOf other lines → BoundLaw w other lines
 law w other lines world d h = bound w world other lines d h

@@ -17,10 +17,10 @@ use Rattle.hk_model.specs.declared.world.Born.{Born}
 use Rattle.hk_model.specs.declared.world.Kind.{Kind}
 use Rattle.hk_model.specs.declared.world.Kind.TheVariants as kind
 use Rattle.hk_rights.specs.Rights.{has, all_rights}
-use Rattle.hk_model.specs.Setup.{Setup, IsObject, IsWorld, IsKind, IsDeclaredType}
+use Rattle.hk_model.specs.WorldValue.{WorldValue, IsObject, IsWorld, IsKind, IsDeclaredType}
 use Rattle.hk_model.specs.Opening.{opening, numbered, object_of}
 use Rattle.hk_model.specs.State.{object, same_name, no_object}
-use Rattle.hk_model.specs.Targets.{DATA, UNIVERSAL, PROCEDURE, kernel_types, is_type}
+use Rattle.hk_model.specs.Targets.{DATA, UNIVERSAL, PROCEDURE, kernel_types, is_of_type}
 use Rattle.hk_model.specs.Places.{Place, SlotOf, EntryOf, standing, is_empty}
 use Rattle.hk_model.proofs.Standing.{name_same}
 use Rattle.hk_model.proofs.NamesGiven.{IsBelow, NamesGiven, born_count, opening_given}
@@ -42,10 +42,10 @@ numbered_holds P none n (o ∷ os) h name = by (same_name name (record { 0 = n }
     by true later = h.0
     by false later = later
 
-abbrev IsTyped : Setup → Object → Type 0
+abbrev IsTyped : WorldValue → Object → Type 0
 IsTyped w o = o.of.0 < kernel_types + length w.objects
 
-kind_typed : (w : Setup) (k : Kind) → IsKind w k → IsTyped w (object_of k)
+kind_typed : (w : WorldValue) (k : Kind) → IsKind w k → IsTyped w (object_of k)
 kind_typed w kind.TypeObject h = omega arith
 kind_typed w (kind.Plain of words entries) h = by h.0
   where
@@ -56,53 +56,57 @@ kind_typed w (kind.Plain of words entries) h = by h.0
 kind_typed w (kind.Semaphore count) h = omega arith
 kind_typed w (kind.Procedure code params entries) h = omega arith
 
-kinds_typed : (w : Setup) (bs : List Born) → AllByRecursion (λ (b : Born). IsKind w b.kind) bs → AllByRecursion (IsTyped w) (map (λ (b : Born). object_of b.kind) bs)
+kinds_typed : (w : WorldValue) (bs : List Born) → AllByRecursion (λ (b : Born). IsKind w b.kind) bs → AllByRecursion (IsTyped w) (map (λ (b : Born). object_of b.kind) bs)
 kinds_typed w [] h = tt
 kinds_typed w (b ∷ bs) h = (kind_typed w b.kind h.0, kinds_typed w bs h.1)
 
-none_typed : (w : Setup) → IsTyped w no_object
+none_typed : (w : WorldValue) → IsTyped w no_object
 none_typed w = omega arith
 
-types_typed : (w : Setup) (n : ℕ) (os : List Object) → AllByRecursion (IsTyped w) os → AllByRecursion (IsTyped w) (replicate n no_object ++ os)
+types_typed : (w : WorldValue) (n : ℕ) (os : List Object) → AllByRecursion (IsTyped w) os → AllByRecursion (IsTyped w) (replicate n no_object ++ os)
 types_typed w zero os h = h
 types_typed w (suc n) os h = (none_typed w, types_typed w n os h)
 
-pub types_old : (w : Setup) → IsWorld w → (name : Name) → IsObject w (type_of w name)
+pub types_old : (w : WorldValue) → IsWorld w → (name : Name) → IsObject w (type_of w name)
 unfolding opening
 types_old w world name = numbered_holds (IsTyped w) (none_typed w) 0 (replicate kernel_types no_object ++ map (λ (b : Born). object_of b.kind) w.objects) (types_typed w kernel_types (map (λ (b : Born). object_of b.kind) w.objects) (kinds_typed w w.objects world.kinds)) name
 
 -- ---- no object has a later name
 
-numbered_none : (n : ℕ) (os : List Object) (name : Name) → n + length os ≤ name.0 → is_type PROCEDURE (unwrap_or (lookup (same_name name) (numbered {A = Object} {B = Name} (λ k. record { 0 = k }) n os)) no_object).of ≡ false
+numbered_none : (n : ℕ) (os : List Object) (name : Name) → n + length os ≤ name.0 → is_of_type PROCEDURE (unwrap_or (lookup (same_name name) (numbered {A = Object} {B = Name} (λ k. record { 0 = k }) n os)) no_object).of ≡ false
 numbered_none n [] name h = refl
 numbered_none n (o ∷ os) name h = by (same_name name (record { 0 = n })) refl (λ g. numbered_none (n + 1) os name g)
   where
-    by : (b : Bool) → same_name name (record { 0 = n }) ≡ b → (n + 1 + length os ≤ name.0 → is_type PROCEDURE (unwrap_or (lookup (same_name name) (numbered {A = Object} {B = Name} (λ k. record { 0 = k }) (n + 1) os)) no_object).of ≡ false)
-        → is_type PROCEDURE (unwrap_or (cond b (Some o) (lookup (same_name name) (numbered {A = Object} {B = Name} (λ k. record { 0 = k }) (n + 1) os))) no_object).of ≡ false
+    by : (b : Bool) → same_name name (record { 0 = n }) ≡ b → (n + 1 + length os ≤ name.0 → is_of_type PROCEDURE (unwrap_or (lookup (same_name name) (numbered {A = Object} {B = Name} (λ k. record { 0 = k }) (n + 1) os)) no_object).of ≡ false)
+        → is_of_type PROCEDURE (unwrap_or (cond b (Some o) (lookup (same_name name) (numbered {A = Object} {B = Name} (λ k. record { 0 = k }) (n + 1) os))) no_object).of ≡ false
     by true e later = let same : name.0 ≡ n = ap (λ (x : Name). x.0) (name_same name (record { 0 = n }) e) in absurd (omega (arith, h, same))
     by false e later = later (omega (arith, h))
 
-opening_plain : (w : Setup) (name : Name) → kernel_types + length w.objects ≤ name.0 → is_type PROCEDURE (object (opening w) name).of ≡ false
+opening_plain : (w : WorldValue) (name : Name) → kernel_types + length w.objects ≤ name.0 → is_of_type PROCEDURE (object (opening w) name).of ≡ false
 unfolding opening
 opening_plain w name h = let e = born_count w.objects in numbered_none 0 (replicate kernel_types no_object ++ map (λ (b : Born). object_of b.kind) w.objects) name (omega (arith, h, e))
 
 -- ---- base incarnations
 
-opening_base : (w : Setup) (i : Inc) (x : Activation) → look_up i (activations_in (opening w).incarnations) ≡ Some x → (x.proc.0 ≡ i.0) × (i.0 < length w.tasks)
+opening_base : (w : WorldValue) (i : Inc) (x : Activation) → look_up i (activations_in (opening w).incarnations) ≡ Some x → (x.proc.0 ≡ i.0) × (i.0 < length w.tasks)
 unfolding opening
 opening_base w i x h = let r = base_found 0 w.tasks i x h in (r.0, omega (arith, r.2))
 
-pub opening_next : (w : Setup) → (opening w).next_name.0 ≡ kernel_types + length w.objects
+<<<<<<< HEAD
+pub opening_next : (w : WorldValue) → (opening w).next_name.0 ≡ kernel_types + length w.objects
+=======
+opening_next : (w : WorldValue) → (opening w).next_name.0 ≡ kernel_types + length w.objects
+>>>>>>> main
 unfolding opening
 opening_next w = refl
 
-opening_first : (w : Setup) → (opening w).first_new.0 ≡ kernel_types + length w.objects
+opening_first : (w : WorldValue) → (opening w).first_new.0 ≡ kernel_types + length w.objects
 unfolding opening
 opening_first w = refl
 
 -- ---- what stands there
 
-opened_bounds : (w : Setup) (own : Name → Proc) (h : Holder) (n : ℕ) (e : Entry) → at_opening w h n ≡ e → IsBelow (kernel_types + length w.objects) e → Bounds w own h e
+opened_bounds : (w : WorldValue) (own : Name → Proc) (h : Holder) (n : ℕ) (e : Entry) → at_opening w h n ≡ e → IsBelow (kernel_types + length w.objects) e → Bounds w own h e
 opened_bounds w own h n Empty is below = tt
 opened_bounds w own h n (Held cap) is below =
     subst (λ (t : Thing). Follows w (Has h t) × ((m : ℕ) → IsTrue (has all_rights m) → IsTrue (has cap.rights m) → Follows w (Right h t m))) (sym (thing_old w own cap.name below))
@@ -111,7 +115,7 @@ opened_bounds w own h n (Form (template.Amplify None check give)) is below = tt
 opened_bounds w own h n (Form (template.Amplify (Some type) check give)) is below = λ old. record { asks = check; gives = give; follows = open_form h n type check give is; asked = λ m right there. there; given = λ m right there. there }
 opened_bounds w own h n (Form (template.Create of give)) is below = tt
 
-pub opening_kept : (w : Setup) (own : Name → Proc) → IsWorld w → Kept w own (opening w)
+pub opening_kept : (w : WorldValue) (own : Name → Proc) → IsWorld w → Kept w own (opening w)
 opening_kept w own world = record {
   slots = λ i n x h. in_slot i n x (opening_base w i x h).0;
   lists = λ name n. by name n (standing (opening w) (EntryOf name n)) refl;
@@ -146,6 +150,6 @@ opening_kept w own world = record {
     by name n (Form form) e = full name n (ap is_empty e)
 
 -- a world that differs in its codes alone opens the same
-pub same_opening : (w other : Setup) → DiffersInCodes w other → opening other ≡ opening w
+pub same_opening : (w other : WorldValue) → DiffersInCodes w other → opening other ≡ opening w
 unfolding opening
 same_opening w other d = rw (d.limit, d.objects, d.tasks) refl

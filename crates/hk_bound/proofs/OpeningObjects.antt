@@ -8,7 +8,7 @@ use Rattle.std.proofs.lemmas.Bool.Decides.{nat_tests}
 use Rattle.hk_model.specs.declared.names.Name.{Name}
 use Rattle.hk_model.specs.declared.objects.Object.{Object}
 use Rattle.hk_model.specs.declared.world.Born.{Born}
-use Rattle.hk_model.specs.Setup.{Setup}
+use Rattle.hk_model.specs.WorldValue.{WorldValue}
 use Rattle.hk_model.specs.State.{object, same_name, no_object}
 use Rattle.hk_model.specs.Opening.{opening, numbered, object_of}
 use Rattle.hk_model.specs.Targets.{kernel_types}
@@ -64,7 +64,7 @@ script_at (suc (suc (suc (suc (suc (suc zero)))))) j os e = absurd (omega (arith
 script_at (suc (suc (suc (suc (suc (suc (suc n))))))) j os e = let same : n ≡ j = omega (arith, e) in rw same refl
 
 -- a kernel type has nothing
-pub kernel_object : (w : Setup) (n : ℕ) → n < kernel_types → opening_object w n ≡ no_object
+pub kernel_object : (w : WorldValue) (n : ℕ) → n < kernel_types → opening_object w n ≡ no_object
 unfolding opening
 kernel_object w n h =
     let os : List Object = map (λ (b : Born). object_of b.kind) w.objects in
@@ -72,7 +72,7 @@ kernel_object w n h =
     ∙ kernel_at n (map (λ (b : Born). object_of b.kind) w.objects) h
 
 -- the objects of the script have the names behind
-pub script_object : (w : Setup) (n : ℕ) → kernel_types ≤ n → opening_object w n ≡ born_object w.objects (n - kernel_types)
+pub script_object : (w : WorldValue) (n : ℕ) → kernel_types ≤ n → opening_object w n ≡ born_object w.objects (n - kernel_types)
 unfolding opening
 script_object w n h =
     ap (λ (o : Option Object). unwrap_or o no_object)
@@ -91,9 +91,9 @@ slice_end [] (suc j) h = refl
 slice_end (x ∷ bs) zero h = absurd (omega (arith, h))
 slice_end (x ∷ bs) (suc j) h = slice_end bs j (omega (arith, h))
 
-pub born_there : (w : Setup) (n : ℕ) (b : Born) → kernel_types ≤ n → n - kernel_types < length w.objects → b ≡ get_or w.objects (n - kernel_types) b → opening_object w n ≡ object_of b.kind
+pub born_there : (w : WorldValue) (n : ℕ) (b : Born) → kernel_types ≤ n → n - kernel_types < length w.objects → b ≡ get_or w.objects (n - kernel_types) b → opening_object w n ≡ object_of b.kind
 born_there w n b h within e =
     script_object w n h ∙ ap (λ (o : Option Born). unwrap_or (option_map (λ (b : Born). object_of b.kind) o) no_object) (slice_at w.objects (n - kernel_types) b within e)
 
-pub born_gone : (w : Setup) (n : ℕ) → kernel_types ≤ n → length w.objects ≤ n - kernel_types → opening_object w n ≡ no_object
+pub born_gone : (w : WorldValue) (n : ℕ) → kernel_types ≤ n → length w.objects ≤ n - kernel_types → opening_object w n ≡ no_object
 born_gone w n h end = script_object w n h ∙ ap (λ (o : Option Born). unwrap_or (option_map (λ (b : Born). object_of b.kind) o) no_object) (slice_end w.objects (n - kernel_types) end)

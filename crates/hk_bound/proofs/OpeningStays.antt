@@ -29,7 +29,7 @@ use Rattle.hk_model.specs.Keeping.{is_opening, kept_objects, restricted}
 use Rattle.hk_model.specs.Effects.{IsSameKind}
 use Rattle.hk_model.specs.Refusing.{unless}
 use Rattle.hk_model.specs.Walking.{walk}
-use Rattle.hk_model.specs.Targets.{slot_at, create_form, last_step, SEMAPHORE, PROCEDURE, PROCESS, LNS, is_type, is_general, MODIFY+A0, target}
+use Rattle.hk_model.specs.Targets.{slot_at, create_form, last_step, SEMAPHORE, PROCEDURE, PROCESS, LNS, is_of_type, is_general, MODIFY+A0, target}
 use Rattle.hk_model.specs.Rule.{Outcome, outcome, counted, leave_to, token_given, plain_object, can_be_created, room_made, add_beside, get_word, put_word, add_word, word_count, load_entry, store_entry, append_entry, erase_entry, drop_slot, restrict_slot, look, make_template, create_object, merge_cap, copy_object, enter_procedure, leave, take_token, give_token}
 use Rattle.hk_model.specs.Processors.{ended}
 use Rattle.hk_model.proofs.Standing.{name_laws, on_cond, insert_holds}
@@ -42,7 +42,7 @@ use Rattle.hk_model.proofs.Steps.{EachStep, settled_keeps}
 
 -- a new object takes the next name, and is no procedure
 abbrev pub IsNewKind : State → Name → Object → Type 0
-IsNewKind s q o = (same_name q s.next_name ≡ true) × (is_type PROCEDURE o.of ≡ false)
+IsNewKind s q o = (same_name q s.next_name ≡ true) × (is_of_type PROCEDURE o.of ≡ false)
 
 -- an object that is none of the opening has gone
 abbrev pub IsGone : State → Name → Object → Type 0
@@ -92,16 +92,16 @@ same_kind : (a b : Object) → b ≡ a → IsSameKind a b
 same_kind a b e = subst (IsSameKind a) (sym e) (kind_self a)
 
 -- one more object, beside those that stay
-add_steady : (s : State) (room : List (Name × Object)) (o : Object) → Vanish s room → is_type PROCEDURE o.of ≡ false → Steady s (add_beside s room o)
+add_steady : (s : State) (room : List (Name × Object)) (o : Object) → Vanish s room → is_of_type PROCEDURE o.of ≡ false → Steady s (add_beside s room o)
 add_steady s room o v new = record { first = refl; kinds = kinds }
   where
     kinds : (q : Name) → KeepsKind s q (object (add_beside s room o) q)
     kinds q =
-        insert_holds name_cmp name_laws (λ b x. IsSameKind (object s q) x ⊎ (((b ≡ true) × (is_type PROCEDURE x.of ≡ false)) ⊎ IsGone s q x)) s.next_name q room o no_object
+        insert_holds name_cmp name_laws (λ b x. IsSameKind (object s q) x ⊎ (((b ≡ true) × (is_of_type PROCEDURE x.of ≡ false)) ⊎ IsGone s q x)) s.next_name q room o no_object
         (inr (inl (refl, new))) (by (left_kind s room v q))
       where
         by : (found_in q room ≡ object s q) ⊎ IsGone s q (found_in q room)
-            → IsSameKind (object s q) (found_in q room) ⊎ (((false ≡ true) × (is_type PROCEDURE (found_in q room).of ≡ false)) ⊎ IsGone s q (found_in q room))
+            → IsSameKind (object s q) (found_in q room) ⊎ (((false ≡ true) × (is_of_type PROCEDURE (found_in q room).of ≡ false)) ⊎ IsGone s q (found_in q room))
         by (inl e) = inl (same_kind (object s q) (found_in q room) e)
         by (inr h) = inr (inr h)
 
@@ -127,14 +127,14 @@ waiters_steady s name ps = put_steady s name (record (object s name) { waiters =
 slot_steady : (s : State) (inc : Inc) (slot : ℕ) (e : Entry) → Steady s (put_slot s inc slot e)
 slot_steady s inc slot e = steady_self s (put_slot s inc slot e) refl refl
 
-created_kind : (of : Name) (r : Refusal) (u : Unit {0}) → unless (can_be_created of) r ≡ Ok u → is_type PROCEDURE of ≡ false
+created_kind : (of : Name) (r : Refusal) (u : Unit {0}) → unless (can_be_created of) r ≡ Ok u → is_of_type PROCEDURE of ≡ false
 created_kind of r u h = by (of.0 == PROCEDURE) (unless_is (can_be_created of) r u h)
   where
     by : (b : Bool) → not (b || of.0 == PROCESS || of.0 == LNS) ≡ true → b ≡ false
     by true g = absurd (false≢true g)
     by false g = refl
 
-general_kind : (of : Name) → is_general of ≡ true → is_type PROCEDURE of ≡ false
+general_kind : (of : Name) → is_general of ≡ true → is_of_type PROCEDURE of ≡ false
 general_kind of h = grind (arith, nat_tests)
 
 -- the same with what is put into a slot besides
@@ -171,7 +171,7 @@ token_steady s name (first ∷ rest) = let k = waiters_steady s name rest in rec
 take_steady : (s : State) (proc : Proc) (inc : Inc) (path : List ℕ) → StaysSteady s (take_token s proc inc path)
 unfolding take_token
 take_steady s proc inc path =
-    then_is (λ f. Steady s f.1) (target s inc path (is_type SEMAPHORE) MODIFY+A0) (λ c. Ok (elim (nat_lt 0 (object s c.name).count) [
+    then_is (λ f. Steady s f.1) (target s inc path (is_of_type SEMAPHORE) MODIFY+A0) (λ c. Ok (elim (nat_lt 0 (object s c.name).count) [
       | true ↦ (Done, put_object s c.name (record (object s c.name) { count = (object s c.name).count - 1 }))
       | false ↦ (Waits, put_process (put_object s c.name (record (object s c.name) { waiters = (object s c.name).waiters ++ proc ∷ [] })) proc (record (process s proc) { run = Waiting c.name }))
     ])) (λ c g. by c (nat_lt 0 (object s c.name).count))

@@ -6,7 +6,7 @@ use Rattle.std.proofs.lemmas.Bool.{true≢false, false≢true}
 use Rattle.hk_model.specs.declared.names.Proc.{Proc}
 use Rattle.hk_rights.specs.Rights.{has, all_rights, all_but, ENV, MODIFY, UNCONF, load_right, copy_right, modify_right, env_right, unconf_right, a0_right, store_right, append_right}
 use Rattle.hk_rights.proofs.Sets.{has-bit_and, has-bit_or, has-bit_or_cases, has-bit_and_left, has-bit_and_right}
-use Rattle.hk_model.specs.Setup.{Setup}
+use Rattle.hk_model.specs.WorldValue.{WorldValue}
 use Rattle.hk_model.specs.Walking.{reduced_rights, confined_rights, local_rights}
 use Rattle.hk_model.specs.Targets.{PROCEDURE, is_general, is_listed}
 use Rattle.hk_model.proofs.RightsWithin.{HasAll-reduced}
@@ -17,7 +17,7 @@ use Rattle.hk_bound.specs.Rules.{Passes}
 use Rattle.hk_bound.proofs.Bounded.{reduced_unconf, reduced_env}
 use Rattle.hk_bound.proofs.Reductions.{reduced_or_cases}
 
-module _ (w : Setup) (forms : List Form) where
+module _ (w : WorldValue) (forms : List Form) where
   -- by things and templates alike
   passed : (from to : Holder) (column r s : ℕ) → ((x : Thing) → ThingFollows w from x r → ThingFollows w to x s)
       → (IsTrue (has s env_right) → IsTrue (has r env_right)) → ((f : Form) → IsTrue (has s env_right) → Follows w (Amplifies from f.of f.check f.give) → Follows w (Amplifies to f.of f.check f.give))

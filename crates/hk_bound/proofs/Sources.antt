@@ -14,7 +14,7 @@ use Rattle.hk_model.specs.declared.entries.Param.{Param}
 use Rattle.hk_model.specs.declared.entries.Template.TheVariants as template
 use Rattle.hk_rights.specs.Rights.{has, all_rights, all_but, minus, special_rights, HasAll, IsRightsWord, ENV, load_right, copy_right, modify_right, env_right, unconf_right, a0_right, store_right, append_right}
 use Rattle.hk_rights.proofs.Sets.{has-bit_or, has-bit_or_cases, has-bit_and_left, has-bit_and_right, left_of, right_of}
-use Rattle.hk_model.specs.Setup.{Setup, IsWorld}
+use Rattle.hk_model.specs.WorldValue.{WorldValue, IsWorld}
 use Rattle.hk_model.specs.Opening.{opening}
 use Rattle.hk_model.specs.Walking.{reduced_rights}
 use Rattle.hk_model.specs.Merging.{merged_rights}
@@ -34,7 +34,7 @@ use Rattle.hk_bound.proofs.Passing.{load_follows, enter_follows, store_follows, 
 pub same_some : {A : Type 0} {x y : A} → ◌≡◌ {A = Option A} (Some x) (Some y) → x ≡ y
 same_some e = cc
 
-module _ (w : Setup) (forms : List Form) where
+module _ (w : WorldValue) (forms : List Form) where
   -- ---- the opening
 
   -- what a holder opens with

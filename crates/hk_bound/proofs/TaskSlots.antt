@@ -11,7 +11,7 @@ use Rattle.hk_model.specs.declared.entries.Entry.TheVariants.{Empty}
 use Rattle.hk_model.specs.declared.objects.Incarnation.{Incarnation}
 use Rattle.hk_model.specs.declared.world.Task.{Task}
 use Rattle.hk_model.specs.Limits.{slot_limit}
-use Rattle.hk_model.specs.Setup.{Setup}
+use Rattle.hk_model.specs.WorldValue.{WorldValue}
 use Rattle.hk_model.specs.State.{same_inc, no_incarnation}
 use Rattle.hk_model.specs.Opening.{opening, bases, base_of}
 use Rattle.hk_model.specs.Places.{is_empty}
@@ -54,7 +54,7 @@ bases_at n k (suc j) (t ∷ ts) index e =
     let next : n ≡ k + 1 + j = omega (arith, e) in
     rw other (bases_at n (k + 1) j ts index next)
 
-slots_are : (w : Setup) (p index : ℕ) → at_opening w (Slots (proc_at p)) index ≡ task_slot (slice_get w.tasks p) index
+slots_are : (w : WorldValue) (p index : ℕ) → at_opening w (Slots (proc_at p)) index ≡ task_slot (slice_get w.tasks p) index
 unfolding opening
 slots_are w p index = bases_at p 0 p w.tasks index (omega arith)
 
@@ -75,7 +75,7 @@ unpadded [] m k e h f = absurd (true≢false (sym (ap is_empty (sym h ∙ emptie
 unpadded (x ∷ es) m zero e h f = ap Some h
 unpadded (x ∷ es) m (suc k) e h f = unpadded es m k e h f
 
-pub opens_from : (w : Setup) (p k : ℕ) (task : Task) (e : Entry) → slice_get w.tasks p ≡ Some task → slice_get task.slots k ≡ Some e → OpensWith w p e
+pub opens_from : (w : WorldValue) (p k : ℕ) (task : Task) (e : Entry) → slice_get w.tasks p ≡ Some task → slice_get task.slots k ≡ Some e → OpensWith w p e
 opens_from w p k task e is slot = record {
   index = k;
   at = slots_are w p k ∙ (ap (λ (o : Option Task). task_slot o k) is ∙ padded task.slots (slot_limit - length task.slots) k e slot);
@@ -84,7 +84,7 @@ opens_from w p k task e is slot = record {
   slot = slot;
 }
 
-pub opens_to : (w : Setup) (p k : ℕ) (e : Entry) → at_opening w (Slots (proc_at p)) k ≡ e → is_empty e ≡ false → OpensWith w p e
+pub opens_to : (w : WorldValue) (p k : ℕ) (e : Entry) → at_opening w (Slots (proc_at p)) k ≡ e → is_empty e ≡ false → OpensWith w p e
 opens_to w p k e at full = by (slice_get w.tasks p) refl (sym (slots_are w p k) ∙ at)
   where
     by : (o : Option Task) → slice_get w.tasks p ≡ o → task_slot o k ≡ e → OpensWith w p e

@@ -4,7 +4,7 @@ use Rattle.std.specs.Prelude.{IfSome, ◌⊎◌, option_map}
 use mathlib.Core.Logic.{inl, inr}
 use Rattle.hk_rights.specs.Rights.{has, all_rights, HasAll}
 use Rattle.hk_rights.proofs.Sets.{has-bit_or, or_right}
-use Rattle.hk_model.specs.Setup.{Setup}
+use Rattle.hk_model.specs.WorldValue.{WorldValue}
 use Rattle.hk_bound.specs.declared.forms.Form.{Form}
 use Rattle.hk_bound.specs.declared.gaps.Taking.{Taking}
 use Rattle.hk_bound.specs.Taking.{type_of}
@@ -19,7 +19,7 @@ more_left a b n h = rw (has-bit_or a b n, h) refl
 more_right : (a b : ℕ) → HasAll (bit_or a b) b
 more_right a b n h = rw (has-bit_or a b n, h) (or_right (has a n) true refl)
 
-module _ (w : Setup) (forms : List Form) (rows : List (List (Option ℕ))) (p q : ℕ) where
+module _ (w : WorldValue) (forms : List Form) (rows : List (List (Option ℕ))) (p q : ℕ) where
   pub passes_joined : (o m : Option ℕ) → IfSome o (Passes w forms p q) → IfSome m (Passes w forms p q) → IfSome (joined_cells o m) (Passes w forms p q)
   passes_joined o None f g = f
   passes_joined None (Some b) f g = g

@@ -7,7 +7,7 @@ use Rattle.hk_model.specs.declared.entries.Param.{Param}
 use Rattle.hk_model.specs.declared.entries.Template.TheVariants as template
 use Rattle.hk_model.specs.declared.world.Task.{Task}
 use Rattle.hk_rights.specs.Rights.{all_rights}
-use Rattle.hk_model.specs.Setup.{Setup}
+use Rattle.hk_model.specs.WorldValue.{WorldValue}
 use Rattle.hk_model.specs.Targets.{TYPE}
 use Rattle.hk_bound.specs.declared.forms.Form.{Form}
 use Rattle.hk_bound.specs.Taking.{type_of}
@@ -51,12 +51,12 @@ abbrev pub HaveParamForms : List Form → List Param → Type 0
 HaveParamForms forms params = Each (λ param. IfSome (param_form param) (Holds forms)) params
 
 -- what an object of the opening has of templates is there
-pub record HaveObjectForms (w : Setup) (forms : List Form) (name : ℕ) : Type 0 where
+pub record HaveObjectForms (w : WorldValue) (forms : List Form) (name : ℕ) : Type 0 where
   pub entries : HaveEntryForms forms (opening_entries w name)
   pub params : HaveParamForms forms (opening_params w name)
   pub made : (type_of w (name_at name)).0 ≡ TYPE → Holds forms (made_form (name_at name))
 
 -- all templates of a world are there
-pub record AreForms (w : Setup) (forms : List Form) : Type 0 where
+pub record AreForms (w : WorldValue) (forms : List Form) : Type 0 where
   pub objects : (name : ℕ) → name < object_count w → HaveObjectForms w forms name
   pub slots : Each (λ (task : Task). HaveEntryForms forms task.slots) w.tasks

@@ -9,7 +9,7 @@ use Rattle.hk_model.specs.declared.entries.Template.TheVariants as template
 use Rattle.hk_model.specs.declared.entries.Entry.{Entry}
 use Rattle.hk_model.specs.declared.entries.Entry.TheVariants.{Empty, Held, Form}
 use Rattle.hk_rights.specs.Rights.{has, all_rights, special_rights, load_right, copy_right, modify_right, env_right, unconf_right, a0_right, STORE, APPEND, MODIFY, ENV, UNCONF}
-use Rattle.hk_model.specs.Setup.{Setup, IsObject}
+use Rattle.hk_model.specs.WorldValue.{WorldValue, IsObject}
 use Rattle.hk_model.specs.State.{object}
 use Rattle.hk_model.specs.Opening.{opening}
 use Rattle.hk_model.specs.Targets.{TYPE, PROCEDURE, is_general, is_listed}
@@ -33,21 +33,21 @@ pub data Fact : Type 0 where
   Amplifies : (holder : Holder) (type : Name) (check give : ℕ) → Fact
 
 -- what a holder has at the opening: process p has the base incarnation p, and nothing is made yet
-abbrev pub at_opening : Setup → Holder → ℕ → Entry
+abbrev pub at_opening : WorldValue → Holder → ℕ → Entry
 at_opening w (Slots proc) index = standing (opening w) (SlotOf (record { 0 = proc.0 }) index)
 at_opening w (ListOf (Old name)) index = standing (opening w) (EntryOf name index)
 at_opening w (ListOf (MadeBy maker)) index = Empty
 
 -- the type of an object of the opening, which never changes
-abbrev pub type_of : Setup → Name → Name
+abbrev pub type_of : WorldValue → Name → Name
 type_of w name = (object (opening w) name).of
 
 -- what is made counts as general and as listed
-abbrev pub has_words : Setup → Thing → Bool
+abbrev pub has_words : WorldValue → Thing → Bool
 has_words w (Old name) = is_general (type_of w name)
 has_words w (MadeBy maker) = true
 
-abbrev pub has_list : Setup → Thing → Bool
+abbrev pub has_list : WorldValue → Thing → Bool
 has_list w (Old name) = is_listed (type_of w name)
 has_list w (MadeBy maker) = true
 
@@ -60,7 +60,7 @@ abbrev pub STORE+APPEND : ℕ
 STORE+APPEND = STORE + APPEND
 
 -- what follows from the opening of a world by the rules
-pub data Follows (w : Setup) : Fact → Type 0 where
+pub data Follows (w : WorldValue) : Fact → Type 0 where
   -- the opening: the capabilities in slots and lists, with their rights, and the Amplify templates that name a type
   open_has : (h : Holder) (index : ℕ) (cap : Cap) → at_opening w h index ≡ Held cap → Follows w (Has h (Old cap.name))
   open_gives : (h : Holder) (index : ℕ) (cap : Cap) (n : ℕ) → at_opening w h index ≡ Held cap → IsTrue (has all_rights n) → IsTrue (has cap.rights n)

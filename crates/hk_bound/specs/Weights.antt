@@ -1,7 +1,7 @@
 -- How much rows weigh: how many cells they have that are not empty, and how many rights in them.
 use Rattle.std.specs.Prelude.{ℕ, ◌+◌, ◌*◌, Bool, true, false, List, [], ◌∷◌, length, Option, Some, None}
 use Rattle.hk_rights.specs.Rights.{has, right_numbers}
-use Rattle.hk_model.specs.Setup.{Setup}
+use Rattle.hk_model.specs.WorldValue.{WorldValue}
 use Rattle.hk_bound.specs.declared.forms.Form.{Form}
 use Rattle.hk_bound.specs.Columns.{width_of}
 
@@ -26,5 +26,5 @@ rows_weight [] = 0
 rows_weight (row ∷ rows) = row_weight row + rows_weight rows
 
 -- no rows of a world weigh more
-abbrev pub most_weight : Setup → List Form → ℕ
+abbrev pub most_weight : WorldValue → List Form → ℕ
 most_weight w forms = length w.tasks * (20 * width_of w forms)

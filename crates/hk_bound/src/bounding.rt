@@ -1,7 +1,7 @@
 // The bounds of all processes of a world.
 
 ghost use Rattle.std.specs.Prelude.{◌≡◌, ◌↔◌, ◌<◌, ℕ, ◌+◌, IsTrue, IfOk, OnOk, IfSome, Some, length, slice_get};
-ghost use Rattle.hk_model.specs.Setup.{IsWorld};
+ghost use Rattle.hk_model.specs.WorldValue.{IsWorld};
 ghost use Rattle.hk_bound.specs.Columns.{proc_at, name_at, object_count, width_of, cell, AreRows, RowsFollow};
 ghost use Rattle.hk_bound.specs.Forms.{AreForms};
 ghost use Rattle.hk_bound.specs.Rounds.{Settles, Rounds};

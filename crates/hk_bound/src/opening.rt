@@ -1,7 +1,7 @@
 // What a world opens with (`docs/RULES.md`, "The opening").
 
 ghost use Rattle.std.specs.Prelude.{◌≡◌, MatchOption};
-ghost use Rattle.hk_model.specs.Setup.{IsWorld};
+ghost use Rattle.hk_model.specs.WorldValue.{IsWorld};
 ghost use Rattle.hk_model.specs.Targets.{is_general, is_listed};
 ghost use Rattle.hk_bound.specs.Taking.{type_of};
 ghost use Rattle.hk_bound.specs.Columns.{name_at, object_count, opening_entries, opening_params, opening_object};

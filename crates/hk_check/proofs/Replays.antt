@@ -11,7 +11,7 @@ use Rattle.hk_model.specs.declared.lines.Line.{Line}
 use Rattle.hk_model.specs.declared.lines.End.{End}
 use Rattle.hk_model.specs.declared.verdicts.Misstep.{Misstep}
 use Rattle.hk_model.specs.declared.verdicts.Misstep.TheVariants as misstep
-use Rattle.hk_model.specs.Setup.{Setup}
+use Rattle.hk_model.specs.WorldValue.{WorldValue}
 use Rattle.hk_model.specs.Running.{Machine, AreStepsOf, after_lines, opened, step, line_of}
 use Rattle.hk_model.specs.Legal.{IsLegal, end_word}
 use Rattle.hk_model.specs.Verdicts.{Differs, IsBySame, IsMisstep}
@@ -20,12 +20,12 @@ use Rattle.hk_program.specs.Machines.{IsSound}
 use Rattle.hk_program.proofs.Machines.{steps_snoc, step_cpu, lines_within}
 
 -- these lines are steps, and lead to this machine
-pub record IsReplay (w : Setup) (lines : List Line) (m : Machine) : Type 0 where
+pub record IsReplay (w : WorldValue) (lines : List Line) (m : Machine) : Type 0 where
   pub steps : AreStepsOf w lines
   pub is : m ≡ after_lines w (opened w) lines
   pub sound : IsSound w m
 
-pub replay_begins : (w : Setup) (m : Machine) → m ≡ opened w → IsSound w m → IsReplay w [] m
+pub replay_begins : (w : WorldValue) (m : Machine) → m ≡ opened w → IsSound w m → IsReplay w [] m
 replay_begins w m h sound = record { steps = tt; is = h; sound = sound }
 
 -- one line more
@@ -40,13 +40,15 @@ take_one lines n line h = rw (next n) (by lines n h)
     by (x ∷ lines) zero h = let same : x ≡ line = cc in rw same refl
     by (x ∷ lines) (suc n) h = ap (λ (l : List Line). x ∷ l) (by lines n h)
 
-pub replay_goes_on : (w : Setup) (lines : List Line) (n : ℕ) (m new : Machine) (line : Line) → IsReplay w (take n lines) m → slice_get lines n ≡ Some line → step w m line.cpu ≡ Some (line, new) → IsSound w new → IsReplay w (take (n + 1) lines) new
+pub replay_goes_on : (w : WorldValue) (lines : List Line) (n : ℕ) (m new : Machine) (line : Line) → IsReplay w (take n lines) m → slice_get lines n ≡ Some line
+    → step w m line.cpu ≡ Some (line, new) → IsSound w new → IsReplay w (take (n + 1) lines) new
 replay_goes_on w lines n m new line h there e sound =
     let longer = steps_snoc w (take n lines) m line.cpu line new h.steps h.is e in
     subst (λ (l : List Line). IsReplay w l new) (sym (take_one lines n line there)) (record { steps = longer.steps; is = longer.is; sound = sound })
 
 -- the first bad line
-pub line_is_bad : (w : Setup) (lines : List Line) (end : End) (n : ℕ) (m : Machine) (line : Line) (cause : Misstep) → IsReplay w (take n lines) m → slice_get lines n ≡ Some line → Differs (line_of w m line.cpu) line cause → IsMisstep w lines end (n + 1) cause
+pub line_is_bad : (w : WorldValue) (lines : List Line) (end : End) (n : ℕ) (m : Machine) (line : Line) (cause : Misstep) → IsReplay w (take n lines) m
+    → slice_get lines n ≡ Some line → Differs (line_of w m line.cpu) line cause → IsMisstep w lines end (n + 1) cause
 line_is_bad w lines end n m line cause h there d = by cause (subst (λ (k : Machine). Differs (line_of w k line.cpu) line cause) h.is d)
   where
     none : (o : Option Line) → Differs o line misstep.EndWord → ⊥
@@ -70,7 +72,7 @@ length_take lines zero h = zero_lines lines
 length_take [] (suc n) h = absurd (omega arith)
 length_take (x ∷ lines) (suc n) h = let rest = length_take lines n (omega arith) in omega (arith, rest)
 
-pub few_lines : (w : Setup) (lines : List Line) (n : ℕ) (m : Machine) → IsReplay w (take n lines) m → n ≤ length lines → n ≤ 1000000
+pub few_lines : (w : WorldValue) (lines : List Line) (n : ℕ) (m : Machine) → IsReplay w (take n lines) m → n ≤ length lines → n ≤ 1000000
 few_lines w lines n m h below =
     let a = lines_within w (take n lines) h.sound.world h.steps in
     let b = length_take lines n below in
@@ -78,10 +80,11 @@ few_lines w lines n m h below =
     omega (arith, a, b, c)
 
 -- all lines are steps
-pub record_is_legal : (w : Setup) (lines : List Line) (end : End) (m : Machine) → IsReplay w lines m → end_word m.state ≡ Some end → IsLegal w lines end
+pub record_is_legal : (w : WorldValue) (lines : List Line) (end : End) (m : Machine) → IsReplay w lines m → end_word m.state ≡ Some end → IsLegal w lines end
 record_is_legal w lines end m h e = record { steps = h.steps; ends = subst (λ (k : Machine). end_word k.state ≡ Some end) h.is e }
 
-pub end_is_bad : (w : Setup) (lines : List Line) (end : End) (n : ℕ) (m : Machine) → n ≡ length lines → IsReplay w lines m → (end_word m.state ≡ Some end → ⊥) → IsMisstep w lines end (n + 1) misstep.EndWord
+pub end_is_bad : (w : WorldValue) (lines : List Line) (end : End) (n : ℕ) (m : Machine) → n ≡ length lines → IsReplay w lines m → (end_word m.state ≡ Some end → ⊥)
+    → IsMisstep w lines end (n + 1) misstep.EndWord
 end_is_bad w lines end n m many h e = record { number = ap (λ (k : ℕ). k + 1) many; steps = h.steps; differs = subst (λ (k : Machine). end_word k.state ≡ Some end → ⊥) h.is e }
 
 -- behind all lines
@@ -91,24 +94,26 @@ take_all [] (suc n) h = refl
 take_all (x ∷ lines) zero h = absurd (omega arith)
 take_all (x ∷ lines) (suc n) h = ap (λ (l : List Line). x ∷ l) (take_all lines n (omega arith))
 
-pub whole_replay : (w : Setup) (lines : List Line) (n : ℕ) (m : Machine) → IsReplay w (take n lines) m → length lines ≤ n → IsReplay w lines m
+pub whole_replay : (w : WorldValue) (lines : List Line) (n : ℕ) (m : Machine) → IsReplay w (take n lines) m → length lines ≤ n → IsReplay w lines m
 whole_replay w lines n m h all = subst (λ (l : List Line). IsReplay w l m) (take_all lines n all) h
 
-pub few_in_all : (w : Setup) (lines : List Line) (m : Machine) → IsReplay w lines m → length lines ≤ 1000000
+pub few_in_all : (w : WorldValue) (lines : List Line) (m : Machine) → IsReplay w lines m → length lines ≤ 1000000
 few_in_all w lines m h = let a = lines_within w lines h.sound.world h.steps in let c = h.sound.world.few_events in omega (arith, a, c)
 
 -- the line of a step is its processor's
-pub step_is_of : (w : Setup) (m : Machine) (cpu : Cpu) (line : Line) (new : Machine) → step w m cpu ≡ Some (line, new) → line.cpu ≡ cpu
+pub step_is_of : (w : WorldValue) (m : Machine) (cpu : Cpu) (line : Line) (new : Machine) → step w m cpu ≡ Some (line, new) → line.cpu ≡ cpu
 step_is_of w m cpu line new e = subst (λ (found : Option (Line × Machine)). IfSome found (λ f. f.0.cpu ≡ cpu)) e (step_cpu w m cpu)
 
 -- the first cause is how the line differs, and there is none where it is the step
-pub cause_differs : (made line : Line) (by event reply : Bool) → Decides by (IsBySame made line) → Decides event (made.what ≡ line.what) → Decides reply (made.reply ≡ line.reply) → IfSome (first_cause by event reply) (λ cause. Differs (Some made) line cause)
+pub cause_differs : (made line : Line) (by event reply : Bool) → Decides by (IsBySame made line) → Decides event (made.what ≡ line.what) → Decides reply (made.reply ≡ line.reply)
+    → IfSome (first_cause by event reply) (λ cause. Differs (Some made) line cause)
 cause_differs made line false event reply a b c = λ h. true≢false (sym (a.1 h))
 cause_differs made line true false reply a b c = (a.0 refl, λ h. true≢false (sym (b.1 h)))
 cause_differs made line true true false a b c = (a.0 refl, b.0 refl, λ h. true≢false (sym (c.1 h)))
 cause_differs made line true true true a b c = tt
 
-pub no_cause : (made line : Line) (by event reply : Bool) → made.cpu ≡ line.cpu → Decides by (IsBySame made line) → Decides event (made.what ≡ line.what) → Decides reply (made.reply ≡ line.reply) → IfNone (first_cause by event reply) (made ≡ line)
+pub no_cause : (made line : Line) (by event reply : Bool) → made.cpu ≡ line.cpu → Decides by (IsBySame made line) → Decides event (made.what ≡ line.what)
+    → Decides reply (made.reply ≡ line.reply) → IfNone (first_cause by event reply) (made ≡ line)
 no_cause made line false event reply e a b c = tt
 no_cause made line true false reply e a b c = tt
 no_cause made line true true false e a b c = tt

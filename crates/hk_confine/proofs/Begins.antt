@@ -18,11 +18,11 @@ use Rattle.hk_model.specs.declared.calls.Call.TheVariants as call
 use Rattle.hk_model.specs.declared.lines.Line.{Line}
 use Rattle.hk_model.specs.declared.objects.Incarnation.{Incarnation}
 use Rattle.hk_rights.specs.Rights.{has, modify_right, unconf_right}
-use Rattle.hk_model.specs.Setup.{Setup, IsWorld}
+use Rattle.hk_model.specs.WorldValue.{WorldValue, IsWorld}
 use Rattle.hk_model.specs.State.{State, object, incarnation, same_inc, no_incarnation}
 use Rattle.hk_model.specs.Walking.{confined_rights}
 use Rattle.hk_model.specs.Merging.{inherited}
-use Rattle.hk_model.specs.Places.{Place, SlotOf, EntryOf, standing, is_empty, rights_of, found, named_by, entry_given}
+use Rattle.hk_model.specs.Places.{Place, SlotOf, EntryOf, standing, is_empty, rights_held, found, named_by, entry_given}
 use Rattle.hk_model.specs.Lines.{done_call, enters_call, param_count, line_before}
 use Rattle.hk_model.specs.Running.{Machine, opened, machine_at, state_at, AreSteps, AreStepsOf}
 use Rattle.hk_model.specs.Under.{is_one_of, under_by, is_under, is_made_under, IsCall, parameters}
@@ -52,14 +52,18 @@ inherited_lacks : (e x : Entry) → x ≡ inherited true e → (cap : Cap) → x
 inherited_lacks Empty x h cap g = absurd (cc)
 inherited_lacks (Form form) x h cap g = absurd (cc)
 inherited_lacks (Held old) x h cap g =
-    let same : confined_rights old.rights ≡ cap.rights = rights_same (sym h ∙ g) in
-    (λ r. confined_lacks old.rights modify_right refl (ap (λ n. has n modify_right) same ∙ r), λ r. confined_lacks old.rights unconf_right refl (ap (λ n. has n unconf_right) same ∙ r))
+    let same : confined_rights old.rights ≡ cap.rights = rights_same (sym h ∙ g) in (
+      λ r. confined_lacks old.rights modify_right refl (ap (λ n. has n modify_right) same ∙ r),
+      λ r. confined_lacks old.rights unconf_right refl
+          (ap (λ n. has n unconf_right) same ∙ r),
+    )
   where
     rights_same : {a b : Cap} → Held a ≡ Held b → a.rights ≡ b.rights
-    rights_same e = ap rights_of e
+    rights_same e = ap rights_held e
 
 -- a slot of a confined call has a parameter, or what is inherited
-call_way_gives : (s : State) (inc : Inc) (procedure : Name) (args : List ℕ) (params : List Param) (n : ℕ) (x : Entry) → Writes s inc (call_way procedure true args params n) x → (n < length args) ⊎ ((cap : Cap) → x ≡ Held cap → Lacks cap)
+call_way_gives : (s : State) (inc : Inc) (procedure : Name) (args : List ℕ) (params : List Param) (n : ℕ) (x : Entry) → Writes s inc (call_way procedure true args params n) x
+    → (n < length args) ⊎ ((cap : Cap) → x ≡ Held cap → Lacks cap)
 call_way_gives s inc procedure [] params n x h = inr (inherited_lacks (standing s (EntryOf procedure n)) x h)
 call_way_gives s inc procedure (arg ∷ args) [] n x h = inr (inherited_lacks (standing s (EntryOf procedure n)) x h)
 call_way_gives s inc procedure (arg ∷ args) (param ∷ params) zero x h = inl (omega arith)
@@ -92,7 +96,7 @@ holder_found s i n cap h = activation_live s.incarnations i (by (lookup (same_in
 
 -- ---- the beginning
 
-module _ (w : Setup) (lines : List Line) (h : AreStepsOf w lines) (k : ℕ) (top : Inc) (c : IsCall w lines k top) where
+module _ (w : WorldValue) (lines : List Line) (h : AreStepsOf w lines) (k : ℕ) (top : Inc) (c : IsCall w lines k top) where
   abbrev before : State
   before = state_at w lines c.earlier
 
@@ -111,7 +115,8 @@ module _ (w : Setup) (lines : List Line) (h : AreStepsOf w lines) (k : ℕ) (top
   done : HasDoneThat before c.line.inc (done_call c.line) start.incarnations
   done = subst (λ n. HasDoneThat before c.line.inc (done_call c.line) (state_at w lines n).incarnations) (sym c.moment)
       (subst (λ (m : Machine). HasDoneThat before c.line.inc (done_call c.line) m.state.incarnations) (sym (after_next w (opened w) lines c.earlier c.line c.is))
-      (moved_holds (λ s l t. HasDoneThat s l.inc (done_call l) t.incarnations) done_each w (machine_at w lines c.earlier) c.line (line_steps w (opened w) lines c.earlier c.line h c.is)))
+      (moved_holds (λ s l t. HasDoneThat s l.inc (done_call l) t.incarnations) done_each w (machine_at w lines c.earlier) c.line
+      (line_steps w (opened w) lines c.earlier c.line h c.is)))
 
   pub steps_then : AreSteps w (machine_at w lines k) (drop k lines)
   steps_then = later_steps w (opened w) lines k h
@@ -135,7 +140,9 @@ module _ (w : Setup) (lines : List Line) (h : AreStepsOf w lines) (k : ℕ) (top
 
   -- the callers of those who live
   pub first_family : Family under top start
-  first_family i j x g called apart = by (found_last (activations_in before.incarnations) before.next_inc i (record { proc = c.line.proc; caller = Some c.line.inc }) x (subst (λ fs. look_up i fs ≡ Some x) (enters_turn before c.line start begun.turn c.enters).activations g))
+  first_family i j x g called apart =
+      by (found_last (activations_in before.incarnations) before.next_inc i (record { proc = c.line.proc; caller = Some c.line.inc }) x
+      (subst (λ fs. look_up i fs ≡ Some x) (enters_turn before c.line start begun.turn c.enters).activations g))
     where
       by : (look_up i (activations_in before.incarnations) ≡ Some x) ⊎ ((i ≡ before.next_inc) × (record { proc = c.line.proc; caller = Some c.line.inc } ≡ x)) → under i ≡ under j
       by (inl a) =
@@ -155,30 +162,37 @@ module _ (w : Setup) (lines : List Line) (h : AreStepsOf w lines) (k : ℕ) (top
     abbrev FirstOf : Option Call → ℕ → Type 0
     FirstOf o n = (n < param_count o) ⊎ ((cap : Cap) → standing start (SlotOf top n) ≡ Held cap → Lacks cap)
 
-    entered_first : (path args : List ℕ) (into : Slot) (n : ℕ) → IsEntered before c.line.inc path start.incarnations → Wrote before c.line.inc (standing before (SlotOf top n)) (way before c.line.inc (call.Enter path args into) (SlotOf top n)) (standing start (SlotOf top n)) → FirstOf (Some (call.Enter path args into)) n
-    entered_first path args into n e g = by_slot (same_inc top before.next_inc) new (not (has (rights_of (found before c.line.inc path)) unconf_right)) confines g
+    entered_first : (path args : List ℕ) (into : Slot) (n : ℕ) → IsEntered before c.line.inc path start.incarnations
+        → Wrote before c.line.inc (standing before (SlotOf top n)) (way before c.line.inc (call.Enter path args into) (SlotOf top n)) (standing start (SlotOf top n))
+        → FirstOf (Some (call.Enter path args into)) n
+    entered_first path args into n e g = by_slot (same_inc top before.next_inc) new (not (has (rights_held (found before c.line.inc path)) unconf_right)) confines g
       where
         new : same_inc top before.next_inc ≡ true
         new = ap (λ (i : Inc). same_inc top i) (sym c.made) ∙ inc_laws.refl top
 
-        confines : not (has (rights_of (found before c.line.inc path)) unconf_right) ≡ true
-        confines = ap (λ r. not (has (rights_of (entry_given r)) unconf_right)) e.leads ∙ sym e.confined ∙ ap (λ (i : Inc). (incarnation start i).confined) (sym c.made) ∙ confined
+        confines : not (has (rights_held (found before c.line.inc path)) unconf_right) ≡ true
+        confines =
+            ap (λ r. not (has (rights_held (entry_given r)) unconf_right)) e.leads ∙ sym e.confined ∙ ap (λ (i : Inc). (incarnation start i).confined) (sym c.made) ∙ confined
 
         nothing : standing start (SlotOf top n) ≡ Empty → FirstOf (Some (call.Enter path args into)) n
         nothing none = inr (λ cap there. absurd (cc))
 
         by_slot : (b : Bool) → b ≡ true → (flag : Bool) → flag ≡ true
-            → Wrote before c.line.inc (standing before (SlotOf top n)) (cond b (Some (call_way (named_by before c.line.inc path) flag args (object before (named_by before c.line.inc path)).params n)) None) (standing start (SlotOf top n))
+            → Wrote before c.line.inc (standing before (SlotOf top n))
+            (cond b (Some (call_way (named_by before c.line.inc path) flag args (object before (named_by before c.line.inc path)).params n)) None) (standing start (SlotOf top n))
             → FirstOf (Some (call.Enter path args into)) n
         by_slot true q true r (inl none) = nothing none
-        by_slot true q true r (inr wrote) = call_way_gives before c.line.inc (named_by before c.line.inc path) args (object before (named_by before c.line.inc path)).params n (standing start (SlotOf top n)) wrote
+        by_slot true q true r (inr wrote) =
+            call_way_gives before c.line.inc (named_by before c.line.inc path) args (object before (named_by before c.line.inc path)).params n (standing start (SlotOf top n)) wrote
         by_slot true q false r wrote = absurd (false≢true r)
         by_slot false q flag r wrote = absurd (false≢true q)
 
     first_of : (n : ℕ) → FirstOf (done_call c.line) n
     first_of n = by (done_call c.line) c.enters done (begun.writes.entries (SlotOf top n))
       where
-        by : (o : Option Call) → enters_call o ≡ true → HasDoneThat before c.line.inc o start.incarnations → Wrote before c.line.inc (standing before (SlotOf top n)) (option_and_then (λ d. way before c.line.inc d (SlotOf top n)) o) (standing start (SlotOf top n)) → FirstOf o n
+        by : (o : Option Call) → enters_call o ≡ true → HasDoneThat before c.line.inc o start.incarnations
+            → Wrote before c.line.inc (standing before (SlotOf top n)) (option_and_then (λ d. way before c.line.inc d (SlotOf top n)) o) (standing start (SlotOf top n))
+            → FirstOf o n
         by (Some (call.Enter path args into)) e d g = entered_first path args into n d g
         by o e d g = absurd (false≢true e)
 
@@ -192,7 +206,9 @@ module _ (w : Setup) (lines : List Line) (h : AreStepsOf w lines) (k : ℕ) (top
         by cap there (inr lacks) = (λ r. absurd ((lacks cap there).0 r), λ r. absurd ((lacks cap there).1 r))
         by cap there (inl few) =
             let within : n < param_count (option_and_then done_call (line_before lines k)) = rw counted few in
-            let param : slice_get (parameters w lines k top) n ≡ Some (Held cap) = first_get (param_count (option_and_then done_call (line_before lines k))) n (incarnation start top).slots (Held cap) within (slot_get (incarnation start top).slots n cap there) in
+            let param : slice_get (parameters w lines k top) n ≡ Some (Held cap) =
+            first_get (param_count (option_and_then done_call (line_before lines k))) n (incarnation start top).slots (Held cap) within
+            (slot_get (incarnation start top).slots n cap there) in
             (λ r. inr (rules.param_modify n cap param r), λ r. inr (rules.param_unconf n cap param r))
 
     pub first_kept : IsWorld w → Kept under made (M k) (U k) start
@@ -200,7 +216,8 @@ module _ (w : Setup) (lines : List Line) (h : AreStepsOf w lines) (k : ℕ) (top
       slots = λ i n u. of_call i n u (same_inc i top) refl;
       lists = λ x n m. holds_all (Tame made (M k) (U k)) (standing start (EntryOf x n)) (λ cap e. clash (made x) m (not_made x (given.lists x n (ap is_empty e))));
       other_slots = λ i n u. holds_all (Handed made (M k) (U k)) (standing start (SlotOf i n)) (λ cap e m. clash (made cap.name) m (not_made cap.name (named (SlotOf i n) cap e)));
-      other_lists = λ x n u. holds_all (Handed made (M k) (U k)) (standing start (EntryOf x n)) (λ cap e m. clash (made cap.name) m (not_made cap.name (named (EntryOf x n) cap e)));
+      other_lists = λ x n u. holds_all (Handed made (M k) (U k)) (standing start (EntryOf x n))
+          (λ cap e m. clash (made cap.name) m (not_made cap.name (named (EntryOf x n) cap e)));
     }
       where
         given : NamesGiven start

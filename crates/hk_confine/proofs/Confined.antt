@@ -11,7 +11,7 @@ use Rattle.hk_model.specs.declared.entries.Cap.{Cap}
 use Rattle.hk_model.specs.declared.entries.Entry.TheVariants.{Held}
 use Rattle.hk_model.specs.declared.lines.Line.{Line}
 use Rattle.hk_rights.specs.Rights.{MODIFY, modify_right}
-use Rattle.hk_model.specs.Setup.{Setup, IsWorld}
+use Rattle.hk_model.specs.WorldValue.{WorldValue, IsWorld}
 use Rattle.hk_model.specs.State.{State, object, incarnation}
 use Rattle.hk_model.specs.Places.{EntryOf, standing, cap_of}
 use Rattle.hk_model.specs.Lines.{done_call, makes_object, enters_call, changed}
@@ -45,7 +45,8 @@ empty_drop : (n : ℕ) → drop {A = Line} n [] ≡ []
 empty_drop zero = refl
 empty_drop (suc n) = refl
 
-part_after : (w : Setup) (m : Machine) (lines : List Line) (k j n : ℕ) → n ≡ k + j → after_lines w (after_lines w m (take k lines)) (take j (drop k lines)) ≡ after_lines w m (take n lines)
+part_after : (w : WorldValue) (m : Machine) (lines : List Line) (k j n : ℕ) → n ≡ k + j
+    → after_lines w (after_lines w m (take k lines)) (take j (drop k lines)) ≡ after_lines w m (take n lines)
 part_after w m [] k j n e = rw (empty_take n, empty_take k, empty_drop k, empty_take j) refl
 part_after w m (line ∷ lines) zero j n e = let f : n ≡ j = omega (arith, e) in rw f refl
 part_after w m (line ∷ lines) (suc k) j zero e = absurd (omega (arith, e))
@@ -74,17 +75,19 @@ Late low s = Sound s × (low ≤ s.next_inc.0)
 late_line : (low : ℕ) (s : State) (line : Line) (t : State) → (Sound s → LineKnown s line t) → Late low s → Late low t
 late_line low s line t g k = let up = turn_up s line t (g k.0).turn in let a = k.1 in ((g k.0).after, omega (arith, up, a))
 
-numbers_later : (w : Setup) (lines : List Line) (n d : ℕ) → AreStepsOf w lines → (state_at w lines n).next_inc.0 ≤ (state_at w lines (n + d)).next_inc.0
+numbers_later : (w : WorldValue) (lines : List Line) (n d : ℕ) → AreStepsOf w lines → (state_at w lines n).next_inc.0 ≤ (state_at w lines (n + d)).next_inc.0
 numbers_later w lines n d h =
     let low : ℕ = (state_at w lines n).next_inc.0 in
     let late : Late low (after_lines w (machine_at w lines n) (take d (drop n lines))).state =
     state_kept (Late low) (each_more (λ s line t. Sound s → LineKnown s line t) (λ s line t. Late low s → Late low t) (late_line low) known_each)
-    w (machine_at w lines n) (take d (drop n lines)) (first_steps w (machine_at w lines n) (drop n lines) d (later_steps w (opened w) lines n h)) (sound_at w lines n h, omega arith) in
+    w (machine_at w lines n) (take d (drop n lines)) (first_steps w (machine_at w lines n) (drop n lines) d (later_steps w (opened w) lines n h))
+    (sound_at w lines n h, omega arith) in
     subst (λ (m : Machine). low ≤ m.state.next_inc.0) (part_after w (opened w) lines n d (n + d) refl) late.1
 
 -- ---- from the beginning of a confined call on
 
-module _ (w : Setup) (lines : List Line) (h : AreStepsOf w lines) (world : IsWorld w) (k : ℕ) (top : Inc) (c : IsConfinedCall w lines k top) (M U : ℕ → Name → Type 0) (rules : AreReaches (state_at w lines) (is_made_under w lines k top) (parameters w lines k top) k M U) where
+module _ (w : WorldValue) (lines : List Line) (h : AreStepsOf w lines) (world : IsWorld w) (k : ℕ) (top : Inc) (c : IsConfinedCall w lines k top) (M U : ℕ → Name → Type 0)
+    (rules : AreReaches (state_at w lines) (is_made_under w lines k top) (parameters w lines k top) k M U) where
   abbrev under : Inc → Bool
   under = is_under w lines k top
 
@@ -143,12 +146,14 @@ module _ (w : Setup) (lines : List Line) (h : AreStepsOf w lines) (world : IsWor
   family_then zero line is = subst (λ (n : Machine). Family under top n.state) (sym at_first) (first_family w lines h k top c.is)
   family_then (suc j) line is =
       let first = line_earlier rest j line is in
-      family_line under top (then j) first.0 (then (suc j)) (sound_from w m rest steps sound j).rises (known_then j first.0 first.1).turn (child j first.0 first.1) (family_then j first.0 first.1)
+      family_line under top (then j) first.0 (then (suc j)) (sound_from w m rest steps sound j).rises (known_then j first.0 first.1).turn (child j first.0 first.1)
+      (family_then j first.0 first.1)
 
   kept_then : (j : ℕ) (line : Line) → slice_get rest j ≡ Some line → Lives top (then j) → Kept under made (M (k + j)) (U (k + j)) (then j)
   kept_then zero line is lives =
       let e : k ≡ k + 0 = omega arith in
-      subst (λ n. Kept under made (M n) (U n) (then zero)) e (subst (λ (n : Machine). Kept under made (M k) (U k) n.state) (sym at_first) (first_kept w lines h k top c.is c.confined M U rules world))
+      subst (λ n. Kept under made (M n) (U n) (then zero)) e
+      (subst (λ (n : Machine). Kept under made (M k) (U k) n.state) (sym at_first) (first_kept w lines h k top c.is c.confined M U rules world))
   kept_then (suc j) line is lives =
       let first = line_earlier rest j line is in
       let known = known_then j first.0 first.1 in
@@ -170,16 +175,19 @@ module _ (w : Setup) (lines : List Line) (h : AreStepsOf w lines) (world : IsWor
       let modified : IsModified (then j) line.inc (done_call line) x = changed_modifies (then j) line (then (suc j)) x (known_then j line is).writes change in
       let there = activation_live (then j).incarnations line.inc (walks_live (then j) line.inc modified.path (Held modified.cap) modified.leads) in
       let number = (sound_from w m rest steps sound j).stacked.below line.inc (activation (incarnation (then j) line.inc)) there in
-      let member : is_one_of line.inc (under_then w m rest steps sound top p (begins w lines h k top c.is) j) ≡ true = sym (under_exact w m rest steps sound top p (begins w lines h k top c.is) j line.inc number) ∙ mine in
+      let member : is_one_of line.inc (under_then w m rest steps sound top p (begins w lines h k top c.is) j) ≡ true =
+      sym (under_exact w m rest steps sound top p (begins w lines h k top c.is) j line.inc number) ∙ mine in
       let lives = (under_from w m rest steps sound top p (begins w lines h k top c.is) j).alive line.inc (activation (incarnation (then j) line.inc)) member there in
       let gets = tame_gets under made (M (k + j)) (U (k + j)) (then j) (kept_then j line is lives) (closed_then j) line.inc mine in
-      let got : Tame made (M (k + j)) (U (k + j)) modified.cap.name modified.cap.rights = walk_gets (then j) line.inc (Tame made (M (k + j)) (U (k + j))) gets modified.path (Held modified.cap) modified.leads in
+      let got : Tame made (M (k + j)) (U (k + j)) modified.cap.name modified.cap.rights =
+      walk_gets (then j) line.inc (Tame made (M (k + j)) (U (k + j))) gets modified.path (Held modified.cap) modified.leads in
       subst (λ (y : Name). (made y ≡ true) ⊎ M (k + j) y) (sym modified.same) (got.0 (Within-has MODIFY modified.cap.rights modify_right modified.allowed refl refl))
 
   -- no line before it is under it
   change_before : (n : ℕ) (line : Line) (x : Name) → n < k → slice_get lines n ≡ Some line → under line.inc ≡ true → changed (state_at w lines n) line ≡ Some x → ⊥
   change_before n line x early is mine change =
-      let modified : IsModified (state_at w lines n) line.inc (done_call line) x = changed_modifies (state_at w lines n) line (state_at w lines (suc n)) x (line_known w lines n line h is).writes change in
+      let modified : IsModified (state_at w lines n) line.inc (done_call line) x =
+      changed_modifies (state_at w lines n) line (state_at w lines (suc n)) x (line_known w lines n line h is).writes change in
       let there = activation_live (state_at w lines n).incarnations line.inc (walks_live (state_at w lines n) line.inc modified.path (Held modified.cap) modified.leads) in
       let number = (sound_at w lines n h).stacked.below line.inc (activation (incarnation (state_at w lines n) line.inc)) there in
       let moment = c.is.moment in
@@ -204,12 +212,14 @@ module _ (w : Setup) (lines : List Line) (h : AreStepsOf w lines) (world : IsWor
 
 -- ---- the laws
 
-pub confinement : (w : Setup) (lines : List Line) → AreStepsOf w lines → IsWorld w → ConfinementLaw w lines
+pub confinement : (w : WorldValue) (lines : List Line) → AreStepsOf w lines → IsWorld w → ConfinementLaw w lines
 confinement w lines h world k top c moment x g =
-    change_within w lines h world k top c (IsModifiable w lines k top) (IsUnconfined w lines k top) (reaches_keep_the_rules (state_at w lines) (is_made_under w lines k top) (parameters w lines k top) k) moment x g
+    change_within w lines h world k top c (IsModifiable w lines k top) (IsUnconfined w lines k top)
+    (reaches_keep_the_rules (state_at w lines) (is_made_under w lines k top) (parameters w lines k top) k) moment x g
 
 -- where no parameter has either right, the empty sets keep the rules
-closed_rules : (at : ℕ → State) (made : Name → Bool) (w : Setup) (lines : List Line) (k : ℕ) (top : Inc) → AreClosed (parameters w lines k top) → AreReaches at made (parameters w lines k top) k (λ n x. ⊥) (λ n x. ⊥)
+closed_rules : (at : ℕ → State) (made : Name → Bool) (w : WorldValue) (lines : List Line) (k : ℕ) (top : Inc) → AreClosed (parameters w lines k top)
+    → AreReaches at made (parameters w lines k top) k (λ n x. ⊥) (λ n x. ⊥)
 closed_rules at made w lines k top closed = record {
   param_modify = λ param cap e r. true≢false (sym r ∙ (closed param cap e).0);
   param_unconf = λ param cap e r. true≢false (sym r ∙ (closed param cap e).1);
@@ -220,7 +230,7 @@ closed_rules at made w lines k top closed = record {
   handed = λ moment index x cap begun g e r. absurd g;
 }
 
-pub closed_call : (w : Setup) (lines : List Line) → AreStepsOf w lines → IsWorld w → ClosedCallLaw w lines
+pub closed_call : (w : WorldValue) (lines : List Line) → AreStepsOf w lines → IsWorld w → ClosedCallLaw w lines
 closed_call w lines h world k top c closed moment x g =
     by (change_within w lines h world k top c (λ n y. ⊥) (λ n y. ⊥) (closed_rules (state_at w lines) (is_made_under w lines k top) w lines k top closed) moment x g)
   where

@@ -17,7 +17,7 @@ use Rattle.hk_model.specs.Merging.{inherited}
 use Rattle.hk_model.specs.Rule.{copied}
 use Rattle.hk_model.specs.Places.{Place, SlotOf, EntryOf, standing}
 use Rattle.hk_model.specs.Lines.{makes_object}
-use Rattle.hk_model.specs.Ways.{Way, Walked, Stored, Lessened, Merged, Inherited, Copied, CopyOf, Created, Formed, Gone, LeadsTo, IsMerged, Writes}
+use Rattle.hk_model.specs.Ways.{Way, Walked, Stored, Lessened, Merged, Inherited, Copied, CopyOf, Created, Formed, Emptied, LeadsTo, IsMerged, Writes}
 use Rattle.hk_model.proofs.TestLemmas.{and_is}
 use Rattle.hk_model.proofs.RightsWithin.{HasAll-reduced, masked_off, reduced_needs_unconf}
 use Rattle.hk_model.proofs.WalkLemmas.{walk_keeps}
@@ -31,7 +31,9 @@ Less less more = (has less modify_right ≡ true → has more modify_right ≡ t
 
 -- MODIFY and UNCONF of `less` are of `more`, and `by` has UNCONF then
 abbrev pub Through : ℕ → ℕ → ℕ → Type 0
-Through by more less = (has less modify_right ≡ true → (has by unconf_right ≡ true) × (has more modify_right ≡ true)) × (has less unconf_right ≡ true → (has by unconf_right ≡ true) × (has more unconf_right ≡ true))
+Through by more less =
+    (has less modify_right ≡ true → (has by unconf_right ≡ true) × (has more modify_right ≡ true)) ×
+    (has less unconf_right ≡ true → (has by unconf_right ≡ true) × (has more unconf_right ≡ true))
 
 -- what holds of a capability's name and rights, of an entry
 abbrev pub Holds : (Name → ℕ → Type 0) → Entry → Type 0
@@ -97,13 +99,15 @@ module _ (s : State) (inc : Inc) (G : Name → ℕ → Type 0) (g : Gets s inc G
       kept true = g.through by.name by.rights index cap (reduced_rights by.rights cap.rights) got h (through_reduced by.rights cap.rights)
       kept false = tt
 
-  inherited_gets : (by : Cap) (index : ℕ) (e : Entry) → standing s (EntryOf by.name index) ≡ e → G by.name by.rights → (b : Bool) → not (has by.rights unconf_right) ≡ b → Holds G (inherited b e)
+  inherited_gets : (by : Cap) (index : ℕ) (e : Entry) → standing s (EntryOf by.name index) ≡ e → G by.name by.rights → (b : Bool) → not (has by.rights unconf_right) ≡ b
+      → Holds G (inherited b e)
   inherited_gets by index Empty h got true q = tt
   inherited_gets by index Empty h got false q = tt
   inherited_gets by index (Form form) h got true q = tt
   inherited_gets by index (Form form) h got false q = tt
   inherited_gets by index (Held cap) h got true q =
-      g.through by.name by.rights index cap (confined_rights cap.rights) got h (λ k. absurd (confined_lacks cap.rights modify_right refl k), λ k. absurd (confined_lacks cap.rights unconf_right refl k))
+      g.through by.name by.rights index cap (confined_rights cap.rights) got h
+      (λ k. absurd (confined_lacks cap.rights modify_right refl k), λ k. absurd (confined_lacks cap.rights unconf_right refl k))
   inherited_gets by index (Held cap) h got false q =
       g.through by.name by.rights index cap cap.rights got h (λ k. (not-false (has by.rights unconf_right) q, k), λ k. (not-false (has by.rights unconf_right) q, k))
 
@@ -113,12 +117,17 @@ module _ (s : State) (inc : Inc) (G : Name → ℕ → Type 0) (g : Gets s inc G
   merged_gets : (slot : ℕ) (form : Param) (x : Entry) → IsMerged s (standing s (SlotOf inc slot)) form x → Holds G x
   merged_gets slot form x h =
       let old : G h.cap.name h.cap.rights = held_gets slot h.cap h.held in
-      let less : Less h.new.rights h.cap.rights = (λ k. merged_has h.cap (object s h.cap.name).of form h.step h.new modify_right h.merges refl refl k, λ k. merged_has h.cap (object s h.cap.name).of form h.step h.new unconf_right h.merges refl refl k) in
+      let less : Less h.new.rights h.cap.rights = (
+        λ k. merged_has h.cap (object s h.cap.name).of form h.step h.new modify_right h.merges refl refl k,
+        λ k. merged_has h.cap (object s h.cap.name).of form h.step h.new
+            unconf_right h.merges refl refl k,
+      ) in
       let same : h.new.name ≡ h.cap.name = (merged_is h.cap (object s h.cap.name).of form h.step h.new h.merges).same in
       subst (Holds G) (sym h.is) (subst (λ (n : Name). G n h.new.rights) (sym same) (g.weaker h.cap.name h.cap.rights h.new.rights old less))
 
   -- what each way writes
-  pub writes_gets : (c : Option Call) → (makes_object c ≡ true → (rights : ℕ) → G s.next_name rights) → (p : Place) (v : Way) (x : Entry) → GoesTo s inc c v p → Calls s inc v → Writes s inc v x → Holds G x
+  pub writes_gets : (c : Option Call) → (makes_object c ≡ true → (rights : ℕ) → G s.next_name rights) → (p : Place) (v : Way) (x : Entry) → GoesTo s inc c v p → Calls s inc v
+      → Writes s inc v x → Holds G x
   writes_gets c fresh p (Walked path) x goes calls h = walk_gets path x h
   writes_gets c fresh p (Stored slot) x goes calls h = subst (Holds G) (sym h.0) (g.own slot)
   writes_gets c fresh p (Lessened slot keep) x goes calls h =
@@ -126,11 +135,12 @@ module _ (s : State) (inc : Inc) (G : Name → ℕ → Type 0) (g : Gets s inc G
   writes_gets c fresh p (Merged slot form) x goes calls h = merged_gets slot form x h
   writes_gets c fresh p (Inherited procedure index confined) x goes calls h =
       let got : G calls.cap.name calls.cap.rights = walk_gets calls.path (Held calls.cap) calls.leads in
-      let there : Holds G (inherited confined (standing s (EntryOf calls.cap.name index))) = inherited_gets calls.cap index (standing s (EntryOf calls.cap.name index)) refl got confined (sym calls.confines) in
+      let there : Holds G (inherited confined (standing s (EntryOf calls.cap.name index))) =
+      inherited_gets calls.cap index (standing s (EntryOf calls.cap.name index)) refl got confined (sym calls.confines) in
       subst (Holds G) (sym h) (subst (λ (n : Name). Holds G (inherited confined (standing s (EntryOf n index)))) (sym calls.same) there)
   writes_gets c fresh p (Copied path index) x goes calls h =
       subst (Holds G) (sym h.is) (copied_gets h.cap index (standing s (EntryOf h.cap.name index)) refl (walk_gets path (Held h.cap) h.leads))
   writes_gets c fresh p (CopyOf path) x goes calls h = subst (Holds G) (sym h.is) (fresh goes.0 h.cap.rights)
   writes_gets c fresh p (Created path) x goes calls h = subst (Holds G) (sym h.is) (fresh goes.0 h.give)
   writes_gets c fresh p (Formed path kind) x goes calls h = subst (Holds G) (sym h.is) tt
-  writes_gets c fresh p Gone x goes calls h = subst (Holds G) (sym h) tt
+  writes_gets c fresh p Emptied x goes calls h = subst (Holds G) (sym h) tt

@@ -69,10 +69,12 @@ module _ (under : Inc → Bool) (made : Name → Bool) (M U : Name → Type 0) (
       listed : (x : Name) (index : ℕ) (cap : Cap) → standing s (EntryOf x index) ≡ Held cap → made x ≡ true → Tame made M U cap.name cap.rights
       listed x index cap h m = subst (Holds (Tame made M U)) h (kept.lists x index m)
 
-      modify : (x : Name) (by index : ℕ) (cap : Cap) → Tame made M U x by → standing s (EntryOf x index) ≡ Held cap → (has by unconf_right ≡ true) × (has cap.rights modify_right ≡ true) → (made cap.name ≡ true) ⊎ M cap.name
+      modify : (x : Name) (by index : ℕ) (cap : Cap) → Tame made M U x by → standing s (EntryOf x index) ≡ Held cap
+          → (has by unconf_right ≡ true) × (has cap.rights modify_right ≡ true) → (made cap.name ≡ true) ⊎ M cap.name
       modify x by index cap got h t = elim (got.1 t.0) [ inl m ↦ (listed x index cap h m).0 t.1 | inr u ↦ inr (closed.entry_modify x index cap u h t.1) ]
 
-      unconf : (x : Name) (by index : ℕ) (cap : Cap) → Tame made M U x by → standing s (EntryOf x index) ≡ Held cap → (has by unconf_right ≡ true) × (has cap.rights unconf_right ≡ true) → (made cap.name ≡ true) ⊎ U cap.name
+      unconf : (x : Name) (by index : ℕ) (cap : Cap) → Tame made M U x by → standing s (EntryOf x index) ≡ Held cap
+          → (has by unconf_right ≡ true) × (has cap.rights unconf_right ≡ true) → (made cap.name ≡ true) ⊎ U cap.name
       unconf x by index cap got h t = elim (got.1 t.0) [ inl m ↦ (listed x index cap h m).1 t.1 | inr u ↦ inr (closed.entry_unconf x index cap u h t.1) ]
 
   -- what others can get
@@ -86,11 +88,13 @@ module _ (under : Inc → Bool) (made : Name → Bool) (M U : Name → Type 0) (
       other : (x : Name) (index : ℕ) (cap : Cap) → standing s (EntryOf x index) ≡ Held cap → made x ≡ false → Handed made M U cap.name cap.rights
       other x index cap h m = subst (Holds (Handed made M U)) h (kept.other_lists x index m)
 
-      reached : (x : Name) (index : ℕ) (cap : Cap) → (made x ≡ true → M x × U x) → standing s (EntryOf x index) ≡ Held cap → made cap.name ≡ true → (made x ≡ true) ⊎ (made x ≡ false) → M cap.name × U cap.name
+      reached : (x : Name) (index : ℕ) (cap : Cap) → (made x ≡ true → M x × U x) → standing s (EntryOf x index) ≡ Held cap → made cap.name ≡ true
+          → (made x ≡ true) ⊎ (made x ≡ false) → M cap.name × U cap.name
       reached x index cap got h m (inl is) = closed.handed x index cap (got is).0 h m
       reached x index cap got h m (inr is) = other x index cap h is m
 
-  module _ (M' U' : Name → Type 0) (m_up : (x : Name) → M x → M' x) (u_up : (x : Name) → U x → U' x) (line : Line) (t : State) (later : Closed made M' U' t) (writes : LineWrites s line t)
+  module _ (M' U' : Name → Type 0) (m_up : (x : Name) → M x → M' x) (u_up : (x : Name) → U x → U' x) (line : Line) (t : State) (later : Closed made M' U' t)
+      (writes : LineWrites s line t)
       (calls : (p : Place) (v : Way) → line_way s line p ≡ Some v → Calls s line.inc v)
       (child : enters_call (done_call line) ≡ true → under s.next_inc ≡ under line.inc)
       (maker : makes_object (done_call line) ≡ true → made s.next_name ≡ under line.inc)
@@ -114,9 +118,16 @@ module _ (under : Inc → Bool) (made : Name → Bool) (M U : Name → Type 0) (
         by (Some v) e (inr h) = inr (writes.places p (ap is_some e), writes_gets s line.inc G g (done_call line) fresh p v (standing t p) (writes.goes p v e) (calls p v e) h)
 
     -- a list that is written is the new object's, or one that was got with MODIFY
-    listed_by : (G : Name → ℕ → Type 0) → Gets s line.inc G → (x : Name) (n : ℕ) → IsWritable s line.inc (done_call line) (EntryOf x n) → ((makes_object (done_call line) ≡ true) × (x ≡ s.next_name)) ⊎ ((rights : ℕ) × G x rights × (has rights modify_right ≡ true))
+    listed_by : (G : Name → ℕ → Type 0) → Gets s line.inc G → (x : Name) (n : ℕ) → IsWritable s line.inc (done_call line) (EntryOf x n)
+        → ((makes_object (done_call line) ≡ true) × (x ≡ s.next_name)) ⊎ ((rights : ℕ) × G x rights × (has rights modify_right ≡ true))
     listed_by G g x n (inl e) = inl e
-    listed_by G g x n (inr m) = inr (m.cap.rights, subst (λ (y : Name). G y m.cap.rights) (sym m.same) (walk_gets s line.inc G g m.path (Held m.cap) m.leads), Within-has MODIFY m.cap.rights modify_right m.allowed refl refl)
+    listed_by G g x n (inr m) =
+        inr (
+          m.cap.rights,
+          subst (λ (y : Name). G y m.cap.rights) (sym m.same) (walk_gets s line.inc G g m.path (Held m.cap) m.leads),
+          Within-has MODIFY m.cap.rights
+              modify_right m.allowed refl refl,
+        )
 
     still : (H : Name → ℕ → Type 0) (p : Place) → (standing t p ≡ Empty) ⊎ (standing t p ≡ standing s p) → Holds H (standing s p) → Holds H (standing t p)
     still H p (inl e) h = subst (Holds H) (sym e) tt
@@ -172,7 +183,8 @@ module _ (under : Inc → Bool) (made : Name → Bool) (M U : Name → Type 0) (
             reached (inl k) = clash (made x) k m
             reached (inr k) = holds_all (Handed made M' U') (standing t (EntryOf x n)) (λ cap e there. later.handed x n cap (m_up x k) e there)
 
-            by : ((makes_object (done_call line) ≡ true) × (x ≡ s.next_name)) ⊎ ((rights : ℕ) × Tame made M U x rights × (has rights modify_right ≡ true)) → Holds (Handed made M' U') (standing t (EntryOf x n))
+            by : ((makes_object (done_call line) ≡ true) × (x ≡ s.next_name)) ⊎ ((rights : ℕ) × Tame made M U x rights × (has rights modify_right ≡ true))
+                → Holds (Handed made M' U') (standing t (EntryOf x n))
             by (inl e) = clash (made x) (ap made e.1 ∙ maker e.0 ∙ is) m
             by (inr e) = reached (e.1.0 e.2)
 
@@ -199,7 +211,8 @@ module _ (under : Inc → Bool) (made : Name → Bool) (M U : Name → Type 0) (
         lists_by x n m (inl h) = still (Tame made M' U') (EntryOf x n) h (tame_up (standing s (EntryOf x n)) (kept.lists x n m))
         lists_by x n m (inr h) = by (listed_by (Handed made M U) gets x n h.0)
           where
-            by : ((makes_object (done_call line) ≡ true) × (x ≡ s.next_name)) ⊎ ((rights : ℕ) × Handed made M U x rights × (has rights modify_right ≡ true)) → Holds (Tame made M' U') (standing t (EntryOf x n))
+            by : ((makes_object (done_call line) ≡ true) × (x ≡ s.next_name)) ⊎ ((rights : ℕ) × Handed made M U x rights × (has rights modify_right ≡ true))
+                → Holds (Tame made M' U') (standing t (EntryOf x n))
             by (inl e) = clash (made x) m (ap made e.1 ∙ maker e.0 ∙ is)
             by (inr e) = holds_all (Tame made M' U') (standing t (EntryOf x n)) (λ cap k. (
               λ r. inr (later.entry_modify x n cap (u_up x (e.1 m).1) k r),

@@ -9,7 +9,7 @@ use Rattle.std.proofs.lemmas.Bool.Decides.{nat_tests}
 use Rattle.hk_model.specs.declared.names.Name.{Name}
 use Rattle.hk_model.specs.declared.names.Inc.{Inc}
 use Rattle.hk_model.specs.declared.lines.Line.{Line}
-use Rattle.hk_model.specs.Setup.{Setup}
+use Rattle.hk_model.specs.WorldValue.{WorldValue}
 use Rattle.hk_model.specs.State.{State, incarnation, same_name, same_inc}
 use Rattle.hk_model.specs.Lines.{done_call, makes_object, enters_call, told}
 use Rattle.hk_model.specs.Running.{Machine, moved, after_lines, AreSteps}
@@ -31,13 +31,14 @@ module _ {G : Type 0} (f : State → Line → State → G → G) (is_in : G → 
   Settles s line t = early s → early t × ((g : G) → is_in (f s line t g) ≡ is_in g)
 
   module _ (each : EachStep (λ s line t. Sound s → Settles s line t × Sound t)) where
-    pub settled : (w : Setup) (m : Machine) (lines : List Line) (g : G) → AreSteps w m lines → Sound m.state → early m.state → is_in (told f w m lines g) ≡ is_in g
+    pub settled : (w : WorldValue) (m : Machine) (lines : List Line) (g : G) → AreSteps w m lines → Sound m.state → early m.state → is_in (told f w m lines g) ≡ is_in g
     settled w m [] g h sound e = refl
     settled w m (line ∷ lines) g h sound e =
         let step = moved_holds (λ s l t. Sound s → Settles s l t × Sound t) each w m line h.0 sound in
         settled w (moved w m line.cpu) lines (f m.state line (moved w m line.cpu).state g) h.1 step.1 (step.0 e).0 ∙ (step.0 e).1 g
 
-    pub settled_at : (w : Setup) (m : Machine) (lines : List Line) (j : ℕ) (g : G) → AreSteps w m lines → Sound m.state → early (after_lines w m (take j lines)).state → is_in (told f w m lines g) ≡ is_in (told f w m (take j lines) g)
+    pub settled_at : (w : WorldValue) (m : Machine) (lines : List Line) (j : ℕ) (g : G) → AreSteps w m lines → Sound m.state → early (after_lines w m (take j lines)).state
+        → is_in (told f w m lines g) ≡ is_in (told f w m (take j lines) g)
     settled_at w m [] zero g h sound e = refl
     settled_at w m [] (suc j) g h sound e = refl
     settled_at w m (line ∷ lines) zero g h sound e = settled w m (line ∷ lines) g h sound e
@@ -120,13 +121,15 @@ module _ (under : Inc → Bool) where
   abbrev AreNamed : State → List Name → Type 0
   AreNamed s names = Sound s × ((x : Name) → is_among x names ≡ true → HasName x s)
 
-  named_line : (s : State) (line : Line) (t : State) (names : List Name) → LineKnown s line t → ((x : Name) → is_among x names ≡ true → HasName x s) → (x : Name) → is_among x (made_by under s line t names) ≡ true → HasName x t
+  named_line : (s : State) (line : Line) (t : State) (names : List Name) → LineKnown s line t → ((x : Name) → is_among x names ≡ true → HasName x s) → (x : Name)
+      → is_among x (made_by under s line t names) ≡ true → HasName x t
   named_line s line t names k before x h = by (makes_object (done_call line)) refl (under line.inc) h
     where
       old : is_among x names ≡ true → HasName x t
       old g = let a = before x g in let up = next_up s (done_call line) t k.next in omega (arith, a, up)
 
-      by : (e : Bool) → makes_object (done_call line) ≡ e → (m : Bool) → is_among x (elim e [ true ↦ elim m [ true ↦ names ++ s.next_name ∷ [] | false ↦ names ] | false ↦ names ]) ≡ true → HasName x t
+      by : (e : Bool) → makes_object (done_call line) ≡ e → (m : Bool)
+          → is_among x (elim e [ true ↦ elim m [ true ↦ names ++ s.next_name ∷ [] | false ↦ names ] | false ↦ names ]) ≡ true → HasName x t
       by true e true g = new (any_cases (same_name x) names s.next_name g)
         where
           new : (is_among x names ≡ true) ⊎ (same_name x s.next_name ≡ true) → HasName x t
@@ -141,11 +144,14 @@ module _ (under : Inc → Bool) where
 
 -- ---- the line at a moment
 
-module _ (w : Setup) (m : Machine) (lines : List Line) (steps : AreSteps w m lines) (sound : Sound m.state) where
+module _ (w : WorldValue) (m : Machine) (lines : List Line) (steps : AreSteps w m lines) (sound : Sound m.state) where
   pub sound_from : (j : ℕ) → Sound (after_lines w m (take j lines)).state
-  sound_from j = state_kept Sound (each_more (λ s line t. Sound s → LineKnown s line t) (λ s line t. Sound s → Sound t) (λ s line t h g. (h g).after) known_each) w m (take j lines) (first_steps w m lines j steps) sound
+  sound_from j =
+      state_kept Sound (each_more (λ s line t. Sound s → LineKnown s line t) (λ s line t. Sound s → Sound t) (λ s line t h g. (h g).after) known_each) w m (take j lines)
+      (first_steps w m lines j steps) sound
 
-  pub known_from : (j : ℕ) (line : Line) → slice_get lines j ≡ Some line → LineKnown (after_lines w m (take j lines)).state line (moved w (after_lines w m (take j lines)) line.cpu).state
+  pub known_from : (j : ℕ) (line : Line) → slice_get lines j ≡ Some line
+      → LineKnown (after_lines w m (take j lines)).state line (moved w (after_lines w m (take j lines)) line.cpu).state
   known_from j line e = moved_holds (λ s l t. Sound s → LineKnown s l t) known_each w (after_lines w m (take j lines)) line (line_steps w m lines j line steps e) (sound_from j)
 
   module _ (call : Inc) (p : ℕ) (begins : UnderCall call p (call ∷ []) (activations_in m.state.incarnations) m.state.next_inc.0) where
@@ -160,7 +166,8 @@ module _ (w : Setup) (m : Machine) (lines : List Line) (steps : AreSteps w m lin
     abbrev pub under_then : ℕ → List Inc
     under_then j = told under_by w m (take j lines) (call ∷ [])
 
-    pub under_from : (j : ℕ) → UnderCall call p (under_then j) (activations_in (after_lines w m (take j lines)).state.incarnations) (after_lines w m (take j lines)).state.next_inc.0
+    pub under_from : (j : ℕ)
+        → UnderCall call p (under_then j) (activations_in (after_lines w m (take j lines)).state.incarnations) (after_lines w m (take j lines)).state.next_inc.0
     under_from j = (told_keeps under_by Keeps keeps_each w m (take j lines) (call ∷ []) (first_steps w m lines j steps) (sound, begins)).1
 
     -- who has a number is under it in the whole history as at that moment
@@ -170,7 +177,9 @@ module _ (w : Setup) (m : Machine) (lines : List Line) (steps : AreSteps w m lin
     -- whom a line enters
     pub child_same : (j : ℕ) (line : Line) → slice_get lines j ≡ Some line → enters_call (done_call line) ≡ true
         → is_one_of (after_lines w m (take j lines)).state.next_inc (told under_by w m lines (call ∷ [])) ≡ is_one_of line.inc (told under_by w m lines (call ∷ []))
-    child_same j line is enters = whole ∙ ap (λ us. is_one_of s.next_inc us) last ∙ ap (λ us. is_one_of s.next_inc us) (under_more s line t (under_then j) enters) ∙ here (is_one_of line.inc (under_then j)) refl ∙ sym (under_exact j line.inc numbered)
+    child_same j line is enters =
+        whole ∙ ap (λ us. is_one_of s.next_inc us) last ∙ ap (λ us. is_one_of s.next_inc us) (under_more s line t (under_then j) enters)
+        ∙ here (is_one_of line.inc (under_then j)) refl ∙ sym (under_exact j line.inc numbered)
       where
         s : State
         s = (after_lines w m (take j lines)).state
@@ -179,15 +188,20 @@ module _ (w : Setup) (m : Machine) (lines : List Line) (steps : AreSteps w m lin
         t = (moved w (after_lines w m (take j lines)) line.cpu).state
 
         whole : is_one_of s.next_inc (told under_by w m lines (call ∷ [])) ≡ is_one_of s.next_inc (under_then (suc j))
-        whole = under_exact (suc j) s.next_inc (subst (λ (n : Machine). HasNumber s.next_inc n.state) (sym (after_next w m lines j line is)) (let n = (enters_turn s line t (known_from j line is).turn enters).next in omega (arith, n)))
+        whole =
+            under_exact (suc j) s.next_inc (subst (λ (n : Machine). HasNumber s.next_inc n.state) (sym (after_next w m lines j line is))
+            (let n = (enters_turn s line t (known_from j line is).turn enters).next in omega (arith, n)))
 
         last : under_then (suc j) ≡ under_by s line t (under_then j)
         last = told_last under_by w m lines j line (call ∷ []) is
 
         numbered : HasNumber line.inc s
-        numbered = (sound_from j).stacked.below line.inc (activation (incarnation s line.inc)) (activation_live s.incarnations line.inc (enters_turn s line t (known_from j line is).turn enters).live)
+        numbered =
+            (sound_from j).stacked.below line.inc (activation (incarnation s line.inc))
+            (activation_live s.incarnations line.inc (enters_turn s line t (known_from j line is).turn enters).live)
 
-        here : (b : Bool) → is_one_of line.inc (under_then j) ≡ b → is_one_of s.next_inc (elim b [ true ↦ under_then j ++ s.next_inc ∷ [] | false ↦ under_then j ]) ≡ is_one_of line.inc (under_then j)
+        here : (b : Bool) → is_one_of line.inc (under_then j) ≡ b
+            → is_one_of s.next_inc (elim b [ true ↦ under_then j ++ s.next_inc ∷ [] | false ↦ under_then j ]) ≡ is_one_of line.inc (under_then j)
         here true e = member_new (under_then j) s.next_inc ∙ sym e
         here false e = false_from_ne_true (is_one_of s.next_inc (under_then j)) (λ g. let n = (under_from j).fresh s.next_inc g in omega (arith, n)) ∙ sym e
 

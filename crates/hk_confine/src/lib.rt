@@ -2,9 +2,9 @@
 //! hold of every history, whichever processors made its lines (`docs/RULES.md`, "Reaches").
 //!
 //! A law is a function that does nothing: calling it costs nothing, and gives its caller the law of
-//! the lines that it has. Its body only asks the world for its limit, since that call's clause tells
-//! that the world is one that can be run. The definitions are those of `hk_model`, and no law looks
-//! at a kernel.
+//! the lines that it has. Where a law needs that the world is one that can be run, its body asks the
+//! world for its limit, since that call's clause tells so; else it is empty. The definitions are
+//! those of `hk_model`, and no law looks at a kernel.
 #![tactic(auto)]
 
 #[cfg(test)]
@@ -12,8 +12,8 @@ mod tests;
 
 ghost use Rattle.hk_model.specs.Running.{AreStepsOf};
 ghost use Rattle.hk_model.specs.Confinement.{ConfinementLaw, ClosedCallLaw};
-ghost use Rattle.hk_model.specs.Effects.{LeavesOthers};
-ghost use Rattle.hk_model.specs.Changes.{ListsChanges};
+ghost use Rattle.hk_model.specs.Effects.{LeavesOthers, NamesLast};
+ghost use Rattle.hk_model.specs.Changes.{HasOneList, ListsChanges};
 ghost use Rattle.hk_model.specs.Reaches.{ReachLaw};
 
 use hk_model::{Line, World};
@@ -49,28 +49,40 @@ pub fn closed_call_law(world: &World, lines: &[Line])
 }
 
 /// What a line changes (`docs/RULES.md`, "Under a call"): each object that stands before a line or
-/// after it stands as it was, but for the one that the line is told to change, which keeps its type,
-/// its code and its parameters, for the one that the line makes, and for those that go.
+/// after it stands as it was, but for these.
+///
+/// - The one that the line is told to change. It keeps its type, its code and its parameters.
+/// - The one that the line makes, where none stood before. A Create makes one with nothing in it, a
+///   Copy one like the object that is copied.
+/// - Those that go. They are none of the opening, and the line is a halt or a call that is not
+///   refused.
+///
+/// So an object keeps its type, its code and its parameters for as long as it stands, and where one
+/// has gone none comes again under its name.
 ///
 /// `lines` are steps of `world` from its opening on, in the order of the history.
 pub fn changes_law(world: &World, lines: &[Line])
     requires { AreStepsOf world.now lines.now }
-    ensures { LeavesOthers world.now lines.now }
+    ensures others { LeavesOthers world.now lines.now }
+    ensures names { NamesLast world.now lines.now }
 {}
 
 /// What the list of changes has (`docs/RULES.md`, "Changes and their reasons"): an item for a
 /// confined call, a line and an object exactly where the line is by an incarnation under that call
-/// and changes that object, so where the confinement law speaks of them.
+/// and changes that object, so where the confinement law speaks of them. The items stand by rising
+/// line, and for one line by rising number of the call; so none stands twice. And with the reasons,
+/// each the least reach of its object, there is one such list at most.
 ///
 /// `lines` are steps of `world` from its opening on, in the order of the history.
 pub fn listed_changes_law(world: &World, lines: &[Line])
     requires { AreStepsOf world.now lines.now }
-    ensures { ListsChanges world.now lines.now }
+    ensures items { ListsChanges world.now lines.now }
+    ensures one { HasOneList world.now lines.now }
 {}
 
 /// What the reaches of a call are (`docs/RULES.md`, "Reaches"): the least sets that hold the objects
 /// of its parameters and all that the rules of the reaches add to them, at each moment from the call
-/// on. So what a parameter and hops lead to is in every other pair of sets that keeps these rules.
+/// on. So what a parameter and hops lead to passes each two tests of names that keep these rules.
 pub fn reach_law(world: &World, lines: &[Line])
     ensures { ReachLaw world.now lines.now }
 {}

@@ -11,7 +11,7 @@ use Rattle.hk_model.specs.declared.lines.Line.{Line}
 use Rattle.hk_model.specs.declared.objects.Incarnation.{Incarnation}
 use Rattle.hk_model.specs.State.{State, incarnation, same_inc, no_incarnation}
 use Rattle.hk_model.specs.Places.{Place, SlotOf, EntryOf, same_place, standing, is_empty}
-use Rattle.hk_model.specs.Setup.{Setup}
+use Rattle.hk_model.specs.WorldValue.{WorldValue}
 use Rattle.hk_model.specs.Lines.{done_call, param_count, line_before}
 use Rattle.hk_model.specs.Running.{Machine, opened, machine_at, state_at, after_lines, AreSteps, AreStepsOf}
 use Rattle.std.proofs.lemmas.Bool.{false_from_ne_true}
@@ -30,8 +30,15 @@ abbrev Safe : Inc → ℕ → State → (Place → Bool) → List Inc → Type 0
 Safe call p s marks us = Sound s × UnderCall call p us (activations_in s.incarnations) s.next_inc.0 × AreMarked us s marks
 
 safe_each : (call : Inc) (p : ℕ) → EachStep (λ s line t. (g : Place → Bool) (us : List Inc) → Safe call p s g us → Safe call p t (mark s line t g) (under_by s line t us))
-safe_each call p = each_more (λ s line t. Sound s → LineKnown s line t) (λ s line t. (g : Place → Bool) (us : List Inc) → Safe call p s g us → Safe call p t (mark s line t g) (under_by s line t us))
-    (λ s line t h g us k. let known = h k.0 in (known.after, under_turn call p us s line t k.0.rises known.turn k.0.stacked k.1, line_marks s line t g us known.writes k.2)) known_each
+safe_each call p =
+    each_more (λ s line t. Sound s → LineKnown s line t)
+    (λ s line t. (g : Place → Bool) (us : List Inc) → Safe call p s g us → Safe call p t (mark s line t g) (under_by s line t us))
+    (λ s line t h g us k. let known = h k.0 in (
+      known.after,
+      under_turn call p us s line t k.0.rises known.turn k.0.stacked k.1,
+      line_marks s line t g us
+          known.writes k.2,
+    )) known_each
 
 -- ---- the beginning of the call
 
@@ -49,7 +56,8 @@ taken_stands (suc n) [] i x h = absurd (cc)
 taken_stands (suc n) (y ∷ xs) zero x h = cc
 taken_stands (suc n) (y ∷ xs) (suc i) x h = taken_stands n xs i x h
 
-begins : (s : State) (call : Inc) (slot : ℕ) → Sound s → NoEnv (standing s (SlotOf call slot)) → is_empty (standing s (SlotOf call slot)) ≡ false → Safe call (incarnation s call).proc.0 s (λ p. same_place p (SlotOf call slot)) (call ∷ [])
+begins : (s : State) (call : Inc) (slot : ℕ) → Sound s → NoEnv (standing s (SlotOf call slot)) → is_empty (standing s (SlotOf call slot)) ≡ false
+    → Safe call (incarnation s call).proc.0 s (λ p. same_place p (SlotOf call slot)) (call ∷ [])
 begins s call slot sound lacks full = (
   sound,
   under_begins s call sound.stacked (holder_lives s call slot full),
@@ -66,25 +74,34 @@ marked_lives call p s g us safe q h = by q (safe.2 q h)
     by (EntryOf name index) k = absurd k
 
 -- where the marks are, and that the call lives while there is one
-ends : (w : Setup) (lines : List Line) (k : ℕ) (call : Inc) (slot moment p : ℕ) → Safe call p (state_at w lines moment) (marks w lines k call slot moment) (under_after w (machine_at w lines k) (drop k (take moment lines)) call) → StaysUnder w lines k call slot moment
+ends : (w : WorldValue) (lines : List Line) (k : ℕ) (call : Inc) (slot moment p : ℕ)
+    → Safe call p (state_at w lines moment) (marks w lines k call slot moment) (under_after w (machine_at w lines k) (drop k (take moment lines)) call)
+    → StaysUnder w lines k call slot moment
 ends w lines k call slot moment p safe = record {
   under = λ q h. by q (safe.2 q h);
-  gone = λ gone q. false_from_ne_true (marks w lines k call slot moment q) (λ h. true≢false (sym (marked_lives call p (state_at w lines moment) (marks w lines k call slot moment) (under_after w (machine_at w lines k) (drop k (take moment lines)) call) safe q h) ∙ gone));
+  gone = λ gone q. false_from_ne_true (marks w lines k call slot moment q)
+      (λ h. true≢false (sym (marked_lives call p (state_at w lines moment) (marks w lines k call slot moment)
+      (under_after w (machine_at w lines k) (drop k (take moment lines)) call) safe q h) ∙ gone));
 }
   where
     by : (q : Place) → IsMarked (under_after w (machine_at w lines k) (drop k (take moment lines)) call) (state_at w lines moment) q → IsSlotUnder w lines k call moment q
     by (SlotOf i n) h = (holder_lives (state_at w lines moment) i n h.2, h.0)
     by (EntryOf name index) h = h
 
-pub environment : (w : Setup) (lines : List Line) → AreStepsOf w lines → EnvironmentLaw w lines
+pub environment : (w : WorldValue) (lines : List Line) → AreStepsOf w lines → EnvironmentLaw w lines
 environment w lines h k slot call param moment late =
     let rest_lines : List Line = drop k (take moment lines) in
     let process : ℕ = (incarnation (state_at w lines k) call).proc.0 in
     let cut : take k (take moment lines) ≡ take k lines = take_less k moment lines late in
     let run : AreStepsOf w (take moment lines) = first_steps w (opened w) lines moment h in
-    let rest : AreSteps w (machine_at w lines k) rest_lines = subst (λ first. AreSteps w (after_lines w (opened w) first) rest_lines) cut (later_steps w (opened w) (take moment lines) k run) in
-    let last : after_lines w (machine_at w lines k) rest_lines ≡ machine_at w lines moment = subst (λ first. after_lines w (after_lines w (opened w) first) rest_lines ≡ machine_at w lines moment) cut (after_later w (opened w) (take moment lines) k) in
-    let holds : standing (state_at w lines k) (SlotOf call slot) ≡ Held param.cap = taken_stands (param_count (option_and_then done_call (line_before lines k))) (incarnation (state_at w lines k) call).slots slot (Held param.cap) param.holds in
+    let rest : AreSteps w (machine_at w lines k) rest_lines =
+    subst (λ first. AreSteps w (after_lines w (opened w) first) rest_lines) cut (later_steps w (opened w) (take moment lines) k run) in
+    let last : after_lines w (machine_at w lines k) rest_lines ≡ machine_at w lines moment =
+    subst (λ first. after_lines w (after_lines w (opened w) first) rest_lines ≡ machine_at w lines moment) cut (after_later w (opened w) (take moment lines) k) in
+    let holds : standing (state_at w lines k) (SlotOf call slot) ≡ Held param.cap =
+    taken_stands (param_count (option_and_then done_call (line_before lines k))) (incarnation (state_at w lines k) call).slots slot (Held param.cap) param.holds in
     let start = begins (state_at w lines k) call slot (sound_at w lines k h) (subst NoEnv (sym holds) param.lacks) (ap is_empty holds) in
-    let safe = both_kept mark under_by (Safe call process) (safe_each call process) w (machine_at w lines k) rest_lines (λ p. same_place p (SlotOf call slot)) (call ∷ []) rest start in
-    ends w lines k call slot moment process (subst (λ (m : Machine). Safe call process m.state (marks w lines k call slot moment) (under_after w (machine_at w lines k) rest_lines call)) last safe)
+    let safe =
+    both_kept mark under_by (Safe call process) (safe_each call process) w (machine_at w lines k) rest_lines (λ p. same_place p (SlotOf call slot)) (call ∷ []) rest start in
+    ends w lines k call slot moment process
+    (subst (λ (m : Machine). Safe call process m.state (marks w lines k call slot moment) (under_after w (machine_at w lines k) rest_lines call)) last safe)

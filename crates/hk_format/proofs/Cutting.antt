@@ -24,7 +24,8 @@ pub split_none : {X : Type 0} (p : X → Bool) (xs : List X) → list_any p xs �
 split_none p [] h = refl
 split_none p (x ∷ xs) h = go (p x) h (split_none p xs)
   where
-    go : (b : Bool) → (b || list_any p xs) ≡ false → (list_any p xs ≡ false → slice_split p xs ≡ xs ∷ []) → cond b ([] ∷ slice_split p xs) (onto_first x (slice_split p xs)) ≡ (x ∷ xs) ∷ []
+    go : (b : Bool) → (b || list_any p xs) ≡ false → (list_any p xs ≡ false → slice_split p xs ≡ xs ∷ [])
+        → cond b ([] ∷ slice_split p xs) (onto_first x (slice_split p xs)) ≡ (x ∷ xs) ∷ []
     go true e rest = absurd (false≢true (sym e))
     go false e rest = rw (rest e)
 
@@ -32,7 +33,8 @@ pub split_at : {X : Type 0} (p : X → Bool) (xs : List X) (y : X) (ys : List X)
 split_at p [] y ys h e = rw e
 split_at p (x ∷ xs) y ys h e = go (p x) h (λ k. split_at p xs y ys k e)
   where
-    go : (b : Bool) → (b || list_any p xs) ≡ false → (list_any p xs ≡ false → slice_split p (xs ++ y ∷ ys) ≡ xs ∷ slice_split p ys) → cond b ([] ∷ slice_split p (xs ++ y ∷ ys)) (onto_first x (slice_split p (xs ++ y ∷ ys))) ≡ (x ∷ xs) ∷ slice_split p ys
+    go : (b : Bool) → (b || list_any p xs) ≡ false → (list_any p xs ≡ false → slice_split p (xs ++ y ∷ ys) ≡ xs ∷ slice_split p ys)
+        → cond b ([] ∷ slice_split p (xs ++ y ∷ ys)) (onto_first x (slice_split p (xs ++ y ∷ ys))) ≡ (x ∷ xs) ∷ slice_split p ys
     go true e rest = absurd (false≢true (sym e))
     go false e rest = rw (rest e)
 
@@ -45,7 +47,8 @@ before_none p (x ∷ xs) h = go (p x) h (before_none p xs)
     go false e rest = rw one-add (ap (λ t. x ∷ t) (rest e))
 
 -- parts with no such byte, joined by such a byte, are cut there again
-pub split_joined : (p : ℕ → Bool) (c : ℕ) (x : List ℕ) (xs : List (List ℕ)) → list_all (λ t. not (list_any p t)) (x ∷ xs) ≡ true → p c ≡ true → slice_split p (join_with_byte c (x ∷ xs)) ≡ x ∷ xs
+pub split_joined : (p : ℕ → Bool) (c : ℕ) (x : List ℕ) (xs : List (List ℕ)) → list_all (λ t. not (list_any p t)) (x ∷ xs) ≡ true → p c ≡ true
+    → slice_split p (join_with_byte c (x ∷ xs)) ≡ x ∷ xs
 split_joined p c x [] h e = split_none p x (grind arith)
 split_joined p c x (y ∷ more) h e =
     let parts = and_parts (not (list_any p x)) (list_all (λ t. not (list_any p t)) (y ∷ more)) h in

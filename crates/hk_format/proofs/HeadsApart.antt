@@ -6,8 +6,8 @@ use Rattle.hk_format.specs.declared.syntax.Head.{Head}
 use Rattle.hk_format.specs.declared.syntax.Head.TheVariants.{LimitIs, TypeIs, ObjectIs, SemaphoreIs, ProcedureIs, CodeIs, ProcessIs}
 use Rattle.hk_format.specs.declared.syntax.Item.{Item}
 use Rattle.hk_model.specs.Labels.{are_apart}
-use Rattle.hk_format.specs.Canonical.{kernel_names}
-use Rattle.hk_format.specs.Grammar.{Seen, nothing_seen, is_new, noted}
+use Rattle.hk_format.specs.Names.{kernel_names}
+use Rattle.hk_format.specs.Grammar.{GivenNames, nothing_seen, is_new, noted}
 use Rattle.hk_format.specs.Syntax.{AreItems, IsHead, IsSyntax}
 use Rattle.hk_format.specs.Loading.{object_label, code_label}
 use Rattle.hk_format.proofs.NamesAgain.{kernel_apart}
@@ -17,7 +17,8 @@ use Rattle.hk_format.proofs.WorldValid.{Labelled, fresh_parts, labelled_put}
 seen_less : (seen : List (List ℕ)) (t : List ℕ) (ls : List (List ℕ)) → Labelled (seen ++ t ∷ []) ls → Labelled seen ls
 seen_less seen t ls l = record { named = l.named; apart = l.apart; fresh = (fresh_parts seen t ls l.fresh).0 }
 
-object_front : (seen : Seen) (head : Head) (heads : List Head) → IsHead head → IsTrue (is_new seen head) → Labelled (noted seen head).names (filter_map object_label heads) → Labelled seen.names (filter_map object_label (head ∷ heads))
+object_front : (seen : GivenNames) (head : Head) (heads : List Head) → IsHead head → IsTrue (is_new seen head) → Labelled (noted seen head).names (filter_map object_label heads)
+    → Labelled seen.names (filter_map object_label (head ∷ heads))
 object_front seen (LimitIs n) heads h new l = l
 object_front seen (TypeIs name) heads h new l = labelled_put seen.names [] (filter_map object_label heads) name h new l
 object_front seen (ObjectIs name of) heads h new l = labelled_put seen.names [] (filter_map object_label heads) name h.0 new l
@@ -26,7 +27,8 @@ object_front seen (ProcedureIs name code) heads h new l = labelled_put seen.name
 object_front seen (CodeIs name) heads h new l = seen_less seen.names name (filter_map object_label heads) l
 object_front seen (ProcessIs name code) heads h new l = seen_less seen.names name (filter_map object_label heads) l
 
-code_front : (seen : Seen) (head : Head) (heads : List Head) → IsHead head → IsTrue (is_new seen head) → Labelled (noted seen head).names (filter_map code_label heads) → Labelled seen.names (filter_map code_label (head ∷ heads))
+code_front : (seen : GivenNames) (head : Head) (heads : List Head) → IsHead head → IsTrue (is_new seen head) → Labelled (noted seen head).names (filter_map code_label heads)
+    → Labelled seen.names (filter_map code_label (head ∷ heads))
 code_front seen (LimitIs n) heads h new l = l
 code_front seen (TypeIs name) heads h new l = seen_less seen.names name (filter_map code_label heads) l
 code_front seen (ObjectIs name of) heads h new l = seen_less seen.names name (filter_map code_label heads) l
@@ -35,11 +37,11 @@ code_front seen (ProcedureIs name code) heads h new l = seen_less seen.names nam
 code_front seen (CodeIs name) heads h new l = labelled_put seen.names [] (filter_map code_label heads) name h new l
 code_front seen (ProcessIs name code) heads h new l = seen_less seen.names name (filter_map code_label heads) l
 
-objects_labelled : (seen : Seen) (is : List Item) → AreItems seen is → Labelled seen.names (filter_map object_label (map (λ (i : Item). i.head) is))
+objects_labelled : (seen : GivenNames) (is : List Item) → AreItems seen is → Labelled seen.names (filter_map object_label (map (λ (i : Item). i.head) is))
 objects_labelled seen [] h = record { named = tt; apart = refl; fresh = tt }
 objects_labelled seen (i ∷ is) h = object_front seen i.head (map (λ (j : Item). j.head) is) h.0 h.1 (objects_labelled (noted seen i.head) is h.3)
 
-codes_labelled : (seen : Seen) (is : List Item) → AreItems seen is → Labelled seen.names (filter_map code_label (map (λ (i : Item). i.head) is))
+codes_labelled : (seen : GivenNames) (is : List Item) → AreItems seen is → Labelled seen.names (filter_map code_label (map (λ (i : Item). i.head) is))
 codes_labelled seen [] h = record { named = tt; apart = refl; fresh = tt }
 codes_labelled seen (i ∷ is) h = code_front seen i.head (map (λ (j : Item). j.head) is) h.0 h.1 (codes_labelled (noted seen i.head) is h.3)
 

@@ -17,7 +17,7 @@ use Rattle.hk_format.specs.declared.syntax.Body.TheVariants.{WordsAre, EmptyEntr
 use Rattle.hk_format.specs.declared.syntax.Part.{Part}
 use Rattle.hk_format.specs.declared.causes.LoadCause.TheVariants.{UnknownName}
 use Rattle.hk_model.specs.Labels.{same_text}
-use Rattle.hk_model.specs.Setup.{IsMaking, IsInstr}
+use Rattle.hk_model.specs.WorldValue.{IsMaking, IsInstr}
 use Rattle.hk_format.specs.Syntax.{IsWritten, Belongs, AreParts}
 use Rattle.hk_format.specs.Grammar.{noted_label}
 use Rattle.hk_format.specs.Loading.{◌>>=◌, limited, front, rights_named, making_of, to_limit, target, Label, labels_from, label_onto, instr_of, instr_onto, instrs_of}
@@ -40,7 +40,9 @@ LabelsWithin len labels = AllByRecursion (λ (l : Label). l.place ≤ len) label
 
 target_within : (len : ℕ) (labels : List Label) (t : List ℕ) (n : ℕ) → LabelsWithin len labels → target labels t ≡ Ok n → n ≤ len
 unfolding LabelsWithin
-target_within len labels t n within h = go (find (λ (l : Label). same_text t l.text) labels) (among labels within) (found_ok (option_map (λ (l : Label). to_limit l.place) (find (λ (l : Label). same_text t l.text) labels)) UnknownName n h)
+target_within len labels t n within h =
+    go (find (λ (l : Label). same_text t l.text) labels) (among labels within) (found_ok (option_map (λ (l : Label). to_limit l.place)
+    (find (λ (l : Label). same_text t l.text) labels)) UnknownName n h)
   where
     IsWithin : Option Label → Type 0
     IsWithin None = Unit {0}
@@ -124,12 +126,16 @@ record StepsLoaded (len n : ℕ) (labels placed : List Label) (is : List Instr) 
   places : LabelsWithin (n + length is) placed
   good : LabelsWithin len labels → AllByRecursion (IsInstr len) is
 
-steps_loaded : (len n : ℕ) (labels : List Label) (ps : List Part) (is : List Instr) → n ≤ 4096 → CodeLines ps → instrs_of labels n ps ≡ Ok is → StepsLoaded len n labels (labels_from n ps) is
+steps_loaded : (len n : ℕ) (labels : List Label) (ps : List Part) (is : List Instr) → n ≤ 4096 → CodeLines ps → instrs_of labels n ps ≡ Ok is
+    → StepsLoaded len n labels (labels_from n ps) is
 unfolding CodeLines LabelsWithin
-steps_loaded len n labels [] is few h e = let same : [] ≡ is = cc in subst (λ (xs : List Instr). StepsLoaded len n labels [] xs) same (record { few = omega arith; places = tt; good = λ w. tt })
+steps_loaded len n labels [] is few h e =
+    let same : [] ≡ is = cc in subst (λ (xs : List Instr). StepsLoaded len n labels [] xs) same (record { few = omega arith; places = tt; good = λ w. tt })
 steps_loaded len n labels (p ∷ ps) is few h e = go p.body h.0 e (λ m js k f. steps_loaded len m labels ps js k h.1 f)
   where
-    go : (b : Body) → Belongs (CodeIs []) b → instr_onto labels n p.line b (λ next. instrs_of labels next ps) ≡ Ok is → ((m : ℕ) (js : List Instr) → m ≤ 4096 → instrs_of labels m ps ≡ Ok js → StepsLoaded len m labels (labels_from m ps) js) → StepsLoaded len n labels (label_onto n b (λ next. labels_from next ps)) is
+    go : (b : Body) → Belongs (CodeIs []) b → instr_onto labels n p.line b (λ next. instrs_of labels next ps) ≡ Ok is
+        → ((m : ℕ) (js : List Instr) → m ≤ 4096 → instrs_of labels m ps ≡ Ok js → StepsLoaded len m labels (labels_from m ps) js)
+        → StepsLoaded len n labels (label_onto n b (λ next. labels_from next ps)) is
     go (LabelIs label) k f rest = let r = rest n is few f in let few_rest = r.few in record { few = r.few; places = (omega arith, r.places); good = r.good }
     go (StepIs step) k f rest =
         let a = onto_ok front p.line (limited (ltb n 4096) (instr_of labels step)) (instrs_of labels (n + 1) ps) is f in
@@ -138,7 +144,13 @@ steps_loaded len n labels (p ∷ ps) is few h e = go p.body h.0 e (λ m js k f. 
         let r = rest (n + 1) a.1 (omega arith) a.3 in
         let few_rest = r.few in
         let size : n + 1 + length a.1 ≡ n + length (a.0 ∷ a.1) = omega arith in
-        subst (λ (xs : List Instr). StepsLoaded len n labels (labels_from (n + 1) ps) xs) a.4 (record { few = omega arith; places = subst (λ (m : ℕ). LabelsWithin m (labels_from (n + 1) ps)) size r.places; good = λ w. (instr_loaded len labels step a.0 w k b.0, r.good w) })
+        subst (λ (xs : List Instr). StepsLoaded len n labels (labels_from (n + 1) ps) xs) a.4
+        (record {
+          few = omega arith;
+          places = subst (λ (m : ℕ). LabelsWithin m (labels_from (n + 1) ps)) size r.places;
+          good =
+              λ w. (instr_loaded len labels step a.0 w k b.0, r.good w);
+        })
     go (WordsAre words) k f rest = absurd k
     go EmptyEntry k f rest = absurd k
     go (CapEntry object rights) k f rest = absurd k
@@ -147,7 +159,8 @@ steps_loaded len n labels (p ∷ ps) is few h e = go p.body h.0 e (λ m js k f. 
     go (ParamIs kind check give) k f rest = absurd k
 
 -- the instructions of a code are those of a code of this length
-pub code_loaded_whole : (name : List ℕ) (ps : List Part) (is : List Instr) → AreParts (CodeIs name) [] ps → instrs_of (labels_from 0 ps) 0 ps ≡ Ok is → (length is ≤ 4096) × AllByRecursion (IsInstr (length is)) is
+pub code_loaded_whole : (name : List ℕ) (ps : List Part) (is : List Instr) → AreParts (CodeIs name) [] ps → instrs_of (labels_from 0 ps) 0 ps ≡ Ok is
+    → (length is ≤ 4096) × AllByRecursion (IsInstr (length is)) is
 code_loaded_whole name ps is h e =
     let r = steps_loaded (length is) 0 (labels_from 0 ps) ps is (omega arith) (code_lines name [] ps h) e in
     let few = r.few in

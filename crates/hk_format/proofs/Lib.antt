@@ -17,3 +17,8 @@ pub mod ItemsLoaded
 pub mod WorldLoaded
 pub mod WorldValid
 pub mod HeadsApart
+pub mod StepCalls
+pub mod ExactForms
+pub mod ExactReaders
+pub mod ExactItems
+pub mod GeneratedTexts

@@ -21,12 +21,13 @@ use Rattle.hk_format.specs.declared.syntax.Head.TheVariants.{LimitIs, TypeIs, Ob
 use Rattle.hk_format.specs.declared.syntax.Body.{Body}
 use Rattle.hk_format.specs.declared.syntax.Body.TheVariants.{WordsAre, EmptyEntry, CapEntry, AmplifyEntry, CreateEntry, ParamIs, LabelIs, StepIs}
 use Rattle.hk_model.specs.Labels.{is_word, is_register, same_text}
-use Rattle.hk_model.specs.Setup.{IsReg, IsOperand, IsSlot, IsIndex, IsRoute, BeginsAtSlot}
+use Rattle.hk_model.specs.WorldValue.{IsReg, IsOperand, IsSlot, IsIndex, IsRoute, BeginsAtSlot}
 use Rattle.hk_format.specs.Pieces.{Word, Upper, Dash, Number, register_of, register_text}
 use Rattle.hk_format.specs.Verbs.{all_verbs, verb_piece}
 use Rattle.hk_format.specs.Operands.{register_piece, slot_piece, operand_piece, steps_piece, route_piece, type_piece, rights_piece}
 use Rattle.hk_format.specs.Reading.{at_most, each}
-use Rattle.hk_format.specs.Forms.{as_verb, as_name, as_type, as_rights, as_number, as_number_in, as_number_below, as_slot, as_register, as_operand, as_route, is_index_below, route_of}
+use Rattle.hk_format.specs.Forms.{as_verb, as_name, as_type, as_rights, as_number, as_number_in, as_number_below, as_slot, as_register, as_operand, as_route, is_index_below}
+use Rattle.hk_format.specs.Forms.{route_of}
 use Rattle.hk_format.specs.WrittenLines.{before_last, last_of}
 use Rattle.hk_format.specs.Grammar.{part_line, head_line}
 use Rattle.hk_format.specs.Spelling.{written_pieces, body_pieces, head_pieces, end_line}
@@ -102,7 +103,8 @@ last_put : (x : ℕ) (xs : List ℕ) (y : ℕ) → last_of x (xs ++ y ∷ []) �
 last_put x [] y = refl
 last_put x (z ∷ zs) y = last_put z zs y
 
-call_again : (name : List ℕ) (proc : Route) (args : List ℕ) (into : Slot) → IsWritten (written.Enter proc args into) → part_line (CodeIs name) (written_pieces (written.Enter proc args into)) ≡ Ok (Some (StepIs (written.Enter proc args into)), [])
+call_again : (name : List ℕ) (proc : Route) (args : List ℕ) (into : Slot) → IsWritten (written.Enter proc args into)
+    → part_line (CodeIs name) (written_pieces (written.Enter proc args into)) ≡ Ok (Some (StepIs (written.Enter proc args into)), [])
 call_again name proc [] into h = rw (verb_again, route_again proc h.0, below_again 64 into.0 h.2)
 call_again name proc (x ∷ xs) into h =
     let rest : at_most 8 (as_number_below 64) (map Number (xs ++ into.0 ∷ [])) ≡ Ok (xs ++ into.0 ∷ [], []) =
@@ -122,7 +124,8 @@ step_again name (written.Erase list at) h = rw (verb_again, route_again list h.0
 step_again name (written.Drop slot) h = rw (verb_again, slot_again slot h)
 step_again name (written.Restrict slot keep) h = rw (verb_again, slot_again slot h.0, rights_read)
 step_again name (written.Look of reg) h = rw (verb_again, route_again of h.0, register_again reg h.1)
-step_again name (written.MakeTemplate of (making.Amplify check give) into) h = rw (verb_again, route_again of h.0, verb_again verb.Amplify, rights_read check, rights_read give, slot_again into h.2)
+step_again name (written.MakeTemplate of (making.Amplify check give) into) h =
+    rw (verb_again, route_again of h.0, verb_again verb.Amplify, rights_read check, rights_read give, slot_again into h.2)
 step_again name (written.MakeTemplate of (making.Create give) into) h = rw (verb_again, route_again of h.0, verb_again verb.Create, rights_read give, slot_again into h.2)
 step_again name (written.Create by into) h = rw (verb_again, route_again by h.0, slot_again into h.1)
 step_again name (written.Merge with cap into) h = rw (verb_again, route_again with h.0, slot_again cap h.1, slot_again into h.2)

@@ -1,5 +1,6 @@
 -- The lines of the items of a world are lines of some script: their pieces are spelled by texts, and they are short.
-use Rattle.std.proofs.Common.{◌≡◌, ℕ, ◌+◌, ◌*◌, ◌<◌, ◌≤◌, ◌^◌, ◌==◌, ◌&&◌, ◌||◌, Bool, true, false, cond, leb, List, [], ◌∷◌, ◌++◌, length, map, refl, ◌∙◌, arith, Option, Some, None}
+use Rattle.std.proofs.Common.{◌≡◌, ℕ, ◌+◌, ◌*◌, ◌<◌, ◌≤◌, ◌^◌, ◌==◌, ◌&&◌, ◌||◌, Bool, true, false, cond, leb, List, [], ◌∷◌, ◌++◌, length, map, refl, ◌∙◌, arith, Option, Some}
+use Rattle.std.proofs.Common.{None}
 use Rattle.std.specs.Prelude.{codes, IsTrue}
 use Rattle.std.specs.List.{list_all, list_any, AllByRecursion, filter, join_with_byte, onto_first, flat_map}
 use Rattle.std.specs.Fmt.{digits}
@@ -39,12 +40,15 @@ use Rattle.hk_model.specs.declared.instructions.Index.TheVariants.{Fixed, ByReg}
 use Rattle.hk_model.specs.Labels.{is_word, is_word_byte, is_lower, is_name, first, same_text}
 use Rattle.hk_format.specs.Pieces.{Piece, Word, Upper, Dash, Number, spell, spell_index, is_piece, is_index, is_upper, register_text}
 use Rattle.hk_format.specs.Texts.{spell_line, is_line}
-use Rattle.hk_model.specs.Setup.{Setup, IsWorld, IsObject, IsTypeOrAny, IsEntry, IsParam, IsKind, IsCode, IsTask, IsInstr, IsIndex, IsRoute, IsOperand, IsSlot, IsReg, BeginsAtSlot, IsWord32}
+use Rattle.hk_model.specs.WorldValue.{WorldValue, IsWorld, IsObject, IsTypeOrAny, IsEntry, IsParam, IsKind, IsCode, IsTask, IsInstr, IsIndex, IsRoute, IsOperand, IsSlot, IsReg}
+use Rattle.hk_model.specs.WorldValue.{BeginsAtSlot, IsWord32}
 use Rattle.hk_format.specs.RightsTexts.{rights_text}
 use Rattle.hk_format.specs.Verbs.{verb_word, verb_piece}
 use Rattle.hk_format.specs.Operands.{register_piece, slot_piece, operand_piece, steps_piece, route_piece, type_piece, rights_piece, argument_pieces}
 use Rattle.hk_format.specs.Spelling.{written_pieces, body_pieces, head_pieces, has_parts, end_line, item_lines, script_lines}
-use Rattle.hk_format.specs.Canonical.{spoken, object_text, code_text, kind_text, part, item, entry_body, entry_parts, param_parts, number_bytes, words_from, word_parts, label_text, written_of, jumps_to, code_parts, object_item, kind_item, code_item, task_item, limit_items, syntax_of}
+use Rattle.hk_format.specs.Names.{spoken, object_text, code_text}
+use Rattle.hk_format.specs.Canonical.{kind_text, part, item, entry_body, entry_parts, param_parts, number_bytes, words_from, word_parts, label_text, written_of, jumps_to}
+use Rattle.hk_format.specs.Canonical.{code_parts, object_item, kind_item, code_item, task_item, limit_items, syntax_of}
 use Rattle.hk_format.specs.Syntax.{IsTypeText}
 use Rattle.hk_format.proofs.NamesAgain.{type_object}
 use Rattle.hk_format.proofs.LoadAgain.{plain_general}
@@ -187,7 +191,8 @@ kept_size test ns h = go (filter test ns) (kept ns h) (fewer ns)
     kept [] k = tt
     kept (m ∷ ms) k = pick (test m) (kept ms k.1)
       where
-        pick : (b : Bool) → AllByRecursion (λ n. leb (length (name_of n)) 7 ≡ true) (filter test ms) → AllByRecursion (λ n. leb (length (name_of n)) 7 ≡ true) (cond b (m ∷ filter test ms) (filter test ms))
+        pick : (b : Bool) → AllByRecursion (λ n. leb (length (name_of n)) 7 ≡ true) (filter test ms)
+            → AllByRecursion (λ n. leb (length (name_of n)) 7 ≡ true) (cond b (m ∷ filter test ms) (filter test ms))
         pick true rest = (k.0, rest)
         pick false rest = rest
 
@@ -228,10 +233,6 @@ rights_short r word = go (same_text (rights_text r) (codes "-")) (rights_good r 
     go true k = record { piece = refl; short = omega arith }
     go false k = record { piece = k; short = let size = rights_size r in omega arith }
 
-verb_small : (v : Verb) → leb (length (verb_word v)) 9 ≡ true
-verb_small verb.Hydra = refl
-verb_small _ = refl
-
 verb_word_good : (v : Verb) → is_word (verb_word v) ≡ true
 verb_word_good verb.Hydra = refl
 verb_word_good _ = refl
@@ -239,26 +240,36 @@ verb_word_good _ = refl
 verb_short : (v : Verb) → IsShort (verb_piece v)
 verb_short v = word_short (verb_word v) (verb_word_good v)
 
-label_size : (w : Setup) → AllByRecursion (λ l. IsTrue (is_name l)) (map (λ (b : Born). b.label) w.objects) → (n : Name) → IsObject w n → length (object_text (spoken w) n) ≤ 32
+label_size : (w : WorldValue) → AllByRecursion (λ l. IsTrue (is_name l)) (map (λ (b : Born). b.label) w.objects) → (n : Name) → IsObject w n
+    → length (object_text (spoken w) n) ≤ 32
 label_size w named n there =
     let size : length (spoken w).objects ≡ 7 + length w.objects = rw length-map (omega arith) in
-    all_at (λ l. length l ≤ 32) (spoken w).objects n.0 [] (omega arith, (omega arith, (omega arith, (omega arith, (omega arith, (omega arith, (omega arith, each (map (λ (b : Born). b.label) w.objects) named))))))) (omega arith)
+    all_at (λ l. length l ≤ 32) (spoken w).objects n.0 [] (
+      omega arith,
+      (
+        omega arith,
+        (
+          omega arith,
+          (omega arith, (omega arith, (omega arith, (omega arith, each (map (λ (b : Born). b.label) w.objects) named)))),
+        ),
+      ),
+    ) (omega arith)
   where
     each : (ls : List (List ℕ)) → AllByRecursion (λ l. IsTrue (is_name l)) ls → AllByRecursion (λ l. length l ≤ 32) ls
     each [] h = tt
     each (l ∷ ls) h = (leb-true (length l) 32 (and_parts (is_lower (first l) && list_all is_word_byte l) (leb (length l) 32) (name_word l h.0)).1, each ls h.1)
 
-object_short : (w : Setup) → IsWorld w → (n : Name) → IsObject w n → IsShort (type_piece (object_text (spoken w) n))
+object_short : (w : WorldValue) → IsWorld w → (n : Name) → IsObject w n → IsShort (type_piece (object_text (spoken w) n))
 object_short w h n there =
     let own = map (λ (b : Born). b.label) w.objects in
     let rest = map (λ (c : Code). c.label) w.codes ++ map (λ (t : Task). t.label) w.tasks in
     type_text_short (object_text (spoken w) n) (object_good w h n there) (label_size w (all_front (λ l. IsTrue (is_name l)) own rest h.names) n there)
 
-kind_short : (w : Setup) → IsWorld w → (of : Option Name) → IsTypeOrAny w of → IsShort (type_piece (kind_text (spoken w) of))
+kind_short : (w : WorldValue) → IsWorld w → (of : Option Name) → IsTypeOrAny w of → IsShort (type_piece (kind_text (spoken w) of))
 kind_short w h None k = word_short (codes "any") refl
 kind_short w h (Some n) k = object_short w h n (type_object w n k)
 
-code_short : (w : Setup) → IsWorld w → (n : ℕ) → n < length w.codes → IsShort (Word (code_text (spoken w) n))
+code_short : (w : WorldValue) → IsWorld w → (n : ℕ) → n < length w.codes → IsShort (Word (code_text (spoken w) n))
 code_short w h n there = word_short (code_text (spoken w) n) (code_good w h n there)
 
 name_short : (t : List ℕ) → IsTrue (is_name t) → IsShort (Word t)
@@ -266,24 +277,30 @@ name_short t h = word_short t (name_word t h)
 
 -- lines inside items
 
-entry_line_good : (w : Setup) → IsWorld w → (e : Entry) → IsEntry w e → is_line (body_pieces (entry_body (spoken w) e)) ≡ true
+entry_line_good : (w : WorldValue) → IsWorld w → (e : Entry) → IsEntry w e → is_line (body_pieces (entry_body (spoken w) e)) ≡ true
 entry_line_good w h Empty k = refl
-entry_line_good w h (Held held) k = few_good (and_short (verb_short verb.Cap) (and_short (object_short w h held.name k.0) (and_short (rights_short held.rights k.1) none_short))) (omega arith)
-entry_line_good w h (Form (template.Amplify of check give)) k = few_good (and_short (verb_short verb.Amplify) (and_short (kind_short w h of k.0) (and_short (rights_short check k.1) (and_short (rights_short give k.2) none_short)))) (omega arith)
-entry_line_good w h (Form (template.Create of give)) k = few_good (and_short (verb_short verb.Create) (and_short (object_short w h of (type_object w of k.0)) (and_short (rights_short give k.1) none_short))) (omega arith)
+entry_line_good w h (Held held) k =
+    few_good (and_short (verb_short verb.Cap) (and_short (object_short w h held.name k.0) (and_short (rights_short held.rights k.1) none_short))) (omega arith)
+entry_line_good w h (Form (template.Amplify of check give)) k =
+    few_good (and_short (verb_short verb.Amplify) (and_short (kind_short w h of k.0) (and_short (rights_short check k.1) (and_short (rights_short give k.2) none_short))))
+    (omega arith)
+entry_line_good w h (Form (template.Create of give)) k =
+    few_good (and_short (verb_short verb.Create) (and_short (object_short w h of (type_object w of k.0)) (and_short (rights_short give k.1) none_short))) (omega arith)
 
 LinesAreGood : List Part → Type 0
 LinesAreGood ps = list_all (λ (p : Part). is_line (body_pieces p.body)) ps ≡ true
 
-entry_lines_good : (w : Setup) → IsWorld w → (es : List Entry) → AllByRecursion (IsEntry w) es → LinesAreGood (entry_parts (spoken w) es)
+entry_lines_good : (w : WorldValue) → IsWorld w → (es : List Entry) → AllByRecursion (IsEntry w) es → LinesAreGood (entry_parts (spoken w) es)
 unfolding LinesAreGood
 entry_lines_good w h [] k = refl
 entry_lines_good w h (e ∷ es) k = and_from _ _ (entry_line_good w h e k.0) (entry_lines_good w h es k.1)
 
-param_lines_good : (w : Setup) → IsWorld w → (ps : List Param) → AllByRecursion (IsParam w) ps → LinesAreGood (param_parts (spoken w) ps)
+param_lines_good : (w : WorldValue) → IsWorld w → (ps : List Param) → AllByRecursion (IsParam w) ps → LinesAreGood (param_parts (spoken w) ps)
 unfolding LinesAreGood
 param_lines_good w h [] k = refl
-param_lines_good w h (p ∷ ps) k = and_from _ _ (few_good (and_short (verb_short verb.Param) (and_short (kind_short w h p.of k.0.0) (and_short (rights_short p.check k.0.1) (and_short (rights_short p.give k.0.2) none_short)))) (omega arith)) (param_lines_good w h ps k.1)
+param_lines_good w h (p ∷ ps) k =
+    and_from _ _ (few_good (and_short (verb_short verb.Param) (and_short (kind_short w h p.of k.0.0)
+    (and_short (rights_short p.check k.0.1) (and_short (rights_short p.give k.0.2) none_short)))) (omega arith)) (param_lines_good w h ps k.1)
 
 -- the bytes of numbers, each with the space before it
 numbers_size : List ℕ → ℕ
@@ -315,7 +332,8 @@ unfolding LinesFit numbers_size
 from_fits used [] few h = (omega arith, tt, tt)
 from_fits used (w ∷ ws) few h = go (leb (used + number_bytes w) 1000) refl (λ u k. from_fits u ws k h.1)
   where
-    go : (b : Bool) → leb (used + number_bytes w) 1000 ≡ b → ((u : ℕ) → u ≤ 1000 → LinesFit u (words_from u ws)) → LinesFit used (cond b (onto_first w (words_from (used + number_bytes w) ws)) ([] ∷ onto_first w (words_from (5 + number_bytes w) ws)))
+    go : (b : Bool) → leb (used + number_bytes w) 1000 ≡ b → ((u : ℕ) → u ≤ 1000 → LinesFit u (words_from u ws))
+        → LinesFit used (cond b (onto_first w (words_from (used + number_bytes w) ws)) ([] ∷ onto_first w (words_from (5 + number_bytes w) ws)))
     go true e rest = put_fits used w (words_from (used + number_bytes w) ws) h.0 (rest (used + number_bytes w) (leb-true _ _ e))
     go false e rest =
         let small = length-decimal-le 10 w (omega arith) (omega arith) (omega arith) in
@@ -325,7 +343,8 @@ words_line_good : (ns : List ℕ) → 5 + numbers_size ns ≤ 1000 → AllByRecu
 unfolding line_size
 words_line_good ns few h = let all = numbers_good ns h in let bytes = all.1 in line_good (verb_piece verb.Words) (map Number ns) all.0 (omega arith)
 
-word_lines_fit : (lines : List (List ℕ)) → AllByRecursion (λ m. (5 + numbers_size m ≤ 1000) × AllByRecursion IsWord32 m) lines → LinesAreGood (map (λ line. part (WordsAre line)) lines)
+word_lines_fit : (lines : List (List ℕ)) → AllByRecursion (λ m. (5 + numbers_size m ≤ 1000) × AllByRecursion IsWord32 m) lines
+    → LinesAreGood (map (λ line. part (WordsAre line)) lines)
 unfolding LinesAreGood
 word_lines_fit [] f = refl
 word_lines_fit (l ∷ ls) f = and_from _ _ (words_line_good l f.0.0 f.0.1) (word_lines_fit ls f.1)
@@ -355,7 +374,8 @@ slots_put : (ns : List ℕ) (m : ℕ) → AllByRecursion (λ slot. slot < 64) ns
 slots_put [] m h k = (k, tt)
 slots_put (n ∷ ns) m h k = (h.0, slots_put ns m h.1 k)
 
-call_good : (proc : Route) (args : List ℕ) (into : Slot) → IsRoute proc → length args ≤ 8 → AllByRecursion (λ slot. slot < 64) args → IsSlot into → is_line (verb_piece verb.Call ∷ route_piece proc ∷ argument_pieces args into) ≡ true
+call_good : (proc : Route) (args : List ℕ) (into : Slot) → IsRoute proc → length args ≤ 8 → AllByRecursion (λ slot. slot < 64) args → IsSlot into
+    → is_line (verb_piece verb.Call ∷ route_piece proc ∷ argument_pieces args into) ≡ true
 unfolding line_size IsShort
 call_good proc args into h few all k =
     let slots = slots_good (args ++ into.0 ∷ []) (slots_put args into.0 all k) in
@@ -368,34 +388,59 @@ call_good proc args into h few all k =
     rw (← joined) (line_good (verb_piece verb.Call) (route_piece proc ∷ map Number (args ++ into.0 ∷ [])) pieces (omega arith))
 
 instr_line_good : (len : ℕ) (i : Instr) → len ≤ 4096 → IsInstr len i → is_line (written_pieces (written_of i)) ≡ true
-instr_line_good len (instr.Get of at reg) few h = few_good (and_short (verb_short verb.GetData) (and_short (route_short of h.0) (and_short (operand_short at h.1) (and_short (register_short reg h.2) none_short)))) (omega arith)
-instr_line_good len (instr.Put of at word) few h = few_good (and_short (verb_short verb.PutData) (and_short (route_short of h.0) (and_short (operand_short at h.1) (and_short (operand_short word h.2) none_short)))) (omega arith)
-instr_line_good len (instr.Add of word) few h = few_good (and_short (verb_short verb.AddData) (and_short (route_short of h.0) (and_short (operand_short word h.1) none_short))) (omega arith)
-instr_line_good len (instr.Length of reg) few h = few_good (and_short (verb_short verb.Length) (and_short (route_short of h.0) (and_short (register_short reg h.1) none_short))) (omega arith)
-instr_line_good len (instr.Load from into) few h = few_good (and_short (verb_short verb.Load) (and_short (route_short from h.0) (and_short (slot_short into h.1) none_short))) (omega arith)
-instr_line_good len (instr.Store list at from) few h = few_good (and_short (verb_short verb.Store) (and_short (route_short list h.0) (and_short (operand_short at h.1) (and_short (slot_short from h.2) none_short)))) (omega arith)
-instr_line_good len (instr.Append list from) few h = few_good (and_short (verb_short verb.Append) (and_short (route_short list h.0) (and_short (slot_short from h.1) none_short))) (omega arith)
-instr_line_good len (instr.Erase list at) few h = few_good (and_short (verb_short verb.Erase) (and_short (route_short list h.0) (and_short (operand_short at h.1) none_short))) (omega arith)
+instr_line_good len (instr.Get of at reg) few h =
+    few_good (and_short (verb_short verb.GetData) (and_short (route_short of h.0) (and_short (operand_short at h.1) (and_short (register_short reg h.2) none_short)))) (omega arith)
+instr_line_good len (instr.Put of at word) few h =
+    few_good (and_short (verb_short verb.PutData) (and_short (route_short of h.0) (and_short (operand_short at h.1) (and_short (operand_short word h.2) none_short)))) (omega arith)
+instr_line_good len (instr.Add of word) few h =
+    few_good (and_short (verb_short verb.AddData) (and_short (route_short of h.0) (and_short (operand_short word h.1) none_short))) (omega arith)
+instr_line_good len (instr.Length of reg) few h =
+    few_good (and_short (verb_short verb.Length) (and_short (route_short of h.0) (and_short (register_short reg h.1) none_short))) (omega arith)
+instr_line_good len (instr.Load from into) few h =
+    few_good (and_short (verb_short verb.Load) (and_short (route_short from h.0) (and_short (slot_short into h.1) none_short))) (omega arith)
+instr_line_good len (instr.Store list at from) few h =
+    few_good (and_short (verb_short verb.Store) (and_short (route_short list h.0) (and_short (operand_short at h.1) (and_short (slot_short from h.2) none_short)))) (omega arith)
+instr_line_good len (instr.Append list from) few h =
+    few_good (and_short (verb_short verb.Append) (and_short (route_short list h.0) (and_short (slot_short from h.1) none_short))) (omega arith)
+instr_line_good len (instr.Erase list at) few h =
+    few_good (and_short (verb_short verb.Erase) (and_short (route_short list h.0) (and_short (operand_short at h.1) none_short))) (omega arith)
 instr_line_good len (instr.Drop slot) few h = few_good (and_short (verb_short verb.Drop) (and_short (slot_short slot h) none_short)) (omega arith)
-instr_line_good len (instr.Restrict slot keep) few h = few_good (and_short (verb_short verb.Restrict) (and_short (slot_short slot h.0) (and_short (rights_short keep h.1) none_short))) (omega arith)
-instr_line_good len (instr.Look of reg) few h = few_good (and_short (verb_short verb.Look) (and_short (route_short of h.0) (and_short (register_short reg h.1) none_short))) (omega arith)
-instr_line_good len (instr.MakeTemplate of (making.Amplify check give) into) few h = few_good (and_short (verb_short verb.Template) (and_short (route_short of h.0) (and_short (verb_short verb.Amplify) (and_short (rights_short check (h.1).0) (and_short (rights_short give (h.1).1) (and_short (slot_short into h.2) none_short)))))) (omega arith)
-instr_line_good len (instr.MakeTemplate of (making.Create give) into) few h = few_good (and_short (verb_short verb.Template) (and_short (route_short of h.0) (and_short (verb_short verb.Create) (and_short (rights_short give h.1) (and_short (slot_short into h.2) none_short))))) (omega arith)
-instr_line_good len (instr.Create by into) few h = few_good (and_short (verb_short verb.Create) (and_short (route_short by h.0) (and_short (slot_short into h.1) none_short))) (omega arith)
-instr_line_good len (instr.Merge with slot into) few h = few_good (and_short (verb_short verb.Merge) (and_short (route_short with h.0) (and_short (slot_short slot h.1) (and_short (slot_short into h.2) none_short)))) (omega arith)
-instr_line_good len (instr.Copy of into) few h = few_good (and_short (verb_short verb.Copy) (and_short (route_short of h.0) (and_short (slot_short into h.1) none_short))) (omega arith)
+instr_line_good len (instr.Restrict slot keep) few h =
+    few_good (and_short (verb_short verb.Restrict) (and_short (slot_short slot h.0) (and_short (rights_short keep h.1) none_short))) (omega arith)
+instr_line_good len (instr.Look of reg) few h =
+    few_good (and_short (verb_short verb.Look) (and_short (route_short of h.0) (and_short (register_short reg h.1) none_short))) (omega arith)
+instr_line_good len (instr.MakeTemplate of (making.Amplify check give) into) few h =
+    few_good (and_short (verb_short verb.Template) (and_short (route_short of h.0) (and_short (verb_short verb.Amplify)
+    (and_short (rights_short check (h.1).0) (and_short (rights_short give (h.1).1) (and_short (slot_short into h.2) none_short)))))) (omega arith)
+instr_line_good len (instr.MakeTemplate of (making.Create give) into) few h =
+    few_good (and_short (verb_short verb.Template) (and_short (route_short of h.0) (and_short (verb_short verb.Create)
+    (and_short (rights_short give h.1) (and_short (slot_short into h.2) none_short))))) (omega arith)
+instr_line_good len (instr.Create by into) few h =
+    few_good (and_short (verb_short verb.Create) (and_short (route_short by h.0) (and_short (slot_short into h.1) none_short))) (omega arith)
+instr_line_good len (instr.Merge with slot into) few h =
+    few_good (and_short (verb_short verb.Merge) (and_short (route_short with h.0) (and_short (slot_short slot h.1) (and_short (slot_short into h.2) none_short)))) (omega arith)
+instr_line_good len (instr.Copy of into) few h =
+    few_good (and_short (verb_short verb.Copy) (and_short (route_short of h.0) (and_short (slot_short into h.1) none_short))) (omega arith)
 instr_line_good len (instr.Enter proc args into) few h = call_good proc args into h.0 h.1.0 h.1.1 h.2
 instr_line_good len (instr.Leave None) few h = refl
 instr_line_good len (instr.Leave (Some s)) few h = few_good (and_short (verb_short verb.Return) (and_short (slot_short s h) none_short)) (omega arith)
 instr_line_good len (instr.P of) few h = few_good (and_short (verb_short verb.P) (and_short (route_short of h) none_short)) (omega arith)
 instr_line_good len (instr.V of) few h = few_good (and_short (verb_short verb.V) (and_short (route_short of h) none_short)) (omega arith)
 instr_line_good len instr.Yield few h = refl
-instr_line_good len (instr.SetReg reg to) few h = few_good (and_short (verb_short verb.Set) (and_short (register_short reg h.0) (and_short (operand_short to h.1) none_short))) (omega arith)
-instr_line_good len (instr.AddReg reg by) few h = few_good (and_short (verb_short verb.Add) (and_short (register_short reg h.0) (and_short (operand_short by h.1) none_short))) (omega arith)
-instr_line_good len (instr.Goto to) few h = few_good (and_short (verb_short verb.Goto) (and_short (word_short (label_text to) (label_word to (omega arith))) none_short)) (omega arith)
-instr_line_good len (instr.IfEq left right to) few h = few_good (and_short (verb_short verb.IfEq) (and_short (operand_short left h.0) (and_short (operand_short right h.1) (and_short (word_short (label_text to) (label_word to (let k = h.2 in omega arith))) none_short)))) (omega arith)
-instr_line_good len (instr.IfLess left right to) few h = few_good (and_short (verb_short verb.IfLess) (and_short (operand_short left h.0) (and_short (operand_short right h.1) (and_short (word_short (label_text to) (label_word to (let k = h.2 in omega arith))) none_short)))) (omega arith)
-instr_line_good len (instr.IfDenied to) few h = few_good (and_short (verb_short verb.IfDenied) (and_short (word_short (label_text to) (label_word to (omega arith))) none_short)) (omega arith)
+instr_line_good len (instr.SetReg reg to) few h =
+    few_good (and_short (verb_short verb.Set) (and_short (register_short reg h.0) (and_short (operand_short to h.1) none_short))) (omega arith)
+instr_line_good len (instr.AddReg reg by) few h =
+    few_good (and_short (verb_short verb.Add) (and_short (register_short reg h.0) (and_short (operand_short by h.1) none_short))) (omega arith)
+instr_line_good len (instr.Goto to) few h =
+    few_good (and_short (verb_short verb.Goto) (and_short (word_short (label_text to) (label_word to (omega arith))) none_short)) (omega arith)
+instr_line_good len (instr.IfEq left right to) few h =
+    few_good (and_short (verb_short verb.IfEq) (and_short (operand_short left h.0) (and_short (operand_short right h.1)
+    (and_short (word_short (label_text to) (label_word to (let k = h.2 in omega arith))) none_short)))) (omega arith)
+instr_line_good len (instr.IfLess left right to) few h =
+    few_good (and_short (verb_short verb.IfLess) (and_short (operand_short left h.0) (and_short (operand_short right h.1)
+    (and_short (word_short (label_text to) (label_word to (let k = h.2 in omega arith))) none_short)))) (omega arith)
+instr_line_good len (instr.IfDenied to) few h =
+    few_good (and_short (verb_short verb.IfDenied) (and_short (word_short (label_text to) (label_word to (omega arith))) none_short)) (omega arith)
 
 code_lines_good : (len : ℕ) (all is : List Instr) (n : ℕ) → len ≤ 4096 → n + length is ≤ 4096 → AllByRecursion (IsInstr len) is → LinesAreGood (code_parts all n is)
 unfolding LinesAreGood
@@ -406,8 +451,11 @@ code_lines_good len all [] n most few h = go (list_any (jumps_to n) all)
     go false = refl
 code_lines_good len all (i ∷ is) n most few h = go (list_any (jumps_to n) all) (code_lines_good len all is (n + 1) most (omega arith) h.1)
   where
-    go : (b : Bool) → LinesAreGood (code_parts all (n + 1) is) → LinesAreGood (cond b (part (LabelIs (label_text n)) ∷ []) [] ++ part (StepIs (written_of i)) ∷ code_parts all (n + 1) is)
-    go true rest = and_from _ _ (few_good (and_short (verb_short verb.Label) (and_short (word_short (label_text n) (label_word n (omega arith))) none_short)) (omega arith)) (and_from _ _ (instr_line_good len i most h.0) rest)
+    go : (b : Bool) → LinesAreGood (code_parts all (n + 1) is)
+        → LinesAreGood (cond b (part (LabelIs (label_text n)) ∷ []) [] ++ part (StepIs (written_of i)) ∷ code_parts all (n + 1) is)
+    go true rest =
+        and_from _ _ (few_good (and_short (verb_short verb.Label) (and_short (word_short (label_text n) (label_word n (omega arith))) none_short)) (omega arith))
+        (and_from _ _ (instr_line_good len i most h.0) rest)
     go false rest = and_from _ _ (instr_line_good len i most h.0) rest
 
 -- items
@@ -418,7 +466,8 @@ all_append P xs ys a b = list_all-append P xs ys ∙ and_from _ _ a b
 part_lines_good : (ps : List Part) → LinesAreGood ps → list_all is_line (map (λ (p : Part). body_pieces p.body) ps ++ end_line ∷ []) ≡ true
 unfolding LinesAreGood
 part_lines_good [] h = refl
-part_lines_good (p ∷ ps) h = let parts = and_parts (is_line (body_pieces p.body)) (list_all (λ (q : Part). is_line (body_pieces q.body)) ps) h in and_from _ _ parts.0 (part_lines_good ps parts.1)
+part_lines_good (p ∷ ps) h =
+    let parts = and_parts (is_line (body_pieces p.body)) (list_all (λ (q : Part). is_line (body_pieces q.body)) ps) h in and_from _ _ parts.0 (part_lines_good ps parts.1)
 
 item_lines_good : (head : Head) (parts : List Part) → is_line (head_pieces head) ≡ true → LinesAreGood parts → list_all is_line (item_lines (item head parts)) ≡ true
 item_lines_good head parts h k = go (has_parts head)
@@ -427,38 +476,65 @@ item_lines_good head parts h k = go (has_parts head)
     go true = and_from _ _ h (part_lines_good parts k)
     go false = and_from _ _ h refl
 
-object_lines_good : (w : Setup) → IsWorld w → (label : List ℕ) (k : Kind) → IsTrue (is_name label) → IsKind w k → list_all is_line (item_lines (kind_item (spoken w) label k)) ≡ true
+object_lines_good : (w : WorldValue) → IsWorld w → (label : List ℕ) (k : Kind) → IsTrue (is_name label) → IsKind w k
+    → list_all is_line (item_lines (kind_item (spoken w) label k)) ≡ true
 unfolding LinesAreGood
-object_lines_good w h label kind.TypeObject name k = item_lines_good (TypeIs label) [] (few_good (and_short (verb_short verb.Type) (and_short (name_short label name) none_short)) (omega arith)) refl
-object_lines_good w h label (kind.Semaphore count) name k = item_lines_good (SemaphoreIs label count) [] (few_good (and_short (verb_short verb.Semaphore) (and_short (name_short label name) (and_short (number_short count (omega arith)) none_short))) (omega arith)) refl
+object_lines_good w h label kind.TypeObject name k =
+    item_lines_good (TypeIs label) [] (few_good (and_short (verb_short verb.Type) (and_short (name_short label name) none_short)) (omega arith)) refl
+object_lines_good w h label (kind.Semaphore count) name k =
+    item_lines_good (SemaphoreIs label count) [] (few_good (and_short (verb_short verb.Semaphore)
+    (and_short (name_short label name) (and_short (number_short count (omega arith)) none_short))) (omega arith)) refl
 object_lines_good w h label (kind.Plain of words entries) name k =
-    item_lines_good (ObjectIs label (object_text (spoken w) of)) (word_parts words ++ entry_parts (spoken w) entries) (few_good (and_short (verb_short verb.Object) (and_short (name_short label name) (and_short (object_short w h of (type_object w of (plain_general w of entries k.0).0)) none_short))) (omega arith)) (all_append (λ (p : Part). is_line (body_pieces p.body)) (word_parts words) (entry_parts (spoken w) entries) (words_good words k.2) (entry_lines_good w h entries k.4))
+    item_lines_good (ObjectIs label (object_text (spoken w) of)) (word_parts words ++ entry_parts (spoken w) entries)
+    (few_good (and_short (verb_short verb.Object) (and_short (name_short label name) (and_short
+    (object_short w h of (type_object w of (plain_general w of entries k.0).0)) none_short))) (omega arith))
+    (all_append (λ (p : Part). is_line (body_pieces p.body)) (word_parts words) (entry_parts (spoken w) entries) (words_good words k.2) (entry_lines_good w h entries k.4))
 object_lines_good w h label (kind.Procedure code params entries) name k =
-    item_lines_good (ProcedureIs label (code_text (spoken w) code)) (param_parts (spoken w) params ++ entry_parts (spoken w) entries) (few_good (and_short (verb_short verb.Procedure) (and_short (name_short label name) (and_short (code_short w h code k.0) none_short))) (omega arith)) (all_append (λ (p : Part). is_line (body_pieces p.body)) (param_parts (spoken w) params) (entry_parts (spoken w) entries) (param_lines_good w h params k.2) (entry_lines_good w h entries k.4))
+    item_lines_good (ProcedureIs label (code_text (spoken w) code)) (param_parts (spoken w) params ++ entry_parts (spoken w) entries)
+    (few_good (and_short (verb_short verb.Procedure) (and_short (name_short label name) (and_short (code_short w h code k.0) none_short))) (omega arith))
+    (all_append (λ (p : Part). is_line (body_pieces p.body)) (param_parts (spoken w) params) (entry_parts (spoken w) entries) (param_lines_good w h params k.2)
+    (entry_lines_good w h entries k.4))
 
 -- the lines of items, one item behind another
-lines_both : (xs ys : List Item) → list_all is_line (flat_map item_lines xs) ≡ true → list_all is_line (flat_map item_lines ys) ≡ true → list_all is_line (flat_map item_lines (xs ++ ys)) ≡ true
+lines_both : (xs ys : List Item) → list_all is_line (flat_map item_lines xs) ≡ true → list_all is_line (flat_map item_lines ys) ≡ true
+    → list_all is_line (flat_map item_lines (xs ++ ys)) ≡ true
 lines_both xs ys a b = rw (flat_map-append item_lines xs ys) (list_all-append is_line (flat_map item_lines xs) (flat_map item_lines ys) ∙ and_from _ _ a b)
 
-line_onto : (x : Item) (xs : List Item) → list_all is_line (item_lines x) ≡ true → list_all is_line (flat_map item_lines xs) ≡ true → list_all is_line (flat_map item_lines (x ∷ xs)) ≡ true
+line_onto : (x : Item) (xs : List Item) → list_all is_line (item_lines x) ≡ true → list_all is_line (flat_map item_lines xs) ≡ true
+    → list_all is_line (flat_map item_lines (x ∷ xs)) ≡ true
 line_onto x xs a b = list_all-append is_line (item_lines x) (flat_map item_lines xs) ∙ and_from _ _ a b
 
-objects_lines : (w : Setup) → IsWorld w → (os : List Born) → AllByRecursion (λ (o : Born). IsKind w o.kind) os → AllByRecursion (λ l. IsTrue (is_name l)) (map (λ (o : Born). o.label) os) → list_all is_line (flat_map item_lines (map (object_item (spoken w)) os)) ≡ true
+objects_lines : (w : WorldValue) → IsWorld w → (os : List Born) → AllByRecursion (λ (o : Born). IsKind w o.kind) os
+    → AllByRecursion (λ l. IsTrue (is_name l)) (map (λ (o : Born). o.label) os) → list_all is_line (flat_map item_lines (map (object_item (spoken w)) os)) ≡ true
 objects_lines w h [] k named = refl
-objects_lines w h (o ∷ os) k named = line_onto (object_item (spoken w) o) (map (object_item (spoken w)) os) (object_lines_good w h o.label o.kind named.0 k.0) (objects_lines w h os k.1 named.1)
+objects_lines w h (o ∷ os) k named =
+    line_onto (object_item (spoken w) o) (map (object_item (spoken w)) os) (object_lines_good w h o.label o.kind named.0 k.0) (objects_lines w h os k.1 named.1)
 
-codes_lines : (cs : List Code) → AllByRecursion IsCode cs → AllByRecursion (λ l. IsTrue (is_name l)) (map (λ (c : Code). c.label) cs) → list_all is_line (flat_map item_lines (map code_item cs)) ≡ true
+codes_lines : (cs : List Code) → AllByRecursion IsCode cs → AllByRecursion (λ l. IsTrue (is_name l)) (map (λ (c : Code). c.label) cs)
+    → list_all is_line (flat_map item_lines (map code_item cs)) ≡ true
 codes_lines [] k named = refl
-codes_lines (c ∷ cs) k named = line_onto (code_item c) (map code_item cs) (item_lines_good (CodeIs c.label) (code_parts c.steps 0 c.steps) (few_good (and_short (verb_short verb.Code) (and_short (name_short c.label named.0) none_short)) (omega arith)) (code_lines_good (length c.steps) c.steps c.steps 0 k.0.0 (let few = k.0.0 in omega arith) k.0.1)) (codes_lines cs k.1 named.1)
+codes_lines (c ∷ cs) k named =
+    line_onto (code_item c) (map code_item cs) (item_lines_good (CodeIs c.label) (code_parts c.steps 0 c.steps)
+    (few_good (and_short (verb_short verb.Code) (and_short (name_short c.label named.0) none_short)) (omega arith))
+    (code_lines_good (length c.steps) c.steps c.steps 0 k.0.0 (let few = k.0.0 in omega arith) k.0.1)) (codes_lines cs k.1 named.1)
 
-tasks_lines : (w : Setup) → IsWorld w → (ts : List Task) → AllByRecursion (IsTask w) ts → AllByRecursion (λ l. IsTrue (is_name l)) (map (λ (t : Task). t.label) ts) → list_all is_line (flat_map item_lines (map (task_item (spoken w)) ts)) ≡ true
+tasks_lines : (w : WorldValue) → IsWorld w → (ts : List Task) → AllByRecursion (IsTask w) ts → AllByRecursion (λ l. IsTrue (is_name l)) (map (λ (t : Task). t.label) ts)
+    → list_all is_line (flat_map item_lines (map (task_item (spoken w)) ts)) ≡ true
 tasks_lines w h [] k named = refl
-tasks_lines w h (t ∷ ts) k named = line_onto (task_item (spoken w) t) (map (task_item (spoken w)) ts) (item_lines_good (ProcessIs t.label (code_text (spoken w) t.code)) (entry_parts (spoken w) t.slots) (few_good (and_short (verb_short verb.Process) (and_short (name_short t.label named.0) (and_short (code_short w h t.code k.0.0) none_short))) (omega arith)) (entry_lines_good w h t.slots k.0.2)) (tasks_lines w h ts k.1 named.1)
+tasks_lines w h (t ∷ ts) k named =
+    line_onto (task_item (spoken w) t) (map (task_item (spoken w)) ts) (item_lines_good (ProcessIs t.label (code_text (spoken w) t.code)) (entry_parts (spoken w) t.slots)
+    (few_good (and_short (verb_short verb.Process) (and_short (name_short t.label named.0) (and_short (code_short w h t.code k.0.0) none_short))) (omega arith))
+    (entry_lines_good w h t.slots k.0.2)) (tasks_lines w h ts k.1 named.1)
 
 -- the lines of a world are those of some script
-pub lines_good : (w : Setup) → IsWorld w → list_all is_line (script_lines (syntax_of w)) ≡ true
+pub lines_good : (w : WorldValue) → IsWorld w → list_all is_line (script_lines (syntax_of w)) ≡ true
 unfolding digits
-lines_good w h = lines_both (limit_items w.limit) (map (object_item (spoken w)) w.objects ++ (map code_item w.codes ++ map (task_item (spoken w)) w.tasks)) (limits (w.limit == 10000)) (lines_both (map (object_item (spoken w)) w.objects) (map code_item w.codes ++ map (task_item (spoken w)) w.tasks) (objects_lines w h w.objects h.kinds (all_front (λ l. IsTrue (is_name l)) own (coded ++ tasked) h.names)) (lines_both (map code_item w.codes) (map (task_item (spoken w)) w.tasks) (codes_lines w.codes h.codes_are (all_front (λ l. IsTrue (is_name l)) coded tasked named)) (tasks_lines w h w.tasks h.tasks_are (all_back (λ l. IsTrue (is_name l)) coded tasked named))))
+lines_good w h =
+    lines_both (limit_items w.limit) (map (object_item (spoken w)) w.objects ++ (map code_item w.codes ++ map (task_item (spoken w)) w.tasks)) (limits (w.limit == 10000))
+    (lines_both (map (object_item (spoken w)) w.objects) (map code_item w.codes ++ map (task_item (spoken w)) w.tasks)
+    (objects_lines w h w.objects h.kinds (all_front (λ l. IsTrue (is_name l)) own (coded ++ tasked) h.names))
+    (lines_both (map code_item w.codes) (map (task_item (spoken w)) w.tasks) (codes_lines w.codes h.codes_are (all_front (λ l. IsTrue (is_name l)) coded tasked named))
+    (tasks_lines w h w.tasks h.tasks_are (all_back (λ l. IsTrue (is_name l)) coded tasked named))))
   where
     own : List (List ℕ)
     own = map (λ (b : Born). b.label) w.objects
@@ -474,4 +550,5 @@ lines_good w h = lines_both (limit_items w.limit) (map (object_item (spoken w)) 
 
     limits : (b : Bool) → list_all is_line (flat_map item_lines (cond b [] (item (LimitIs w.limit) [] ∷ []))) ≡ true
     limits true = refl
-    limits false = and_from _ _ (few_good (and_short (verb_short verb.Limit) (and_short (number_short w.limit (let few = h.few_events in omega arith)) none_short)) (omega arith)) refl
+    limits false =
+        and_from _ _ (few_good (and_short (verb_short verb.Limit) (and_short (number_short w.limit (let few = h.few_events in omega arith)) none_short)) (omega arith)) refl

@@ -1,5 +1,6 @@
 -- What is loaded from the items of a script is a world.
-use Rattle.std.proofs.Common.{◌≡◌, ℕ, ◌+◌, ◌-◌, ◌<◌, ◌≤◌, ◌⊎◌, inl, inr, ◌==◌, Bool, true, false, cond, ltb, List, [], ◌∷◌, ◌++◌, length, get_or, map, min, refl, sym, ap, ◌∙◌, subst, arith, Ok, Err, Result, Option, Some, None}
+use Rattle.std.proofs.Common.{◌≡◌, ℕ, ◌+◌, ◌-◌, ◌<◌, ◌≤◌, ◌⊎◌, inl, inr, ◌==◌, Bool, true, false, cond, ltb, List, [], ◌∷◌, ◌++◌, length, get_or, map, min, refl, sym, ap, ◌∙◌}
+use Rattle.std.proofs.Common.{subst, arith, Ok, Err, Result, Option, Some, None}
 use Rattle.std.specs.Prelude.{codes, slice_get, slice_index_or}
 use Rattle.std.specs.List.{position_or_len, slice_split}
 use Rattle.std.proofs.lemmas.Bool.{ltb-true, false≢true, eqb-true}
@@ -25,9 +26,11 @@ use Rattle.hk_model.specs.declared.world.Kind.TheVariants as kind
 use Rattle.hk_format.specs.declared.causes.LoadCause.{LoadCause}
 use Rattle.hk_format.specs.declared.causes.LoadCause.TheVariants.{UnknownName, WrongPart, TooMany, BadRights}
 use Rattle.hk_model.specs.Labels.{same_text}
-use Rattle.hk_format.specs.RightsTexts.{rights_of, right_of, both, union_of}
-use Rattle.hk_model.specs.Setup.{Setup, IsEntry, IsParam, IsObject, IsType, IsTypeOrAny, IsTypeKind}
-use Rattle.hk_format.specs.Loading.{Refused, Names, ◌>>=◌, ◌>>◌, found, unless, limited, permitted, onto, object_named, type_named, kind_named, some_name, code_named, rights_named, name_numbered, kernel_flags, entry_of, param_of, parameter, held_entry, place, to_limit}
+use Rattle.hk_format.specs.RightsTexts.{rights_spelled, right_of, both, union_of}
+use Rattle.hk_model.specs.WorldValue.{WorldValue, IsEntry, IsParam, IsObject, IsType, IsTypeOrAny, IsTypeKind}
+use Rattle.hk_format.specs.Names.{Names, kernel_flags}
+use Rattle.hk_format.specs.Loading.{Refused, ◌>>=◌, ◌>>◌, found, unless, limited, permitted, onto, object_named, type_named, kind_named, some_name, code_named, rights_named}
+use Rattle.hk_format.specs.Loading.{name_numbered, entry_meant, param_of, parameter, held_entry, place, to_limit}
 use Rattle.hk_format.proofs.NamesAgain.{is_type_object}
 
 -- a test that passed, and what came before it
@@ -40,7 +43,8 @@ pub then_ok : {A B C : Type 0} (r : Result A C) (next : Result B C) (y : B) → 
 then_ok (Ok x) next y h = (x, refl, h)
 then_ok (Err e) next y h = absurd (let k : Err e ≡ Ok y = h in cc)
 
-pub onto_ok : {A B : Type 0} (put : A → B → B) (line : ℕ) (r : Result A LoadCause) (rest : Result B Refused) (y : B) → onto put line r rest ≡ Ok y → (x : A) × (xs : B) × (r ≡ Ok x) × (rest ≡ Ok xs) × (put x xs ≡ y)
+pub onto_ok : {A B : Type 0} (put : A → B → B) (line : ℕ) (r : Result A LoadCause) (rest : Result B Refused) (y : B) → onto put line r rest ≡ Ok y
+    → (x : A) × (xs : B) × (r ≡ Ok x) × (rest ≡ Ok xs) × (put x xs ≡ y)
 onto_ok put line (Ok x) (Ok xs) y h = (x, xs, refl, refl, cc)
 onto_ok put line (Ok x) (Err e) y h = absurd (let k : Err e ≡ Ok y = h in cc)
 onto_ok put line (Err c) rest y h = absurd (let k : Err (line, c) ≡ Ok y = h in cc)
@@ -99,8 +103,8 @@ union_word (t ∷ ts) r h = go (right_of t) refl (union_of ts) refl h (λ s e. u
 
 -- what a text of rights means is a set of rights
 pub rights_word : (t : List ℕ) (r : ℕ) → rights_named t ≡ Ok r → IsRightsWord r
-unfolding rights_of
-rights_word t r h = go (same_text t (codes "-")) (same_text t (codes "ALL")) (found_ok (rights_of t) BadRights r h)
+unfolding rights_spelled
+rights_word t r h = go (same_text t (codes "-")) (same_text t (codes "ALL")) (found_ok (rights_spelled t) BadRights r h)
   where
     go : (a b : Bool) → cond a (Some 0) (cond b (Some all_rights) (union_of (slice_split (λ c. c == 43) t))) ≡ Some r → IsRightsWord r
     go true b k = let same : 0 ≡ r = cc in subst IsRightsWord same refl
@@ -110,12 +114,12 @@ rights_word t r h = go (same_text t (codes "-")) (same_text t (codes "ALL")) (fo
 -- names
 
 -- the names are those of this world
-pub record NamesFit (w : Setup) (names : Names) : Type 0 where
+pub record NamesFit (w : WorldValue) (names : Names) : Type 0 where
   pub objects : length names.objects ≡ 7 + length w.objects
   pub types : names.types ≡ kernel_flags ++ map is_type_object w.objects
   pub codes : length names.codes ≡ length w.codes
 
-pub object_loaded : {w : Setup} {names : Names} → NamesFit w names → (t : List ℕ) (n : ℕ) → object_named names t ≡ Ok n → IsObject w (name_numbered n)
+pub object_loaded : {w : WorldValue} {names : Names} → NamesFit w names → (t : List ℕ) (n : ℕ) → object_named names t ≡ Ok n → IsObject w (name_numbered n)
 object_loaded {w} {names} fit t n h = let below = place_below names.objects t n (found_ok (place names.objects t) UnknownName n h) in let size = fit.objects in omega arith
 
 type_kind : (b : Born) → is_type_object b ≡ true → IsTypeKind b.kind
@@ -129,15 +133,20 @@ type_kind b h = go b.kind h
     go (kind.Procedure code params entries) h = absurd (false≢true h)
 
 -- a number whose flag is set is that of a type
-type_flagged : (w : Setup) (n : ℕ) → n < 7 + length w.objects → get_or (kernel_flags ++ map is_type_object w.objects) n false ≡ true → IsType w (name_numbered n)
+type_flagged : (w : WorldValue) (n : ℕ) → n < 7 + length w.objects → get_or (kernel_flags ++ map is_type_object w.objects) n false ≡ true → IsType w (name_numbered n)
 type_flagged w n there flag = go (ltb n 7) refl
   where
-    declared : 7 ≤ n → ((born : Born) × (n - 7 < length w.objects) × (slice_get w.objects (n - 7) ≡ Some born) × (get_or w.objects (n - 7) born ≡ born)) → IsType w (name_numbered n)
+    declared : 7 ≤ n → ((born : Born) × (n - 7 < length w.objects) × (slice_get w.objects (n - 7) ≡ Some born) × (get_or w.objects (n - 7) born ≡ born))
+        → IsType w (name_numbered n)
     declared above at =
-        let flagged : is_type_object at.0 ≡ true = ap is_type_object (sym at.3) ∙ sym (get_or-map is_type_object w.objects (n - 7) at.0 false at.1) ∙ sym (get_or-append_right kernel_flags (map is_type_object w.objects) 7 n false refl above) ∙ flag in
+        let flagged : is_type_object at.0 ≡ true = ap is_type_object (sym at.3) ∙ sym (get_or-map is_type_object w.objects (n - 7) at.0 false at.1)
+        ∙ sym (get_or-append_right kernel_flags (map is_type_object w.objects) 7 n false refl above) ∙ flag in
         inr (record { born = at.0; above = above; there = at.2; is_type = type_kind at.0 flagged })
 
-    either : 7 ≤ n → (((born : Born) × (n - 7 < length w.objects) × (slice_get w.objects (n - 7) ≡ Some born) × (get_or w.objects (n - 7) born ≡ born)) ⊎ ((length w.objects ≤ n - 7) × (slice_get w.objects (n - 7) ≡ None))) → IsType w (name_numbered n)
+    either : 7 ≤ n
+        → (((born : Born) × (n - 7 < length w.objects) × (slice_get w.objects (n - 7) ≡ Some born) × (get_or w.objects (n - 7) born ≡ born)) ⊎
+        ((length w.objects ≤ n - 7) × (slice_get w.objects (n - 7) ≡ None)))
+        → IsType w (name_numbered n)
     either above (inl at) = declared above at
     either above (inr past) = absurd (let end = past.0 in omega arith)
 
@@ -145,7 +154,7 @@ type_flagged w n there flag = go (ltb n 7) refl
     go true e = inl (ltb-true n 7 e)
     go false e = let above : 7 ≤ n = grind (arith, nat_tests) in either above (slice_get_cases w.objects (n - 7)).1
 
-pub type_loaded : {w : Setup} {names : Names} → NamesFit w names → (t : List ℕ) (n : ℕ) → type_named names t ≡ Ok n → IsType w (name_numbered n)
+pub type_loaded : {w : WorldValue} {names : Names} → NamesFit w names → (t : List ℕ) (n : ℕ) → type_named names t ≡ Ok n → IsType w (name_numbered n)
 type_loaded {w} {names} fit t n h =
     let a = bind_ok (object_named names t) (λ m. unless (slice_index_or names.types m false) UnknownName >> Ok m) n h in
     let b = then_ok (unless (slice_index_or names.types a.0 false) UnknownName) (Ok a.0) n a.2 in
@@ -153,7 +162,7 @@ type_loaded {w} {names} fit t n h =
     let flagged = sym (ap (λ (fs : List Bool). slice_index_or fs a.0 false) fit.types) ∙ flag in
     moved (λ (m : ℕ). IsType w (name_numbered m)) a.0 n b.2 (type_flagged w a.0 (object_loaded fit t a.0 a.1) flagged)
 
-kind_loaded : {w : Setup} {names : Names} → NamesFit w names → (t : List ℕ) (of : Option Name) → kind_named names t ≡ Ok of → IsTypeOrAny w of
+kind_loaded : {w : WorldValue} {names : Names} → NamesFit w names → (t : List ℕ) (of : Option Name) → kind_named names t ≡ Ok of → IsTypeOrAny w of
 kind_loaded {w} {names} fit t of h = go (same_text t (codes "any")) h
   where
     go : (b : Bool) → cond b (Ok None) (some_name (type_named names t)) ≡ Ok of → IsTypeOrAny w of
@@ -162,7 +171,7 @@ kind_loaded {w} {names} fit t of h = go (same_text t (codes "any")) h
         let a = bind_ok (type_named names t) (λ n. Ok (Some (name_numbered n))) of k in
         moved (IsTypeOrAny w) (Some (name_numbered a.0)) of a.2 (type_loaded fit t a.0 a.1)
 
-pub code_loaded : {w : Setup} {names : Names} → NamesFit w names → (t : List ℕ) (n : ℕ) → code_named names t ≡ Ok n → n < length w.codes
+pub code_loaded : {w : WorldValue} {names : Names} → NamesFit w names → (t : List ℕ) (n : ℕ) → code_named names t ≡ Ok n → n < length w.codes
 code_loaded {w} {names} fit t n h = go (place names.codes t) refl (found_ok (option_map to_limit (place names.codes t)) UnknownName n h)
   where
     go : (o : Option ℕ) → place names.codes t ≡ o → option_map to_limit o ≡ Some n → n < length w.codes
@@ -171,7 +180,7 @@ code_loaded {w} {names} fit t n h = go (place names.codes t) refl (found_ok (opt
 
 -- single lines
 
-pub entry_loaded : {w : Setup} {names : Names} → NamesFit w names → (body : Body) (e : Entry) → entry_of names body ≡ Ok e → IsEntry w e
+pub entry_loaded : {w : WorldValue} {names : Names} → NamesFit w names → (body : Body) (e : Entry) → entry_meant names body ≡ Ok e → IsEntry w e
 entry_loaded {w} {names} fit (CapEntry object rights) e h =
     let a = bind_ok (object_named names object) (λ n. rights_named rights >>= (λ r. Ok (held_entry n r))) e h in
     let b = bind_ok (rights_named rights) (λ r. Ok (held_entry a.0 r)) e a.2 in
@@ -186,9 +195,9 @@ entry_loaded {w} {names} fit (CreateEntry of give) e h =
     let b = bind_ok (rights_named give) (λ g. Ok (Form (template.Create (name_numbered a.0) g))) e a.2 in
     moved (IsEntry w) (Form (template.Create (name_numbered a.0) b.0)) e b.2 (type_loaded fit of a.0 a.1, rights_word give b.0 b.1)
 entry_loaded {w} fit EmptyEntry e h = moved (IsEntry w) Empty e h tt
-entry_loaded {w} fit b e h = moved (IsEntry w) Empty e h tt
+entry_loaded {w} fit _ e h = cc
 
-pub param_loaded : {w : Setup} {names : Names} → NamesFit w names → (kind check give : List ℕ) (p : Param) → param_of names kind check give ≡ Ok p → IsParam w p
+pub param_loaded : {w : WorldValue} {names : Names} → NamesFit w names → (kind check give : List ℕ) (p : Param) → param_of names kind check give ≡ Ok p → IsParam w p
 param_loaded {w} {names} fit kind check give p h =
     let a = bind_ok (kind_named names kind) (λ of. rights_named check >>= (λ c. rights_named give >>= (λ g. Ok (parameter of c g)))) p h in
     let b = bind_ok (rights_named check) (λ c. rights_named give >>= (λ g. Ok (parameter a.0 c g))) p a.2 in

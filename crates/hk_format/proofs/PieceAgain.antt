@@ -10,12 +10,9 @@ use Rattle.hk_model.specs.declared.instructions.Index.{Index}
 use Rattle.hk_model.specs.declared.instructions.Index.TheVariants.{Fixed, ByReg}
 use Rattle.hk_format.specs.declared.causes.TextCause.TheVariants as causes
 use Rattle.hk_model.specs.Labels.{between, is_digit, is_lower, is_capital, is_word, is_word_byte, is_register}
-use Rattle.hk_format.specs.Pieces.{Piece, Word, Upper, Dash, Number, Path, is_names, is_upper, is_upper_byte, is_number, value, index_of, is_too_large, is_index_text, piece_of, spell, spell_index, is_piece, is_index}
+use Rattle.hk_format.specs.Pieces.{Piece, Word, Upper, Dash, Number, Path, is_names, is_upper, is_upper_byte, is_number, value, index_of, is_too_large, is_index_text, piece_of}
+use Rattle.hk_format.specs.Pieces.{spell, spell_index, is_piece, is_index}
 use Rattle.hk_format.proofs.Cutting.{all_both, none_of, split_joined, any_both}
-
--- a byte that stands in words, uppers and numbers
-abbrev pub is_letter : ℕ → Bool
-is_letter b = is_lower b || is_capital b || is_digit b || eqb b 95 || eqb b 43
 
 pub digits_number : (n : ℕ) → n < 2 ^ 64 → is_number (decimal n) ≡ true
 digits_number = decimal_by_steps (λ n ds. is_number ds ≡ true) (λ n h. grind (arith, nat_tests)) (λ n ds h k. step n ds k)
@@ -58,7 +55,8 @@ pub names_bytes : (begins : Bool) (t : List ℕ) → is_names begins t ≡ true 
 names_bytes begins [] h = refl
 names_bytes begins (b ∷ bs) h = go begins (eqb b 43) refl (λ c. names_bytes c bs) h
   where
-    go : (begins plus : Bool) → eqb b 43 ≡ plus → ((c : Bool) → is_names c bs ≡ true → list_all is_name_byte bs ≡ true) → cond plus (not begins && is_names true bs) (cond begins (is_capital b) (is_upper_byte b) && is_names false bs) ≡ true → list_all is_name_byte (b ∷ bs) ≡ true
+    go : (begins plus : Bool) → eqb b 43 ≡ plus → ((c : Bool) → is_names c bs ≡ true → list_all is_name_byte bs ≡ true)
+        → cond plus (not begins && is_names true bs) (cond begins (is_capital b) (is_upper_byte b) && is_names false bs) ≡ true → list_all is_name_byte (b ∷ bs) ≡ true
     go begins true e more k = and_from _ _ (grind (arith, nat_tests)) (more true (and_parts (not begins) (is_names true bs) k).1)
     go true false e more k = and_from _ _ (grind (arith, nat_tests)) (more false (and_parts (is_capital b) (is_names false bs) k).1)
     go false false e more k = and_from _ _ (grind (arith, nat_tests)) (more false (and_parts (is_upper_byte b) (is_names false bs) k).1)
@@ -86,7 +84,8 @@ record StepAgain (step : Index) : Type 0 where
   narrow : is_too_large (spell_index step) ≡ false
   again : index_of (spell_index step) ≡ step
 
-number_step : (n : ℕ) (t : List ℕ) → is_number t ≡ true → value t ≡ n → n ≤ 0xffffffff → (not (list_any (λ b. eqb b 46) t) ≡ true) × (is_index_text t ≡ true) × (is_too_large t ≡ false) × (index_of t ≡ Fixed n)
+number_step : (n : ℕ) (t : List ℕ) → is_number t ≡ true → value t ≡ n → n ≤ 0xffffffff
+    → (not (list_any (λ b. eqb b 46) t) ≡ true) × (is_index_text t ≡ true) × (is_too_large t ≡ false) × (index_of t ≡ Fixed n)
 number_step n [] h e small = absurd (false≢true h)
 number_step n (d ∷ ds) h e small =
     let parts = and_parts (is_digit d) (list_all is_digit (d ∷ ds)) h in
@@ -111,7 +110,9 @@ step_again (ByReg r) h =
     let point : eqb (48 + r) 46 ≡ false = grind (arith, nat_tests) in
     record { dot = rw point; good = rw digit; narrow = refl; again = rw digit (ap ByReg (omega arith)) }
 
-steps_again : (steps : List Index) → list_all is_index steps ≡ true → (list_all (λ t. not (list_any (λ b. eqb b 46) t)) (map spell_index steps) ≡ true) × (list_all is_index_text (map spell_index steps) ≡ true) × (list_any is_too_large (map spell_index steps) ≡ false) × (map index_of (map spell_index steps) ≡ steps)
+steps_again : (steps : List Index) → list_all is_index steps ≡ true
+    → (list_all (λ t. not (list_any (λ b. eqb b 46) t)) (map spell_index steps) ≡ true) × (list_all is_index_text (map spell_index steps) ≡ true)
+    × (list_any is_too_large (map spell_index steps) ≡ false) × (map index_of (map spell_index steps) ≡ steps)
 steps_again [] h = (refl, refl, refl, refl)
 steps_again (step ∷ steps) h =
     let parts = and_parts (is_index step) (list_all is_index steps) h in

@@ -2,25 +2,17 @@
 use Rattle.std.specs.Prelude.{◌≡◌, ℕ, List, [], ◌∷◌, ◌++◌, refl, codes, Some, None, Ok, Err}
 use Rattle.std.specs.Fmt.{digits}
 use Rattle.hk_rights.specs.Rights.{right_table, right_numbers, name_of, number_named}
-use Rattle.hk_model.specs.declared.entries.Entry.TheVariants.{Held}
-use Rattle.hk_model.specs.declared.instructions.Index.TheVariants.{Fixed}
-use Rattle.hk_model.specs.declared.instructions.Instr.TheVariants as instr
-use Rattle.hk_model.specs.declared.instructions.Operand.TheVariants as operand
-use Rattle.hk_model.specs.declared.world.Kind.TheVariants as kind
 use Rattle.hk_model.specs.declared.calls.Call.TheVariants as call
 use Rattle.hk_model.specs.declared.calls.Refusal.TheVariants as refused
-use Rattle.hk_model.specs.declared.calls.Reply.{Reply}
 use Rattle.hk_model.specs.declared.calls.Reply.TheVariants as reply
 use Rattle.hk_model.specs.declared.calls.What8.TheVariants.{Slots}
-use Rattle.hk_model.specs.declared.lines.What.{What}
 use Rattle.hk_model.specs.declared.lines.What.TheVariants as what
 use Rattle.hk_model.specs.declared.lines.Line.{Line}
 use Rattle.hk_model.specs.declared.lines.End.TheVariants as end
 use Rattle.hk_format.specs.declared.causes.Cause.TheVariants.{OfParse, BadLine}
 use Rattle.hk_format.specs.declared.causes.ParseCause.TheVariants.{UnknownWord, Missing, Extra}
-use Rattle.hk_model.specs.Setup.{Setup, setup}
 use Rattle.hk_model.proofs.ReadingWorld.{line, reading, reading_lines}
-use Rattle.hk_format.specs.RightsTexts.{rights_text, rights_of}
+use Rattle.hk_format.specs.RightsTexts.{rights_text, rights_spelled}
 use Rattle.hk_format.specs.Pieces.{piece_of}
 use Rattle.hk_format.specs.Verbs.{all_verbs}
 use Rattle.hk_format.specs.AuditLines.{line_body}
@@ -40,7 +32,7 @@ unfolding digits right_table right_numbers name_of rights_text line_body
 denied_put_text = refl
 
 denied_put_again : read_body (codes "0 0 0 putdata 0.3 0 5 -> denied 0 MODIFY") ≡ Some denied_put
-unfolding piece_of all_verbs digits right_table right_numbers name_of number_named rights_text rights_of line_body read_body
+unfolding piece_of all_verbs digits right_table right_numbers name_of number_named rights_text rights_spelled line_body read_body
 denied_put_again = refl
 
 -- a restriction by an incarnation past 32 bits, of a slot that there is not; rights are spelled in rising order
@@ -52,29 +44,30 @@ unfolding digits right_table right_numbers name_of rights_text line_body
 restricted_text = refl
 
 restricted_again : read_body (codes "3 1 18446744073709551615 restrict 200 GETDATA+PUTDATA+A0 -> range 0") ≡ Some restricted
-unfolding piece_of all_verbs digits right_table right_numbers name_of number_named rights_text rights_of line_body read_body
+unfolding piece_of all_verbs digits right_table right_numbers name_of number_named rights_text rights_spelled line_body read_body
 restricted_again = refl
 
 -- a call with two arguments
-called_again : read_body (codes "15 255 7 call 1.65535 2 3 4 -> full slots") ≡ Some (line 15 255 7 (what.Call (call.Enter (1 ∷ 65535 ∷ []) (2 ∷ 3 ∷ []) (record { 0 = 4 }))) (reply.No (refused.Full Slots)))
-unfolding piece_of all_verbs digits right_table right_numbers name_of number_named rights_text rights_of line_body read_body
+called_again : read_body (codes "15 255 7 call 1.65535 2 3 4 -> full slots") ≡ Some (line 15 255 7 (what.Call (call.Enter (1 ∷ 65535 ∷ []) (2 ∷ 3 ∷ []) (record { 0 = 4 })))
+    (reply.No (refused.Full Slots)))
+unfolding piece_of all_verbs digits right_table right_numbers name_of number_named rights_text rights_spelled line_body read_body
 called_again = refl
 
 -- no text of a line: a leading zero, rights in another order, a number past 32 bits, two spaces
 leading_zero : read_body (codes "00 0 0 getdata 0 0 -> word 7") ≡ None
-unfolding piece_of all_verbs digits right_table right_numbers name_of number_named rights_text rights_of line_body read_body
+unfolding piece_of all_verbs digits right_table right_numbers name_of number_named rights_text rights_spelled line_body read_body
 leading_zero = refl
 
 rights_in_disorder : read_body (codes "0 0 0 restrict 0 PUTDATA+GETDATA -> done") ≡ None
-unfolding piece_of all_verbs digits right_table right_numbers name_of number_named rights_text rights_of line_body read_body
+unfolding piece_of all_verbs digits right_table right_numbers name_of number_named rights_text rights_spelled line_body read_body
 rights_in_disorder = refl
 
 past_32_bits : read_body (codes "0 0 0 getdata 0 0 -> word 4294967296") ≡ None
-unfolding piece_of all_verbs digits right_table right_numbers name_of number_named rights_text rights_of line_body read_body
+unfolding piece_of all_verbs digits right_table right_numbers name_of number_named rights_text rights_spelled line_body read_body
 past_32_bits = refl
 
 two_spaces : read_body (codes "0 0 0  yield -> done") ≡ None
-unfolding piece_of all_verbs digits right_table right_numbers name_of number_named rights_text rights_of line_body read_body
+unfolding piece_of all_verbs digits right_table right_numbers name_of number_named rights_text rights_spelled line_body read_body
 two_spaces = refl
 
 -- records
@@ -90,7 +83,7 @@ unfolding digits right_table right_numbers name_of rights_text line_body canon r
 reading_text = refl
 
 reading_again : audit reading_record ≡ Ok (audited reading (events reading_lines end.Done))
-unfolding piece_of all_verbs digits right_table right_numbers name_of number_named rights_text rights_of line_body read_body audit
+unfolding piece_of all_verbs digits right_table right_numbers name_of number_named rights_text rights_spelled line_body read_body audit
 reading_again = refl
 
 -- the script's own causes come first
@@ -108,7 +101,7 @@ unfolding piece_of all_verbs audit
 only_record = refl
 
 cut_line : audit (codes "hydra 1\nrecord\n0 0 0 yield -> done\n0 0 0 yie") ≡ Err (4, BadLine)
-unfolding piece_of all_verbs digits right_table right_numbers name_of number_named rights_text rights_of line_body read_body audit
+unfolding piece_of all_verbs digits right_table right_numbers name_of number_named rights_text rights_spelled line_body read_body audit
 cut_line = refl
 
 -- an end line without its line feed is bad

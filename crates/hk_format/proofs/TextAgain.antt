@@ -74,7 +74,9 @@ abbrev is_spelled : ℕ → Bool
 is_spelled b = is_plain b || eqb b 32
 
 line_bytes : (ps : List Piece) → list_all is_piece ps ≡ true → list_all is_spelled (spell_line ps) ≡ true
-line_bytes ps h = all_joined is_spelled 32 (map spell ps) (all_weaker (list_all is_plain) (list_all is_spelled) (all_weaker is_plain is_spelled (λ b k. grind (arith, nat_tests))) (map spell ps) (line_texts ps h).plain) refl
+line_bytes ps h =
+    all_joined is_spelled 32 (map spell ps) (all_weaker (list_all is_plain) (list_all is_spelled) (all_weaker is_plain is_spelled (λ b k. grind (arith, nat_tests))) (map spell ps)
+    (line_texts ps h).plain) refl
 
 line_again : (ps : List Piece) → is_line ps ≡ true → text_line (spell_line ps) ≡ Ok ps
 line_again [] h = absurd (false≢true h)
@@ -84,7 +86,8 @@ line_again (p ∷ ps) h =
     let bytes = line_bytes (p ∷ ps) parts.0 in
     let ascii : list_any is_no_text (spell_line (p ∷ ps)) ≡ false = none_of is_spelled is_no_text (λ b t. grind (arith, nat_tests)) (spell_line (p ∷ ps)) bytes in
     let short : ltb 1000 (length (spell_line (p ∷ ps))) ≡ false = le-ltb _ _ (leb-true _ _ parts.1) in
-    let comment : before_first (λ b. eqb b 35) (spell_line (p ∷ ps)) ≡ spell_line (p ∷ ps) = before_none (λ b. eqb b 35) (spell_line (p ∷ ps)) (none_of is_spelled (λ b. eqb b 35) (λ b t. grind (arith, nat_tests)) (spell_line (p ∷ ps)) bytes) in
+    let comment : before_first (λ b. eqb b 35) (spell_line (p ∷ ps)) ≡ spell_line (p ∷ ps) =
+    before_none (λ b. eqb b 35) (spell_line (p ∷ ps)) (none_of is_spelled (λ b. eqb b 35) (λ b t. grind (arith, nat_tests)) (spell_line (p ∷ ps)) bytes) in
     let cut = split_joined is_blank 32 (spell p) (map spell ps) texts.cut refl in
     let kept = filter_all (λ t. not (is_none t)) (map spell (p ∷ ps)) texts.kept in
     rw (ascii, short, comment, cut, kept) texts.read

@@ -9,10 +9,12 @@ use Rattle.hk_format.specs.declared.syntax.Body.{Body}
 use Rattle.hk_format.specs.declared.syntax.Body.TheVariants.{WordsAre, EmptyEntry, CapEntry, AmplifyEntry, CreateEntry, ParamIs, LabelIs, StepIs}
 use Rattle.hk_format.specs.declared.syntax.Part.{Part}
 use Rattle.hk_format.specs.declared.causes.LoadCause.{LoadCause}
-use Rattle.hk_model.specs.Setup.{Setup, IsEntry, IsParam, IsWord32}
+use Rattle.hk_model.specs.WorldValue.{WorldValue, IsEntry, IsParam, IsWord32}
 use Rattle.hk_format.specs.Syntax.{Belongs, AreParts, IsWordsLine}
 use Rattle.hk_format.specs.Grammar.{noted_label}
-use Rattle.hk_format.specs.Loading.{Refused, Names, limited, permitted, onto, entry_of, param_of, Contents, contents, more_words, one_param, one_entry, Used, used, Room, contents_of, content_onto, at_line}
+use Rattle.hk_format.specs.Names.{Names}
+use Rattle.hk_format.specs.Loading.{Refused, limited, permitted, onto, entry_meant, param_of, Contents, contents, more_words, one_param, one_entry, Used, used, Room, contents_of}
+use Rattle.hk_format.specs.Loading.{content_onto, at_line}
 use Rattle.hk_format.proofs.LoadGood.{onto_ok, limited_ok, permitted_ok, moved, NamesFit, entry_loaded, param_loaded}
 
 -- the lines of an object, a procedure or a process
@@ -27,7 +29,7 @@ WordsIn (WordsAre words) = AllByRecursion IsWord32 words
 WordsIn _ = Unit {0}
 
 -- what lines give within this room, behind lines that have given so many
-pub record ContentsLoaded (w : Setup) (r : Room) (u : Used) (c : Contents) : Type 0 where
+pub record ContentsLoaded (w : WorldValue) (r : Room) (u : Used) (c : Contents) : Type 0 where
   pub few_words : u.words + length c.words ≤ 4096
   pub words : AllByRecursion IsWord32 c.words
   pub few_params : u.params + length c.params ≤ 8
@@ -42,27 +44,52 @@ pub record WithinLimits (r : Room) (u : Used) : Type 0 where
   pub params : u.params ≤ 8
   pub entries : u.entries ≤ r.entries
 
-entry_more : {w : Setup} {names : Names} → NamesFit w names → (r : Room) (u : Used) (line : ℕ) (b : Body) (rest : Result Contents Refused) (c : Contents) → onto one_entry line (limited (ltb u.entries r.entries) (permitted r.listed (entry_of names b))) rest ≡ Ok c → ((d : Contents) → u.entries < r.entries → rest ≡ Ok d → ContentsLoaded w r (used u.words u.params (u.entries + 1)) d) → ContentsLoaded w r u c
+entry_more : {w : WorldValue} {names : Names} → NamesFit w names → (r : Room) (u : Used) (line : ℕ) (b : Body) (rest : Result Contents Refused) (c : Contents)
+    → onto one_entry line (limited (ltb u.entries r.entries) (permitted r.listed (entry_meant names b))) rest ≡ Ok c
+    → ((d : Contents) → u.entries < r.entries → rest ≡ Ok d → ContentsLoaded w r (used u.words u.params (u.entries + 1)) d) → ContentsLoaded w r u c
 entry_more {w} {names} fit r u line b rest c e more =
-    let a = onto_ok one_entry line (limited (ltb u.entries r.entries) (permitted r.listed (entry_of names b))) rest c e in
-    let l = limited_ok (ltb u.entries r.entries) (permitted r.listed (entry_of names b)) a.0 a.2 in
-    let p = permitted_ok r.listed (entry_of names b) a.0 l.0 in
+    let a = onto_ok one_entry line (limited (ltb u.entries r.entries) (permitted r.listed (entry_meant names b))) rest c e in
+    let l = limited_ok (ltb u.entries r.entries) (permitted r.listed (entry_meant names b)) a.0 a.2 in
+    let p = permitted_ok r.listed (entry_meant names b) a.0 l.0 in
     let below = ltb-true u.entries r.entries l.1 in
     let d = more a.1 below a.3 in
     let few = d.few_entries in
-    subst (ContentsLoaded w r u) a.4 (record { few_words = d.few_words; words = d.words; few_params = d.few_params; params = d.params; few_entries = omega arith; entries = (entry_loaded fit b a.0 p.0, d.entries); none = λ off. absurd (false≢true (sym off ∙ p.1)) })
+    subst (ContentsLoaded w r u) a.4 (record {
+      few_words = d.few_words;
+      words = d.words;
+      few_params = d.few_params;
+      params = d.params;
+      few_entries = omega arith;
+      entries =
+          (entry_loaded fit b a.0 p.0, d.entries);
+      none = λ off. absurd (false≢true (sym off ∙ p.1));
+    })
 
-pub contents_loaded : {w : Setup} {names : Names} → NamesFit w names → (r : Room) (u : Used) (ps : List Part) (c : Contents) → WithinLimits r u → AllByRecursion (λ (p : Part). WordsIn p.body) ps → contents_of names r u ps ≡ Ok c → ContentsLoaded w r u c
+pub contents_loaded : {w : WorldValue} {names : Names} → NamesFit w names → (r : Room) (u : Used) (ps : List Part) (c : Contents) → WithinLimits r u
+    → AllByRecursion (λ (p : Part). WordsIn p.body) ps → contents_of names r u ps ≡ Ok c → ContentsLoaded w r u c
 unfolding WordsIn
-contents_loaded {w} fit r u [] c within h e = moved (ContentsLoaded w r u) (contents [] [] []) c e (let a = within.words in let b = within.params in let d = within.entries in record { few_words = omega arith; words = tt; few_params = omega arith; params = tt; few_entries = omega arith; entries = tt; none = λ off. refl })
+contents_loaded {w} fit r u [] c within h e = moved (ContentsLoaded w r u) (contents [] [] []) c e
+    (let a = within.words in let b = within.params in let d = within.entries in record {
+      few_words = omega arith;
+      words = tt;
+      few_params = omega arith;
+      params = tt;
+      few_entries =
+          omega arith;
+      entries = tt;
+      none = λ off. refl;
+    })
 contents_loaded {w} {names} fit r u (p ∷ ps) c within h e = go p.body h.0 e (λ v d l f. contents_loaded fit r v ps d l h.1 f)
   where
-    counted_on : (d : Contents) → u.entries < r.entries → ((v : Used) (x : Contents) → WithinLimits r v → contents_of names r v ps ≡ Ok x → ContentsLoaded w r v x) → contents_of names r (used u.words u.params (u.entries + 1)) ps ≡ Ok d → ContentsLoaded w r (used u.words u.params (u.entries + 1)) d
+    counted_on : (d : Contents) → u.entries < r.entries → ((v : Used) (x : Contents) → WithinLimits r v → contents_of names r v ps ≡ Ok x → ContentsLoaded w r v x)
+        → contents_of names r (used u.words u.params (u.entries + 1)) ps ≡ Ok d → ContentsLoaded w r (used u.words u.params (u.entries + 1)) d
     counted_on d below rest f = rest (used u.words u.params (u.entries + 1)) d (record { words = within.words; params = within.params; entries = omega arith }) f
 
-    go : (b : Body) → WordsIn b → content_onto names r u p.line b (λ next. contents_of names r next ps) ≡ Ok c → ((v : Used) (d : Contents) → WithinLimits r v → contents_of names r v ps ≡ Ok d → ContentsLoaded w r v d) → ContentsLoaded w r u c
+    go : (b : Body) → WordsIn b → content_onto names r u p.line b (λ next. contents_of names r next ps) ≡ Ok c
+        → ((v : Used) (d : Contents) → WithinLimits r v → contents_of names r v ps ≡ Ok d → ContentsLoaded w r v d) → ContentsLoaded w r u c
     go (WordsAre words) k f rest =
-        let a = onto_ok more_words p.line (limited (leb (u.words + length words) 4096) (Ok words)) (contents_of names r (used (u.words + length words) u.params u.entries) ps) c f in
+        let a = onto_ok more_words p.line (limited (leb (u.words + length words) 4096) (Ok words))
+        (contents_of names r (used (u.words + length words) u.params u.entries) ps) c f in
         let l = limited_ok (leb (u.words + length words) 4096) (Ok words) a.0 a.2 in
         let below = leb-true (u.words + length words) 4096 l.1 in
         let same : words ≡ a.0 = (let eq = l.0 in cc) in
@@ -70,20 +97,43 @@ contents_loaded {w} {names} fit r u (p ∷ ps) c within h e = go p.body h.0 e (�
         let few = d.few_words in
         let size = length-append a.0 a.1.words in
         let len = ap length same in
-        subst (ContentsLoaded w r u) a.4 (record { few_words = omega arith; words = all_both IsWord32 a.0 a.1.words (subst (AllByRecursion IsWord32) same k) d.words; few_params = d.few_params; params = d.params; few_entries = d.few_entries; entries = d.entries; none = d.none })
+        subst (ContentsLoaded w r u) a.4 (record {
+          few_words = omega arith;
+          words = all_both IsWord32 a.0 a.1.words (subst (AllByRecursion IsWord32) same k) d.words;
+          few_params =
+              d.few_params;
+          params = d.params;
+          few_entries = d.few_entries;
+          entries = d.entries;
+          none = d.none;
+        })
     go (ParamIs kind check give) k f rest =
         let a = onto_ok one_param p.line (limited (ltb u.params 8) (param_of names kind check give)) (contents_of names r (used u.words (u.params + 1) u.entries) ps) c f in
         let l = limited_ok (ltb u.params 8) (param_of names kind check give) a.0 a.2 in
         let below = ltb-true u.params 8 l.1 in
         let d = rest (used u.words (u.params + 1) u.entries) a.1 (record { words = within.words; params = omega arith; entries = within.entries }) a.3 in
         let few = d.few_params in
-        subst (ContentsLoaded w r u) a.4 (record { few_words = d.few_words; words = d.words; few_params = omega arith; params = (param_loaded fit kind check give a.0 l.0, d.params); few_entries = d.few_entries; entries = d.entries; none = d.none })
+        subst (ContentsLoaded w r u) a.4 (record {
+          few_words = d.few_words;
+          words = d.words;
+          few_params = omega arith;
+          params =
+              (param_loaded fit kind check give a.0 l.0, d.params);
+          few_entries = d.few_entries;
+          entries = d.entries;
+          none = d.none;
+        })
     go EmptyEntry k f rest = entry_more fit r u p.line EmptyEntry (contents_of names r (used u.words u.params (u.entries + 1)) ps) c f (λ d below g. counted_on d below rest g)
-    go (CapEntry object rights) k f rest = entry_more fit r u p.line (CapEntry object rights) (contents_of names r (used u.words u.params (u.entries + 1)) ps) c f (λ d below g. counted_on d below rest g)
-    go (AmplifyEntry kind check give) k f rest = entry_more fit r u p.line (AmplifyEntry kind check give) (contents_of names r (used u.words u.params (u.entries + 1)) ps) c f (λ d below g. counted_on d below rest g)
-    go (CreateEntry of give) k f rest = entry_more fit r u p.line (CreateEntry of give) (contents_of names r (used u.words u.params (u.entries + 1)) ps) c f (λ d below g. counted_on d below rest g)
-    go (LabelIs label) k f rest = entry_more fit r u p.line (LabelIs label) (contents_of names r (used u.words u.params (u.entries + 1)) ps) c f (λ d below g. counted_on d below rest g)
-    go (StepIs step) k f rest = entry_more fit r u p.line (StepIs step) (contents_of names r (used u.words u.params (u.entries + 1)) ps) c f (λ d below g. counted_on d below rest g)
+    go (CapEntry object rights) k f rest =
+        entry_more fit r u p.line (CapEntry object rights) (contents_of names r (used u.words u.params (u.entries + 1)) ps) c f (λ d below g. counted_on d below rest g)
+    go (AmplifyEntry kind check give) k f rest =
+        entry_more fit r u p.line (AmplifyEntry kind check give) (contents_of names r (used u.words u.params (u.entries + 1)) ps) c f (λ d below g. counted_on d below rest g)
+    go (CreateEntry of give) k f rest =
+        entry_more fit r u p.line (CreateEntry of give) (contents_of names r (used u.words u.params (u.entries + 1)) ps) c f (λ d below g. counted_on d below rest g)
+    go (LabelIs label) k f rest =
+        entry_more fit r u p.line (LabelIs label) (contents_of names r (used u.words u.params (u.entries + 1)) ps) c f (λ d below g. counted_on d below rest g)
+    go (StepIs step) k f rest =
+        entry_more fit r u p.line (StepIs step) (contents_of names r (used u.words u.params (u.entries + 1)) ps) c f (λ d below g. counted_on d below rest g)
 
 pub words_in : (head : Head) (seen : List (List ℕ)) (ps : List Part) → AreParts head seen ps → AllByRecursion (λ (p : Part). WordsIn p.body) ps
 unfolding WordsIn

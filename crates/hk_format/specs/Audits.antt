@@ -8,7 +8,7 @@ use Rattle.hk_model.specs.declared.lines.End.TheVariants as end
 use Rattle.hk_format.specs.declared.causes.Cause.TheVariants.{OfParse, BadLine}
 use Rattle.hk_format.specs.declared.causes.ParseCause.TheVariants.{Missing, Extra}
 use Rattle.hk_model.specs.Labels.{same_text}
-use Rattle.hk_model.specs.Setup.{Setup}
+use Rattle.hk_model.specs.WorldValue.{WorldValue}
 use Rattle.hk_format.specs.Texts.{is_none}
 use Rattle.hk_format.specs.Loading.{◌>>=◌}
 use Rattle.hk_format.specs.Worlds.{Refused, world_of}
@@ -26,12 +26,12 @@ events lines end = record { lines = lines; end = end }
 
 -- what a record tells
 pub record Audited : Type 0 where
-  pub world : Setup
+  pub world : WorldValue
   pub lines : List Line
   pub end : End
 
 -- this world, and these events
-abbrev pub audited : Setup → Events → Audited
+abbrev pub audited : WorldValue → Events → Audited
 audited w found = record { world = w; lines = found.lines; end = found.end }
 
 -- the lines of the script, and what line feeds cut behind the line `record`; None where no line is that
@@ -62,8 +62,8 @@ cut_at_record (x ∷ []) = if is_record x then cut [] (Some []) else last_cut x
 cut_at_record (x ∷ y ∷ more) = if is_record x then cut [] (Some (y ∷ more)) else one_more x (cut_at_record (y ∷ more))
 
 -- the end word that a line is
-abbrev pub end_of : List ℕ → Option End
-end_of line = find (λ e. same_text line (end_text e)) (end.Done ∷ end.Stuck ∷ end.Limit ∷ [])
+abbrev pub end_spelled : List ℕ → Option End
+end_spelled line = find (λ e. same_text line (end_text e)) (end.Done ∷ end.Stuck ∷ end.Limit ∷ [])
 
 -- the end line stands on the line before this one, and no byte follows it
 abbrev pub nothing_behind : ℕ → End → List (List ℕ) → Result Events Refused
@@ -90,7 +90,7 @@ whole_line n None line behind rest = audit_line n line rest
 abbrev pub events_from : ℕ → List (List ℕ) → Result Events Refused
 events_from n [] = Err (n, OfParse Missing)
 events_from n (x ∷ []) = if is_none x then Err (n, OfParse Missing) else Err (n, BadLine)
-events_from n (x ∷ y ∷ more) = whole_line n (end_of x) (read_body x) (y ∷ more) (events_from (n + 1) (y ∷ more))
+events_from n (x ∷ y ∷ more) = whole_line n (end_spelled x) (read_body x) (y ∷ more) (events_from (n + 1) (y ∷ more))
 
 -- `record` stands on line n, or is missing there
 abbrev pub events_behind : ℕ → Option (List (List ℕ)) → Result Events Refused

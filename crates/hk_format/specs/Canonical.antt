@@ -1,14 +1,12 @@
 -- A world as items, and its canonical script. docs/FORMATS.md, "Canonical script".
-use Rattle.std.specs.Prelude.{ℕ, ◌+◌, ◌==◌, Bool, false, List, [], ◌∷◌, ◌++◌, length, Option, Some, None, if◌then◌else◌, nat_le, map, codes, slice_index_or}
+use Rattle.std.specs.Prelude.{ℕ, ◌+◌, ◌==◌, Bool, false, List, [], ◌∷◌, ◌++◌, length, Option, if◌then◌else◌, nat_le, map}
 use Rattle.std.specs.List.{list_any, onto_first}
 use Rattle.std.specs.Fmt.{decimal}
 use Rattle.hk_model.specs.declared.names.Name.{Name}
 use Rattle.hk_model.specs.declared.entries.Entry.{Entry}
-use Rattle.hk_model.specs.declared.entries.Entry.TheVariants.{Empty, Held, Form}
 use Rattle.hk_model.specs.declared.entries.Making.{Making}
 use Rattle.hk_model.specs.declared.entries.Making.TheVariants as making
 use Rattle.hk_model.specs.declared.entries.Param.{Param}
-use Rattle.hk_model.specs.declared.entries.Template.TheVariants as template
 use Rattle.hk_model.specs.declared.instructions.Instr.{Instr}
 use Rattle.hk_model.specs.declared.instructions.Instr.TheVariants as instr
 use Rattle.hk_format.specs.declared.syntax.MakingText.{MakingText}
@@ -18,7 +16,7 @@ use Rattle.hk_format.specs.declared.syntax.Written.TheVariants as written
 use Rattle.hk_format.specs.declared.syntax.Head.{Head}
 use Rattle.hk_format.specs.declared.syntax.Head.TheVariants.{LimitIs, TypeIs, ObjectIs, SemaphoreIs, ProcedureIs, CodeIs, ProcessIs}
 use Rattle.hk_format.specs.declared.syntax.Body.{Body}
-use Rattle.hk_format.specs.declared.syntax.Body.TheVariants.{WordsAre, EmptyEntry, CapEntry, AmplifyEntry, CreateEntry, ParamIs, LabelIs, StepIs}
+use Rattle.hk_format.specs.declared.syntax.Body.TheVariants.{WordsAre, LabelIs, StepIs}
 use Rattle.hk_format.specs.declared.syntax.Part.{Part}
 use Rattle.hk_format.specs.declared.syntax.Item.{Item}
 use Rattle.hk_model.specs.declared.world.Born.{Born}
@@ -27,36 +25,16 @@ use Rattle.hk_model.specs.declared.world.Kind.{Kind}
 use Rattle.hk_model.specs.declared.world.Kind.TheVariants as kind
 use Rattle.hk_model.specs.declared.world.Task.{Task}
 use Rattle.hk_model.specs.Limits.{usual_limit, line_bytes}
-use Rattle.hk_model.specs.Setup.{Setup}
+use Rattle.hk_model.specs.WorldValue.{WorldValue}
 use Rattle.hk_format.specs.RightsTexts.{rights_text}
+use Rattle.hk_format.specs.Names.{Names, spoken, object_text, code_text}
+use Rattle.hk_format.specs.EntryTexts.{kind_spelled, entry_spelled, param_spelled}
 use Rattle.hk_format.specs.Texts.{spell_lines}
 use Rattle.hk_format.specs.Spelling.{script_lines}
 
--- the names of the kernel types, by their numbers
-abbrev pub kernel_names : List (List ℕ)
-kernel_names = codes "TYPE" ∷ codes "DATA" ∷ codes "UNIVERSAL" ∷ codes "SEMAPHORE" ∷ codes "PROCEDURE" ∷ codes "PROCESS" ∷ codes "LNS" ∷ []
-
--- the labels that numbers stand for
-pub record Spoken : Type 0 where
-  pub objects : List (List ℕ)
-  pub codes : List (List ℕ)
-
--- the labels of a world, the names of the kernel types before those of the objects
-abbrev pub spoken : Setup → Spoken
-spoken w = record { objects = kernel_names ++ map (λ (b : Born). b.label) w.objects; codes = map (λ (c : Code). c.label) w.codes }
-
--- the label of an object
-abbrev pub object_text : Spoken → Name → List ℕ
-object_text s name = slice_index_or s.objects name.0 []
-
--- the label of a code
-abbrev pub code_text : Spoken → ℕ → List ℕ
-code_text s code = slice_index_or s.codes code []
-
 -- a type, or `any`
-abbrev pub kind_text : Spoken → Option Name → List ℕ
-kind_text s None = codes "any"
-kind_text s (Some name) = object_text s name
+abbrev pub kind_text : Names → Option Name → List ℕ
+kind_text names of = kind_spelled (object_text names) of
 
 -- lines and items, which are given no numbers here
 
@@ -69,22 +47,19 @@ abbrev pub item : Head → List Part → Item
 item head parts = record { line = 0; head = head; parts = parts }
 
 -- the line of an entry
-abbrev pub entry_body : Spoken → Entry → Body
-entry_body s Empty = EmptyEntry
-entry_body s (Held cap) = CapEntry (object_text s cap.name) (rights_text cap.rights)
-entry_body s (Form (template.Amplify of check give)) = AmplifyEntry (kind_text s of) (rights_text check) (rights_text give)
-entry_body s (Form (template.Create of give)) = CreateEntry (object_text s of) (rights_text give)
+abbrev pub entry_body : Names → Entry → Body
+entry_body names entry = entry_spelled (object_text names) entry
 
 -- the lines of entries
-abbrev pub entry_parts : Spoken → List Entry → List Part
+abbrev pub entry_parts : Names → List Entry → List Part
 entry_parts s entries = map (λ (e : Entry). part (entry_body s e)) entries
 
 -- the line of a parameter
-abbrev pub param_body : Spoken → Param → Body
-param_body s param = ParamIs (kind_text s param.of) (rights_text param.check) (rights_text param.give)
+abbrev pub param_body : Names → Param → Body
+param_body names param = param_spelled (object_text names) param
 
 -- the lines of parameters
-abbrev pub param_parts : Spoken → List Param → List Part
+abbrev pub param_parts : Names → List Param → List Part
 param_parts s params = map (λ (p : Param). part (param_body s p)) params
 
 -- the bytes of `words`
@@ -92,7 +67,6 @@ abbrev pub words_bytes : ℕ
 words_bytes = 5
 
 -- the bytes of a number, and of the space before it
--- the bytes of a number, and the space before it
 abbrev pub number_bytes : ℕ → ℕ
 number_bytes word = 1 + length (decimal word)
 
@@ -172,14 +146,14 @@ code_parts all n [] = label_parts all n
 code_parts all n (i ∷ is) = label_parts all n ++ part (StepIs (written_of i)) ∷ code_parts all (n + 1) is
 
 -- an object of this label: its words stand before its entries, and its parameters too
-abbrev pub kind_item : Spoken → List ℕ → Kind → Item
+abbrev pub kind_item : Names → List ℕ → Kind → Item
 kind_item s label kind.TypeObject = item (TypeIs label) []
 kind_item s label (kind.Plain of words entries) = item (ObjectIs label (object_text s of)) (word_parts words ++ entry_parts s entries)
 kind_item s label (kind.Semaphore count) = item (SemaphoreIs label count) []
 kind_item s label (kind.Procedure code params entries) = item (ProcedureIs label (code_text s code)) (param_parts s params ++ entry_parts s entries)
 
 -- the item of an object
-abbrev pub object_item : Spoken → Born → Item
+abbrev pub object_item : Names → Born → Item
 object_item s born = kind_item s born.label born.kind
 
 -- the item of a code
@@ -187,7 +161,7 @@ abbrev pub code_item : Code → Item
 code_item code = item (CodeIs code.label) (code_parts code.steps 0 code.steps)
 
 -- the item of a process
-abbrev pub task_item : Spoken → Task → Item
+abbrev pub task_item : Names → Task → Item
 task_item s task = item (ProcessIs task.label (code_text s task.code)) (entry_parts s task.slots)
 
 -- the limit, where it is not the usual one
@@ -195,7 +169,7 @@ abbrev pub limit_items : ℕ → List Item
 limit_items n = if n == usual_limit then [] else item (LimitIs n) [] ∷ []
 
 -- the items of a world: its limit, its objects, its codes, its processes, each in the order of their numbers
-abbrev pub syntax_of : Setup → List Item
+abbrev pub syntax_of : WorldValue → List Item
 syntax_of w =
     limit_items w.limit
     ++ (map (object_item (spoken w)) w.objects
@@ -203,5 +177,5 @@ syntax_of w =
     ++ map (task_item (spoken w)) w.tasks))
 
 -- the canonical script of a world
-unfoldable pub canon : Setup → List ℕ
+unfoldable pub canon : WorldValue → List ℕ
 canon w = spell_lines (script_lines (syntax_of w))

@@ -148,13 +148,13 @@ abbrev pub is_among : List (List ℕ) → List ℕ → Bool
 is_among names name = list_any (same_text name) names
 
 -- objects, codes and processes share one space of names; there is one limit at most
-pub record Seen : Type 0 where
+pub record GivenNames : Type 0 where
   -- in the order of their lines
   pub names : List (List ℕ)
   pub limited : Bool
 
 -- before the first item
-abbrev pub nothing_seen : Seen
+abbrev pub nothing_seen : GivenNames
 nothing_seen = record { names = []; limited = false }
 
 -- the name that a head gives
@@ -168,12 +168,12 @@ head_name (CodeIs name) = name
 head_name (ProcessIs name code) = name
 
 -- the head is no second limit, and gives no name for the second time
-abbrev pub is_new : Seen → Head → Bool
+abbrev pub is_new : GivenNames → Head → Bool
 is_new seen (LimitIs n) = not seen.limited
 is_new seen head = not (is_among seen.names (head_name head))
 
 -- what was seen, and this head
-abbrev pub noted : Seen → Head → Seen
+abbrev pub noted : GivenNames → Head → GivenNames
 noted seen (LimitIs n) = record seen { limited = true }
 noted seen head = record seen { names = seen.names ++ head_name head ∷ [] }
 
@@ -197,7 +197,7 @@ pub record Open : Type 0 where
 -- what the lines before have given
 pub record Read : Type 0 where
   pub items : List Item
-  pub seen : Seen
+  pub seen : GivenNames
   pub unclosed : Option Open
 
 -- an item whose head stands on this line
@@ -209,11 +209,11 @@ abbrev pub part_at : ℕ → Body → Part
 part_at line body = record { line = line; body = body }
 
 -- no item is open
-abbrev pub between_items : List Item → Seen → Read
+abbrev pub between_items : List Item → GivenNames → Read
 between_items items seen = record { items = items; seen = seen; unclosed = None }
 
 -- this item is open, and has given these labels
-abbrev pub in_item : List Item → Seen → Item → List (List ℕ) → Read
+abbrev pub in_item : List Item → GivenNames → Item → List (List ℕ) → Read
 in_item items seen item labels = record { items = items; seen = seen; unclosed = Some (record { item = item; labels = labels }) }
 
 -- an item begins on this line; it is also all of the item where it has no lines of its own

@@ -5,6 +5,8 @@ pub mod Verbs
 pub mod Operands
 pub mod AuditLines
 pub mod Spelling
+pub mod EntryTexts
+pub mod Names
 pub mod Canonical
 pub mod Records
 pub mod Reading
@@ -18,3 +20,6 @@ pub mod LineReading
 pub mod LineRanges
 pub mod Audits
 pub mod CauseTexts
+pub mod Outcomes
+pub mod StepTexts
+pub mod ItemLines

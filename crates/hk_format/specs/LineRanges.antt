@@ -13,7 +13,7 @@ use Rattle.hk_model.specs.declared.lines.What.{What}
 use Rattle.hk_model.specs.declared.lines.What.TheVariants as what
 use Rattle.hk_model.specs.declared.lines.Line.{Line}
 use Rattle.hk_model.specs.Limits.{argument_limit, path_limit, index_bound, slot_bound, step_bound, cpu_limit, process_limit}
-use Rattle.hk_model.specs.Setup.{IsWord32, IsMaking}
+use Rattle.hk_model.specs.WorldValue.{IsWord32, IsMaking}
 
 -- one to eight indices
 abbrev pub IsPathValue : List ℕ → Type 0

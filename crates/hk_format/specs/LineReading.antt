@@ -1,5 +1,5 @@
 -- The line of which bytes are the text: the reader guesses a line and compares. docs/FORMATS.md, "Audit lines and records".
-use Rattle.std.specs.Prelude.{ℕ, ◌==◌, Bool, false, ◌&&◌, List, [], ◌∷◌, Option, Some, None, Result, Ok, Err, if◌then◌else◌, nat_le, nat_lt, map, codes, length, ◌-◌, take}
+use Rattle.std.specs.Prelude.{ℕ, ◌==◌, Bool, false, ◌&&◌, List, [], ◌∷◌, Option, Some, None, Result, Ok, Err, if◌then◌else◌, nat_le, nat_lt, map, codes}
 use Rattle.std.specs.List.{list_all, find, slice_split}
 use Rattle.hk_rights.specs.Rights.{number_named}
 use Rattle.hk_model.specs.declared.names.Slot.{Slot}
@@ -26,13 +26,13 @@ use Rattle.hk_format.specs.declared.causes.ParseCause.{ParseCause}
 use Rattle.hk_format.specs.declared.causes.ParseCause.TheVariants.{UnknownWord, OutOfRange}
 use Rattle.hk_model.specs.Labels.{same_text}
 use Rattle.hk_model.specs.Limits.{argument_limit, index_bound, slot_bound, step_bound, cpu_limit, process_limit}
-use Rattle.hk_format.specs.RightsTexts.{rights_of}
+use Rattle.hk_format.specs.RightsTexts.{rights_spelled}
 use Rattle.hk_format.specs.Pieces.{largest_number, Piece, Word, Upper, Dash, Number, Path, piece_of, is_number, value}
 use Rattle.hk_format.specs.Texts.{piece_onto}
 use Rattle.hk_format.specs.Reading.{Found, Reads, ◌>>=◌, onward, taken, wanted, optional, at_most, end, unknown}
 use Rattle.hk_format.specs.Forms.{as_verb, as_word, as_number_below, slot_numbered}
 use Rattle.hk_format.specs.WrittenLines.{before_last, last_of}
-use Rattle.hk_format.specs.AuditLines.{arrow, full_word, line_body, line_text}
+use Rattle.hk_format.specs.AuditLines.{arrow, full_word, line_body}
 
 -- forms: numbers are resolved, so paths have no registers, and slots may be such that the call is refused
 
@@ -68,7 +68,7 @@ set_found None = Err UnknownWord
 
 -- a set of rights
 abbrev pub as_rights_set : Piece → Result ℕ ParseCause
-as_rights_set (Upper t) = set_found (rights_of t)
+as_rights_set (Upper t) = set_found (rights_spelled t)
 as_rights_set Dash = Ok 0
 as_rights_set _ = Err UnknownWord
 
@@ -83,21 +83,21 @@ as_word32 (Number n) = if nat_le n largest_number then Ok n else Err OutOfRange
 as_word32 _ = Err UnknownWord
 
 -- the slot behind the rights of a template, and the end of the call
-abbrev pub template_end : List ℕ → Making → Reads Call
-template_end of kind = do
+abbrev pub template_call_end : List ℕ → Making → Reads Call
+template_call_end of kind = do
   into ← wanted as_any_slot
   end (call.MakeTemplate of kind into)
 
 -- `amplify CHECK GIVE INTO` or `create GIVE INTO`, behind the path
-abbrev pub template_of : List ℕ → Verb → Reads Call
-template_of of verb.Amplify = do
+abbrev pub template_call : List ℕ → Verb → Reads Call
+template_call of verb.Amplify = do
   check ← wanted as_rights_set
   give ← wanted as_rights_set
-  template_end of (making.Amplify check give)
-template_of of verb.Create = do
+  template_call_end of (making.Amplify check give)
+template_call of verb.Create = do
   give ← wanted as_rights_set
-  template_end of (making.Create give)
-template_of of _ = unknown
+  template_call_end of (making.Create give)
+template_call of _ = unknown
 
 -- the call that begins with this word
 abbrev pub call_of : Verb → Reads Call
@@ -147,7 +147,7 @@ call_of verb.Look = do
 call_of verb.Template = do
   of ← wanted as_path
   kind ← wanted as_verb
-  template_of of kind
+  template_call of kind
 call_of verb.Create = do
   by ← wanted as_path
   into ← wanted as_any_slot
@@ -339,12 +339,3 @@ if_spelled bytes None = None
 -- the line on which these bytes stand, before its line feed
 unfoldable pub read_body : List ℕ → Option Line
 read_body bytes = if_spelled bytes (guess bytes)
-
--- the line, where its text is exactly these bytes
-abbrev pub if_text : List ℕ → Option Line → Option Line
-if_text bytes (Some line) = if same_text (line_text line) bytes then Some line else None
-if_text bytes None = None
-
--- the line of which these bytes are the text: the last of them is its line feed
-unfoldable pub read_line : List ℕ → Option Line
-read_line bytes = if_text bytes (read_body (take (length bytes - 1) bytes))

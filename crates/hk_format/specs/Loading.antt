@@ -1,5 +1,6 @@
 -- The items of a script as a world, or the first line that is refused and its first cause. docs/FORMATS.md, "Loading".
-use Rattle.std.specs.Prelude.{ℕ, ◌+◌, ◌==◌, Bool, true, false, not, List, [], ◌∷◌, ◌++◌, length, Option, Some, None, Result, Ok, Err, if◌then◌else◌, nat_lt, nat_le, map, codes, slice_index_or, option_map, min}
+use Rattle.std.specs.Prelude.{ℕ, ◌+◌, ◌==◌, Bool, true, false, not, List, [], ◌∷◌, ◌++◌, length, Option, Some, None, Result, Ok, Err, if◌then◌else◌, nat_lt, nat_le, map, codes}
+use Rattle.std.specs.Prelude.{slice_index_or, option_map, min}
 use Rattle.std.specs.List.{find, filter_map, position}
 use Rattle.hk_model.specs.declared.names.Name.{Name}
 use Rattle.hk_model.specs.declared.entries.Entry.{Entry}
@@ -17,7 +18,7 @@ use Rattle.hk_format.specs.declared.syntax.Written.TheVariants as written
 use Rattle.hk_format.specs.declared.syntax.Head.{Head}
 use Rattle.hk_format.specs.declared.syntax.Head.TheVariants.{LimitIs, TypeIs, ObjectIs, SemaphoreIs, ProcedureIs, CodeIs, ProcessIs}
 use Rattle.hk_format.specs.declared.syntax.Body.{Body}
-use Rattle.hk_format.specs.declared.syntax.Body.TheVariants.{WordsAre, CapEntry, AmplifyEntry, CreateEntry, ParamIs, LabelIs, StepIs}
+use Rattle.hk_format.specs.declared.syntax.Body.TheVariants.{WordsAre, EmptyEntry, CapEntry, AmplifyEntry, CreateEntry, ParamIs, LabelIs, StepIs}
 use Rattle.hk_format.specs.declared.syntax.Part.{Part}
 use Rattle.hk_format.specs.declared.syntax.Item.{Item}
 use Rattle.hk_model.specs.declared.world.Kind.{Kind}
@@ -27,9 +28,9 @@ use Rattle.hk_format.specs.declared.causes.LoadCause.TheVariants.{UnknownName, W
 use Rattle.hk_model.specs.Labels.{same_text}
 use Rattle.hk_model.specs.Limits.{object_limit, word_limit, entry_limit, slot_limit, param_limit, code_limit, process_limit, usual_limit}
 use Rattle.hk_model.specs.Targets.{DATA, kernel_types, is_general}
-use Rattle.hk_format.specs.RightsTexts.{rights_of}
-use Rattle.hk_model.specs.Setup.{Setup, setup}
-use Rattle.hk_format.specs.Canonical.{kernel_names}
+use Rattle.hk_format.specs.RightsTexts.{rights_spelled}
+use Rattle.hk_model.specs.WorldValue.{WorldValue, world_value}
+use Rattle.hk_format.specs.Names.{Names, kernel_names, kernel_flags}
 
 -- a line and its cause
 abbrev pub Refused : Type 0
@@ -58,15 +59,6 @@ found None cause = Err cause
 
 -- the names that the heads declare, wherever they stand
 
--- what heads declare, wherever they stand
-pub record Names : Type 0 where
-  -- of the objects by their numbers: the kernel types, and then those of the script
-  pub objects : List (List ℕ)
-  -- which of the objects are types
-  pub types : List Bool
-  -- of the codes by their numbers
-  pub codes : List (List ℕ)
-
 -- the label of an object's head
 abbrev pub object_label : Head → Option (List ℕ)
 object_label (TypeIs name) = Some name
@@ -87,10 +79,6 @@ is_type_head _ = None
 abbrev pub code_label : Head → Option (List ℕ)
 code_label (CodeIs name) = Some name
 code_label _ = None
-
--- the kernel types are types
-abbrev pub kernel_flags : List Bool
-kernel_flags = map (λ name. true) kernel_names
 
 -- the names that these heads declare
 abbrev pub names_of : List Head → Names
@@ -139,7 +127,7 @@ code_named names t = found (option_map to_limit (place names.codes t)) UnknownNa
 
 -- a set of rights
 abbrev pub rights_named : List ℕ → Result ℕ LoadCause
-rights_named t = found (rights_of t) BadRights
+rights_named t = found (rights_spelled t) BadRights
 
 -- single lines: UnknownName and BadRights from the left
 
@@ -147,22 +135,26 @@ rights_named t = found (rights_of t) BadRights
 abbrev pub held_entry : ℕ → ℕ → Entry
 held_entry n rights = Held (record { name = name_numbered n; rights = rights })
 
--- an entry line
-abbrev pub entry_of : Names → Body → Result Entry LoadCause
-entry_of names (CapEntry object rights) = do
+-- an entry line. No other line stands in a list.
+abbrev pub entry_meant : Names → Body → Result Entry LoadCause
+entry_meant names (CapEntry object rights) = do
   n ← object_named names object
   r ← rights_named rights
   Ok (held_entry n r)
-entry_of names (AmplifyEntry kind check give) = do
+entry_meant names (AmplifyEntry kind check give) = do
   of ← kind_named names kind
   c ← rights_named check
   g ← rights_named give
   Ok (Form (template.Amplify of c g))
-entry_of names (CreateEntry of give) = do
+entry_meant names (CreateEntry of give) = do
   n ← type_named names of
   g ← rights_named give
   Ok (Form (template.Create (name_numbered n) g))
-entry_of names _ = Ok Empty
+entry_meant names EmptyEntry = Ok Empty
+entry_meant names (WordsAre words) = Err WrongPart
+entry_meant names (ParamIs kind check give) = Err WrongPart
+entry_meant names (LabelIs label) = Err WrongPart
+entry_meant names (StepIs step) = Err WrongPart
 
 -- a parameter template
 abbrev pub parameter : Option Name → ℕ → ℕ → Param
@@ -246,7 +238,7 @@ content_onto names r u line (WordsAre words) rest =
 content_onto names r u line (ParamIs kind check give) rest =
     onto one_param line (limited (nat_lt u.params param_limit) (param_of names kind check give)) (rest (used u.words (u.params + 1) u.entries))
 content_onto names r u line body rest =
-    onto one_entry line (limited (nat_lt u.entries r.entries) (permitted r.listed (entry_of names body))) (rest (used u.words u.params (u.entries + 1)))
+    onto one_entry line (limited (nat_lt u.entries r.entries) (permitted r.listed (entry_meant names body))) (rest (used u.words u.params (u.entries + 1)))
 
 -- what the lines give, behind lines that have given so many
 abbrev pub contents_of : Names → Room → Used → List Part → Result Contents Refused
@@ -365,20 +357,20 @@ object_fits n = nat_lt (kernel_types + n.objects) object_limit
 -- what an item adds in front of a world
 
 -- a limit on events
-abbrev pub with_limit : ℕ → Setup → Setup
-with_limit n w = setup n w.objects w.codes w.tasks
+abbrev pub with_limit : ℕ → WorldValue → WorldValue
+with_limit n w = world_value n w.objects w.codes w.tasks
 
 -- an object
-abbrev pub with_object : List ℕ → Kind → Setup → Setup
-with_object label kind w = setup w.limit (record { label = label; kind = kind } ∷ w.objects) w.codes w.tasks
+abbrev pub with_object : List ℕ → Kind → WorldValue → WorldValue
+with_object label kind w = world_value w.limit (record { label = label; kind = kind } ∷ w.objects) w.codes w.tasks
 
 -- a code
-abbrev pub with_code : List ℕ → List Instr → Setup → Setup
-with_code label steps w = setup w.limit w.objects (record { label = label; steps = steps } ∷ w.codes) w.tasks
+abbrev pub with_code : List ℕ → List Instr → WorldValue → WorldValue
+with_code label steps w = world_value w.limit w.objects (record { label = label; steps = steps } ∷ w.codes) w.tasks
 
 -- a process
-abbrev pub with_task : List ℕ → ℕ → List Entry → Setup → Setup
-with_task label code slots w = setup w.limit w.objects w.codes (record { label = label; code = code; slots = slots } ∷ w.tasks)
+abbrev pub with_task : List ℕ → ℕ → List Entry → WorldValue → WorldValue
+with_task label code slots w = world_value w.limit w.objects w.codes (record { label = label; code = code; slots = slots } ∷ w.tasks)
 
 -- a line of its own
 abbrev pub at_line : {A : Type 0} → ℕ → Result A LoadCause → Result A Refused
@@ -393,46 +385,46 @@ plain_type names of = do
   Ok n
 
 -- the item with this head and these lines behind it
-abbrev pub loaded : Names → Counts → ℕ → List Part → Head → Result (Setup → Setup) Refused
-loaded names n line parts (LimitIs limit) = Ok (with_limit limit)
-loaded names n line parts (TypeIs name) = do
+abbrev pub head_loaded : Names → Counts → ℕ → List Part → Head → Result (WorldValue → WorldValue) Refused
+head_loaded names n line parts (LimitIs limit) = Ok (with_limit limit)
+head_loaded names n line parts (TypeIs name) = do
   at_line line (unless (object_fits n) TooMany)
   Ok (with_object name kind.TypeObject)
-loaded names n line parts (ObjectIs name of) = do
+head_loaded names n line parts (ObjectIs name of) = do
   t ← at_line line (limited (object_fits n) (plain_type names of))
   c ← contents_of names (room (not (t == DATA)) entry_limit) (used 0 0 0) parts
   Ok (with_object name (kind.Plain (name_numbered t) c.words c.entries))
-loaded names n line parts (SemaphoreIs name count) = do
+head_loaded names n line parts (SemaphoreIs name count) = do
   at_line line (unless (object_fits n) TooMany)
   Ok (with_object name (kind.Semaphore count))
-loaded names n line parts (ProcedureIs name code) = do
+head_loaded names n line parts (ProcedureIs name code) = do
   k ← at_line line (limited (object_fits n) (code_named names code))
   c ← contents_of names (room true entry_limit) (used 0 0 0) parts
   Ok (with_object name (kind.Procedure k c.params c.entries))
-loaded names n line parts (CodeIs name) = do
+head_loaded names n line parts (CodeIs name) = do
   at_line line (unless (nat_lt n.codes code_limit) TooMany)
   steps ← instrs_of (labels_from 0 parts) 0 parts
   Ok (with_code name steps)
-loaded names n line parts (ProcessIs name code) = do
+head_loaded names n line parts (ProcessIs name code) = do
   k ← at_line line (limited (nat_lt n.tasks process_limit) (code_named names code))
   c ← contents_of names (room true slot_limit) (used 0 0 0) parts
   Ok (with_task name k c.entries)
 
 -- what an item adds to a world
-abbrev pub item_of : Names → Counts → Item → Result (Setup → Setup) Refused
-item_of names n i = loaded names n i.line i.parts i.head
+abbrev pub item_of : Names → Counts → Item → Result (WorldValue → WorldValue) Refused
+item_of names n i = head_loaded names n i.line i.parts i.head
 
 -- an item before those behind it, unless it is refused or one of them is
-abbrev pub put_item : Result (Setup → Setup) Refused → Result Setup Refused → Result Setup Refused
+abbrev pub put_item : Result (WorldValue → WorldValue) Refused → Result WorldValue Refused → Result WorldValue Refused
 put_item (Err refused) rest = Err refused
 put_item (Ok put) (Err refused) = Err refused
 put_item (Ok put) (Ok w) = Ok (put w)
 
 -- the items in order; a world without any has the usual limit
-abbrev pub items_of : Names → Counts → List Item → Result Setup Refused
-items_of names n [] = Ok (setup usual_limit [] [] [])
+abbrev pub items_of : Names → Counts → List Item → Result WorldValue Refused
+items_of names n [] = Ok (world_value usual_limit [] [] [])
 items_of names n (i ∷ is) = put_item (item_of names n i) (items_of names (counted n i.head) is)
 
 -- the world of the items of a script
-abbrev pub load : List Item → Result Setup Refused
+abbrev pub load : List Item → Result WorldValue Refused
 load items = items_of (names_of (map (λ (i : Item). i.head) items)) (counts 0 0 0) items

@@ -72,8 +72,8 @@ abbrev pub is_path : List (List ℕ) → Bool
 is_path parts = between 2 path_limit (length parts) && list_all is_index_text parts
 
 -- a text with a point in it, cut at its points
-abbrev pub path_of : List (List ℕ) → Result Piece TextCause
-path_of parts =
+abbrev pub pointed_of : List (List ℕ) → Result Piece TextCause
+pointed_of parts =
     if not (is_path parts) then Err BadToken
     else if list_any is_too_large parts then Err NumberTooLarge
     else Ok (Path (map index_of parts))
@@ -99,7 +99,7 @@ plain_of t =
 
 -- the piece that a text spells, or why it spells none
 unfoldable pub piece_of : List ℕ → Result Piece TextCause
-piece_of t = if list_any (λ b. b == 46) t then path_of (slice_split (λ b. b == 46) t) else plain_of t
+piece_of t = if list_any (λ b. b == 46) t then pointed_of (slice_split (λ b. b == 46) t) else plain_of t
 
 -- `r` and the number of the register
 abbrev pub register_text : ℕ → List ℕ

@@ -4,7 +4,7 @@ use Rattle.std.specs.List.{flat_map}
 use Rattle.hk_model.specs.declared.lines.Line.{Line}
 use Rattle.hk_model.specs.declared.lines.End.{End}
 use Rattle.hk_model.specs.declared.lines.End.TheVariants as end
-use Rattle.hk_model.specs.Setup.{Setup}
+use Rattle.hk_model.specs.WorldValue.{WorldValue}
 use Rattle.hk_format.specs.Texts.{ended_line}
 use Rattle.hk_format.specs.AuditLines.{line_text}
 use Rattle.hk_format.specs.Canonical.{canon}
@@ -24,5 +24,5 @@ abbrev pub lines_text : List Line → List ℕ
 lines_text lines = flat_map line_text lines
 
 -- the canonical script, the line `record`, the audit lines and the end line
-unfoldable pub record_text : Setup → List Line → End → List ℕ
+unfoldable pub record_text : WorldValue → List Line → End → List ℕ
 record_text w lines end = canon w ++ (ended_line record_word ++ (lines_text lines ++ ended_line (end_text end)))

@@ -27,8 +27,8 @@ union_of [] = Some 0
 union_of (t ∷ ts) = both (right_of t) (union_of ts)
 
 -- the set that a text means: its names may stand in any order and repeat, and `ALL` stands alone; None where some name is no right's
-unfoldable pub rights_of : List ℕ → Option ℕ
-rights_of t =
+unfoldable pub rights_spelled : List ℕ → Option ℕ
+rights_spelled t =
     if same_text t (codes "-") then Some 0
     else if same_text t (codes "ALL") then Some all_rights
     else union_of (slice_split (λ b. b == 43) t)

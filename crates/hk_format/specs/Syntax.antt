@@ -13,10 +13,10 @@ use Rattle.hk_format.specs.declared.syntax.Part.{Part}
 use Rattle.hk_format.specs.declared.syntax.Item.{Item}
 use Rattle.hk_model.specs.Labels.{is_word, is_name, same_text}
 use Rattle.hk_model.specs.Limits.{event_limit, token_limit}
-use Rattle.hk_model.specs.Setup.{IsSlot, IsSlotOrNone, IsReg, IsOperand, IsRoute, IsArguments, IsWord32}
+use Rattle.hk_model.specs.WorldValue.{IsSlot, IsSlotOrNone, IsReg, IsOperand, IsRoute, IsArguments, IsWord32}
 use Rattle.hk_format.specs.Pieces.{is_upper}
 use Rattle.hk_format.specs.Spelling.{has_parts}
-use Rattle.hk_format.specs.Grammar.{Seen, nothing_seen, is_new, noted, is_new_label, noted_label, item_at, part_at}
+use Rattle.hk_format.specs.Grammar.{GivenNames, nothing_seen, is_new, noted, is_new_label, noted_label, item_at, part_at}
 
 -- the text of a code or a label
 abbrev pub IsWordText : List ℕ → Type 0
@@ -112,7 +112,7 @@ AreParts head labels [] = Unit {0}
 AreParts head labels (p ∷ ps) = Belongs head p.body × IsTrue (is_new_label labels p.body) × AreParts head (noted_label labels p.body) ps
 
 -- items behind others that have given these names
-abbrev pub AreItems : Seen → List Item → Type 0
+abbrev pub AreItems : GivenNames → List Item → Type 0
 AreItems seen [] = Unit {0}
 AreItems seen (i ∷ is) = IsHead i.head × IsTrue (is_new seen i.head) × AreParts i.head [] i.parts × AreItems (noted seen i.head) is
 

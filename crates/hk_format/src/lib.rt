@@ -6,7 +6,9 @@
 #![tactic(auto)]
 
 pub mod causes;
+pub mod errors;
 pub mod syntax;
 
 pub use causes::{Cause, LoadCause, ParseCause, TextCause};
+pub use errors::{LineError, ReadError};
 pub use syntax::{Body, Head, Item, MakingText, Part, Verb, Written};

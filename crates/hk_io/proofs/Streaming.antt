@@ -37,7 +37,19 @@ a_read bytes items buf new at most n same given counted within some =
     let le : n ≤ length (drop at bytes) = omega (arith, sized) in
     let of_new : length new ≡ n = ap length front ∙ length-take-le n (drop at bytes) le in (
       gave bytes buf new at n front le,
-      λ none more. drop_all (at + n) bytes (omega (arith, sized, none, more, of_new, within, some (omega (arith, none, more, of_new, within, length-append new (drop n buf), length-drop n buf)), length-append new (drop n buf), length-drop n buf, length-drop at bytes)),
+      λ none more. drop_all (at + n) bytes (omega (
+        arith,
+        sized,
+        none,
+        more,
+        of_new,
+        within,
+        some
+            (omega (arith, none, more, of_new, within, length-append new (drop n buf), length-drop n buf)),
+        length-append new (drop n buf),
+        length-drop n buf,
+        length-drop at bytes,
+      )),
     )
 
 -- a text of which some bytes were sent, and a write of n more

@@ -1,5 +1,6 @@
 -- The lists behind the nodes, when one cell is taken out or put in.
-use Rattle.std.proofs.Common.{◌≡◌, ◌≢◌, ℕ, zero, suc, ◌+◌, ◌<◌, ◌≤◌, Bool, true, false, cond, List, [], ◌∷◌, ◌++◌, length, get_or, set, map, refl, ap, ◌∙◌, sym, subst, arith, ⊎_elim, get_or-set_same, get_or-set_other, length-set, Option, Some, None, not, slice_get, nat_lt, drop, IfSome, IfNone}
+use Rattle.std.proofs.Common.{◌≡◌, ◌≢◌, ℕ, zero, suc, ◌+◌, ◌<◌, ◌≤◌, Bool, true, false, cond, List, [], ◌∷◌, ◌++◌, length, get_or, set, map, refl, ap, ◌∙◌, sym, subst, arith}
+use Rattle.std.proofs.Common.{⊎_elim, get_or-set_same, get_or-set_other, length-set, Option, Some, None, not, slice_get, nat_lt, drop, IfSome, IfNone}
 use Rattle.std.proofs.lemmas.Bool.Decides.{nat_tests}
 use Rattle.std.proofs.lemmas.Bool.{cases_eq}
 use Rattle.std.proofs.lemmas.List.{length-map, ext_get_or, get_or_read}
@@ -58,7 +59,8 @@ unfolding IsDistinct
 distinct-without c [] h = tt
 distinct-without c (x ∷ xs) h =
     let rest : IsDistinct (λ x y. x == y) (without c xs) = distinct-without c xs h.1 in
-    elim (c == x) as (λ (b : Bool). IsDistinct (λ x y. x == y) (cond (not b) (x ∷ without c xs) (without c xs))) [ true ↦ rest | false ↦ (all-without (λ y. (x == y) ≡ false) c xs h.0, rest) ]
+    elim (c == x) as (λ (b : Bool). IsDistinct (λ x y. x == y) (cond (not b) (x ∷ without c xs) (without c xs)))
+    [ true ↦ rest | false ↦ (all-without (λ y. (x == y) ≡ false) c xs h.0, rest) ]
 
 -- the cells of a path are cells
 path_below : (f : List ℕ) (o : List (Option ℕ)) (n l z a : ℕ) (xs : List ℕ) → IsPath f o n l z a xs → (q : ℕ) → list_any (λ x. q == x) xs ≡ true → q < n
@@ -91,7 +93,8 @@ chains-each f n [] a each = refl
 chains-each f n (xs ∷ ls) a each =
     let first : chain f n n (a + 0) ≡ xs = each zero (omega arith) in
     let here : chain f n n a ≡ xs = ap (chain f n n) (omega arith) ∙ first in
-    let more : chains f n (a + 1) (length ls) ≡ ls = chains-each f n ls (a + 1) (λ l low. let e : (a + 1) + l ≡ a + suc l = omega arith in ap (chain f n n) e ∙ each (suc l) (omega arith)) in
+    let more : chains f n (a + 1) (length ls) ≡ ls = chains-each f n ls (a + 1)
+    (λ l low. let e : (a + 1) + l ≡ a + suc l = omega arith in ap (chain f n n) e ∙ each (suc l) (omega arith)) in
     cc
 
 pub length-chains : (f : List ℕ) (n a k : ℕ) → length (chains f n a k) ≡ k
@@ -145,7 +148,8 @@ module _ (f g : List ℕ) (o : List (Option ℕ)) (n : ℕ) (ls : List (List ℕ
           paths = λ l within.
               let inside : l < length ls = omega (arith, size) in
               rw (listed-map (without c) refl ls l)
-              (path_out f f' o o' n l (n + l) c low (omega arith) (λ x small other. step_out x (omega arith) other) kept (listed ls l) (n + l) (n + l) (step_out (n + l) (omega arith) (omega arith)) (h.paths l inside));
+              (path_out f f' o o' n l (n + l) c low (omega arith) (λ x small other. step_out x (omega arith) other) kept (listed ls l) (n + l) (n + l)
+              (step_out (n + l) (omega arith) (omega arith)) (h.paths l inside));
           homes = λ d within.
               ⊎_elim
               (λ (same : d ≡ c).
@@ -154,7 +158,8 @@ module _ (f g : List ℕ) (o : List (Option ℕ)) (n : ℕ) (ls : List (List ℕ
               let k : at f' d ≡ d = rw same (get_or-set_same (set f (at g c) (at f c)) c c 0 i2) in
               subst (IsHome f' (map (without c) ls) d) (sym e) k)
               (λ (other : d ≢ c).
-              subst (IsHome f' (map (without c) ls) d) (sym (kept d other)) (home_kept f f' ls n c d (get_or o d None) other (step_out d (omega arith) other) size (h.homes d within)))
+              subst (IsHome f' (map (without c) ls) d) (sym (kept d other))
+              (home_kept f f' ls n c d (get_or o d None) other (step_out d (omega arith) other) size (h.homes d within)))
               (cases_eq d c);
           apart = λ l within. rw (listed-map (without c) refl ls l) (distinct-without c (listed ls l) (h.apart l (omega (arith, size))));
         }
@@ -190,7 +195,8 @@ first-path : (f : List ℕ) (o : List (Option ℕ)) (n l z a : ℕ) (xs : List �
 first-path f o n l z a [] high path = rw path (grind (arith, nat_tests))
 first-path f o n l z a (x ∷ xs) high path = let low : x < n = path.1 in rw path.0 (grind (arith, nat_tests))
 
-next-path : (f : List ℕ) (o : List (Option ℕ)) (n l z a : ℕ) (xs : List ℕ) → n ≤ z → IsPath f o n l z a xs → (k c : ℕ) → slice_get xs k ≡ Some c → cond (nat_lt (at f c) n) (Some (at f c)) None ≡ slice_get xs (k + 1)
+next-path : (f : List ℕ) (o : List (Option ℕ)) (n l z a : ℕ) (xs : List ℕ) → n ≤ z → IsPath f o n l z a xs → (k c : ℕ) → slice_get xs k ≡ Some c
+    → cond (nat_lt (at f c) n) (Some (at f c)) None ≡ slice_get xs (k + 1)
 next-path f o n l z a [] high path k c here = absurd (cc)
 next-path f o n l z a (x ∷ xs) high path zero c here = let e : x ≡ c = cc in rw (← e) (first-path f o n l z x xs high path.3)
 next-path f o n l z a (x ∷ xs) high path (suc k) c here = let e : suc k + 1 ≡ suc (k + 1) = omega arith in rw e (next-path f o n l z x xs high path.3 k c here)
@@ -297,7 +303,8 @@ module _ (f g : List ℕ) (o : List (Option ℕ)) (n : ℕ) (ls : List (List ℕ
         let end : at f' c ≡ s = at_f' c ∙ grind (arith, nat_tests) in
         let own : get_or o' c None ≡ Some l = get_or-set_same o c (Some l) None (omega (arith, h.owners)) in
         let kept : (x : ℕ) → x ≢ c → get_or o' x None ≡ get_or o x None = λ x other. get_or-set_other o c x (Some l) None other in
-        let new : (m : ℕ) → listed (set ls l (listed ls l ++ c ∷ [])) m ≡ cond (m == l) (listed ls l ++ c ∷ []) (listed ls m) = λ m. get_or_set ls l m (listed ls l ++ c ∷ []) [] inside in
+        let new : (m : ℕ) → listed (set ls l (listed ls l ++ c ∷ [])) m ≡ cond (m == l) (listed ls l ++ c ∷ []) (listed ls m) = λ m. get_or_set ls l m
+        (listed ls l ++ c ∷ []) [] inside in
         let out : list_any (λ x. c == x) (listed ls l) ≡ false = absent l c inside (λ e. absurd (cc (e, lone))) in
         record {
           nexts = length-set (set f t c) c s ∙ length-set f t c ∙ h.nexts ∙ ap (λ k. n + k) (sym more);
@@ -359,7 +366,8 @@ module _ (f g : List ℕ) (o : List (Option ℕ)) (n : ℕ) (ls : List (List ℕ
 
 -- what the calls do, at what they read
 pub unlinked : (f g : List ℕ) (o : List (Option ℕ)) (n k c p m : ℕ) → IsLinked f g o n (chains f n n k) → c < n → p ≡ get_or g c p → m ≡ get_or f c m
-    → IsLinked (set (set f p m) c c) (set (set g m p) c c) (set o c None) n (chains (set (set f p m) c c) n n k) × (chains (set (set f p m) c c) n n k ≡ map (without c) (chains f n n k))
+    → IsLinked (set (set f p m) c c) (set (set g m p) c c) (set o c None) n (chains (set (set f p m) c c) n n k)
+    × (chains (set (set f p m) c c) n n k ≡ map (without c) (chains f n n k))
 unlinked f g o n k c p m h low readp readm =
     let ls : List (List ℕ) = chains f n n k in
     let e : length ls ≡ k = length-chains f n n k in

@@ -6,3 +6,4 @@ pub mod Outcomes
 pub mod Jumps
 pub mod Buildings
 pub mod Parts
+pub mod Passes

@@ -10,7 +10,8 @@ use Rattle.hk_format.specs.declared.syntax.Item.{Item}
 use Rattle.hk_model.specs.Labels.{same_text, are_apart}
 use Rattle.hk_format.specs.Grammar.{is_among}
 use Rattle.hk_format.specs.Syntax.{IsSyntax}
-use Rattle.hk_format.specs.Loading.{Names, names_of, object_label, is_type_head, code_label}
+use Rattle.hk_format.specs.Names.{Names}
+use Rattle.hk_format.specs.Loading.{names_of, object_label, is_type_head, code_label}
 use Rattle.hk_format.proofs.HeadsApart.{objects_apart, codes_apart}
 use Rattle.hk_load.specs.Naming.{names, with_head, names_from, IsNewHead}
 use Rattle.hk_load.proofs.NameLists.{or_parts}
@@ -18,12 +19,14 @@ use Rattle.hk_load.proofs.NameLists.{or_parts}
 push_front : {X : Type 0} (xs : List X) (x : X) (ys : List X) → xs ++ x ∷ ys ≡ (xs ++ x ∷ []) ++ ys
 push_front xs x ys = sym (append_assoc xs (x ∷ []) ys)
 
-object_step : (n : Names) (name : List ℕ) (is_type : Bool) (os : List (List ℕ)) (ts : List Bool) (cs : List (List ℕ)) → names (n.objects ++ name ∷ os) (n.types ++ is_type ∷ ts) (n.codes ++ cs) ≡ names ((n.objects ++ name ∷ []) ++ os) ((n.types ++ is_type ∷ []) ++ ts) (n.codes ++ cs)
+object_step : (n : Names) (name : List ℕ) (is_type : Bool) (os : List (List ℕ)) (ts : List Bool) (cs : List (List ℕ))
+    → names (n.objects ++ name ∷ os) (n.types ++ is_type ∷ ts) (n.codes ++ cs) ≡ names ((n.objects ++ name ∷ []) ++ os) ((n.types ++ is_type ∷ []) ++ ts) (n.codes ++ cs)
 object_step n name is_type os ts cs =
     ap (λ o. names o (n.types ++ is_type ∷ ts) (n.codes ++ cs)) (push_front n.objects name os)
     ∙ ap (λ t. names ((n.objects ++ name ∷ []) ++ os) t (n.codes ++ cs)) (push_front n.types is_type ts)
 
-code_step : (n : Names) (name : List ℕ) (os : List (List ℕ)) (ts : List Bool) (cs : List (List ℕ)) → names (n.objects ++ os) (n.types ++ ts) (n.codes ++ name ∷ cs) ≡ names (n.objects ++ os) (n.types ++ ts) ((n.codes ++ name ∷ []) ++ cs)
+code_step : (n : Names) (name : List ℕ) (os : List (List ℕ)) (ts : List Bool) (cs : List (List ℕ))
+    → names (n.objects ++ os) (n.types ++ ts) (n.codes ++ name ∷ cs) ≡ names (n.objects ++ os) (n.types ++ ts) ((n.codes ++ name ∷ []) ++ cs)
 code_step n name os ts cs = ap (λ c. names (n.objects ++ os) (n.types ++ ts) c) (push_front n.codes name cs)
 
 names_step : (n : Names) (h : Head) (hs : List Head) → names_from n (h ∷ hs) ≡ names_from (with_head n h) hs
@@ -52,7 +55,8 @@ apart_middle (x ∷ xs) t ys h =
     let other = any_middle (λ u. same_text u x) xs t ys (not_true (list_any (λ u. same_text u x) (xs ++ t ∷ ys)) parts.0) in
     ap (λ b. b || is_among xs t) other ∙ apart_middle xs t ys parts.1
 
-new_head : (n : Names) (h : Head) (hs : List Head) → are_apart (n.objects ++ filter_map object_label (h ∷ hs)) ≡ true → are_apart (n.codes ++ filter_map code_label (h ∷ hs)) ≡ true → IsNewHead n h
+new_head : (n : Names) (h : Head) (hs : List Head) → are_apart (n.objects ++ filter_map object_label (h ∷ hs)) ≡ true → are_apart (n.codes ++ filter_map code_label (h ∷ hs)) ≡ true
+    → IsNewHead n h
 new_head n (LimitIs limit) hs o c = tt
 new_head n (TypeIs name) hs o c = apart_middle n.objects name (filter_map object_label hs) o
 new_head n (ObjectIs name of) hs o c = apart_middle n.objects name (filter_map object_label hs) o
@@ -61,17 +65,20 @@ new_head n (ProcedureIs name code) hs o c = apart_middle n.objects name (filter_
 new_head n (CodeIs name) hs o c = apart_middle n.codes name (filter_map code_label hs) c
 new_head n (ProcessIs name code) hs o c = tt
 
-at_item : (n : Names) (items : List Item) (at : ℕ) (item : Item) → at < length items → item ≡ get_or items at item → names_from n (map (λ (i : Item). i.head) (drop at items)) ≡ names_from n (item.head ∷ map (λ (i : Item). i.head) (drop (at + 1) items))
+at_item : (n : Names) (items : List Item) (at : ℕ) (item : Item) → at < length items → item ≡ get_or items at item
+    → names_from n (map (λ (i : Item). i.head) (drop at items)) ≡ names_from n (item.head ∷ map (λ (i : Item). i.head) (drop (at + 1) items))
 at_item n items at item more e =
     at_drop_more (λ is. names_from n (map (λ (i : Item). i.head) is)) items at item more
     ∙ ap (λ (x : Item). names_from n (x.head ∷ map (λ (i : Item). i.head) (drop (at + 1) items))) (sym e)
 
 -- the next head, with those behind it
-pub head_turn : (n : Names) (items : List Item) (at : ℕ) (item : Item) → at < length items → item ≡ get_or items at item → names_from n (map (λ (i : Item). i.head) (drop at items)) ≡ names_from (with_head n item.head) (map (λ (i : Item). i.head) (drop (at + 1) items))
+pub head_turn : (n : Names) (items : List Item) (at : ℕ) (item : Item) → at < length items → item ≡ get_or items at item
+    → names_from n (map (λ (i : Item). i.head) (drop at items)) ≡ names_from (with_head n item.head) (map (λ (i : Item). i.head) (drop (at + 1) items))
 head_turn n items at item more e = at_item n items at item more e ∙ names_step n item.head (map (λ (i : Item). i.head) (drop (at + 1) items))
 
 -- the next head declares no name for the second time
-pub head_new : (n : Names) (items : List Item) (at : ℕ) (item : Item) → at < length items → item ≡ get_or items at item → names_from n (map (λ (i : Item). i.head) (drop at items)) ≡ names_of (map (λ (i : Item). i.head) items) → IsSyntax items → IsNewHead n item.head
+pub head_new : (n : Names) (items : List Item) (at : ℕ) (item : Item) → at < length items → item ≡ get_or items at item
+    → names_from n (map (λ (i : Item). i.head) (drop at items)) ≡ names_of (map (λ (i : Item). i.head) items) → IsSyntax items → IsNewHead n item.head
 head_new n items at item more e whole h =
     let same = sym (at_item n items at item more e) ∙ whole in
     new_head n item.head (map (λ (i : Item). i.head) (drop (at + 1) items))

@@ -5,7 +5,7 @@ use Rattle.std.proofs.lemmas.List.{at_drop_more}
 use Rattle.hk_format.specs.declared.syntax.Head.{Head}
 use Rattle.hk_format.specs.declared.syntax.Item.{Item}
 use Rattle.hk_format.specs.declared.syntax.Part.{Part}
-use Rattle.hk_format.specs.Grammar.{Seen, nothing_seen, noted, noted_label}
+use Rattle.hk_format.specs.Grammar.{GivenNames, nothing_seen, noted, noted_label}
 use Rattle.hk_format.specs.Syntax.{AreParts, AreItems, IsSyntax}
 use Rattle.hk_load.specs.Jumping.{HasNewLabels}
 
@@ -13,7 +13,7 @@ parts_new : (head : Head) (labels : List (List ℕ)) (ps : List Part) → ArePar
 parts_new head labels [] h = tt
 parts_new head labels (p ∷ ps) h = (h.1, parts_new head (noted_label labels p.body) ps h.2)
 
-items_new : (seen : Seen) (is : List Item) → AreItems seen is → AllByRecursion (λ (i : Item). HasNewLabels [] i.parts) is
+items_new : (seen : GivenNames) (is : List Item) → AreItems seen is → AllByRecursion (λ (i : Item). HasNewLabels [] i.parts) is
 items_new seen [] h = tt
 items_new seen (i ∷ is) h = (parts_new i.head [] i.parts h.2, items_new (noted seen i.head) is h.3)
 
@@ -22,7 +22,8 @@ pub all_new : (is : List Item) → IsSyntax is → AllByRecursion (λ (i : Item)
 all_new is h = items_new nothing_seen is h
 
 -- of the next item, and of those behind it
-pub next_new : (items : List Item) (at : ℕ) (i : Item) → at < length items → i ≡ get_or items at i → AllByRecursion (λ (i : Item). HasNewLabels [] i.parts) (drop at items) → HasNewLabels [] i.parts × AllByRecursion (λ (i : Item). HasNewLabels [] i.parts) (drop (at + 1) items)
+pub next_new : (items : List Item) (at : ℕ) (i : Item) → at < length items → i ≡ get_or items at i → AllByRecursion (λ (i : Item). HasNewLabels [] i.parts) (drop at items)
+    → HasNewLabels [] i.parts × AllByRecursion (λ (i : Item). HasNewLabels [] i.parts) (drop (at + 1) items)
 next_new items at i more e h =
     let both = subst (λ is. AllByRecursion (λ (i : Item). HasNewLabels [] i.parts) is) (at_drop_more (λ is. is) items at i more) h in
     (subst (λ (x : Item). HasNewLabels [] x.parts) (sym e) both.0, both.1)

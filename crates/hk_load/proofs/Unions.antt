@@ -24,18 +24,21 @@ united_both rights word None = refl
 united_none : (rights : ℕ) (rest : Option ℕ) → united rights (both None rest) ≡ None
 united_none rights rest = refl
 
-at_turn : (names : List (List ℕ)) (n : ℕ) (t : List ℕ) (rights : ℕ) (o : Option ℕ) → (n < length names) × (t ≡ get_or names n t) → number_named t ≡ o → united rights (union_of (drop n names)) ≡ united rights (both (option_map (λ number. 2 ^ number) o) (union_of (drop (n + 1) names)))
+at_turn : (names : List (List ℕ)) (n : ℕ) (t : List ℕ) (rights : ℕ) (o : Option ℕ) → (n < length names) × (t ≡ get_or names n t) → number_named t ≡ o
+    → united rights (union_of (drop n names)) ≡ united rights (both (option_map (λ number. 2 ^ number) o) (union_of (drop (n + 1) names)))
 at_turn names n t rights o h e =
     at_drop_more (λ xs. united rights (union_of xs)) names n t h.0
     ∙ ap (λ x. united rights (both (right_of x) (union_of (drop (n + 1) names)))) (sym h.1)
     ∙ ap (λ x. united rights (both (option_map (λ number. 2 ^ number) x) (union_of (drop (n + 1) names)))) e
 
 -- a name of a right
-pub united_turn : (names : List (List ℕ)) (n : ℕ) (t : List ℕ) (rights number : ℕ) → (n < length names) × (t ≡ get_or names n t) → number_named t ≡ Some number → united rights (union_of (drop n names)) ≡ united (bit_or rights (2 ^ number)) (union_of (drop (n + 1) names))
+pub united_turn : (names : List (List ℕ)) (n : ℕ) (t : List ℕ) (rights number : ℕ) → (n < length names) × (t ≡ get_or names n t) → number_named t ≡ Some number
+    → united rights (union_of (drop n names)) ≡ united (bit_or rights (2 ^ number)) (union_of (drop (n + 1) names))
 united_turn names n t rights number h e = at_turn names n t rights (Some number) h e ∙ united_both rights (2 ^ number) (union_of (drop (n + 1) names))
 
 -- a name of no right
-pub united_bad : (names : List (List ℕ)) (n : ℕ) (t : List ℕ) (rights : ℕ) → (n < length names) × (t ≡ get_or names n t) → number_named t ≡ None → united rights (union_of (drop n names)) ≡ None
+pub united_bad : (names : List (List ℕ)) (n : ℕ) (t : List ℕ) (rights : ℕ) → (n < length names) × (t ≡ get_or names n t) → number_named t ≡ None
+    → united rights (union_of (drop n names)) ≡ None
 united_bad names n t rights h e = at_turn names n t rights None h e
 
 -- no name is left

@@ -13,8 +13,10 @@ use Rattle.hk_model.specs.declared.world.Kind.{Kind}
 use Rattle.hk_model.specs.declared.world.Kind.TheVariants as kind
 use Rattle.hk_model.specs.Limits.{entry_limit, slot_limit, code_limit, process_limit, usual_limit}
 use Rattle.hk_model.specs.Targets.{DATA}
-use Rattle.hk_model.specs.Setup.{Setup, setup}
-use Rattle.hk_format.specs.Loading.{Names, Refused, Counts, counts, object_fits, at_line, unless, limited, plain_type, code_named, name_numbered, room, used, contents_of, labels_from, instrs_of, ◌>>=◌, ◌>>◌}
+use Rattle.hk_model.specs.WorldValue.{WorldValue, world_value}
+use Rattle.hk_format.specs.Names.{Names}
+use Rattle.hk_format.specs.Loading.{Refused, Counts, counts, object_fits, at_line, unless, limited, plain_type, code_named, name_numbered, room, used, contents_of, labels_from}
+use Rattle.hk_format.specs.Loading.{instrs_of, ◌>>=◌, ◌>>◌}
 use Rattle.hk_load.specs.declared.items.Loaded.{Loaded}
 
 -- what items have given
@@ -41,8 +43,8 @@ limit_or (Some limit) other = limit
 limit_or None other = other
 
 -- the world of what was given
-abbrev pub finished : Built → Setup
-finished b = setup (limit_or b.limit usual_limit) b.objects b.codes b.tasks
+abbrev pub finished : Built → WorldValue
+finished b = world_value (limit_or b.limit usual_limit) b.objects b.codes b.tasks
 
 -- a limit, if there is none yet
 abbrev pub with_limit : Built → ℕ → Built
@@ -89,6 +91,6 @@ added names b line parts (ProcessIs name code) = do
   Ok (with_task b name k c.entries)
 
 -- what earlier items gave, before what later ones give
-abbrev pub after : Built → Result Setup Refused → Result Setup Refused
-after b (Ok w) = Ok (setup (limit_or b.limit w.limit) (b.objects ++ w.objects) (b.codes ++ w.codes) (b.tasks ++ w.tasks))
+abbrev pub after : Built → Result WorldValue Refused → Result WorldValue Refused
+after b (Ok w) = Ok (world_value (limit_or b.limit w.limit) (b.objects ++ w.objects) (b.codes ++ w.codes) (b.tasks ++ w.tasks))
 after b (Err refused) = Err refused

@@ -6,7 +6,8 @@ use Rattle.hk_format.specs.declared.syntax.Body.{Body}
 use Rattle.hk_format.specs.declared.syntax.Body.TheVariants.{WordsAre, ParamIs}
 use Rattle.hk_model.specs.Limits.{word_limit, param_limit}
 use Rattle.hk_format.specs.Loading as loading
-use Rattle.hk_format.specs.Loading.{Names, Refused, contents, room, used, limited, permitted, entry_of, param_of, ◌>>=◌}
+use Rattle.hk_format.specs.Names.{Names}
+use Rattle.hk_format.specs.Loading.{Refused, contents, room, used, limited, permitted, entry_meant, param_of, ◌>>=◌}
 use Rattle.hk_load.specs.declared.contents.Contents.{Contents}
 use Rattle.hk_load.specs.declared.contents.Room.{Room}
 
@@ -37,7 +38,7 @@ param_added c param = do
 -- the entry of a line at the end, or the line's cause
 abbrev pub entry_added : Names → loading.Room → loading.Contents → Body → Result loading.Contents LoadCause
 entry_added names r c body = do
-  e ← limited (nat_lt (length c.entries) r.entries) (permitted r.listed (entry_of names body))
+  e ← limited (nat_lt (length c.entries) r.entries) (permitted r.listed (entry_meant names body))
   Ok (contents c.words c.params (c.entries ++ e ∷ []))
 
 -- what a line gives at the end, or the line's cause

@@ -1,4 +1,3 @@
-pub mod Outcomes
 pub mod Texts
 pub mod Naming
 pub mod Filling

@@ -5,8 +5,8 @@ use Rattle.std.specs.List.{filter_map}
 use Rattle.hk_format.specs.declared.syntax.Head.{Head}
 use Rattle.hk_format.specs.declared.syntax.Head.TheVariants.{LimitIs, TypeIs, ObjectIs, SemaphoreIs, ProcedureIs, CodeIs, ProcessIs}
 use Rattle.hk_format.specs.Grammar.{is_among}
-use Rattle.hk_format.specs.Loading.{Names, kernel_flags, object_label, is_type_head, code_label}
-use Rattle.hk_format.specs.Canonical.{kernel_names}
+use Rattle.hk_format.specs.Names.{Names, kernel_flags, kernel_names}
+use Rattle.hk_format.specs.Loading.{object_label, is_type_head, code_label}
 
 -- so many names
 abbrev pub names : List (List ℕ) → List Bool → List (List ℕ) → Names

@@ -2,12 +2,13 @@
 
 ghost use Rattle.std.specs.Prelude.{◌≡◌, ◌+◌, ◌≤◌, ◌++◌, [], length, OnOk};
 ghost use Rattle.hk_format.specs.Loading.{used, contents, contents_of};
-ghost use Rattle.hk_load.specs.Outcomes.{Becomes, Loads};
+ghost use Rattle.hk_format.specs.Outcomes.{Becomes, GivesAll};
 ghost use Rattle.hk_load.specs.Filling.{contents_seen, room_seen, words_added, param_added, entry_added, added};
 
 use crate::errors::{LineError, LoadError};
 use crate::names::Declared;
 use hk_format::{Body, LoadCause, Part};
+use hk_model::limits::{PARAM_LIMIT, WORD_LIMIT};
 use hk_model::{Entries, Param, Params, Template, Words};
 use std::alloc::{AllocError, Global};
 use std::marker::PhantomData;
@@ -50,7 +51,7 @@ impl Contents {
         parts: &[Part],
     ) -> Result<Contents, LoadError>
         requires { room.entries ≤ 256 }
-        ensures { Loads contents_seen result (contents_of declared.now (room_seen room) (used 0 0 0) parts.now) }
+        ensures { GivesAll contents_seen result (contents_of declared.now (room_seen room) (used 0 0 0) parts.now) }
     {
         let mut contents = Contents::new(alloc);
         for part in parts {
@@ -80,7 +81,7 @@ impl Contents {
     fn add_words(&mut self, words: &[u32]) -> Result<(), LineError>
         ensures { Becomes result (contents_seen self.new) (words_added (contents_seen self.old) words.now) }
     {
-        if self.words.len() + words.len() > 4096 {
+        if self.words.len() + words.len() > WORD_LIMIT {
             return Err(LineError::Bad(LoadCause::TooMany));
         }
         extend(&mut self.words, words)?;
@@ -91,7 +92,7 @@ impl Contents {
     fn add_param(&mut self, param: Param) -> Result<(), LineError>
         ensures { Becomes result (contents_seen self.new) (param_added (contents_seen self.old) param) }
     {
-        if self.params.len() == 8 {
+        if self.params.len() == PARAM_LIMIT {
             return Err(LineError::Bad(LoadCause::TooMany));
         }
         self.params.push(param)?;

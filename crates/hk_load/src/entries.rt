@@ -2,31 +2,33 @@
 
 ghost use Rattle.std.specs.Prelude.{◌≡◌};
 ghost use Rattle.hk_format.specs.declared.syntax.Body.TheVariants.{CapEntry, AmplifyEntry, CreateEntry};
-ghost use Rattle.hk_format.specs.Loading.{entry_of, param_of};
-ghost use Rattle.hk_load.specs.Outcomes.{Gives};
+ghost use Rattle.hk_format.specs.Loading.{entry_meant, param_of};
+ghost use Rattle.hk_format.specs.Outcomes.{Gives};
 
 use crate::errors::LineError;
 use crate::names::Declared;
 use crate::rights::rights;
-use hk_format::Body;
+use hk_format::{Body, LoadCause};
 use hk_model::{Cap, Entry, Param, Template, Text};
 
 impl Declared {
-    /// The entry of a line. UnknownName and BadRights come from the left.
+    /// The entry of a line. UnknownName and BadRights come from the left; WrongPart where the line is
+    /// that of no entry.
     pub fn entry(&self, body: &Body) -> Result<Entry, LineError>
-        ensures { Gives (λ x. x) result (entry_of self.now body.now) }
+        ensures { Gives (λ x. x) result (entry_meant self.now body.now) }
     {
         match body {
             Body::CapEntry { object, rights } => self.held(object, rights),
             Body::AmplifyEntry { kind, check, give } => self.amplify(kind, check, give),
             Body::CreateEntry { of, give } => self.create(of, give),
-            _ => Ok(Entry::Empty),
+            Body::EmptyEntry => Ok(Entry::Empty),
+            _ => Err(LineError::Bad(LoadCause::WrongPart)),
         }
     }
 
     /// `cap OBJECT RIGHTS`
     fn held(&self, object: &Text, held: &Text) -> Result<Entry, LineError>
-        ensures { Gives (λ x. x) result (entry_of self.now (CapEntry object.now held.now)) }
+        ensures { Gives (λ x. x) result (entry_meant self.now (CapEntry object.now held.now)) }
     {
         let name = self.object(object)?;
         let rights = rights(held)?;
@@ -35,7 +37,7 @@ impl Declared {
 
     /// `amplify KIND CHECK GIVE`
     fn amplify(&self, kind: &Text, check: &Text, give: &Text) -> Result<Entry, LineError>
-        ensures { Gives (λ x. x) result (entry_of self.now (AmplifyEntry kind.now check.now give.now)) }
+        ensures { Gives (λ x. x) result (entry_meant self.now (AmplifyEntry kind.now check.now give.now)) }
     {
         let of = self.kind(kind)?;
         let check = rights(check)?;
@@ -45,7 +47,7 @@ impl Declared {
 
     /// `create TYPE GIVE`
     fn create(&self, of: &Text, give: &Text) -> Result<Entry, LineError>
-        ensures { Gives (λ x. x) result (entry_of self.now (CreateEntry of.now give.now)) }
+        ensures { Gives (λ x. x) result (entry_meant self.now (CreateEntry of.now give.now)) }
     {
         let of = self.type_named(of)?;
         let give = rights(give)?;

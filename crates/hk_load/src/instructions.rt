@@ -4,7 +4,7 @@ ghost use Rattle.std.specs.Prelude.{◌≡◌, Ok, List};
 ghost use Rattle.hk_model.specs.declared.instructions.Instr.TheVariants as instr;
 ghost use Rattle.hk_format.specs.declared.syntax.Written.TheVariants as written;
 ghost use Rattle.hk_format.specs.Loading.{Label, instr_of, making_of};
-ghost use Rattle.hk_load.specs.Outcomes.{Gives};
+ghost use Rattle.hk_format.specs.Outcomes.{Gives};
 
 use crate::errors::LineError;
 use crate::labels::Labels;

@@ -4,9 +4,10 @@ ghost use Rattle.std.specs.Prelude.{◌≡◌, [], None, Ok, length, nat_lt};
 ghost use Rattle.hk_format.specs.declared.syntax.Head.TheVariants.{ObjectIs, ProcedureIs, CodeIs, ProcessIs};
 ghost use Rattle.hk_model.specs.declared.world.Kind.TheVariants as kind;
 ghost use Rattle.hk_model.specs.Limits.{process_limit};
-ghost use Rattle.hk_model.specs.Setup.{IsWorld};
-ghost use Rattle.hk_format.specs.Loading.{Names, at_line, limited, object_fits, code_named, plain_type};
-ghost use Rattle.hk_load.specs.Outcomes.{Gives, Loads, Grows};
+ghost use Rattle.hk_model.specs.WorldValue.{IsWorld};
+ghost use Rattle.hk_format.specs.Names.{Names};
+ghost use Rattle.hk_format.specs.Loading.{at_line, limited, object_fits, code_named, plain_type};
+ghost use Rattle.hk_format.specs.Outcomes.{Gives, GivesAll, BecomesAll};
 ghost use Rattle.hk_load.specs.Jumping.{HasNewLabels};
 ghost use Rattle.hk_load.specs.Building.{built, built_of, finished, counts_of, with_limit, with_born, with_task, single_added, added};
 
@@ -15,9 +16,15 @@ use crate::errors::{LineError, LoadError};
 use crate::names::Declared;
 use crate::steps::steps;
 use hk_format::{Head, Item, LoadCause};
+use hk_model::limits::{
+    CODE_LIMIT, ENTRY_LIMIT, OBJECT_LIMIT, PROCESS_LIMIT, SLOT_LIMIT, USUAL_LIMIT,
+};
 use hk_model::{Born, Code, Entry, Items, Kind, Name, Task, Template, Text, World};
 use std::alloc::Global;
 use std::marker::PhantomData;
+
+// The objects that a script may declare: the seven kernel types stand beside them.
+const DECLARED_LIMIT: usize = OBJECT_LIMIT - 7;
 
 const DATA: Name = Name(1);
 
@@ -51,7 +58,7 @@ impl Loaded {
     /// WrongPart, then TooMany.
     pub fn add(&mut self, alloc: Global, declared: &Declared, item: &Item) -> Result<(), LoadError>
         requires { HasNewLabels [] item.now.parts }
-        ensures { Grows result (built_of self.new) (added declared.now (built_of self.old) item.now.line item.now.parts item.now.head) }
+        ensures { BecomesAll result (built_of self.new) (added declared.now (built_of self.old) item.now.line item.now.parts item.now.head) }
     {
         match &item.head {
             Head::LimitIs(limit) => {
@@ -88,9 +95,9 @@ impl Loaded {
         name: &Text,
         kind: Kind,
     ) -> Result<(), LoadError>
-        ensures { Grows result (built_of self.new) (single_added (built_of self.old) line name.now kind) }
+        ensures { BecomesAll result (built_of self.new) (single_added (built_of self.old) line name.now kind) }
     {
-        if self.objects.len() >= 65_529 {
+        if self.objects.len() >= DECLARED_LIMIT {
             let cause = LoadCause::TooMany;
             return Err(LoadError::Refused { line, cause });
         }
@@ -106,12 +113,12 @@ impl Loaded {
         name: &Text,
         of: &Text,
     ) -> Result<(), LoadError>
-        ensures { Grows result (built_of self.new) (added declared.now (built_of self.old) item.now.line item.now.parts (ObjectIs name.now of.now)) }
+        ensures { BecomesAll result (built_of self.new) (added declared.now (built_of self.old) item.now.line item.now.parts (ObjectIs name.now of.now)) }
     {
         let of = self.object_type(declared, item.line, of)?;
         let room = Room {
             listed: of != DATA,
-            entries: 256,
+            entries: ENTRY_LIMIT,
         };
         let contents = Contents::of(alloc, declared, room, item.parts.as_slice())?;
         self.push_object(alloc, name, plain_kind(of, contents))
@@ -126,12 +133,12 @@ impl Loaded {
         name: &Text,
         code: &Text,
     ) -> Result<(), LoadError>
-        ensures { Grows result (built_of self.new) (added declared.now (built_of self.old) item.now.line item.now.parts (ProcedureIs name.now code.now)) }
+        ensures { BecomesAll result (built_of self.new) (added declared.now (built_of self.old) item.now.line item.now.parts (ProcedureIs name.now code.now)) }
     {
         let code = self.procedure_code(declared, item.line, code)?;
         let room = Room {
             listed: true,
-            entries: 256,
+            entries: ENTRY_LIMIT,
         };
         let contents = Contents::of(alloc, declared, room, item.parts.as_slice())?;
         self.push_object(alloc, name, procedure_kind(code, contents))
@@ -140,9 +147,9 @@ impl Loaded {
     /// Adds a code.
     fn add_code(&mut self, alloc: Global, item: &Item, name: &Text) -> Result<(), LoadError>
         requires { HasNewLabels [] item.now.parts }
-        ensures { (names : Names) → Grows result (built_of self.new) (added names (built_of self.old) item.now.line item.now.parts (CodeIs name.now)) }
+        ensures { (names : Names) → BecomesAll result (built_of self.new) (added names (built_of self.old) item.now.line item.now.parts (CodeIs name.now)) }
     {
-        if self.codes.len() >= 4096 {
+        if self.codes.len() >= CODE_LIMIT {
             let cause = LoadCause::TooMany;
             return Err(LoadError::Refused {
                 line: item.line,
@@ -164,12 +171,12 @@ impl Loaded {
         name: &Text,
         code: &Text,
     ) -> Result<(), LoadError>
-        ensures { Grows result (built_of self.new) (added declared.now (built_of self.old) item.now.line item.now.parts (ProcessIs name.now code.now)) }
+        ensures { BecomesAll result (built_of self.new) (added declared.now (built_of self.old) item.now.line item.now.parts (ProcessIs name.now code.now)) }
     {
         let code = self.task_code(declared, item.line, code)?;
         let room = Room {
             listed: true,
-            entries: 64,
+            entries: SLOT_LIMIT,
         };
         let contents = Contents::of(alloc, declared, room, item.parts.as_slice())?;
         self.push_task(alloc, name, code, contents)
@@ -177,11 +184,11 @@ impl Loaded {
 
     /// The type of an object, or the cause of its line.
     fn object_type(&self, declared: &Declared, line: u32, of: &Text) -> Result<Name, LoadError>
-        ensures { Loads (λ n. n.0) result (at_line line (limited (object_fits (counts_of (built_of self.now))) (plain_type declared.now of.now))) }
+        ensures { GivesAll (λ n. n.0) result (at_line line (limited (object_fits (counts_of (built_of self.now))) (plain_type declared.now of.now))) }
     {
         match plain_type(declared, of) {
             Ok(of) => {
-                if self.objects.len() < 65_529 {
+                if self.objects.len() < DECLARED_LIMIT {
                     Ok(of)
                 } else {
                     let cause = LoadCause::TooMany;
@@ -194,11 +201,11 @@ impl Loaded {
 
     /// The code of a procedure, or the cause of its line.
     fn procedure_code(&self, declared: &Declared, line: u32, code: &Text) -> Result<u16, LoadError>
-        ensures { Loads (λ n. n) result (at_line line (limited (object_fits (counts_of (built_of self.now))) (code_named declared.now code.now))) }
+        ensures { GivesAll (λ n. n) result (at_line line (limited (object_fits (counts_of (built_of self.now))) (code_named declared.now code.now))) }
     {
         match declared.code(code) {
             Ok(code) => {
-                if self.objects.len() < 65_529 {
+                if self.objects.len() < DECLARED_LIMIT {
                     Ok(code)
                 } else {
                     let cause = LoadCause::TooMany;
@@ -211,11 +218,11 @@ impl Loaded {
 
     /// The code of a process, or the cause of its line.
     fn task_code(&self, declared: &Declared, line: u32, code: &Text) -> Result<u16, LoadError>
-        ensures { Loads (λ n. n) result (at_line line (limited (nat_lt (length self.now.tasks) process_limit) (code_named declared.now code.now))) }
+        ensures { GivesAll (λ n. n) result (at_line line (limited (nat_lt (length self.now.tasks) process_limit) (code_named declared.now code.now))) }
     {
         match declared.code(code) {
             Ok(code) => {
-                if self.tasks.len() < 256 {
+                if self.tasks.len() < PROCESS_LIMIT {
                     Ok(code)
                 } else {
                     let cause = LoadCause::TooMany;
@@ -228,7 +235,7 @@ impl Loaded {
 
     /// Puts an object at the end.
     fn push_object(&mut self, alloc: Global, name: &Text, kind: Kind) -> Result<(), LoadError>
-        ensures { Grows result (built_of self.new) (Ok (with_born (built_of self.old) name.now kind)) }
+        ensures { BecomesAll result (built_of self.new) (Ok (with_born (built_of self.old) name.now kind)) }
     {
         let _ = PhantomData::<(Entry, Template)>;
         let label = name.copy(alloc)?;
@@ -244,7 +251,7 @@ impl Loaded {
         code: u16,
         contents: Contents,
     ) -> Result<(), LoadError>
-        ensures { Grows result (built_of self.new) (Ok (with_task (built_of self.old) name.now code contents.entries)) }
+        ensures { BecomesAll result (built_of self.new) (Ok (with_task (built_of self.old) name.now code contents.entries)) }
     {
         let _ = PhantomData::<(Entry, Template)>;
         let label = name.copy(alloc)?;
@@ -272,7 +279,7 @@ impl Loaded {
             codes,
             tasks,
         } = self;
-        World::new(limit.unwrap_or(10_000), objects, codes, tasks)
+        World::new(limit.unwrap_or(USUAL_LIMIT), objects, codes, tasks)
     }
 }
 

@@ -3,12 +3,13 @@
 ghost use Rattle.std.specs.Prelude.{◌≡◌, ◌++◌, ◌∷◌, [], false, length, map, IfOk, OnOk};
 ghost use Rattle.hk_format.specs.Grammar.{is_among};
 ghost use Rattle.hk_format.specs.Loading.{labels_from, target};
-ghost use Rattle.hk_load.specs.Outcomes.{Gives};
+ghost use Rattle.hk_format.specs.Outcomes.{Gives};
 ghost use Rattle.hk_load.specs.Jumping.{label_at, label_texts, HasNewLabels};
 
 use crate::errors::LineError;
 use hk_format::{Body, LoadCause, Part};
 use hk_model::Text;
+use hk_model::limits::CODE_LIMIT;
 use indexmap::IndexMap;
 use std::alloc::{AllocError, Global};
 use std::marker::Model;
@@ -65,7 +66,7 @@ impl Labels {
         ensures { Gives (λ x. x) result (target self.now label.now) }
     {
         match self.places.get_full(label.as_str()) {
-            Some((_, _, place)) => Ok((*place).min(4096) as u16),
+            Some((_, _, place)) => Ok((*place).min(CODE_LIMIT) as u16),
             None => Err(LineError::Bad(LoadCause::UnknownName)),
         }
     }

@@ -1,4 +1,5 @@
-//! The items of a script as a world: names become numbers, and limits are kept.
+//! The items of a script as a world: names become numbers, and limits are kept; and the bytes of a
+//! script as a world, by all three passes.
 //!
 //! `docs/FORMATS.md`, "Loading", states the rules.
 #![tactic(auto)]
@@ -15,7 +16,11 @@ mod rights;
 mod steps;
 #[cfg(test)]
 mod tests;
+#[cfg(test)]
+mod world_tests;
+mod worlds;
 
 pub use crate::errors::LoadError;
 pub use crate::loading::load;
+pub use crate::worlds::{WorldError, read_world};
 pub use hk_model::World;

@@ -5,7 +5,7 @@ ghost use Rattle.hk_format.specs.declared.causes.LoadCause.{LoadCause};
 ghost use Rattle.hk_format.specs.declared.syntax.Item.{Item};
 ghost use Rattle.hk_format.specs.Syntax.{IsSyntax};
 ghost use Rattle.hk_format.specs.Loading.{load, names_of};
-ghost use Rattle.hk_load.specs.Outcomes.{IsRefused, Loads};
+ghost use Rattle.hk_format.specs.Outcomes.{IsRefused, GivesAll};
 
 use crate::errors::LoadError;
 use crate::items::Loaded;
@@ -27,7 +27,7 @@ pub fn load(alloc: Global, syntax: &Syntax) -> Result<World, LoadError>
 /// The world of these items.
 fn load_items(alloc: Global, items: &[Item]) -> Result<World, LoadError>
     requires { IsSyntax items.now }
-    ensures { Loads (λ x. x) result (load items.now) }
+    ensures { GivesAll (λ x. x) result (load items.now) }
 {
     let declared = Declared::of(alloc, items)?;
     load_with(alloc, &declared, items)
@@ -37,7 +37,7 @@ fn load_items(alloc: Global, items: &[Item]) -> Result<World, LoadError>
 fn load_with(alloc: Global, declared: &Declared, items: &[Item]) -> Result<World, LoadError>
     requires syntax { IsSyntax items.now }
     requires names { declared.now ≡ names_of (map (λ (i : Item). i.head) items.now) }
-    ensures { Loads (λ x. x) result (load items.now) }
+    ensures { GivesAll (λ x. x) result (load items.now) }
 {
     let mut loaded = Loaded::new(alloc);
     for item in items {

@@ -5,11 +5,12 @@ ghost use Rattle.hk_format.specs.declared.syntax.Item.{Item};
 ghost use Rattle.hk_format.specs.Syntax.{IsSyntax};
 ghost use Rattle.hk_format.specs.Loading.{names_of, object_named, type_named, kind_named, code_named};
 ghost use Rattle.hk_format.specs.Grammar.{is_among};
-ghost use Rattle.hk_load.specs.Outcomes.{Gives};
+ghost use Rattle.hk_format.specs.Outcomes.{Gives};
 ghost use Rattle.hk_load.specs.Naming.{IsNewHead, with_head, with_object, with_code, kernel_declared};
 
 use crate::errors::LineError;
 use hk_format::{Head, Item, LoadCause};
+use hk_model::limits::CODE_LIMIT;
 use hk_model::{Name, Text};
 use indexmap::{IndexMap, IndexSet};
 use std::alloc::{AllocError, Global};
@@ -25,7 +26,7 @@ pub struct Declared {
 }
 
 impl Model for Declared {
-    ghost use Rattle.hk_format.specs.Loading.{Names};
+    ghost use Rattle.hk_format.specs.Names.{Names};
     ghost use Rattle.hk_load.specs.Naming.{names_seen};
 
     ghost Value = { Names };
@@ -143,7 +144,7 @@ impl Declared {
         ensures { Gives (λ x. x) result (code_named self.now name.now) }
     {
         match self.codes.get_index_of(name.as_str()) {
-            Some(number) => Ok(number.min(4096) as u16),
+            Some(number) => Ok(number.min(CODE_LIMIT) as u16),
             None => Err(LineError::Bad(LoadCause::UnknownName)),
         }
     }

@@ -3,7 +3,7 @@
 ghost use Rattle.std.specs.Prelude.{◌≡◌};
 ghost use Rattle.hk_format.specs.RightsTexts.{union_of};
 ghost use Rattle.hk_format.specs.Loading.{rights_named};
-ghost use Rattle.hk_load.specs.Outcomes.{Gives};
+ghost use Rattle.hk_format.specs.Outcomes.{Gives};
 ghost use Rattle.hk_load.specs.Texts.{names_in};
 
 use crate::errors::LineError;
@@ -13,7 +13,7 @@ use hk_rights::{Right, Rights};
 
 /// The set of rights that the text means: none for a dash, all for `ALL`, and else those of the names
 /// that `+` joins. BadRights where a name is no right's.
-#[tactic(auto, unfolding(hk_format::specs::RightsTexts::rights_of))]
+#[tactic(auto, unfolding(hk_format::specs::RightsTexts::rights_spelled))]
 pub fn rights(text: &Text) -> Result<Rights, LineError>
     ensures { Gives (λ x. x) result (rights_named text.now) }
 {

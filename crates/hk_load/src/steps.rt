@@ -2,12 +2,13 @@
 
 ghost use Rattle.std.specs.Prelude.{◌≡◌, []};
 ghost use Rattle.hk_format.specs.Loading.{labels_from, instrs_of};
-ghost use Rattle.hk_load.specs.Outcomes.{Becomes, Loads};
+ghost use Rattle.hk_format.specs.Outcomes.{Becomes, GivesAll};
 ghost use Rattle.hk_load.specs.Jumping.{HasNewLabels, step_added};
 
 use crate::errors::{LineError, LoadError};
 use crate::labels::Labels;
 use hk_format::{Body, LoadCause, Part};
+use hk_model::limits::CODE_LIMIT;
 use hk_model::{Instr, Items};
 use std::alloc::Global;
 
@@ -15,7 +16,7 @@ use std::alloc::Global;
 /// then TooMany.
 pub fn steps(alloc: Global, parts: &[Part]) -> Result<Items<Instr>, LoadError>
     requires { HasNewLabels [] parts.now }
-    ensures { Loads (λ x. x) result (instrs_of (labels_from 0 parts.now) 0 parts.now) }
+    ensures { GivesAll (λ x. x) result (instrs_of (labels_from 0 parts.now) 0 parts.now) }
 {
     let labels = Labels::of(alloc, parts)?;
     steps_with(alloc, &labels, parts)
@@ -23,7 +24,7 @@ pub fn steps(alloc: Global, parts: &[Part]) -> Result<Items<Instr>, LoadError>
 
 /// The instructions of these lines, whose jumps go to these labels.
 fn steps_with(alloc: Global, labels: &Labels, parts: &[Part]) -> Result<Items<Instr>, LoadError>
-    ensures { Loads (λ x. x) result (instrs_of labels.now 0 parts.now) }
+    ensures { GivesAll (λ x. x) result (instrs_of labels.now 0 parts.now) }
 {
     let mut steps = Items::new(alloc);
     for part in parts {
@@ -45,7 +46,7 @@ fn add_step(
 {
     if let Body::StepIs(written) = body {
         let step = labels.instruction(alloc, written)?;
-        if steps.len() >= 4096 {
+        if steps.len() >= CODE_LIMIT {
             return Err(LineError::Bad(LoadCause::TooMany));
         }
         steps.push(step)?;

@@ -1,5 +1,6 @@
 -- Slots that are written over one after another, and the name space that stands then.
-use Rattle.std.proofs.Common.{◌≡◌, ◌≤◌, ◌<◌, ◌+◌, ◌-◌, ◌==◌, ℕ, Bool, true, false, List, [], ◌∷◌, ◌++◌, length, map, drop, replicate, Result, Ok, Err, refl, sym, ap, ◌∙◌, append_assoc, arith, nat_le, eq-eqb, suc}
+use Rattle.std.proofs.Common.{◌≡◌, ◌≤◌, ◌<◌, ◌+◌, ◌-◌, ◌==◌, ℕ, Bool, true, false, List, [], ◌∷◌, ◌++◌, length, map, drop, replicate, Result, Ok, Err, refl, sym, ap, ◌∙◌}
+use Rattle.std.proofs.Common.{append_assoc, arith, nat_le, eq-eqb, suc}
 use Rattle.std.proofs.lemmas.List.{set_at, drop-replicate, length-append, length-map, length-replicate}
 use Rattle.std.proofs.lemmas.Bool.{le-leb, lt-leb}
 use Rattle.hk_model.specs.declared.entries.Arg.{Arg}
@@ -39,7 +40,8 @@ filled caps few =
     ∙ ap (λ rest. as_held caps ++ rest) (drop-replicate (length (as_held caps)) 64 Empty ∙ ap (λ n. replicate (64 - n) Empty) all)
 
 -- and then what the procedure holds
-built : (caps : List Cap) (entries : List Entry) (confined : Bool) → length caps + length entries ≤ 64 → overwritten (overwritten empty_slots 0 (as_held caps)) (length caps) (map (inherited confined) entries) ≡ call_slots caps entries confined
+built : (caps : List Cap) (entries : List Entry) (confined : Bool) → length caps + length entries ≤ 64
+    → overwritten (overwritten empty_slots 0 (as_held caps)) (length caps) (map (inherited confined) entries) ≡ call_slots caps entries confined
 built caps entries confined few =
     let kept : List Entry = map (inherited confined) entries in
     let left : List Entry = replicate (64 - length caps) Empty in
@@ -84,7 +86,8 @@ merged_as_many (arg ∷ args) (param ∷ params) step same =
     let later : length args ≡ length params = omega arith in
     first_then (merged_arg arg param step) (merged_all args params (step + 1)) (length args) (merged_as_many args params (step + 1) later)
 
-built_after : (all : Result (List Cap) Refusal) (entries : List Entry) (confined : Bool) (slots : List Entry) (n : ℕ) → AllOf all n → with_caps empty_slots 0 all ≡ Ok slots → n + length entries ≤ 64 → after_merging all entries confined ≡ Ok (overwritten slots n (map (inherited confined) entries))
+built_after : (all : Result (List Cap) Refusal) (entries : List Entry) (confined : Bool) (slots : List Entry) (n : ℕ) → AllOf all n → with_caps empty_slots 0 all ≡ Ok slots
+    → n + length entries ≤ 64 → after_merging all entries confined ≡ Ok (overwritten slots n (map (inherited confined) entries))
 built_after (Err refusal) entries confined slots n many merged few = absurd (cc)
 built_after (Ok caps) entries confined slots n many merged few =
     let fits : length caps + length entries ≤ 64 = omega arith in
@@ -92,7 +95,8 @@ built_after (Ok caps) entries confined slots n many merged few =
     let test : nat_le (length caps + length entries) 64 ≡ true = le-leb (length caps + length entries) 64 fits in
     rw (test, sym is, sym many) (ap Ok (sym (built caps entries confined fits)))
 
-full_after : (all : Result (List Cap) Refusal) (entries : List Entry) (confined : Bool) (slots : List Entry) (n : ℕ) → AllOf all n → with_caps empty_slots 0 all ≡ Ok slots → 64 < n + length entries → after_merging all entries confined ≡ Err (refused.Full full.Slots)
+full_after : (all : Result (List Cap) Refusal) (entries : List Entry) (confined : Bool) (slots : List Entry) (n : ℕ) → AllOf all n → with_caps empty_slots 0 all ≡ Ok slots
+    → 64 < n + length entries → after_merging all entries confined ≡ Err (refused.Full full.Slots)
 full_after (Err refusal) entries confined slots n many merged over = absurd (cc)
 full_after (Ok caps) entries confined slots n many merged over =
     let past : 64 < length caps + length entries = omega arith in
@@ -100,13 +104,17 @@ full_after (Ok caps) entries confined slots n many merged over =
     rw test refl
 
 -- the arguments merge, and all that the procedure holds has room behind them
-pub name_space_built : (args : List Arg) (params : List Param) (entries : List Entry) (confined : Bool) (step : ℕ) (slots : List Entry) → length args ≡ length params → with_caps empty_slots 0 (merged_all args params step) ≡ Ok slots → length args + length entries ≤ 64 → name_space args params entries confined step ≡ Ok (overwritten slots (length args) (map (inherited confined) entries))
+pub name_space_built : (args : List Arg) (params : List Param) (entries : List Entry) (confined : Bool) (step : ℕ) (slots : List Entry) → length args ≡ length params
+    → with_caps empty_slots 0 (merged_all args params step) ≡ Ok slots → length args + length entries ≤ 64
+    → name_space args params entries confined step ≡ Ok (overwritten slots (length args) (map (inherited confined) entries))
 name_space_built args params entries confined step slots same merged few =
     let test : (length args == length params) ≡ true = eq-eqb (length args) (length params) same in
     rw test (built_after (merged_all args params step) entries confined slots (length args) (merged_as_many args params step same) merged few)
 
 -- the arguments merge, and there is no room for all that the procedure holds
-pub name_space_full : (args : List Arg) (params : List Param) (entries : List Entry) (confined : Bool) (step : ℕ) (slots : List Entry) → length args ≡ length params → with_caps empty_slots 0 (merged_all args params step) ≡ Ok slots → 64 < length args + length entries → name_space args params entries confined step ≡ Err (refused.Full full.Slots)
+pub name_space_full : (args : List Arg) (params : List Param) (entries : List Entry) (confined : Bool) (step : ℕ) (slots : List Entry) → length args ≡ length params
+    → with_caps empty_slots 0 (merged_all args params step) ≡ Ok slots → 64 < length args + length entries
+    → name_space args params entries confined step ≡ Err (refused.Full full.Slots)
 name_space_full args params entries confined step slots same merged over =
     let test : (length args == length params) ≡ true = eq-eqb (length args) (length params) same in
     rw test (full_after (merged_all args params step) entries confined slots (length args) (merged_as_many args params step same) merged over)

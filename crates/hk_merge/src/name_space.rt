@@ -6,6 +6,7 @@ ghost use Rattle.hk_merge.specs.NameSpaces.{overwritten, with_caps};
 
 use crate::merging::merged;
 use crate::refusing::{confined_rights, held};
+use hk_model::limits::SLOT_LIMIT;
 use hk_model::{Arg, Cap, Entry, Param, Refusal, Slot, What8};
 use hk_spaces::Space;
 
@@ -34,7 +35,7 @@ pub fn build_space(
     }
     let mut space = Space::empty();
     set_params(&mut space, args, params, first_step)?;
-    if args.len() + inherited.len() > 64 {
+    if args.len() + inherited.len() > SLOT_LIMIT {
         return Err(Refusal::Full { what: What8::Slots });
     }
     set_inherited(&mut space, args.len() as u8, inherited, confined);

@@ -20,8 +20,10 @@ use Rattle.hk_model.specs.declared.objects.ProcessState.TheVariants.{Waiting}
 use Rattle.hk_rights.specs.Rights.{GETDATA, COPY, A0}
 use Rattle.hk_model.specs.State.{State, object, process, put_object, put_process}
 use Rattle.hk_model.specs.Walking.{walk}
-use Rattle.hk_model.specs.Targets.{TYPE, SEMAPHORE, PROCEDURE, is_general, is_listed, is_type, PUTDATA+MODIFY, ADDDATA+MODIFY, STORE+MODIFY, APPEND+MODIFY, KILL+MODIFY, MODIFY+A0, MODIFY+A1, ENV+A0, target, amplify_form, create_form}
-use Rattle.hk_model.specs.Rule.{Outcome, outcome, settled, token_given, get_word, word_count, put_word, add_word, store_entry, append_entry, erase_entry, make_template, create_object, merge_cap, copy_object, enter_procedure, take_token, give_token}
+use Rattle.hk_model.specs.Targets.{TYPE, SEMAPHORE, PROCEDURE, is_general, is_listed, is_of_type, PUTDATA+MODIFY, ADDDATA+MODIFY, STORE+MODIFY, APPEND+MODIFY, KILL+MODIFY}
+use Rattle.hk_model.specs.Targets.{MODIFY+A0, MODIFY+A1, ENV+A0, target, amplify_form, create_form}
+use Rattle.hk_model.specs.Rule.{Outcome, outcome, settled, token_given, get_word, word_count, put_word, add_word, store_entry, append_entry, erase_entry, make_template}
+use Rattle.hk_model.specs.Rule.{create_object, merge_cap, copy_object, enter_procedure, take_token, give_token}
 use Rattle.hk_model.specs.Lines.{done_by, done_call}
 use Rattle.hk_model.proofs.TestLemmas.{then_is, and_is, ok_each, amplify_form_is, create_form_is}
 use Rattle.hk_model.proofs.WalkLemmas.{IsTarget, target_is}
@@ -56,12 +58,12 @@ Shown s inc (call.Add of word) = HasTarget s inc of is_general ADDDATA+MODIFY
 Shown s inc (call.Store list at from) = HasTarget s inc list is_listed STORE+MODIFY
 Shown s inc (call.Append list from) = HasTarget s inc list is_listed APPEND+MODIFY
 Shown s inc (call.Erase list at) = HasTarget s inc list is_listed KILL+MODIFY
-Shown s inc (call.MakeTemplate of kind into) = HasTarget s inc of (is_type TYPE) ENV+A0
+Shown s inc (call.MakeTemplate of kind into) = HasTarget s inc of (is_of_type TYPE) ENV+A0
 Shown s inc (call.Merge with cap into) = HasForm s inc with
 Shown s inc (call.Copy of into) = HasTarget s inc of is_general COPY
-Shown s inc (call.Enter path args into) = HasTarget s inc path (is_type PROCEDURE) A0
-Shown s inc (call.P of) = HasTarget s inc of (is_type SEMAPHORE) MODIFY+A0
-Shown s inc (call.V of) = HasTarget s inc of (is_type SEMAPHORE) MODIFY+A1
+Shown s inc (call.Enter path args into) = HasTarget s inc path (is_of_type PROCEDURE) A0
+Shown s inc (call.P of) = HasTarget s inc of (is_of_type SEMAPHORE) MODIFY+A0
+Shown s inc (call.V of) = HasTarget s inc of (is_of_type SEMAPHORE) MODIFY+A1
 Shown s inc c = Unit {0}
 
 shows : (s : State) (inc : Inc) (path : List ℕ) (types : Name → Bool) (rights : ℕ) (cap : Cap) → target s inc path types rights ≡ Ok cap → HasTarget s inc path types rights
@@ -70,7 +72,8 @@ shows s inc path types rights cap h = record { cap = cap; is = target_is s inc p
 forms : (s : State) (inc : Inc) (path : List ℕ) (entry : Entry) (form : Param) (step : ℕ) → walk s inc path ≡ Ok entry → amplify_form entry step ≡ Ok form → HasForm s inc path
 forms s inc path entry form step h g = record { form = form; leads = h ∙ ap Ok (amplify_form_is entry step form g) }
 
-creates : (s : State) (inc : Inc) (path : List ℕ) (entry : Entry) (form : Name × ℕ) (step : ℕ) → walk s inc path ≡ Ok entry → create_form entry step ≡ Ok form → HasCreate s inc path
+creates : (s : State) (inc : Inc) (path : List ℕ) (entry : Entry) (form : Name × ℕ) (step : ℕ) → walk s inc path ≡ Ok entry → create_form entry step ≡ Ok form
+    → HasCreate s inc path
 creates s inc path entry form step h g = record { of = form.0; give = form.1; leads = h ∙ ap Ok (create_form_is entry step form g) }
 
 -- every call
@@ -89,13 +92,18 @@ outcome_shown s proc inc (call.Merge with cap into) = search (then_is, forms) de
 outcome_shown s proc inc (call.Copy of into) = search (then_is, and_is, shows) depth 8
 outcome_shown s proc inc (call.Enter path args into) = search (then_is, and_is, shows) depth 12
 outcome_shown s proc inc (call.P of) =
-    then_is (λ f. Shown s inc (call.P of)) (target s inc of (is_type SEMAPHORE) MODIFY+A0) (λ cap. Ok (elim (nat_lt 0 (object s cap.name).count) [
+    then_is (λ f. Shown s inc (call.P of)) (target s inc of (is_of_type SEMAPHORE) MODIFY+A0) (λ cap. Ok (elim (nat_lt 0 (object s cap.name).count) [
       | true ↦ (Done, put_object s cap.name (record (object s cap.name) { count = (object s cap.name).count - 1 }))
-      | false ↦ (Waits, put_process (put_object s cap.name (record (object s cap.name) { waiters = (object s cap.name).waiters ++ proc ∷ [] })) proc (record (process s proc) { run = Waiting cap.name }))
-    ])) (λ cap t. shows s inc of (is_type SEMAPHORE) MODIFY+A0 cap t)
+      | false ↦ (
+        Waits,
+        put_process (put_object s cap.name (record (object s cap.name) { waiters = (object s cap.name).waiters ++ proc ∷ [] })) proc
+            (record (process s proc) { run = Waiting cap.name }),
+      )
+    ])) (λ cap t. shows s inc of (is_of_type SEMAPHORE) MODIFY+A0 cap t)
 outcome_shown s proc inc (call.V of) =
-    then_is (λ f. Shown s inc (call.V of)) (target s inc of (is_type SEMAPHORE) MODIFY+A1) (λ cap. token_given s cap.name (object s cap.name) (object s cap.name).waiters) (λ cap t.
-    ok_each (λ f. Shown s inc (call.V of)) (token_given s cap.name (object s cap.name) (object s cap.name).waiters) (λ f. shows s inc of (is_type SEMAPHORE) MODIFY+A1 cap t))
+    then_is (λ f. Shown s inc (call.V of)) (target s inc of (is_of_type SEMAPHORE) MODIFY+A1) (λ cap. token_given s cap.name (object s cap.name) (object s cap.name).waiters)
+    (λ cap t.
+    ok_each (λ f. Shown s inc (call.V of)) (token_given s cap.name (object s cap.name) (object s cap.name).waiters) (λ f. shows s inc of (is_of_type SEMAPHORE) MODIFY+A1 cap t))
 outcome_shown s proc inc c = ok_each (λ f. Shown s inc c) (outcome s proc inc c) (λ f. tt)
 
 -- of a call, or none

@@ -2,7 +2,7 @@
 use Rattle.std.proofs.Common.{◌≡◌, ◌≤◌, ℕ, zero, suc, ◌+◌, ◌-◌, List, [], ◌∷◌, length, Option, Some, None, arith}
 use Rattle.std.specs.Prelude.{take}
 use Rattle.hk_model.specs.declared.lines.Line.{Line}
-use Rattle.hk_model.specs.Setup.{Setup}
+use Rattle.hk_model.specs.WorldValue.{WorldValue}
 use Rattle.hk_model.specs.State.{State}
 use Rattle.hk_model.specs.Running.{opened, AreStepsOf}
 use Rattle.hk_model.specs.Places.{Place}
@@ -36,7 +36,7 @@ length_taken zero (x ∷ lines) = omega arith
 length_taken (suc n) [] = omega arith
 length_taken (suc n) (x ∷ lines) = let h = length_taken n lines in omega (arith, h)
 
-pub chains_fall : (w : Setup) (lines : List Line) → AreStepsOf w lines → ChainsFall w lines
+pub chains_fall : (w : WorldValue) (lines : List Line) → AreStepsOf w lines → ChainsFall w lines
 chains_fall w lines steps moment p =
     let some = first_steps w (opened w) lines moment steps in
     let number = events_are w (take moment lines) some in

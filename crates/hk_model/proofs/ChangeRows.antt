@@ -9,7 +9,7 @@ use Rattle.hk_model.specs.declared.instructions.Operand.TheVariants.{Number}
 use Rattle.hk_model.specs.declared.world.Kind.TheVariants as kind
 use Rattle.hk_model.specs.declared.lines.Line.{Line}
 use Rattle.hk_rights.specs.Rights.{PUTDATA, APPEND, KILL, MODIFY, UNCONF, A0, A1, first_missing, right_numbers, right_table}
-use Rattle.hk_model.specs.Setup.{Setup}
+use Rattle.hk_model.specs.WorldValue.{WorldValue}
 use Rattle.hk_model.specs.Targets.{DATA, UNIVERSAL, SEMAPHORE}
 use Rattle.hk_model.specs.Opening.{opening}
 use Rattle.hk_model.specs.Control.{next, next_from, after}
@@ -22,7 +22,7 @@ use Rattle.hk_model.proofs.RowParts.{name, inc, slot, cap, route, plain, procedu
 
 -- ---- calls within calls: each is confined, and the innermost changes the object that was passed on
 
-abbrev nested : Setup
+abbrev nested : WorldValue
 nested = small_world
     (plain DATA (7 ∷ []) []
     ∷ procedure 0 (record { of = Some (name DATA); check = PUTDATA; give = PUTDATA + MODIFY } ∷ []) []
@@ -48,16 +48,19 @@ nested_lines =
     ∷ []
 
 nested-steps : AreStepsOf nested nested_lines
-unfolding opened opening step next next_from after kept_objects get_word put_word add_word store_entry append_entry erase_entry create_object enter_procedure leave take_token give_token first_missing right_numbers right_table
+unfolding opened opening step next next_from after kept_objects get_word put_word add_word store_entry append_entry erase_entry create_object enter_procedure leave take_token
+    give_token first_missing right_numbers right_table
 nested-steps = (refl, (refl, (refl, (refl, (refl, (refl, (refl, (refl, (refl, tt)))))))))
 
 -- the innermost call is under all three, and the middle one is not under it
 under-a-call-under-a-call : is_under nested nested_lines 2 (inc 1) (inc 3) ≡ true
-unfolding opened opening step next next_from after kept_objects get_word put_word add_word store_entry append_entry erase_entry create_object enter_procedure leave take_token give_token first_missing right_numbers right_table
+unfolding opened opening step next next_from after kept_objects get_word put_word add_word store_entry append_entry erase_entry create_object enter_procedure leave take_token
+    give_token first_missing right_numbers right_table
 under-a-call-under-a-call = refl
 
 not-under-a-later-call : is_under nested nested_lines 4 (inc 3) (inc 2) ≡ false
-unfolding opened opening step next next_from after kept_objects get_word put_word add_word store_entry append_entry erase_entry create_object enter_procedure leave take_token give_token first_missing right_numbers right_table
+unfolding opened opening step next next_from after kept_objects get_word put_word add_word store_entry append_entry erase_entry create_object enter_procedure leave take_token
+    give_token first_missing right_numbers right_table
 not-under-a-later-call = refl
 
 -- so its change is listed for each of the three
@@ -66,16 +69,18 @@ changes-under-nested-calls : bare_changes nested nested_lines ≡
     ∷ record { moment = 4; under = record { call = inc 2; moment = 3 }; object = name 7 }
     ∷ record { moment = 4; under = record { call = inc 3; moment = 4 }; object = name 7 }
     ∷ []
-unfolding opened opening step next next_from after kept_objects get_word put_word add_word store_entry append_entry erase_entry create_object enter_procedure leave take_token give_token first_missing right_numbers right_table
+unfolding opened opening step next next_from after kept_objects get_word put_word add_word store_entry append_entry erase_entry create_object enter_procedure leave take_token
+    give_token first_missing right_numbers right_table
 changes-under-nested-calls = refl
 
 -- ---- changes by Erase, Append, V and P, also one that waits
 
-abbrev changing : Setup
+abbrev changing : WorldValue
 changing = small_world
     (plain UNIVERSAL [] (Empty ∷ [])
     ∷ kind.Semaphore 0
-    ∷ procedure 0 (record { of = Some (name UNIVERSAL); check = 0; give = KILL + APPEND + MODIFY } ∷ record { of = Some (name SEMAPHORE); check = 0; give = MODIFY + A0 + A1 } ∷ []) (Form (template.Create (name DATA) 0) ∷ [])
+    ∷ procedure 0 (record { of = Some (name UNIVERSAL); check = 0; give = KILL + APPEND + MODIFY } ∷ record { of = Some (name SEMAPHORE); check = 0; give = MODIFY + A0 + A1 } ∷ [])
+    (Form (template.Create (name DATA) 0) ∷ [])
     ∷ [])
     ((instr.Erase (route (0 ∷ [])) (Number 0) ∷ instr.Append (route (0 ∷ [])) (slot 2) ∷ instr.V (route (1 ∷ [])) ∷ instr.P (route (1 ∷ [])) ∷ instr.P (route (1 ∷ [])) ∷ [])
     ∷ (instr.Enter (route (2 ∷ [])) (0 ∷ 1 ∷ []) (slot 3) ∷ [])
@@ -94,7 +99,8 @@ changing_lines =
     ∷ []
 
 changing-steps : AreStepsOf changing changing_lines
-unfolding opened opening step next next_from after kept_objects get_word put_word add_word store_entry append_entry erase_entry create_object enter_procedure leave take_token give_token first_missing right_numbers right_table
+unfolding opened opening step next next_from after kept_objects get_word put_word add_word store_entry append_entry erase_entry create_object enter_procedure leave take_token
+    give_token first_missing right_numbers right_table
 changing-steps = (refl, (refl, (refl, (refl, (refl, (refl, (refl, tt)))))))
 
 changes-of-lists-and-tokens : bare_changes changing changing_lines ≡
@@ -104,5 +110,6 @@ changes-of-lists-and-tokens : bare_changes changing changing_lines ≡
     ∷ record { moment = 5; under = record { call = inc 1; moment = 2 }; object = name 8 }
     ∷ record { moment = 6; under = record { call = inc 1; moment = 2 }; object = name 8 }
     ∷ []
-unfolding opened opening step next next_from after kept_objects get_word put_word add_word store_entry append_entry erase_entry create_object enter_procedure leave take_token give_token first_missing right_numbers right_table
+unfolding opened opening step next next_from after kept_objects get_word put_word add_word store_entry append_entry erase_entry create_object enter_procedure leave take_token
+    give_token first_missing right_numbers right_table
 changes-of-lists-and-tokens = refl

@@ -1,7 +1,7 @@
 -- Each line is one event, and so the events number the lines.
 use Rattle.std.proofs.Common.{◌≡◌, ◌+◌, List, [], ◌∷◌, length, Ok, Err, refl, arith}
 use Rattle.hk_model.specs.declared.lines.Line.{Line}
-use Rattle.hk_model.specs.Setup.{Setup}
+use Rattle.hk_model.specs.WorldValue.{WorldValue}
 use Rattle.hk_model.specs.State.{State, process}
 use Rattle.hk_model.specs.Opening.{opening}
 use Rattle.hk_model.specs.Rule.{Outcome, outcome, settled}
@@ -21,20 +21,20 @@ events_each = record {
 }
 
 -- one line more
-pub events_next : (w : Setup) (m : Machine) (line : Line) (lines : List Line) → AreSteps w m (line ∷ lines) → (moved w m line.cpu).state.events ≡ m.state.events + 1
+pub events_next : (w : WorldValue) (m : Machine) (line : Line) (lines : List Line) → AreSteps w m (line ∷ lines) → (moved w m line.cpu).state.events ≡ m.state.events + 1
 events_next w m line lines h = moved_holds (λ s l t. t.events ≡ s.events + 1) events_each w m line h.0
 
-pub events_from : (w : Setup) (m : Machine) (lines : List Line) → AreSteps w m lines → (after_lines w m lines).state.events ≡ m.state.events + length lines
+pub events_from : (w : WorldValue) (m : Machine) (lines : List Line) → AreSteps w m lines → (after_lines w m lines).state.events ≡ m.state.events + length lines
 events_from w m [] h = omega arith
 events_from w m (line ∷ lines) h =
     let one = events_next w m line lines h in
     let rest = events_from w (moved w m line.cpu) lines h.1 in
     omega (arith, one, rest)
 
-pub opened_events : (w : Setup) → (opened w).state.events ≡ 0
+pub opened_events : (w : WorldValue) → (opened w).state.events ≡ 0
 unfolding opened opening
 opened_events w = refl
 
 -- the events number the lines
-pub events_are : (w : Setup) (lines : List Line) → AreStepsOf w lines → (state_after w lines).events ≡ length lines
+pub events_are : (w : WorldValue) (lines : List Line) → AreStepsOf w lines → (state_after w lines).events ≡ length lines
 events_are w lines h = let a = events_from w (opened w) lines h in let b = opened_events w in omega (arith, a, b)

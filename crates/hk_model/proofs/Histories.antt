@@ -6,7 +6,7 @@ use Rattle.hk_model.specs.declared.names.Inc.{Inc}
 use Rattle.hk_model.specs.declared.lines.Line.{Line}
 use Rattle.hk_model.specs.declared.world.Task.{Task}
 use Rattle.hk_model.specs.State.{State, incarnation, same_inc}
-use Rattle.hk_model.specs.Setup.{Setup, IsWorld}
+use Rattle.hk_model.specs.WorldValue.{WorldValue, IsWorld}
 use Rattle.hk_model.specs.Opening.{opening, bases, all_ready}
 use Rattle.hk_model.specs.Lines.{done_call, enters_call}
 use Rattle.hk_model.specs.Running.{Machine, opened, moved, machine_at, state_at, AreStepsOf}
@@ -24,11 +24,15 @@ use Rattle.hk_model.proofs.UnderLemmas.{UnderCall, under_begins, found_live}
 
 -- ---- the opening
 
-pub base_found : (n : ℕ) (ts : List Task) (i : Inc) (x : Activation) → look_up i (activations_in (bases n ts)) ≡ Some x → (x.proc.0 ≡ i.0) × (x.caller ≡ None) × (i.0 < n + length ts)
+pub base_found : (n : ℕ) (ts : List Task) (i : Inc) (x : Activation) → look_up i (activations_in (bases n ts)) ≡ Some x
+    → (x.proc.0 ≡ i.0) × (x.caller ≡ None) × (i.0 < n + length ts)
 base_found n [] i x h = absurd (cc)
 base_found n (t ∷ ts) i x h = by (same_inc i (record { 0 = n })) refl h (λ g. base_found (n + 1) ts i x g)
   where
-    by : (b : Bool) → same_inc i (record { 0 = n }) ≡ b → ◌≡◌ {A = Option Activation} (cond b (Some (record { proc = record { 0 = n }; caller = None })) (look_up i (activations_in (bases (n + 1) ts)))) (Some x) → (look_up i (activations_in (bases (n + 1) ts)) ≡ Some x → (x.proc.0 ≡ i.0) × (x.caller ≡ None) × (i.0 < n + 1 + length ts)) → (x.proc.0 ≡ i.0) × (x.caller ≡ None) × (i.0 < n + length (t ∷ ts))
+    by : (b : Bool) → same_inc i (record { 0 = n }) ≡ b
+        → ◌≡◌ {A = Option Activation} (cond b (Some (record { proc = record { 0 = n }; caller = None })) (look_up i (activations_in (bases (n + 1) ts)))) (Some x)
+        → (look_up i (activations_in (bases (n + 1) ts)) ≡ Some x → (x.proc.0 ≡ i.0) × (x.caller ≡ None) × (i.0 < n + 1 + length ts))
+        → (x.proc.0 ≡ i.0) × (x.caller ≡ None) × (i.0 < n + length (t ∷ ts))
     by true e g rest =
         let f : ◌≡◌ {A = Activation} (record { proc = record { 0 = n }; caller = None }) x = cc in
         let k : i ≡ record { 0 = n } = inc_same i (record { 0 = n }) e in
@@ -43,7 +47,7 @@ ready_found n (t ∷ ts) zero k h = let e : ◌≡◌ {A = Inc} (record { 0 = n 
 ready_found n (t ∷ ts) (suc q) k h = let r = ready_found (n + 1) ts q k h in (omega (arith, r.0), omega (arith, r.1))
 
 -- no incarnation has a caller yet, and each process has one
-pub opening_stacked : (w : Setup) → IsStacked (opening w)
+pub opening_stacked : (w : WorldValue) → IsStacked (opening w)
 unfolding opening
 opening_stacked w = record {
   below = λ i x h. let r = base_found 0 w.tasks i x h in omega (arith, r.2);
@@ -90,26 +94,30 @@ known_each = each_more Laws (λ s line t. Sound s → LineKnown s line t)
     })
     laws_each
 
-pub opening_sound : (w : Setup) → Sound (opening w)
+pub opening_sound : (w : WorldValue) → Sound (opening w)
 opening_sound w = record { rises = opening_rises w; stacked = opening_stacked w }
 
 -- every state of a history is sound
-pub sound_at : (w : Setup) (lines : List Line) (moment : ℕ) → AreStepsOf w lines → Sound (state_at w lines moment)
+pub sound_at : (w : WorldValue) (lines : List Line) (moment : ℕ) → AreStepsOf w lines → Sound (state_at w lines moment)
 unfolding opened
 sound_at w lines moment h =
-    state_kept Sound (each_more (λ s line t. Sound s → LineKnown s line t) (λ s line t. Sound s → Sound t) (λ s line t k g. (k g).after) known_each) w (opened w) (take moment lines) (first_steps w (opened w) lines moment h) (opening_sound w)
+    state_kept Sound (each_more (λ s line t. Sound s → LineKnown s line t) (λ s line t. Sound s → Sound t) (λ s line t k g. (k g).after) known_each) w (opened w)
+    (take moment lines) (first_steps w (opened w) lines moment h) (opening_sound w)
 
 -- the line at a moment, from the state then to the next one
-pub line_known : (w : Setup) (lines : List Line) (moment : ℕ) (line : Line) → AreStepsOf w lines → slice_get lines moment ≡ Some line → LineKnown (state_at w lines moment) line (state_at w lines (suc moment))
+pub line_known : (w : WorldValue) (lines : List Line) (moment : ℕ) (line : Line) → AreStepsOf w lines → slice_get lines moment ≡ Some line
+    → LineKnown (state_at w lines moment) line (state_at w lines (suc moment))
 line_known w lines moment line h e =
-    let known : LineKnown (state_at w lines moment) line (moved w (machine_at w lines moment) line.cpu).state = moved_holds (λ s l t. Sound s → LineKnown s l t) known_each w (machine_at w lines moment) line (line_steps w (opened w) lines moment line h e) (sound_at w lines moment h) in
+    let known : LineKnown (state_at w lines moment) line (moved w (machine_at w lines moment) line.cpu).state =
+    moved_holds (λ s l t. Sound s → LineKnown s l t) known_each w (machine_at w lines moment) line (line_steps w (opened w) lines moment line h e) (sound_at w lines moment h) in
     subst (λ (m : Machine). LineKnown (state_at w lines moment) line m.state) (sym (after_next w (opened w) lines moment line e)) known
 
 -- in a history of a world every name that stands was given
-pub given_at : (w : Setup) (lines : List Line) (moment : ℕ) → IsWorld w → AreStepsOf w lines → NamesGiven (state_at w lines moment)
+pub given_at : (w : WorldValue) (lines : List Line) (moment : ℕ) → IsWorld w → AreStepsOf w lines → NamesGiven (state_at w lines moment)
 unfolding opened
 given_at w lines moment world h =
-    (state_kept (λ s. Sound s × NamesGiven s) (each_more (λ s line t. Sound s → LineKnown s line t) (λ s line t. Sound s × NamesGiven s → Sound t × NamesGiven t) (λ s line t k g. ((k g.0).after, given_line s line t (k g.0).writes (k g.0).next g.1)) known_each)
+    (state_kept (λ s. Sound s × NamesGiven s) (each_more (λ s line t. Sound s → LineKnown s line t) (λ s line t. Sound s × NamesGiven s → Sound t × NamesGiven t)
+    (λ s line t k g. ((k g.0).after, given_line s line t (k g.0).writes (k g.0).next g.1)) known_each)
     w (opened w) (take moment lines) (first_steps w (opened w) lines moment h) (opening_sound w, opening_given w world)).1
 
 -- ---- the beginning of a call
@@ -130,14 +138,18 @@ found_new (e ∷ fs) n f = by (same_inc n e.0) (found_new fs n f)
     by false later = later
 
 -- the call that begins at a moment lives then
-pub call_lives : (w : Setup) (lines : List Line) (k : ℕ) (call : Inc) → AreStepsOf w lines → IsCall w lines k call → is_live (state_at w lines k) call ≡ true
+pub call_lives : (w : WorldValue) (lines : List Line) (k : ℕ) (call : Inc) → AreStepsOf w lines → IsCall w lines k call → is_live (state_at w lines k) call ≡ true
 call_lives w lines k call h c =
     let known = line_known w lines c.earlier c.line h c.is in
     let e = enters_turn (state_at w lines c.earlier) c.line (state_at w lines (suc c.earlier)) known.turn c.enters in
-    let there : is_some (look_up (state_at w lines c.earlier).next_inc (activations_in (state_at w lines (suc c.earlier)).incarnations)) ≡ true = rw e.activations (found_new (activations_in (state_at w lines c.earlier).incarnations) (state_at w lines c.earlier).next_inc (record { proc = c.line.proc; caller = Some c.line.inc })) in
-    let lives : is_live (state_at w lines (suc c.earlier)) (state_at w lines c.earlier).next_inc ≡ true = found_live (state_at w lines (suc c.earlier)) (state_at w lines c.earlier).next_inc there in
+    let there : is_some (look_up (state_at w lines c.earlier).next_inc (activations_in (state_at w lines (suc c.earlier)).incarnations)) ≡ true =
+    rw e.activations (found_new (activations_in (state_at w lines c.earlier).incarnations) (state_at w lines c.earlier).next_inc
+    (record { proc = c.line.proc; caller = Some c.line.inc })) in
+    let lives : is_live (state_at w lines (suc c.earlier)) (state_at w lines c.earlier).next_inc ≡ true =
+    found_live (state_at w lines (suc c.earlier)) (state_at w lines c.earlier).next_inc there in
     rw (c.moment, c.made) lives
 
 -- and is alone under itself
-pub call_begins : (w : Setup) (lines : List Line) (k : ℕ) (call : Inc) → AreStepsOf w lines → IsCall w lines k call → UnderCall call (incarnation (state_at w lines k) call).proc.0 (call ∷ []) (activations_in (state_at w lines k).incarnations) (state_at w lines k).next_inc.0
+pub call_begins : (w : WorldValue) (lines : List Line) (k : ℕ) (call : Inc) → AreStepsOf w lines → IsCall w lines k call
+    → UnderCall call (incarnation (state_at w lines k) call).proc.0 (call ∷ []) (activations_in (state_at w lines k).incarnations) (state_at w lines k).next_inc.0
 call_begins w lines k call h c = under_begins (state_at w lines k) call (sound_at w lines k h).stacked (call_lives w lines k call h c)

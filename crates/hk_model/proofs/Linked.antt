@@ -12,7 +12,7 @@ use Rattle.hk_model.specs.declared.objects.Process.{Process}
 use Rattle.hk_model.specs.declared.objects.ProcessState.TheVariants.{Ended}
 use Rattle.hk_model.specs.declared.lines.Line.{Line}
 use Rattle.hk_model.specs.declared.world.Task.{Task}
-use Rattle.hk_model.specs.Setup.{Setup}
+use Rattle.hk_model.specs.WorldValue.{WorldValue}
 use Rattle.hk_model.specs.State.{State, incarnation, process, same_inc, no_incarnation}
 use Rattle.hk_model.specs.Opening.{opening, bases, base_of, all_ready}
 use Rattle.hk_model.specs.Running.{opened, state_at, AreStepsOf}
@@ -39,7 +39,7 @@ Linked fs cur = (i : Inc) (x : Activation) → look_up i fs ≡ Some x → (slic
 
 -- ---- lists
 
-look_up_left : (fs gs : List (Inc × Activation)) (i : Inc) (x : Activation) → look_up i fs ≡ Some x → look_up i (fs ++ gs) ≡ Some x
+pub look_up_left : (fs gs : List (Inc × Activation)) (i : Inc) (x : Activation) → look_up i fs ≡ Some x → look_up i (fs ++ gs) ≡ Some x
 look_up_left [] gs i x h = absurd (cc)
 look_up_left (e ∷ fs) gs i x h = by (same_inc i e.0) h (look_up_left fs gs i x)
   where
@@ -51,7 +51,8 @@ look_up_last : (fs : List (Inc × Activation)) (n : Inc) (f : Activation) → ((
 look_up_last [] n f new = let same = inc_laws.refl n in rw same refl
 look_up_last (e ∷ fs) n f new = by (same_inc n e.0) new (look_up_last fs n f)
   where
-    by : (b : Bool) → ((x : Activation) → cond b (Some e.1) (look_up n fs) ≡ Some x → ⊥) → (((x : Activation) → look_up n fs ≡ Some x → ⊥) → look_up n (fs ++ (n, f) ∷ []) ≡ Some f) → cond b (Some e.1) (look_up n (fs ++ (n, f) ∷ [])) ≡ Some f
+    by : (b : Bool) → ((x : Activation) → cond b (Some e.1) (look_up n fs) ≡ Some x → ⊥) → (((x : Activation) → look_up n fs ≡ Some x → ⊥) → look_up n (fs ++ (n, f) ∷ []) ≡ Some f)
+        → cond b (Some e.1) (look_up n (fs ++ (n, f) ∷ [])) ≡ Some f
     by true g later = absurd (g e.1 refl)
     by false g later = later g
 
@@ -67,15 +68,17 @@ set_there (c ∷ cur) zero (suc q) n h = refl
 set_there (c ∷ cur) (suc p) zero n h = refl
 set_there (c ∷ cur) (suc p) (suc q) n h = set_there cur p q n (λ e. h (ap suc e))
 
-some_same : {A : Type 0} {x y : A} → ◌≡◌ {A = Option A} (Some x) (Some y) → x ≡ y
+pub some_same : {A : Type 0} {x y : A} → ◌≡◌ {A = Option A} (Some x) (Some y) → x ≡ y
 some_same h = cc
 
 -- of an activation that is found the incarnation is
-found_incarnation : (es : List (Inc × Incarnation)) (i : Inc) (y : Activation) → look_up i (activations_in es) ≡ Some y → (x : Incarnation) × ((lookup (same_inc i) es ≡ Some x) × (activation x ≡ y))
+pub found_incarnation : (es : List (Inc × Incarnation)) (i : Inc) (y : Activation) → look_up i (activations_in es) ≡ Some y
+    → (x : Incarnation) × ((lookup (same_inc i) es ≡ Some x) × (activation x ≡ y))
 found_incarnation [] i y h = absurd (cc)
 found_incarnation (e ∷ es) i y h = by (same_inc i e.0) h (found_incarnation es i y)
   where
-    by : (b : Bool) → cond b (Some (activation e.1)) (look_up i (activations_in es)) ≡ Some y → (look_up i (activations_in es) ≡ Some y → (x : Incarnation) × ((lookup (same_inc i) es ≡ Some x) × (activation x ≡ y)))
+    by : (b : Bool) → cond b (Some (activation e.1)) (look_up i (activations_in es)) ≡ Some y
+        → (look_up i (activations_in es) ≡ Some y → (x : Incarnation) × ((lookup (same_inc i) es ≡ Some x) × (activation x ≡ y)))
         → (x : Incarnation) × ((cond b (Some e.1) (lookup (same_inc i) es) ≡ Some x) × (activation x ≡ y))
     by true g later = (e.1, (refl, some_same g))
     by false g later = later g
@@ -130,7 +133,8 @@ module _ (s : State) (line : Line) (t : State) (n : NumbersRise s) (stacked : Is
       itself : same_inc line.inc line.inc ≡ true
       itself = inc_laws.refl line.inc
 
-      callee_gone : (j : Inc) (y : Activation) → look_up i fs ≡ Some x → look_up j fs ≡ Some y → y.caller ≡ Some i → (b : Bool) → same_inc line.inc j ≡ b → (slice_get after x.proc.0 ≡ Some i) ⊎ CalledBy left i
+      callee_gone : (j : Inc) (y : Activation) → look_up i fs ≡ Some x → look_up j fs ≡ Some y → y.caller ≡ Some i → (b : Bool) → same_inc line.inc j ≡ b
+          → (slice_get after x.proc.0 ≡ Some i) ⊎ CalledBy left i
       callee_gone j y f g c false e = inr (record { callee = j; called = y; lives = left_keeps fs line.inc j y (activations_apart s n) g e; by = c })
       callee_gone j y f g c true e =
           let same : line.inc ≡ j = inc_same line.inc j e in
@@ -161,7 +165,8 @@ module _ (s : State) (line : Line) (t : State) (n : NumbersRise s) (stacked : Is
       clash : (k : Inc) → ◌≡◌ {A = Option Inc} None (Some k) → ⊥
       clash k h = absurd (cc)
   after_return now (Some caller) e c = left_linked now (currents_in t.processes) (λ q other. ap (λ (l : List Inc). slice_get l q) c ∙ set_there cur p q caller other)
-      (λ k x y live by at. ap (λ (l : List Inc). slice_get l x.proc.0) c ∙ (ap (slice_get (slice_set cur p caller)) at ∙ (set_here cur p caller line.inc now ∙ (sym e ∙ (caller_of y live ∙ by)))))
+      (λ k x y live by at. ap (λ (l : List Inc). slice_get l x.proc.0) c
+      ∙ (ap (slice_get (slice_set cur p caller)) at ∙ (set_here cur p caller line.inc now ∙ (sym e ∙ (caller_of y live ∙ by)))))
 
   -- a halt
   halted_linked : Linked (filter (λ (e : Inc × Activation). not (e.1.proc.0 == p)) fs) cur
@@ -173,7 +178,14 @@ module _ (s : State) (line : Line) (t : State) (n : NumbersRise s) (stacked : Is
       by : (x.proc.0 == p) ≡ false → (slice_get cur x.proc.0 ≡ Some i) ⊎ CalledBy fs i → ((c : CalledBy fs i) → x.proc.0 ≡ c.called.proc.0)
           → (slice_get cur x.proc.0 ≡ Some i) ⊎ CalledBy (filter (λ (e : Inc × Activation). not (e.1.proc.0 == p)) fs) i
       by other (inl c) kin = inl c
-      by other (inr c) kin = inr (record { callee = c.callee; called = c.called; lives = halted_keeps fs p c.callee c.called (activations_apart s n) c.lives (ap (λ (q : ℕ). q == p) (sym (kin c)) ∙ other); by = c.by })
+      by other (inr c) kin =
+          inr (record {
+            callee = c.callee;
+            called = c.called;
+            lives = halted_keeps fs p c.callee c.called (activations_apart s n) c.lives
+                (ap (λ (q : ℕ). q == p) (sym (kin c)) ∙ other);
+            by = c.by;
+          })
 
   turn_linked : Turn s line t → Linked (activations_in t.incarnations) (currents_in t.processes)
   turn_linked (Still q e) = rw (q.activations, q.currents) linked
@@ -183,11 +195,13 @@ module _ (s : State) (line : Line) (t : State) (n : NumbersRise s) (stacked : Is
 
 -- ---- the opening
 
-bases_linked : (n : ℕ) (ts : List Task) (i : Inc) (x : Activation) → look_up i (activations_in (bases n ts)) ≡ Some x → (x.proc.0 ≡ i.0) × ((n ≤ i.0) × (slice_get (currents_in (all_ready n ts)) (i.0 - n) ≡ Some i))
+bases_linked : (n : ℕ) (ts : List Task) (i : Inc) (x : Activation) → look_up i (activations_in (bases n ts)) ≡ Some x
+    → (x.proc.0 ≡ i.0) × ((n ≤ i.0) × (slice_get (currents_in (all_ready n ts)) (i.0 - n) ≡ Some i))
 bases_linked n [] i x h = absurd (cc)
 bases_linked n (t ∷ ts) i x h = by (same_inc i (record { 0 = n })) refl h (bases_linked (n + 1) ts i x)
   where
-    here : i ≡ record { 0 = n } → ◌≡◌ {A = Option Activation} (Some (activation (base_of (record { 0 = n }) t.slots))) (Some x) → (x.proc.0 ≡ i.0) × ((n ≤ i.0) × (slice_get (currents_in (all_ready n (t ∷ ts))) (i.0 - n) ≡ Some i))
+    here : i ≡ record { 0 = n } → ◌≡◌ {A = Option Activation} (Some (activation (base_of (record { 0 = n }) t.slots))) (Some x)
+        → (x.proc.0 ≡ i.0) × ((n ≤ i.0) × (slice_get (currents_in (all_ready n (t ∷ ts))) (i.0 - n) ≡ Some i))
     here e g =
         let number : i.0 ≡ n = ap (λ (k : Inc). k.0) e in
         let zero_is : i.0 - n ≡ 0 = omega (arith, number) in
@@ -203,7 +217,7 @@ bases_linked n (t ∷ ts) i x h = by (same_inc i (record { 0 = n })) refl h (bas
         let next : i.0 - n ≡ suc (i.0 - (n + 1)) = omega (arith, low) in
         (r.0, (omega (arith, low), rw next r.1.1))
 
-opening_linked : (w : Setup) → Linked (activations_in (opening w).incarnations) (currents_in (opening w).processes)
+opening_linked : (w : WorldValue) → Linked (activations_in (opening w).incarnations) (currents_in (opening w).processes)
 unfolding opening
 opening_linked w i x h =
     let r = bases_linked 0 w.tasks i x h in
@@ -215,10 +229,12 @@ opening_linked w i x h =
 abbrev LinkedState : State → Type 0
 LinkedState s = Sound s × Linked (activations_in s.incarnations) (currents_in s.processes)
 
-pub linked_at : (w : Setup) (lines : List Line) (moment : ℕ) → AreStepsOf w lines → LinkedState (state_at w lines moment)
+pub linked_at : (w : WorldValue) (lines : List Line) (moment : ℕ) → AreStepsOf w lines → LinkedState (state_at w lines moment)
 unfolding opened
 linked_at w lines moment h =
-    state_kept LinkedState (each_more (λ s line t. Sound s → LineKnown s line t) (λ s line t. LinkedState s → LinkedState t) (λ s line t k g. ((k g.0).after, turn_linked s line t g.0.rises g.0.stacked g.1 (k g.0).turn)) known_each)
+    state_kept LinkedState
+    (each_more (λ s line t. Sound s → LineKnown s line t) (λ s line t. LinkedState s → LinkedState t)
+    (λ s line t k g. ((k g.0).after, turn_linked s line t g.0.rises g.0.stacked g.1 (k g.0).turn)) known_each)
     w (opened w) (take moment lines) (first_steps w (opened w) lines moment h) (opening_sound w, opening_linked w)
 
 -- ---- what that says of a state
@@ -230,11 +246,13 @@ record Topped (fs : List (Inc × Activation)) (cur : List Inc) (q : ℕ) : Type 
   current : slice_get cur q ≡ Some top
   lives : look_up top fs ≡ Some is
 
-topped : (fs : List (Inc × Activation)) (cur : List Inc) (next : ℕ) → Stacked fs cur next → Linked fs cur → (fuel : ℕ) (i : Inc) (x : Activation) → look_up i fs ≡ Some x → next ≤ i.0 + fuel → Topped fs cur x.proc.0
+topped : (fs : List (Inc × Activation)) (cur : List Inc) (next : ℕ) → Stacked fs cur next → Linked fs cur → (fuel : ℕ) (i : Inc) (x : Activation) → look_up i fs ≡ Some x
+    → next ≤ i.0 + fuel → Topped fs cur x.proc.0
 topped fs cur next s l zero i x h few = let low = s.below i x h in absurd (omega (arith, low, few))
 topped fs cur next s l (suc fuel) i x h few = by (l i x h) (λ j y g e. topped fs cur next s l fuel j y g e)
   where
-    by : (slice_get cur x.proc.0 ≡ Some i) ⊎ CalledBy fs i → ((j : Inc) (y : Activation) → look_up j fs ≡ Some y → next ≤ j.0 + fuel → Topped fs cur y.proc.0) → Topped fs cur x.proc.0
+    by : (slice_get cur x.proc.0 ≡ Some i) ⊎ CalledBy fs i → ((j : Inc) (y : Activation) → look_up j fs ≡ Some y → next ≤ j.0 + fuel → Topped fs cur y.proc.0)
+        → Topped fs cur x.proc.0
     by (inl c) later = record { top = i; is = x; current = c; lives = h }
     by (inr c) later =
         let up = s.caller_below c.callee i c.called c.lives c.by in
@@ -249,13 +267,15 @@ current_is s proc k h = by s.processes proc.0 h
     by (p ∷ ps) zero g = some_same g
     by (p ∷ ps) (suc n) g = by ps n g
 
-found_activation : (es : List (Inc × Incarnation)) (i : Inc) (x : Incarnation) → lookup (same_inc i) es ≡ Some x → look_up i (activations_in es) ≡ Some (activation x)
+pub found_activation : (es : List (Inc × Incarnation)) (i : Inc) (x : Incarnation) → lookup (same_inc i) es ≡ Some x → look_up i (activations_in es) ≡ Some (activation x)
 found_activation es i x h =
     activation_live es i (ap is_some h) ∙ ap (λ (o : Option Incarnation). Some (activation (unwrap_or o no_incarnation))) h
 
 module _ (s : State) (stacked : IsStacked s) (linked : Linked (activations_in s.incarnations) (currents_in s.processes)) where
   top_of : (i : Inc) (x : Incarnation) → Lives s i x → Topped (activations_in s.incarnations) (currents_in s.processes) x.proc.0
-  top_of i x h = topped (activations_in s.incarnations) (currents_in s.processes) s.next_inc.0 stacked linked s.next_inc.0 i (activation x) (found_activation s.incarnations i x h) (omega arith)
+  top_of i x h =
+      topped (activations_in s.incarnations) (currents_in s.processes) s.next_inc.0 stacked linked s.next_inc.0 i (activation x) (found_activation s.incarnations i x h)
+      (omega arith)
 
   pub currents_call_none : CurrentsCallNone s
   currents_call_none = record {
@@ -275,14 +295,15 @@ module _ (s : State) (stacked : IsStacked s) (linked : Linked (activations_in s.
         rw (current_is s x.proc top.top top.current) (ap is_some there.1.0);
   }
     where
-      by : (i : Inc) (x : Incarnation) → (slice_get (currents_in s.processes) x.proc.0 ≡ Some i) ⊎ CalledBy (activations_in s.incarnations) i → ((process s x.proc).current ≡ i) ⊎ IsCaller s i
+      by : (i : Inc) (x : Incarnation) → (slice_get (currents_in s.processes) x.proc.0 ≡ Some i) ⊎ CalledBy (activations_in s.incarnations) i
+          → ((process s x.proc).current ≡ i) ⊎ IsCaller s i
       by i x (inl c) = inl (current_is s x.proc i c)
       by i x (inr c) =
           let there = found_incarnation s.incarnations c.callee c.called c.lives in
           inr (record { callee = c.callee; called = there.0; lives = there.1.0; by = ap (λ (a : Activation). a.caller) there.1.1 ∙ c.by })
 
 -- at every moment
-pub currents_at : (w : Setup) (lines : List Line) → AreStepsOf w lines → (moment : ℕ) → CurrentsCallNone (state_at w lines moment)
+pub currents_at : (w : WorldValue) (lines : List Line) → AreStepsOf w lines → (moment : ℕ) → CurrentsCallNone (state_at w lines moment)
 currents_at w lines steps moment =
     let h = linked_at w lines moment steps in
     currents_call_none (state_at w lines moment) h.0.stacked h.1

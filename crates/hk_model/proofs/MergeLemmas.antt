@@ -20,7 +20,8 @@ others_of (Some wanted) of rights give h = (name_same wanted of h, merged_others
 -- what comes of a merge
 pub merged_is : (cap : Cap) (of : Name) (form : Param) (step : ℕ) (new : Cap) → merged cap of form step ≡ Ok new → Amplified cap form of new
 merged_is cap of form step new e = if_ok (Amplified cap form of) (merged cap of form step) new
-    (and_is (Amplified cap form of) (unless (matches form.of of) (refused.WrongType step)) (allowed cap.rights form.check step >> Ok (record { name = cap.name; rights = merged_rights cap.rights form.of form.give })) (λ u h.
+    (and_is (Amplified cap form of) (unless (matches form.of of) (refused.WrongType step))
+    (allowed cap.rights form.check step >> Ok (record { name = cap.name; rights = merged_rights cap.rights form.of form.give })) (λ u h.
     and_is (Amplified cap form of) (allowed cap.rights form.check step) (Ok (record { name = cap.name; rights = merged_rights cap.rights form.of form.give })) (λ v g.
     record {
       same = refl;
@@ -30,6 +31,7 @@ merged_is cap of form step new e = if_ok (Amplified cap form of) (merged cap of 
     }))) e
 
 -- a special right behind a merge was there before it
-pub merged_has : (cap : Cap) (of : Name) (form : Param) (step : ℕ) (new : Cap) (right : ℕ) → merged cap of form step ≡ Ok new → has special_rights right ≡ true → has all_rights right ≡ true → has new.rights right ≡ true → has cap.rights right ≡ true
+pub merged_has : (cap : Cap) (of : Name) (form : Param) (step : ℕ) (new : Cap) (right : ℕ) → merged cap of form step ≡ Ok new → has special_rights right ≡ true
+    → has all_rights right ≡ true → has new.rights right ≡ true → has cap.rights right ≡ true
 merged_has cap of form step new right e special is h =
     Within-has (bit_and new.rights special_rights) cap.rights right (merged_is cap of form step new e).special is (rw (has-bit_and new.rights special_rights right, h) special)

@@ -1,5 +1,6 @@
 -- A test that a name is outside the reaches, which computes: lists of names that keep the rules, and do not have it.
-use Rattle.std.proofs.Common.{◌≡◌, ℕ, suc, zero, ◌<◌, ◌≤◌, ◌==◌, List, [], ◌∷◌, Bool, true, false, ◌&&◌, ◌||◌, not, Option, Some, None, refl, sym, ap, ◌∙◌, arith, slice_get, option_and_then}
+use Rattle.std.proofs.Common.{◌≡◌, ℕ, suc, zero, ◌<◌, ◌≤◌, ◌==◌, List, [], ◌∷◌, Bool, true, false, ◌&&◌, ◌||◌, not, Option, Some, None, refl, sym, ap, ◌∙◌, arith, slice_get}
+use Rattle.std.proofs.Common.{option_and_then}
 use Rattle.std.specs.Prelude.{nat_lt}
 use Rattle.std.specs.List.{list_all, list_any}
 use Rattle.std.specs.Cmp.{first_so, second_so}
@@ -12,7 +13,7 @@ use Rattle.hk_model.specs.declared.entries.Entry.{Entry}
 use Rattle.hk_model.specs.declared.entries.Entry.TheVariants.{Empty, Held, Form}
 use Rattle.hk_model.specs.declared.lines.Line.{Line}
 use Rattle.hk_rights.specs.Rights.{has, modify_right, unconf_right}
-use Rattle.hk_model.specs.Setup.{Setup}
+use Rattle.hk_model.specs.WorldValue.{WorldValue}
 use Rattle.hk_model.specs.State.{State, object}
 use Rattle.hk_model.specs.Running.{state_at}
 use Rattle.hk_model.specs.Places.{cap_of}
@@ -112,13 +113,16 @@ module _ (at : ℕ → State) (made : Name → Bool) (params : List Entry) (k la
         let within : t < suc last = grind (arith, nat_tests) in
         let before : nat_lt t k ≡ false = grind (arith, nat_tests) in
         or_not (nat_lt t k) (kept_at (at t)) before
-        (all_below (λ t. nat_lt t k || kept_at (at t)) (suc last) t within (second_so (list_all keeps_entry params) (list_all (λ t. nat_lt t k || kept_at (at t)) (below (suc last))) h))
+        (all_below (λ t. nat_lt t k || kept_at (at t)) (suc last) t within
+        (second_so (list_all keeps_entry params) (list_all (λ t. nat_lt t k || kept_at (at t)) (below (suc last))) h))
 
     param_kept : (param : ℕ) (cap : Cap) → slice_get params param ≡ Some (Held cap) → keeps_entry (Held cap) ≡ true
-    param_kept param cap e = all_at keeps_entry params param (Held cap) (first_so (list_all keeps_entry params) (list_all (λ t. nat_lt t k || kept_at (at t)) (below (suc last))) h) e
+    param_kept param cap e =
+        all_at keeps_entry params param (Held cap) (first_so (list_all keeps_entry params) (list_all (λ t. nat_lt t k || kept_at (at t)) (below (suc last))) h) e
 
     -- where a rule speaks of a moment that is not behind the last
-    by_moment : (t : ℕ) (names more : List ℕ) (x y : Name) → (nat_lt last t ≡ false → among names x ≡ true → among more y ≡ true) → in_list names t x ≡ true → in_list more t y ≡ true
+    by_moment : (t : ℕ) (names more : List ℕ) (x y : Name) → (nat_lt last t ≡ false → among names x ≡ true → among more y ≡ true) → in_list names t x ≡ true
+        → in_list more t y ≡ true
     by_moment t names more x y f g = by (nat_lt last t) refl g
       where
         by : (b : Bool) → nat_lt last t ≡ b → (b || among names x) ≡ true → in_list more t y ≡ true
@@ -128,13 +132,18 @@ module _ (at : ℕ → State) (made : Name → Bool) (params : List Entry) (k la
     entry_kept : (t index : ℕ) (x : Name) (cap : Cap) → k ≤ t → listed_cap (at t) x index ≡ Some cap → nat_lt last t ≡ false → among us x ≡ true → keeps_entry (Held cap) ≡ true
     entry_kept t index x cap begun l e u =
         let all = kept_then t begun e in
-        let each : entries_kept (at t) x ≡ true = all_among (entries_kept (at t)) us x (first_so (list_all (λ n. entries_kept (at t) (record { 0 = n })) us) (list_all (λ n. handed_kept (at t) (record { 0 = n })) ms) all) u in
+        let each : entries_kept (at t) x ≡ true =
+        all_among (entries_kept (at t)) us x (first_so (list_all (λ n. entries_kept (at t) (record { 0 = n })) us)
+        (list_all (λ n. handed_kept (at t) (record { 0 = n })) ms) all) u in
         all_at keeps_entry (object (at t) x).entries index (Held cap) each (entry_is (at t) x index cap l)
 
-    entry_handed : (t index : ℕ) (x : Name) (cap : Cap) → k ≤ t → listed_cap (at t) x index ≡ Some cap → made cap.name ≡ true → nat_lt last t ≡ false → among ms x ≡ true → (among ms cap.name && among us cap.name) ≡ true
+    entry_handed : (t index : ℕ) (x : Name) (cap : Cap) → k ≤ t → listed_cap (at t) x index ≡ Some cap → made cap.name ≡ true → nat_lt last t ≡ false → among ms x ≡ true
+        → (among ms cap.name && among us cap.name) ≡ true
     entry_handed t index x cap begun l m e u =
         let all = kept_then t begun e in
-        let each : handed_kept (at t) x ≡ true = all_among (handed_kept (at t)) ms x (second_so (list_all (λ n. entries_kept (at t) (record { 0 = n })) us) (list_all (λ n. handed_kept (at t) (record { 0 = n })) ms) all) u in
+        let each : handed_kept (at t) x ≡ true =
+        all_among (handed_kept (at t)) ms x (second_so (list_all (λ n. entries_kept (at t) (record { 0 = n })) us)
+        (list_all (λ n. handed_kept (at t) (record { 0 = n })) ms) all) u in
         when (made cap.name) (among ms cap.name && among us cap.name) (all_at keeps_handed (object (at t) x).entries index (Held cap) each (entry_is (at t) x index cap l)) m
 
     modify_of : (cap : Cap) → keeps_entry (Held cap) ≡ true → has cap.rights modify_right ≡ true → among ms cap.name ≡ true
@@ -159,7 +168,7 @@ module _ (at : ℕ → State) (made : Name → Bool) (params : List Entry) (k la
 
 -- a name that is not in the first list is outside the modifiable reach at the moment, and one that is not in the second list is
 -- outside the unconfined reach
-module _ (w : Setup) (lines : List Line) (k : ℕ) (call : Inc) (last : ℕ) (ms us : List ℕ) where
+module _ (w : WorldValue) (lines : List Line) (k : ℕ) (call : Inc) (last : ℕ) (ms us : List ℕ) where
   abbrev pub are_kept : Bool
   are_kept = keep_rules (state_at w lines) (is_made_under w lines k call) (parameters w lines k call) k last ms us
 

@@ -9,8 +9,10 @@ use Rattle.hk_model.specs.declared.calls.Refusal.TheVariants as refused
 use Rattle.hk_model.specs.declared.instructions.Instr.TheVariants as instr
 use Rattle.hk_model.specs.declared.instructions.Operand.TheVariants.{Number}
 use Rattle.hk_model.specs.declared.lines.Line.{Line}
+use Rattle.hk_model.specs.declared.reaches.Hop.{Hop}
+use Rattle.hk_model.specs.declared.reaches.Hop.TheVariants as hop_by
 use Rattle.hk_rights.specs.Rights.{PUTDATA, LOAD, STORE, APPEND, MODIFY, ENV, UNCONF, A0, modify_right, first_missing, right_numbers, right_table}
-use Rattle.hk_model.specs.Setup.{Setup}
+use Rattle.hk_model.specs.WorldValue.{WorldValue}
 use Rattle.hk_model.specs.Targets.{DATA, UNIVERSAL}
 use Rattle.hk_model.specs.Opening.{opening}
 use Rattle.hk_model.specs.Control.{next, next_from, after}
@@ -18,17 +20,18 @@ use Rattle.hk_model.specs.Rule.{get_word, put_word, add_word, store_entry, appen
 use Rattle.hk_model.specs.Keeping.{kept_objects}
 use Rattle.hk_model.specs.Running.{AreStepsOf, opened, step, state_at}
 use Rattle.hk_model.specs.Under.{is_made_under, parameters}
-use Rattle.hk_model.specs.Reaches.{Hop, IsReach, IsModifiable, IsUnconfined, reach}
+use Rattle.hk_model.specs.Reaches.{IsReach, IsModifiable, IsUnconfined, reach}
 use Rattle.hk_model.proofs.OutsideReaches.{not_modifiable, not_unconfined}
 use Rattle.hk_model.proofs.RowParts.{name, inc, slot, cap, route, plain, procedure, process, small_world, dispatch, line, line_of_process, return_line}
 
 -- one hop
 abbrev hop : Bool → ℕ → ℕ → Hop
-hop handed index moment = record { index = index; moment = moment; handed = handed }
+hop true index moment = hop_by.Handed index moment
+hop false index moment = hop_by.Entry index moment
 
 -- ---- an entry without UNCONF: the parameter leads to object 8, and no further
 
-abbrev closing : Setup
+abbrev closing : WorldValue
 closing = small_world
     (plain DATA (7 ∷ []) []
     ∷ plain UNIVERSAL [] (cap 7 (PUTDATA + MODIFY + ENV + UNCONF) ∷ [])
@@ -50,20 +53,24 @@ closing_lines =
     ∷ []
 
 closing-steps : AreStepsOf closing closing_lines
-unfolding opened opening step next next_from after kept_objects get_word put_word add_word store_entry append_entry erase_entry create_object enter_procedure leave take_token give_token first_missing right_numbers right_table
+unfolding opened opening step next next_from after kept_objects get_word put_word add_word store_entry append_entry erase_entry create_object enter_procedure leave take_token
+    give_token first_missing right_numbers right_table
 closing-steps = (refl, (refl, (refl, (refl, (refl, tt)))))
 
-entry-is-reached : IsReach (state_at closing closing_lines) (is_made_under closing closing_lines 2 (inc 1)) (parameters closing closing_lines 2 (inc 1)) 2 (λ there. there.modify) 4 (name 8) 0 (hop false 0 2 ∷ [])
-unfolding opened opening step next next_from after kept_objects get_word put_word add_word store_entry append_entry erase_entry create_object enter_procedure leave take_token give_token first_missing right_numbers right_table
+entry-is-reached : IsReach (state_at closing closing_lines) (is_made_under closing closing_lines 2 (inc 1)) (parameters closing closing_lines 2 (inc 1)) 2
+    (λ there. there.modify) 4 (name 8) 0 (hop false 0 2 ∷ [])
+unfolding opened opening step next next_from after kept_objects get_word put_word add_word store_entry append_entry erase_entry create_object enter_procedure leave take_token
+    give_token first_missing right_numbers right_table
 entry-is-reached = record { there = record { name = name 8; modify = true; unconf = false; moment = 2 }; leads = refl; same = refl; good = refl; by_then = lit≤ tt }
 
 no-further-than-an-entry-without-unconf : IsModifiable closing closing_lines 2 (inc 1) 4 (name 7) → ⊥
-unfolding opened opening step next next_from after kept_objects get_word put_word add_word store_entry append_entry erase_entry create_object enter_procedure leave take_token give_token first_missing right_numbers right_table
+unfolding opened opening step next next_from after kept_objects get_word put_word add_word store_entry append_entry erase_entry create_object enter_procedure leave take_token
+    give_token first_missing right_numbers right_table
 no-further-than-an-entry-without-unconf = not_modifiable closing closing_lines 2 (inc 1) 4 (8 ∷ 9 ∷ []) (9 ∷ []) refl (name 7) refl
 
 -- ---- a new object of another in the list of what is reached: it was not made under the call
 
-abbrev another : Setup
+abbrev another : WorldValue
 another = small_world
     (plain UNIVERSAL [] (Empty ∷ [])
     ∷ procedure 0 (record { of = Some (name UNIVERSAL); check = LOAD; give = LOAD + MODIFY } ∷ []) []
@@ -72,7 +79,8 @@ another = small_world
     ∷ (instr.Enter (route (1 ∷ [])) (0 ∷ []) (slot 2) ∷ [])
     ∷ (instr.Create (route (1 ∷ [])) (slot 2) ∷ instr.Store (route (0 ∷ [])) (Number 0) (slot 2) ∷ [])
     ∷ [])
-    (process 1 (cap 7 (LOAD + MODIFY + ENV + UNCONF) ∷ cap 8 A0 ∷ []) ∷ process 2 (cap 7 (STORE + MODIFY) ∷ Form (template.Create (name UNIVERSAL) (STORE + MODIFY + ENV + UNCONF)) ∷ []) ∷ [])
+    (process 1 (cap 7 (LOAD + MODIFY + ENV + UNCONF) ∷ cap 8 A0 ∷ []) ∷ process 2
+    (cap 7 (STORE + MODIFY) ∷ Form (template.Create (name UNIVERSAL) (STORE + MODIFY + ENV + UNCONF)) ∷ []) ∷ [])
 
 abbrev another_lines : List Line
 another_lines =
@@ -85,16 +93,18 @@ another_lines =
     ∷ []
 
 another-steps : AreStepsOf another another_lines
-unfolding opened opening step next next_from after kept_objects get_word put_word add_word store_entry append_entry erase_entry create_object enter_procedure leave take_token give_token first_missing right_numbers right_table
+unfolding opened opening step next next_from after kept_objects get_word put_word add_word store_entry append_entry erase_entry create_object enter_procedure leave take_token
+    give_token first_missing right_numbers right_table
 another-steps = (refl, (refl, (refl, (refl, (refl, (refl, tt))))))
 
 another's-new-object : IsModifiable another another_lines 2 (inc 2) 6 (name 9) → ⊥
-unfolding opened opening step next next_from after kept_objects get_word put_word add_word store_entry append_entry erase_entry create_object enter_procedure leave take_token give_token first_missing right_numbers right_table
+unfolding opened opening step next next_from after kept_objects get_word put_word add_word store_entry append_entry erase_entry create_object enter_procedure leave take_token
+    give_token first_missing right_numbers right_table
 another's-new-object = not_modifiable another another_lines 2 (inc 2) 6 (7 ∷ []) [] refl (name 9) refl
 
 -- ---- a call without parameters reaches nothing
 
-abbrev bare : Setup
+abbrev bare : WorldValue
 bare = small_world
     (plain DATA (7 ∷ []) []
     ∷ procedure 0 [] (cap 7 (PUTDATA + MODIFY + ENV + UNCONF) ∷ [])
@@ -112,24 +122,28 @@ bare_lines =
     ∷ []
 
 bare-steps : AreStepsOf bare bare_lines
-unfolding opened opening step next next_from after kept_objects get_word put_word add_word store_entry append_entry erase_entry create_object enter_procedure leave take_token give_token first_missing right_numbers right_table
+unfolding opened opening step next next_from after kept_objects get_word put_word add_word store_entry append_entry erase_entry create_object enter_procedure leave take_token
+    give_token first_missing right_numbers right_table
 bare-steps = (refl, (refl, (refl, tt)))
 
 no-parameter-no-modifiable-reach : IsModifiable bare bare_lines 2 (inc 1) 3 (name 7) → ⊥
-unfolding opened opening step next next_from after kept_objects get_word put_word add_word store_entry append_entry erase_entry create_object enter_procedure leave take_token give_token first_missing right_numbers right_table
+unfolding opened opening step next next_from after kept_objects get_word put_word add_word store_entry append_entry erase_entry create_object enter_procedure leave take_token
+    give_token first_missing right_numbers right_table
 no-parameter-no-modifiable-reach = not_modifiable bare bare_lines 2 (inc 1) 3 [] [] refl (name 7) refl
 
 no-parameter-no-unconfined-reach : IsUnconfined bare bare_lines 2 (inc 1) 3 (name 7) → ⊥
-unfolding opened opening step next next_from after kept_objects get_word put_word add_word store_entry append_entry erase_entry create_object enter_procedure leave take_token give_token first_missing right_numbers right_table
+unfolding opened opening step next next_from after kept_objects get_word put_word add_word store_entry append_entry erase_entry create_object enter_procedure leave take_token
+    give_token first_missing right_numbers right_table
 no-parameter-no-unconfined-reach = not_unconfined bare bare_lines 2 (inc 1) 3 [] [] refl (name 7) refl
 
 -- ---- a new object of the call, before and after it is handed over; and moments that fall
 
-abbrev handing : Setup
+abbrev handing : WorldValue
 handing = small_world
     (plain UNIVERSAL [] (Empty ∷ [])
     ∷ plain DATA (1 ∷ []) []
-    ∷ procedure 0 (record { of = Some (name UNIVERSAL); check = STORE; give = STORE + MODIFY } ∷ []) (Form (template.Create (name UNIVERSAL) (LOAD + STORE + APPEND + MODIFY + ENV + UNCONF)) ∷ cap 8 (PUTDATA + MODIFY + ENV + UNCONF) ∷ [])
+    ∷ procedure 0 (record { of = Some (name UNIVERSAL); check = STORE; give = STORE + MODIFY } ∷ [])
+    (Form (template.Create (name UNIVERSAL) (LOAD + STORE + APPEND + MODIFY + ENV + UNCONF)) ∷ cap 8 (PUTDATA + MODIFY + ENV + UNCONF) ∷ [])
     ∷ [])
     ((instr.Create (route (1 ∷ [])) (slot 3) ∷ instr.Append (route (3 ∷ [])) (slot 2) ∷ instr.Store (route (0 ∷ [])) (Number 0) (slot 3) ∷ [])
     ∷ (instr.Enter (route (1 ∷ [])) (0 ∷ []) (slot 2) ∷ [])
@@ -148,24 +162,32 @@ handing_lines =
     ∷ []
 
 handing-steps : AreStepsOf handing handing_lines
-unfolding opened opening step next next_from after kept_objects get_word put_word add_word store_entry append_entry erase_entry create_object enter_procedure leave take_token give_token first_missing right_numbers right_table
+unfolding opened opening step next next_from after kept_objects get_word put_word add_word store_entry append_entry erase_entry create_object enter_procedure leave take_token
+    give_token first_missing right_numbers right_table
 handing-steps = (refl, (refl, (refl, (refl, (refl, (refl, (refl, tt)))))))
 
 not-before-it-is-handed-over : IsModifiable handing handing_lines 2 (inc 1) 4 (name 10) → ⊥
-unfolding opened opening step next next_from after kept_objects get_word put_word add_word store_entry append_entry erase_entry create_object enter_procedure leave take_token give_token first_missing right_numbers right_table
+unfolding opened opening step next next_from after kept_objects get_word put_word add_word store_entry append_entry erase_entry create_object enter_procedure leave take_token
+    give_token first_missing right_numbers right_table
 not-before-it-is-handed-over = not_modifiable handing handing_lines 2 (inc 1) 4 (7 ∷ []) [] refl (name 10) refl
 
-once-it-is-handed-over : IsReach (state_at handing handing_lines) (is_made_under handing handing_lines 2 (inc 1)) (parameters handing handing_lines 2 (inc 1)) 2 (λ there. there.modify) 5 (name 10) 0 (hop true 0 5 ∷ [])
-unfolding opened opening step next next_from after kept_objects get_word put_word add_word store_entry append_entry erase_entry create_object enter_procedure leave take_token give_token first_missing right_numbers right_table
+once-it-is-handed-over : IsReach (state_at handing handing_lines) (is_made_under handing handing_lines 2 (inc 1)) (parameters handing handing_lines 2 (inc 1)) 2
+    (λ there. there.modify) 5 (name 10) 0 (hop true 0 5 ∷ [])
+unfolding opened opening step next next_from after kept_objects get_word put_word add_word store_entry append_entry erase_entry create_object enter_procedure leave take_token
+    give_token first_missing right_numbers right_table
 once-it-is-handed-over = record { there = record { name = name 10; modify = true; unconf = true; moment = 5 }; leads = refl; same = refl; good = refl; by_then = lit≤ tt }
 
 -- the entry of the new object stood before, but behind a hop at moment 5 none can be made at moment 4; what the confined call
 -- inherited lost MODIFY and UNCONF, so object 8 stands good for neither
-moments-rise : reach (state_at handing handing_lines) (is_made_under handing handing_lines 2 (inc 1)) (parameters handing handing_lines 2 (inc 1)) 2 0 (hop true 0 5 ∷ hop false 0 5 ∷ [])
+moments-rise : reach (state_at handing handing_lines) (is_made_under handing handing_lines 2 (inc 1)) (parameters handing handing_lines 2 (inc 1)) 2 0
+    (hop true 0 5 ∷ hop false 0 5 ∷ [])
     ≡ Some (record { name = name 8; modify = false; unconf = false; moment = 5 })
-unfolding opened opening step next next_from after kept_objects get_word put_word add_word store_entry append_entry erase_entry create_object enter_procedure leave take_token give_token first_missing right_numbers right_table
+unfolding opened opening step next next_from after kept_objects get_word put_word add_word store_entry append_entry erase_entry create_object enter_procedure leave take_token
+    give_token first_missing right_numbers right_table
 moments-rise = refl
 
-moments-that-fall : reach (state_at handing handing_lines) (is_made_under handing handing_lines 2 (inc 1)) (parameters handing handing_lines 2 (inc 1)) 2 0 (hop true 0 5 ∷ hop false 0 4 ∷ []) ≡ None
-unfolding opened opening step next next_from after kept_objects get_word put_word add_word store_entry append_entry erase_entry create_object enter_procedure leave take_token give_token first_missing right_numbers right_table
+moments-that-fall : reach (state_at handing handing_lines) (is_made_under handing handing_lines 2 (inc 1)) (parameters handing handing_lines 2 (inc 1)) 2 0
+    (hop true 0 5 ∷ hop false 0 4 ∷ []) ≡ None
+unfolding opened opening step next next_from after kept_objects get_word put_word add_word store_entry append_entry erase_entry create_object enter_procedure leave take_token
+    give_token first_missing right_numbers right_table
 moments-that-fall = refl

@@ -1,5 +1,6 @@
 -- The reaches of a call keep their rules, and are the least sets that do.
-use Rattle.std.proofs.Common.{◌≡◌, ℕ, ◌≤◌, List, [], ◌∷◌, ◌++◌, Bool, true, false, ◌&&◌, Option, Some, None, refl, sym, ap, ◌∙◌, arith, slice_get, option_map, option_and_then, nat_le, if◌then◌else◌}
+use Rattle.std.proofs.Common.{◌≡◌, ℕ, ◌≤◌, List, [], ◌∷◌, ◌++◌, Bool, true, false, ◌&&◌, Option, Some, None, refl, sym, ap, ◌∙◌, arith, slice_get, option_map, option_and_then}
+use Rattle.std.proofs.Common.{nat_le, if◌then◌else◌}
 use Rattle.std.proofs.lemmas.Bool.{le-leb, leb-true, and_from, true≢false}
 use Rattle.hk_model.specs.declared.names.Name.{Name}
 use Rattle.hk_model.specs.declared.entries.Cap.{Cap}
@@ -7,11 +8,14 @@ use Rattle.hk_model.specs.declared.entries.Entry.{Entry}
 use Rattle.hk_model.specs.declared.entries.Entry.TheVariants.{Empty, Held, Form}
 use Rattle.hk_model.specs.State.{State}
 use Rattle.hk_model.specs.declared.lines.Line.{Line}
-use Rattle.hk_model.specs.Setup.{Setup}
+use Rattle.hk_model.specs.declared.reaches.Hop.{Hop}
+use Rattle.hk_model.specs.declared.reaches.Hop.TheVariants as hop_by
+use Rattle.hk_model.specs.WorldValue.{WorldValue}
 use Rattle.hk_model.specs.Running.{state_at}
 use Rattle.hk_model.specs.Places.{cap_of}
 use Rattle.hk_model.specs.Under.{is_made_under, parameters}
-use Rattle.hk_model.specs.Reaches.{Hop, Reached, reached_by, handed_over, listed_cap, onward, hop_to, follow, param_reached, reach, IsReached, AreReaches, ReachLaw}
+use Rattle.hk_model.specs.Reaches.{index_of, moment_of, is_handed, Reached, reached_by, handed_over, listed_cap, onward, hop_to, follow, param_reached, reach, IsReached}
+use Rattle.hk_model.specs.Reaches.{AreReaches, ReachLaw}
 
 module _ (at : ℕ → State) (made : Name → Bool) where
   -- hops and then one more
@@ -23,15 +27,18 @@ module _ (at : ℕ → State) (made : Name → Bool) where
       one (Some s) = refl
   follow-append (h ∷ hops) hop from = by (hop_to at made h from) (λ s. follow-append hops hop s)
     where
-      by : (found : Option Reached) → ((s : Reached) → follow at made (hops ++ hop ∷ []) s ≡ option_and_then (hop_to at made hop) (follow at made hops s)) → option_and_then (follow at made (hops ++ hop ∷ [])) found ≡ option_and_then (hop_to at made hop) (option_and_then (follow at made hops) found)
+      by : (found : Option Reached) → ((s : Reached) → follow at made (hops ++ hop ∷ []) s ≡ option_and_then (hop_to at made hop) (follow at made hops s))
+          → option_and_then (follow at made (hops ++ hop ∷ [])) found ≡ option_and_then (hop_to at made hop) (option_and_then (follow at made hops) found)
       by None later = refl
       by (Some s) later = later s
 
   module _ (params : List Entry) (k : ℕ) where
-    reach-append : (param : ℕ) (hops : List Hop) (hop : Hop) → reach at made params k param (hops ++ hop ∷ []) ≡ option_and_then (hop_to at made hop) (reach at made params k param hops)
+    reach-append : (param : ℕ) (hops : List Hop) (hop : Hop)
+        → reach at made params k param (hops ++ hop ∷ []) ≡ option_and_then (hop_to at made hop) (reach at made params k param hops)
     reach-append param hops hop = by (param_reached params k param)
       where
-        by : (found : Option Reached) → option_and_then (follow at made (hops ++ hop ∷ [])) found ≡ option_and_then (hop_to at made hop) (option_and_then (follow at made hops) found)
+        by : (found : Option Reached)
+            → option_and_then (follow at made (hops ++ hop ∷ [])) found ≡ option_and_then (hop_to at made hop) (option_and_then (follow at made hops) found)
         by None = refl
         by (Some s) = follow-append hops hop s
 
@@ -44,7 +51,8 @@ module _ (at : ℕ → State) (made : Name → Bool) where
     }
 
     -- what a parameter is when the call begins
-    pub param_is_reached : (good : Reached → Bool) (param : ℕ) (cap : Cap) → slice_get params param ≡ Some (Held cap) → good (reached_by k cap) ≡ true → IsReached at made params k good k cap.name
+    pub param_is_reached : (good : Reached → Bool) (param : ℕ) (cap : Cap) → slice_get params param ≡ Some (Held cap) → good (reached_by k cap) ≡ true
+        → IsReached at made params k good k cap.name
     param_is_reached good param cap h g = record {
       param = param;
       hops = [];
@@ -58,8 +66,10 @@ module _ (at : ℕ → State) (made : Name → Bool) where
     }
 
     -- one hop more
-    hop_is_reached : (good next_good : Reached → Bool) (moment index : ℕ) (handed : Bool) (x : Name) (cap : Cap) (next : Reached) (r : IsReached at made params k good moment x) → listed_cap (at moment) x index ≡ Some cap → onward made (record { index = index; moment = moment; handed = handed }) r.is.there cap ≡ Some next → next.moment ≡ moment → next_good next ≡ true → IsReached at made params k next_good moment next.name
-    hop_is_reached good next_good moment index handed x cap next r l step ends next_is = record {
+    hop_is_reached : (good next_good : Reached → Bool) (hop : Hop) (x : Name) (cap : Cap) (next : Reached) (r : IsReached at made params k good (moment_of hop) x)
+        → listed_cap (at (moment_of hop)) x (index_of hop) ≡ Some cap → onward made hop r.is.there cap ≡ Some next → next.moment ≡ moment_of hop → next_good next ≡ true
+        → IsReached at made params k next_good (moment_of hop) next.name
+    hop_is_reached good next_good hop x cap next r l step ends next_is = record {
       param = r.param;
       hops = r.hops ++ hop ∷ [];
       is = record {
@@ -67,17 +77,15 @@ module _ (at : ℕ → State) (made : Name → Bool) where
         leads =
             reach-append r.param r.hops hop
             ∙ ap (option_and_then (hop_to at made hop)) r.is.leads
-            ∙ ap (λ (b : Bool). if b then option_and_then (onward made hop r.is.there) (listed_cap (at moment) r.is.there.name index) else None) (le-leb r.is.there.moment moment r.is.by_then)
-            ∙ ap (option_and_then (onward made hop r.is.there)) (ap (λ (y : Name). listed_cap (at moment) y index) r.is.same ∙ l)
+            ∙ ap (λ (b : Bool). if b then option_and_then (onward made hop r.is.there) (listed_cap (at (moment_of hop)) r.is.there.name (index_of hop)) else None)
+            (le-leb r.is.there.moment (moment_of hop) r.is.by_then)
+            ∙ ap (option_and_then (onward made hop r.is.there)) (ap (λ (y : Name). listed_cap (at (moment_of hop)) y (index_of hop)) r.is.same ∙ l)
             ∙ step;
         same = refl;
         good = next_is;
         by_then = omega (arith, ends);
       };
     }
-      where
-        hop : Hop
-        hop = record { index = index; moment = moment; handed = handed }
 
     some_if : (b : Bool) (there : Reached) → b ≡ true → ◌≡◌ {A = Option Reached} (if b then Some there else None) (Some there)
     some_if true there h = refl
@@ -90,11 +98,15 @@ module _ (at : ℕ → State) (made : Name → Bool) where
       param_unconf = λ param cap h g. param_is_reached (λ r. r.unconf) param cap h g;
       later_modify = λ early late x begun l r. reached_later (λ r. r.modify) early late x l r;
       later_unconf = λ early late x begun l r. reached_later (λ r. r.unconf) early late x l r;
-      entry_modify = λ moment index x cap begun r l g. hop_is_reached (λ r. r.unconf) (λ r. r.modify) moment index false x cap (reached_by moment cap) r l (some_if r.is.there.unconf (reached_by moment cap) r.is.good) refl g;
-      entry_unconf = λ moment index x cap begun r l g. hop_is_reached (λ r. r.unconf) (λ r. r.unconf) moment index false x cap (reached_by moment cap) r l (some_if r.is.there.unconf (reached_by moment cap) r.is.good) refl g;
+      entry_modify = λ moment index x cap begun r l g. hop_is_reached (λ r. r.unconf) (λ r. r.modify) (hop_by.Entry index moment) x cap (reached_by moment cap) r l
+          (some_if r.is.there.unconf (reached_by moment cap) r.is.good) refl g;
+      entry_unconf = λ moment index x cap begun r l g. hop_is_reached (λ r. r.unconf) (λ r. r.unconf) (hop_by.Entry index moment) x cap (reached_by moment cap) r l
+          (some_if r.is.there.unconf (reached_by moment cap) r.is.good) refl g;
       handed = λ moment index x cap begun r l g. (
-        hop_is_reached (λ r. r.modify) (λ r. r.modify) moment index true x cap (handed_over moment cap) r l (some_if (r.is.there.modify && made cap.name) (handed_over moment cap) (and_from r.is.there.modify (made cap.name) r.is.good g)) refl refl,
-        hop_is_reached (λ r. r.modify) (λ r. r.unconf) moment index true x cap (handed_over moment cap) r l (some_if (r.is.there.modify && made cap.name) (handed_over moment cap) (and_from r.is.there.modify (made cap.name) r.is.good g)) refl refl,
+        hop_is_reached (λ r. r.modify) (λ r. r.modify) (hop_by.Handed index moment) x cap (handed_over moment cap) r l
+            (some_if (r.is.there.modify && made cap.name) (handed_over moment cap) (and_from r.is.there.modify (made cap.name) r.is.good g)) refl refl,
+        hop_is_reached (λ r. r.modify) (λ r. r.unconf) (hop_by.Handed index moment) x cap (handed_over moment cap) r l
+            (some_if (r.is.there.modify && made cap.name) (handed_over moment cap) (and_from r.is.there.modify (made cap.name) r.is.good g)) refl refl,
       );
     }
 
@@ -106,49 +118,63 @@ module _ (at : ℕ → State) (made : Name → Bool) where
         pub begun : k ≤ r.moment
 
       hop_is_in : (hop : Hop) (from next : Reached) → IsIn from → hop_to at made hop from ≡ Some next → IsIn next
-      hop_is_in hop from next f h = by_moment (nat_le from.moment hop.moment) refl (listed_cap (at hop.moment) from.name hop.index) refl h
+      hop_is_in hop from next f h = by_moment (nat_le from.moment (moment_of hop)) refl (listed_cap (at (moment_of hop)) from.name (index_of hop)) refl h
         where
-          by_hop : (cap : Cap) → listed_cap (at hop.moment) from.name hop.index ≡ Some cap → from.moment ≤ hop.moment → (handed m made_there u : Bool) → from.modify ≡ m → made cap.name ≡ made_there → from.unconf ≡ u
-              → ◌≡◌ {A = Option Reached} (if handed then (if m && made_there then Some (handed_over hop.moment cap) else None) else (if u then Some (reached_by hop.moment cap) else None)) (Some next) → IsIn next
+          by_hop : (cap : Cap) → listed_cap (at (moment_of hop)) from.name (index_of hop) ≡ Some cap → from.moment ≤ (moment_of hop) → (handed m made_there u : Bool)
+              → from.modify ≡ m → made cap.name ≡ made_there → from.unconf ≡ u
+              → ◌≡◌ {A = Option Reached} (if handed then (if m && made_there then Some (handed_over (moment_of hop) cap) else None) else
+              (if u then Some (reached_by (moment_of hop) cap) else None)) (Some next)
+              → IsIn next
           by_hop cap l e true true true u p q o h =
-              let same : handed_over hop.moment cap ≡ next = cc in
+              let same : handed_over (moment_of hop) cap ≡ next = cc in
               let b = f.begun in
-              let both = rules.handed hop.moment hop.index from.name cap (omega (arith, b, e)) (rules.later_modify from.moment hop.moment from.name f.begun e (f.modify p)) l q in
+              let both =
+              rules.handed (moment_of hop) (index_of hop) from.name cap (omega (arith, b, e))
+              (rules.later_modify from.moment (moment_of hop) from.name f.begun e (f.modify p)) l q in
               rw (← same) (record { modify = λ g. both.0; unconf = λ g. both.1; begun = omega (arith, b, e) })
           by_hop cap l e true true false u p q o h = absurd (cc)
           by_hop cap l e true false m u p q o h = absurd (cc)
           by_hop cap l e false m c false p q o h = absurd (cc)
           by_hop cap l e false m c true p q o h =
-              let same : reached_by hop.moment cap ≡ next = cc in
+              let same : reached_by (moment_of hop) cap ≡ next = cc in
               let b = f.begun in
-              let there : U hop.moment from.name = rules.later_unconf from.moment hop.moment from.name f.begun e (f.unconf o) in
+              let there : U (moment_of hop) from.name = rules.later_unconf from.moment (moment_of hop) from.name f.begun e (f.unconf o) in
               rw (← same) (record {
-                modify = λ g. rules.entry_modify hop.moment hop.index from.name cap (omega (arith, b, e)) there l g;
-                unconf = λ g. rules.entry_unconf hop.moment hop.index from.name cap (omega (arith, b, e)) there l g;
+                modify = λ g. rules.entry_modify (moment_of hop) (index_of hop) from.name cap (omega (arith, b, e)) there l g;
+                unconf = λ g. rules.entry_unconf (moment_of hop) (index_of hop) from.name cap (omega (arith, b, e)) there l g;
                 begun = omega (arith, b, e);
               })
 
-          by_moment : (b : Bool) → nat_le from.moment hop.moment ≡ b → (found : Option Cap) → listed_cap (at hop.moment) from.name hop.index ≡ found → (if b then option_and_then (onward made hop from) found else None) ≡ Some next → IsIn next
+          by_moment : (b : Bool) → nat_le from.moment (moment_of hop) ≡ b → (found : Option Cap) → listed_cap (at (moment_of hop)) from.name (index_of hop) ≡ found
+              → (if b then option_and_then (onward made hop from) found else None) ≡ Some next → IsIn next
           by_moment false e found l h = absurd (cc)
           by_moment true e None l h = absurd (cc)
-          by_moment true e (Some cap) l h = by_hop cap l (leb-true from.moment hop.moment e) hop.handed from.modify (made cap.name) from.unconf refl refl refl h
+          by_moment true e (Some cap) l h = by_hop cap l (leb-true from.moment (moment_of hop) e) (is_handed hop) from.modify (made cap.name) from.unconf refl refl refl h
 
       follow_is_in : (hops : List Hop) (from there : Reached) → IsIn from → follow at made hops from ≡ Some there → IsIn there
       follow_is_in [] from there f h = let same : from ≡ there = cc in rw (← same) f
       follow_is_in (hop ∷ hops) from there f h = by (λ next g e. follow_is_in hops next there g e) (hop_to at made hop from) refl h
         where
-          by : ((next : Reached) → IsIn next → follow at made hops next ≡ Some there → IsIn there) → (found : Option Reached) → hop_to at made hop from ≡ found → option_and_then (follow at made hops) found ≡ Some there → IsIn there
+          by : ((next : Reached) → IsIn next → follow at made hops next ≡ Some there → IsIn there) → (found : Option Reached) → hop_to at made hop from ≡ found
+              → option_and_then (follow at made hops) found ≡ Some there → IsIn there
           by later None e h = absurd (cc)
           by later (Some next) e h = later next (hop_is_in hop from next f e) h
 
       reach_is_in : (param : ℕ) (hops : List Hop) (there : Reached) → reach at made params k param hops ≡ Some there → IsIn there
       reach_is_in param hops there h = by (slice_get params param) refl h
         where
-          by : (found : Option Entry) → slice_get params param ≡ found → option_and_then (follow at made hops) (option_and_then (λ (e : Entry). option_map (reached_by k) (cap_of e)) found) ≡ Some there → IsIn there
+          by : (found : Option Entry) → slice_get params param ≡ found
+              → option_and_then (follow at made hops) (option_and_then (λ (e : Entry). option_map (reached_by k) (cap_of e)) found) ≡ Some there → IsIn there
           by None e h = absurd (cc)
           by (Some Empty) e h = absurd (cc)
           by (Some (Form form)) e h = absurd (cc)
-          by (Some (Held cap)) e h = follow_is_in hops (reached_by k cap) there (record { modify = λ g. rules.param_modify param cap e g; unconf = λ g. rules.param_unconf param cap e g; begun = omega arith }) h
+          by (Some (Held cap)) e h =
+              follow_is_in hops (reached_by k cap) there (record {
+                modify = λ g. rules.param_modify param cap e g;
+                unconf = λ g. rules.param_unconf param cap e
+                    g;
+                begun = omega arith;
+              }) h
 
       -- all sets that keep the rules have what is reached
       pub modifiable_is_least : (moment : ℕ) (x : Name) → IsReached at made params k (λ r. r.modify) moment x → M moment x
@@ -162,7 +188,7 @@ module _ (at : ℕ → State) (made : Name → Bool) where
           rw (← r.is.same) (rules.later_unconf r.is.there.moment moment r.is.there.name g.begun r.is.by_then (g.unconf r.is.good))
 
 -- so they are the least sets that keep the rules
-pub reaches_are_least : (w : Setup) (lines : List Line) → ReachLaw w lines
+pub reaches_are_least : (w : WorldValue) (lines : List Line) → ReachLaw w lines
 reaches_are_least w lines k call =
     let at = state_at w lines in
     let made = is_made_under w lines k call in

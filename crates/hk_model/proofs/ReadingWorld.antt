@@ -11,14 +11,14 @@ use Rattle.hk_model.specs.declared.calls.Reply.TheVariants as reply
 use Rattle.hk_model.specs.declared.lines.What.{What}
 use Rattle.hk_model.specs.declared.lines.What.TheVariants as what
 use Rattle.hk_model.specs.declared.lines.Line.{Line}
-use Rattle.hk_model.specs.Setup.{Setup, setup}
+use Rattle.hk_model.specs.WorldValue.{WorldValue, world_value}
 
 abbrev pub line : ℕ → ℕ → ℕ → What → Reply → Line
 line cpu proc inc event answer = record { cpu = record { 0 = cpu }; proc = record { 0 = proc }; inc = record { 0 = inc }; what = event; reply = answer }
 
 -- a process that reads a word
-abbrev pub reading : Setup
-reading = setup 10000
+abbrev pub reading : WorldValue
+reading = world_value 10000
     (record { label = codes "d"; kind = kind.Plain (record { 0 = 1 }) (7 ∷ []) [] } ∷ [])
     (record { label = codes "main"; steps = instr.Get (record { at = Fixed 0 ∷ [] }) (operand.Number 0) 0 ∷ [] } ∷ [])
     (record { label = codes "a"; code = 0; slots = Held (record { name = record { 0 = 7 }; rights = 1 }) ∷ [] } ∷ [])

@@ -9,7 +9,8 @@ use Rattle.hk_model.specs.Walking.{reduced_rights, confined_rights, local_rights
 use Rattle.hk_model.specs.Merging.{merged_rights}
 use Rattle.std.specs.Int.{bit_at}
 use Rattle.std.proofs.lemmas.Nat.Bits.{same_from_bits, bit_at_and, bit_at_or, bit_at-zero}
-use Rattle.hk_rights.proofs.Sets.{HasAll-self, HasAll-trans, HasAll-bit_and_left, HasAll-bit_and_right, HasAll-from_bit_and, has-bit_and_left, has-bit_and_right, has-bit_or_cases, has-bit_and, has-zero}
+use Rattle.hk_rights.proofs.Sets.{HasAll-self, HasAll-trans, HasAll-bit_and_left, HasAll-bit_and_right, HasAll-from_bit_and, has-bit_and_left, has-bit_and_right, has-bit_or_cases}
+use Rattle.hk_rights.proofs.Sets.{has-bit_and, has-zero}
 use Rattle.hk_rights.proofs.Missing.{first_missing-none, first_missing-pow, has-from_first_missing, HasAll-from_first_missing}
 use Rattle.hk_model.specs.Ways.{Within}
 
@@ -91,10 +92,13 @@ lacks_env rights h g = by (first_missing-pow rights env_right refl h)
 pub merged_special : (of : Option Name) (rights give : ℕ) → Within (bit_and (merged_rights rights of give) special_rights) rights
 merged_special None rights give =
     Within-all (bit_and (bit_and give rights) special_rights) rights
-    (HasAll-trans rights (bit_and give rights) (bit_and (bit_and give rights) special_rights) (HasAll-bit_and_right give rights) (HasAll-bit_and_left (bit_and give rights) special_rights))
-merged_special (Some wanted) rights give = Within-all (bit_and (bit_or (bit_and give (all_but special_rights)) (bit_and (bit_and give special_rights) rights)) special_rights) rights (λ n h.
+    (HasAll-trans rights (bit_and give rights) (bit_and (bit_and give rights) special_rights) (HasAll-bit_and_right give rights)
+    (HasAll-bit_and_left (bit_and give rights) special_rights))
+merged_special (Some wanted) rights give =
+    Within-all (bit_and (bit_or (bit_and give (all_but special_rights)) (bit_and (bit_and give special_rights) rights)) special_rights) rights (λ n h.
     by n (has-bit_and_right (bit_or (bit_and give (all_but special_rights)) (bit_and (bit_and give special_rights) rights)) special_rights n h)
-    (has-bit_or_cases (bit_and give (all_but special_rights)) (bit_and (bit_and give special_rights) rights) n (has-bit_and_left (bit_or (bit_and give (all_but special_rights)) (bit_and (bit_and give special_rights) rights)) special_rights n h)))
+    (has-bit_or_cases (bit_and give (all_but special_rights)) (bit_and (bit_and give special_rights) rights) n
+    (has-bit_and_left (bit_or (bit_and give (all_but special_rights)) (bit_and (bit_and give special_rights) rights)) special_rights n h)))
   where
     both : (n : ℕ) → (x : Bool) → has (all_but special_rights) n ≡ x → has special_rights n ≡ true → (has (all_but special_rights) n && has special_rights n) ≡ false → x ≡ false
     both n true e g none = absurd (true≢false (let k : (has (all_but special_rights) n && has special_rights n) ≡ true = rw (e, g) refl in sym k ∙ none))
@@ -103,11 +107,24 @@ merged_special (Some wanted) rights give = Within-all (bit_and (bit_or (bit_and 
     apart : (n : ℕ) → has special_rights n ≡ true → has (all_but special_rights) n ≡ true → ⊥
     apart n g h = true≢false (sym h ∙ both n (has (all_but special_rights) n) refl g (sym (has-bit_and (all_but special_rights) special_rights n) ∙ has-zero n))
 
-    by : (n : ℕ) → has special_rights n ≡ true → (has (bit_and give (all_but special_rights)) n ≡ true) ⊎ (has (bit_and (bit_and give special_rights) rights) n ≡ true) → has rights n ≡ true
+    by : (n : ℕ) → has special_rights n ≡ true → (has (bit_and give (all_but special_rights)) n ≡ true) ⊎ (has (bit_and (bit_and give special_rights) rights) n ≡ true)
+        → has rights n ≡ true
     by n special (inl h) = absurd (apart n special (has-bit_and_right give (all_but special_rights) n h))
     by n special (inr h) = has-bit_and_right (bit_and give special_rights) rights n h
 
 pub merged_others : (wanted : Name) (rights give : ℕ) → bit_and (merged_rights rights (Some wanted) give) (all_but special_rights) ≡ bit_and give (all_but special_rights)
-merged_others wanted rights give = same_from_bits (bit_and (bit_or (bit_and give (all_but special_rights)) (bit_and (bit_and give special_rights) rights)) (all_but special_rights)) (bit_and give (all_but special_rights)) (λ i.
+merged_others wanted rights give =
+    same_from_bits (bit_and (bit_or (bit_and give (all_but special_rights)) (bit_and (bit_and give special_rights) rights)) (all_but special_rights))
+    (bit_and give (all_but special_rights)) (λ i.
     let apart : min (bit_at (all_but special_rights) i) (bit_at special_rights i) ≡ 0 = sym (bit_at_and (all_but special_rights) special_rights i) ∙ bit_at-zero i in
-    omega (arith, apart, bit_at_and (bit_or (bit_and give (all_but special_rights)) (bit_and (bit_and give special_rights) rights)) (all_but special_rights) i, bit_at_or (bit_and give (all_but special_rights)) (bit_and (bit_and give special_rights) rights) i, bit_at_and give (all_but special_rights) i, bit_at_and (bit_and give special_rights) rights i, bit_at_and give special_rights i))
+    omega (
+      arith,
+      apart,
+      bit_at_and (bit_or (bit_and give (all_but special_rights)) (bit_and (bit_and give special_rights) rights)) (all_but special_rights) i,
+      bit_at_or
+          (bit_and give (all_but special_rights)) (bit_and (bit_and give special_rights) rights) i,
+      bit_at_and give (all_but special_rights) i,
+      bit_at_and (bit_and give special_rights)
+          rights i,
+      bit_at_and give special_rights i,
+    ))

@@ -18,7 +18,7 @@ use Rattle.hk_model.specs.declared.instructions.Route.{Route}
 use Rattle.hk_model.specs.declared.world.Kind.{Kind}
 use Rattle.hk_model.specs.declared.world.Kind.TheVariants as kind
 use Rattle.hk_model.specs.Limits.{usual_limit}
-use Rattle.hk_model.specs.Setup.{Setup}
+use Rattle.hk_model.specs.WorldValue.{WorldValue}
 
 -- the numbers of some rights
 abbrev pub getdata_right : ℕ
@@ -66,7 +66,7 @@ abbrev label_of : ℕ → List ℕ
 label_of n = (97 + n) ∷ []
 
 -- a world of these objects, codes and processes, labelled a, b, c and so on
-abbrev pub small_world : List Kind → List (List Instr) → List (ℕ × List Entry) → Setup
+abbrev pub small_world : List Kind → List (List Instr) → List (ℕ × List Entry) → WorldValue
 small_world objects codes processes = record {
   limit = usual_limit;
   objects = each_from (λ n kind. record { label = label_of n; kind = kind }) 0 objects;

@@ -43,7 +43,8 @@ found_last [] n i f x h = by (same_inc i n) refl h
     by false g e = absurd (cc)
 found_last (e ∷ fs) n i f x h = by (same_inc i e.0) (found_last fs n i f x) h
   where
-    by : (b : Bool) → (look_up i (fs ++ (n, f) ∷ []) ≡ Some x → (look_up i fs ≡ Some x) ⊎ ((i ≡ n) × (f ≡ x))) → cond b (Some e.1) (look_up i (fs ++ (n, f) ∷ [])) ≡ Some x → (cond b (Some e.1) (look_up i fs) ≡ Some x) ⊎ ((i ≡ n) × (f ≡ x))
+    by : (b : Bool) → (look_up i (fs ++ (n, f) ∷ []) ≡ Some x → (look_up i fs ≡ Some x) ⊎ ((i ≡ n) × (f ≡ x))) → cond b (Some e.1) (look_up i (fs ++ (n, f) ∷ [])) ≡ Some x
+        → (cond b (Some e.1) (look_up i fs) ≡ Some x) ⊎ ((i ≡ n) × (f ≡ x))
     by true rest g = inl g
     by false rest g = rest g
 
@@ -151,7 +152,8 @@ fewer_stacked fs gs cur next s f = record {
 }
 
 -- a return
-pub left_stacked : (fs gs : List (Inc × Activation)) (cur : List Inc) (next p : ℕ) (inc caller : Inc) (f : Activation) → Stacked fs cur next → Fewer fs gs → ((x : Activation) → look_up inc gs ≡ Some x → ⊥) → slice_get cur p ≡ Some inc → look_up inc fs ≡ Some f → f.caller ≡ Some caller → Stacked gs (slice_set cur p caller) next
+pub left_stacked : (fs gs : List (Inc × Activation)) (cur : List Inc) (next p : ℕ) (inc caller : Inc) (f : Activation) → Stacked fs cur next → Fewer fs gs
+    → ((x : Activation) → look_up inc gs ≡ Some x → ⊥) → slice_get cur p ≡ Some inc → look_up inc fs ≡ Some f → f.caller ≡ Some caller → Stacked gs (slice_set cur p caller) next
 left_stacked fs gs cur next p inc caller f s fewer gone now live called =
     let rest = fewer_stacked fs gs cur next s fewer in
     record {
@@ -209,17 +211,25 @@ remove_fewer s inc n i x g = (left_found (activations_in s.incarnations) inc i x
 -- each turn keeps it
 pub stack_turn : (s : State) (line : Line) (t : State) → NumbersRise s → Turn s line t → IsStacked s → IsStacked t
 stack_turn s line t n (Still q e) h = rw (q.activations, q.currents, ap (λ (i : Inc). i.0) q.next) h
-stack_turn s line t n (Enter e) h = rw (e.activations, e.currents, e.next) (entered_stacked (activations_in s.incarnations) (currents_in s.processes) s.next_inc line.inc line.proc h e.now)
+stack_turn s line t n (Enter e) h =
+    rw (e.activations, e.currents, e.next) (entered_stacked (activations_in s.incarnations) (currents_in s.processes) s.next_inc line.inc line.proc h e.now)
 stack_turn s line t n (Leave e) h = rw (e.activations, ap (λ (i : Inc). i.0) e.next) (by (incarnation s line.inc).caller refl e.currents)
   where
     gone : (x : Activation) → look_up line.inc (remove_entry (same_inc line.inc) (activations_in s.incarnations)) ≡ Some x → ⊥
     gone x g = let a = (left_found (activations_in s.incarnations) line.inc line.inc x (activations_apart s n) g).1 in let b = inc_laws.refl line.inc in absurd (cc)
 
-    by : (o : Option Inc) → (incarnation s line.inc).caller ≡ o → CurrentAfter s line.proc.0 o t.processes → Stacked (remove_entry (same_inc line.inc) (activations_in s.incarnations)) (currents_in t.processes) s.next_inc.0
-    by None o g = rw g (fewer_stacked (activations_in s.incarnations) (remove_entry (same_inc line.inc) (activations_in s.incarnations)) (currents_in s.processes) s.next_inc.0 h (remove_fewer s line.inc n))
-    by (Some k) o g = rw g (left_stacked (activations_in s.incarnations) (remove_entry (same_inc line.inc) (activations_in s.incarnations)) (currents_in s.processes) s.next_inc.0 line.proc.0 line.inc k (activation (incarnation s line.inc)) h (remove_fewer s line.inc n) gone e.now (activation_live s.incarnations line.inc (caller_live s line.inc k o)) o)
+    by : (o : Option Inc) → (incarnation s line.inc).caller ≡ o → CurrentAfter s line.proc.0 o t.processes
+        → Stacked (remove_entry (same_inc line.inc) (activations_in s.incarnations)) (currents_in t.processes) s.next_inc.0
+    by None o g =
+        rw g (fewer_stacked (activations_in s.incarnations) (remove_entry (same_inc line.inc) (activations_in s.incarnations)) (currents_in s.processes) s.next_inc.0 h
+        (remove_fewer s line.inc n))
+    by (Some k) o g =
+        rw g (left_stacked (activations_in s.incarnations) (remove_entry (same_inc line.inc) (activations_in s.incarnations)) (currents_in s.processes) s.next_inc.0 line.proc.0
+        line.inc k (activation (incarnation s line.inc)) h (remove_fewer s line.inc n) gone e.now (activation_live s.incarnations line.inc (caller_live s line.inc k o)) o)
 stack_turn s line t n (Halt e) h =
-    rw (e.activations, e.currents, ap (λ (i : Inc). i.0) e.next) (fewer_stacked (activations_in s.incarnations) (filter (λ (y : Inc × Activation). not (y.1.proc.0 == line.proc.0)) (activations_in s.incarnations)) (currents_in s.processes) s.next_inc.0 h (λ i x g. (halted_found (activations_in s.incarnations) line.proc.0 i x (activations_apart s n) g).0))
+    rw (e.activations, e.currents, ap (λ (i : Inc). i.0) e.next)
+    (fewer_stacked (activations_in s.incarnations) (filter (λ (y : Inc × Activation). not (y.1.proc.0 == line.proc.0)) (activations_in s.incarnations)) (currents_in s.processes)
+    s.next_inc.0 h (λ i x g. (halted_found (activations_in s.incarnations) line.proc.0 i x (activations_apart s n) g).0))
 
 -- ---- who lived before
 
@@ -228,10 +238,13 @@ pub lived_before : (s : State) (line : Line) (t : State) → NumbersRise s → T
     → (look_up i (activations_in s.incarnations) ≡ Some x) ⊎ ((enters_call (done_call line) ≡ true) × (i ≡ s.next_inc) × (x.caller ≡ Some line.inc))
 lived_before s line t n (Still q e) i x h = inl (subst (λ fs. look_up i fs ≡ Some x) q.activations h)
 lived_before s line t n (Leave e) i x h = inl (remove_fewer s line.inc n i x (subst (λ fs. look_up i fs ≡ Some x) e.activations h))
-lived_before s line t n (Halt e) i x h = inl (halted_found (activations_in s.incarnations) line.proc.0 i x (activations_apart s n) (subst (λ fs. look_up i fs ≡ Some x) e.activations h)).0
-lived_before s line t n (Enter e) i x h = by (found_last (activations_in s.incarnations) s.next_inc i (record { proc = line.proc; caller = Some line.inc }) x (subst (λ fs. look_up i fs ≡ Some x) e.activations h))
+lived_before s line t n (Halt e) i x h =
+    inl (halted_found (activations_in s.incarnations) line.proc.0 i x (activations_apart s n) (subst (λ fs. look_up i fs ≡ Some x) e.activations h)).0
+lived_before s line t n (Enter e) i x h =
+    by (found_last (activations_in s.incarnations) s.next_inc i (record { proc = line.proc; caller = Some line.inc }) x (subst (λ fs. look_up i fs ≡ Some x) e.activations h))
   where
-    by : (look_up i (activations_in s.incarnations) ≡ Some x) ⊎ ((i ≡ s.next_inc) × (record { proc = line.proc; caller = Some line.inc } ≡ x)) → (look_up i (activations_in s.incarnations) ≡ Some x) ⊎ ((enters_call (done_call line) ≡ true) × (i ≡ s.next_inc) × (x.caller ≡ Some line.inc))
+    by : (look_up i (activations_in s.incarnations) ≡ Some x) ⊎ ((i ≡ s.next_inc) × (record { proc = line.proc; caller = Some line.inc } ≡ x))
+        → (look_up i (activations_in s.incarnations) ≡ Some x) ⊎ ((enters_call (done_call line) ≡ true) × (i ≡ s.next_inc) × (x.caller ≡ Some line.inc))
     by (inl a) = inl a
     by (inr b) = inr (e.is, b.0, ap (λ (z : Activation). z.caller) (sym b.1))
 

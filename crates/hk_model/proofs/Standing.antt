@@ -81,7 +81,8 @@ inc_laws = record {
 
 module _ {K X : Type 0} (eq : K → K → Bool) (laws : IsEquivalence eq) (P : Bool → X → Type 0) where
   -- what holds of a new value at its key, and of the old ones at the others
-  pub set_holds : (k q : K) (es : List (K × X)) (w none : X) → P true w → P true none → P false (unwrap_or (lookup (eq q) es) none) → P (eq q k) (unwrap_or (lookup (eq q) (set_value (eq k) es w)) none)
+  pub set_holds : (k q : K) (es : List (K × X)) (w none : X) → P true w → P true none → P false (unwrap_or (lookup (eq q) es) none)
+      → P (eq q k) (unwrap_or (lookup (eq q) (set_value (eq k) es w)) none)
   set_holds k q [] w none new gone old = on_bool (λ b. P b none) gone old (eq q k)
   set_holds k q (e ∷ es) w none new gone old =
       on_cond (λ l. P (eq q k) (unwrap_or (lookup (eq q) l) none)) (eq k e.0) ((e.0, w) ∷ es) (e ∷ set_value (eq k) es w)
@@ -126,7 +127,8 @@ on_ordering P Greater x y z f g h = h refl
 
 module _ {K X : Type 0} (cmp : K → K → Ordering) (laws : IsEquivalence (λ x y. is_eq (cmp x y))) (P : Bool → X → Type 0) where
   -- the same of a value that is put in at its key
-  pub insert_holds : (k q : K) (es : List (K × X)) (w none : X) → P true w → P false (unwrap_or (lookup (λ x. is_eq (cmp q x)) es) none) → P (is_eq (cmp q k)) (unwrap_or (lookup (λ x. is_eq (cmp q x)) (insert_entry cmp es k w)) none)
+  pub insert_holds : (k q : K) (es : List (K × X)) (w none : X) → P true w → P false (unwrap_or (lookup (λ x. is_eq (cmp q x)) es) none)
+      → P (is_eq (cmp q k)) (unwrap_or (lookup (λ x. is_eq (cmp q x)) (insert_entry cmp es k w)) none)
   insert_holds k q [] w none new old = on_cond2 (is_eq (cmp q k)) new old
     where
       on_cond2 : (b : Bool) → P true w → P false none → P b (unwrap_or (cond b (Some w) None) none)
@@ -144,7 +146,8 @@ module _ {K X : Type 0} (cmp : K → K → Ordering) (laws : IsEquivalence (λ x
       (λ b. let f : is_eq (cmp q k) ≡ false = cc (laws.congr q e.0 k b, laws.symm e.0 k) in rw f (rw b at old))
       (λ b. insert_holds k q es w none new (rw b at old)))
     where
-      front : (b : Bool) → P true w → P false (unwrap_or (lookup (λ x. is_eq (cmp q x)) (e ∷ es)) none) → P b (unwrap_or (cond b (Some w) (lookup (λ x. is_eq (cmp q x)) (e ∷ es))) none)
+      front : (b : Bool) → P true w → P false (unwrap_or (lookup (λ x. is_eq (cmp q x)) (e ∷ es)) none)
+          → P b (unwrap_or (cond b (Some w) (lookup (λ x. is_eq (cmp q x)) (e ∷ es))) none)
       front true h g = h
       front false h g = g
 
@@ -166,13 +169,16 @@ module _ (P : Bool → Entry → Type 0) (s : State) (gone : (b : Bool) → P b 
   pub put_slot_holds : (inc : Inc) (n : ℕ) (e : Entry) (p : Place) → P true e → P false (standing s p) → P (same_place p (SlotOf inc n)) (standing (put_slot s inc n e) p)
   put_slot_holds inc n e (EntryOf a i) new old = old
   put_slot_holds inc n e (SlotOf a i) new old =
-      set_holds same_inc inc_laws (λ b x. b ≡ same_inc a inc → P (b && i == n) (slice_index_or x.slots i Empty)) inc a s.incarnations (record (incarnation s inc) { slots = slice_set (incarnation s inc).slots n e }) no_incarnation
+      set_holds same_inc inc_laws (λ b x. b ≡ same_inc a inc → P (b && i == n) (slice_index_or x.slots i Empty)) inc a s.incarnations
+      (record (incarnation s inc) { slots = slice_set (incarnation s inc).slots n e }) no_incarnation
       (λ h. let same : a ≡ inc = inc_same a inc (sym h) in item_holds P (incarnation s inc).slots n i e new (gone true) (rw (← same) old))
       (λ h. gone (i == n))
       (λ h. old)
       refl
 
-  pub put_object_holds : (name : Name) (n : ℕ) (o : Object) (p : Place) → ((m : ℕ) → P false (slice_index_or (object s name).entries m Empty) → P (m == n) (slice_index_or o.entries m Empty)) → P false (standing s p) → P (same_place p (EntryOf name n)) (standing (put_object s name o) p)
+  pub put_object_holds : (name : Name) (n : ℕ) (o : Object) (p : Place)
+      → ((m : ℕ) → P false (slice_index_or (object s name).entries m Empty) → P (m == n) (slice_index_or o.entries m Empty)) → P false (standing s p)
+      → P (same_place p (EntryOf name n)) (standing (put_object s name o) p)
   put_object_holds name n o (SlotOf a i) new old = old
   put_object_holds name n o (EntryOf a i) new old =
       set_holds same_name name_laws (λ b x. b ≡ same_name a name → P (b && i == n) (slice_index_or x.entries i Empty)) name a s.objects o no_object
@@ -181,7 +187,8 @@ module _ (P : Bool → Entry → Type 0) (s : State) (gone : (b : Bool) → P b 
       (λ h. old)
       refl
 
-  pub add_object_holds : (o : Object) (p : Place) → P true (slice_index_or o.entries (place_index p) Empty) → P false (standing s p) → P (is_of s.next_name p) (standing (add_object s o) p)
+  pub add_object_holds : (o : Object) (p : Place) → P true (slice_index_or o.entries (place_index p) Empty) → P false (standing s p)
+      → P (is_of s.next_name p) (standing (add_object s o) p)
   add_object_holds o (SlotOf a i) new old = old
   add_object_holds o (EntryOf a i) new old =
       insert_holds name_cmp name_laws (λ b x. P b (slice_index_or x.entries i Empty)) s.next_name a s.objects o no_object new old
@@ -192,7 +199,8 @@ module _ (P : Bool → Entry → Type 0) (s : State) (gone : (b : Bool) → P b 
       insert_holds inc_cmp inc_laws (λ b x. P b (slice_index_or x.slots i Empty)) s.next_inc a s.incarnations x no_incarnation new old
 
 -- one item more
-pub append_holds : (P : Bool → Entry → Type 0) (xs : List Entry) (m : ℕ) (e : Entry) → P true e → P false (slice_index_or xs m Empty) → P (m == length xs) (slice_index_or (xs ++ e ∷ []) m Empty)
+pub append_holds : (P : Bool → Entry → Type 0) (xs : List Entry) (m : ℕ) (e : Entry) → P true e → P false (slice_index_or xs m Empty)
+    → P (m == length xs) (slice_index_or (xs ++ e ∷ []) m Empty)
 append_holds P xs m e new old = by (m == length xs) refl
   where
     here : (ys : List Entry) → slice_index_or (ys ++ e ∷ []) (length ys) Empty ≡ e

@@ -51,7 +51,8 @@ member_new (u ∷ us) n = by (same_inc n u) (member_new us n)
 pub under_still : (s : State) (line : Line) (t : State) (us : List Inc) → enters_call (done_call line) ≡ false → under_by s line t us ≡ us
 under_still s line t us e = ap (λ (b : Bool). elim b [ true ↦ elim (is_one_of line.inc us) [ true ↦ us ++ s.next_inc ∷ [] | false ↦ us ] | false ↦ us ]) e
 
-pub under_more : (s : State) (line : Line) (t : State) (us : List Inc) → enters_call (done_call line) ≡ true → under_by s line t us ≡ elim (is_one_of line.inc us) [ true ↦ us ++ s.next_inc ∷ [] | false ↦ us ]
+pub under_more : (s : State) (line : Line) (t : State) (us : List Inc) → enters_call (done_call line) ≡ true
+    → under_by s line t us ≡ elim (is_one_of line.inc us) [ true ↦ us ++ s.next_inc ∷ [] | false ↦ us ]
 under_more s line t us e = ap (λ (b : Bool). elim b [ true ↦ elim (is_one_of line.inc us) [ true ↦ us ++ s.next_inc ∷ [] | false ↦ us ] | false ↦ us ]) e
 
 -- who is under a call stays so
@@ -64,7 +65,8 @@ under_stays s line t us i h = by (enters_call (done_call line)) (is_one_of line.
     by false m = h
 
 -- and whom it enters is under it
-pub entered_is_under : (s : State) (line : Line) (t : State) (us : List Inc) → enters_call (done_call line) ≡ true → is_one_of line.inc us ≡ true → is_one_of s.next_inc (under_by s line t us) ≡ true
+pub entered_is_under : (s : State) (line : Line) (t : State) (us : List Inc) → enters_call (done_call line) ≡ true → is_one_of line.inc us ≡ true
+    → is_one_of s.next_inc (under_by s line t us) ≡ true
 entered_is_under s line t us e h = rw (under_more s line t us e, h) (member_new us s.next_inc)
 
 -- those under the call c of the process p, among these activations
@@ -85,7 +87,8 @@ pub is_some_of : (o : Option Activation) (x : Activation) → o ≡ Some x → I
 is_some_of o x h = rw h refl
 
 -- where some go, but the call only with all under it
-pub under_fewer : (c : Inc) (p : ℕ) (us : List Inc) (fs gs : List (Inc × Activation)) (next : ℕ) → UnderCall c p us fs next → Fewer fs gs → ((i : Inc) (x y : Activation) → is_one_of i us ≡ true → look_up i gs ≡ Some x → look_up c fs ≡ Some y → look_up c gs ≡ Some y) → UnderCall c p us gs next
+pub under_fewer : (c : Inc) (p : ℕ) (us : List Inc) (fs gs : List (Inc × Activation)) (next : ℕ) → UnderCall c p us fs next → Fewer fs gs
+    → ((i : Inc) (x y : Activation) → is_one_of i us ≡ true → look_up i gs ≡ Some x → look_up c fs ≡ Some y → look_up c gs ≡ Some y) → UnderCall c p us gs next
 under_fewer c p us fs gs next u f a = record {
   itself = u.itself;
   above = u.above;
@@ -101,12 +104,14 @@ found_old : (fs : List (Inc × Activation)) (n i : Inc) (f x : Activation) → l
 found_old [] n i f x h = absurd (cc)
 found_old (e ∷ fs) n i f x h = by (same_inc i e.0) (found_old fs n i f x) h
   where
-    by : (b : Bool) → (look_up i fs ≡ Some x → look_up i (fs ++ (n, f) ∷ []) ≡ Some x) → cond b (Some e.1) (look_up i fs) ≡ Some x → cond b (Some e.1) (look_up i (fs ++ (n, f) ∷ [])) ≡ Some x
+    by : (b : Bool) → (look_up i fs ≡ Some x → look_up i (fs ++ (n, f) ∷ []) ≡ Some x) → cond b (Some e.1) (look_up i fs) ≡ Some x
+        → cond b (Some e.1) (look_up i (fs ++ (n, f) ∷ [])) ≡ Some x
     by true rest g = g
     by false rest g = rest g
 
 -- those under the call, with the one that is called by one of them
-module _ (c : Inc) (p : ℕ) (us : List Inc) (fs : List (Inc × Activation)) (n inc : Inc) (proc : Proc) (y : Activation) (u : UnderCall c p us fs n.0) (below : (i : Inc) (x : Activation) → look_up i fs ≡ Some x → i.0 < n.0) (live : look_up inc fs ≡ Some y) (own : y.proc.0 ≡ proc.0) where
+module _ (c : Inc) (p : ℕ) (us : List Inc) (fs : List (Inc × Activation)) (n inc : Inc) (proc : Proc) (y : Activation) (u : UnderCall c p us fs n.0)
+    (below : (i : Inc) (x : Activation) → look_up i fs ≡ Some x → i.0 < n.0) (live : look_up inc fs ≡ Some y) (own : y.proc.0 ≡ proc.0) where
   abbrev called : Activation
   called = record { proc = proc; caller = Some inc }
 
@@ -147,7 +152,8 @@ module _ (c : Inc) (p : ℕ) (us : List Inc) (fs : List (Inc × Activation)) (n 
   n_itself false = u.itself
   n_itself true = member_old us n c u.itself
 
-  pub entered_under : (b : Bool) → is_one_of inc us ≡ b → UnderCall c p (elim b [ true ↦ us ++ n ∷ [] | false ↦ us ]) (fs ++ (n, record { proc = proc; caller = Some inc }) ∷ []) (n.0 + 1)
+  pub entered_under : (b : Bool) → is_one_of inc us ≡ b
+      → UnderCall c p (elim b [ true ↦ us ++ n ∷ [] | false ↦ us ]) (fs ++ (n, record { proc = proc; caller = Some inc }) ∷ []) (n.0 + 1)
   entered_under b e = record {
     itself = n_itself b;
     above = λ i m. n_above i (member b i e m);
@@ -157,11 +163,15 @@ module _ (c : Inc) (p : ℕ) (us : List Inc) (fs : List (Inc × Activation)) (n 
   }
 
 -- a line keeps it, of those who are under the call after it
-pub under_turn : (c : Inc) (p : ℕ) (us : List Inc) (s : State) (line : Line) (t : State) → NumbersRise s → Turn s line t → IsStacked s → UnderCall c p us (activations_in s.incarnations) s.next_inc.0 → UnderCall c p (under_by s line t us) (activations_in t.incarnations) t.next_inc.0
+pub under_turn : (c : Inc) (p : ℕ) (us : List Inc) (s : State) (line : Line) (t : State) → NumbersRise s → Turn s line t → IsStacked s
+    → UnderCall c p us (activations_in s.incarnations) s.next_inc.0 → UnderCall c p (under_by s line t us) (activations_in t.incarnations) t.next_inc.0
 under_turn c p us s line t n (Still q e) st u = rw (under_still s line t us e, q.activations, ap (λ (i : Inc). i.0) q.next) u
-under_turn c p us s line t n (Leave e) st u = rw (under_still s line t us e.is, e.activations, ap (λ (i : Inc). i.0) e.next) (under_fewer c p us (activations_in s.incarnations) (remove_entry (same_inc line.inc) (activations_in s.incarnations)) s.next_inc.0 u (remove_fewer s line.inc n) stays)
+under_turn c p us s line t n (Leave e) st u =
+    rw (under_still s line t us e.is, e.activations, ap (λ (i : Inc). i.0) e.next)
+    (under_fewer c p us (activations_in s.incarnations) (remove_entry (same_inc line.inc) (activations_in s.incarnations)) s.next_inc.0 u (remove_fewer s line.inc n) stays)
   where
-    stays : (i : Inc) (x y : Activation) → is_one_of i us ≡ true → look_up i (remove_entry (same_inc line.inc) (activations_in s.incarnations)) ≡ Some x → look_up c (activations_in s.incarnations) ≡ Some y → look_up c (remove_entry (same_inc line.inc) (activations_in s.incarnations)) ≡ Some y
+    stays : (i : Inc) (x y : Activation) → is_one_of i us ≡ true → look_up i (remove_entry (same_inc line.inc) (activations_in s.incarnations)) ≡ Some x
+        → look_up c (activations_in s.incarnations) ≡ Some y → look_up c (remove_entry (same_inc line.inc) (activations_in s.incarnations)) ≡ Some y
     stays i x y m g h = by (same_inc line.inc c) refl
       where
         by : (b : Bool) → same_inc line.inc c ≡ b → look_up c (remove_entry (same_inc line.inc) (activations_in s.incarnations)) ≡ Some y
@@ -181,15 +191,24 @@ under_turn c p us s line t n (Leave e) st u = rw (under_still s line t us e.is, 
             let itself : same_inc line.inc i ≡ true = rw (← eq) (inc_laws.refl line.inc) in
             let no = found.1 in
             absurd (cc)
-under_turn c p us s line t n (Halt e) st u = rw (under_still s line t us (ap enters_call e.is), e.activations, ap (λ (i : Inc). i.0) e.next) (under_fewer c p us (activations_in s.incarnations) (filter (λ (y : Inc × Activation). not (y.1.proc.0 == line.proc.0)) (activations_in s.incarnations)) s.next_inc.0 u (λ i x g. (halted_found (activations_in s.incarnations) line.proc.0 i x (activations_apart s n) g).0) stays)
+under_turn c p us s line t n (Halt e) st u =
+    rw (under_still s line t us (ap enters_call e.is), e.activations, ap (λ (i : Inc). i.0) e.next)
+    (under_fewer c p us (activations_in s.incarnations) (filter (λ (y : Inc × Activation). not (y.1.proc.0 == line.proc.0)) (activations_in s.incarnations)) s.next_inc.0 u
+    (λ i x g. (halted_found (activations_in s.incarnations) line.proc.0 i x (activations_apart s n) g).0) stays)
   where
-    stays : (i : Inc) (x y : Activation) → is_one_of i us ≡ true → look_up i (filter (λ (y : Inc × Activation). not (y.1.proc.0 == line.proc.0)) (activations_in s.incarnations)) ≡ Some x → look_up c (activations_in s.incarnations) ≡ Some y → look_up c (filter (λ (y : Inc × Activation). not (y.1.proc.0 == line.proc.0)) (activations_in s.incarnations)) ≡ Some y
+    stays : (i : Inc) (x y : Activation) → is_one_of i us ≡ true
+        → look_up i (filter (λ (y : Inc × Activation). not (y.1.proc.0 == line.proc.0)) (activations_in s.incarnations)) ≡ Some x
+        → look_up c (activations_in s.incarnations) ≡ Some y
+        → look_up c (filter (λ (y : Inc × Activation). not (y.1.proc.0 == line.proc.0)) (activations_in s.incarnations)) ≡ Some y
     stays i x y m g h =
         let found = halted_found (activations_in s.incarnations) line.proc.0 i x (activations_apart s n) g in
         let same : y.proc.0 ≡ x.proc.0 = u.kin c y u.itself h ∙ sym (u.kin i x m found.0) in
         halted_keeps (activations_in s.incarnations) line.proc.0 c y (activations_apart s n) h (rw same found.1)
 under_turn c p us s line t n (Enter e) st u =
-    rw (under_more s line t us e.is, e.activations, e.next) (entered_under c p us (activations_in s.incarnations) s.next_inc line.inc line.proc (activation (incarnation s line.inc)) u st.below (activation_live s.incarnations line.inc e.live) (st.own line.proc.0 line.inc (activation (incarnation s line.inc)) e.now (activation_live s.incarnations line.inc e.live)) (is_one_of line.inc us) refl)
+    rw (under_more s line t us e.is, e.activations, e.next)
+    (entered_under c p us (activations_in s.incarnations) s.next_inc line.inc line.proc (activation (incarnation s line.inc)) u st.below
+    (activation_live s.incarnations line.inc e.live) (st.own line.proc.0 line.inc (activation (incarnation s line.inc)) e.now (activation_live s.incarnations line.inc e.live))
+    (is_one_of line.inc us) refl)
 
 -- ---- the call at its beginning
 
@@ -209,7 +228,8 @@ under_begins s c stacked live = record {
   itself = one_itself c;
   above = λ i h. let e = same i h in omega (arith, e);
   fresh = λ i h. let e = same i h in let b = stacked.below c (activation (incarnation s c)) there in omega (arith, e, b);
-  kin = λ i x h g. let f : Some x ≡ Some (activation (incarnation s c)) = sym g ∙ (rw (one_is c i h) there) in let k : x ≡ activation (incarnation s c) = cc in ap (λ (z : Activation). z.proc.0) k;
+  kin = λ i x h g. let f : Some x ≡ Some (activation (incarnation s c)) = sym g
+      ∙ (rw (one_is c i h) there) in let k : x ≡ activation (incarnation s c) = cc in ap (λ (z : Activation). z.proc.0) k;
   alive = λ i x h g. rw there refl;
 }
   where
@@ -227,10 +247,12 @@ found_live s i h = by s.incarnations h
     by [] g = g
     by (e ∷ es) g = on (same_inc i e.0) (by es) g
       where
-        on : (b : Bool) → (IsTrue (is_some (look_up i (activations_in es))) → IsTrue (is_some (lookup (same_inc i) es))) → IsTrue (is_some (cond b (Some (activation e.1)) (look_up i (activations_in es)))) → IsTrue (is_some (cond b (Some e.1) (lookup (same_inc i) es)))
+        on : (b : Bool) → (IsTrue (is_some (look_up i (activations_in es))) → IsTrue (is_some (lookup (same_inc i) es)))
+            → IsTrue (is_some (cond b (Some (activation e.1)) (look_up i (activations_in es)))) → IsTrue (is_some (cond b (Some e.1) (lookup (same_inc i) es)))
         on true rest k = refl
         on false rest k = rest k
 
 -- who lives under a call keeps it alive
-pub under_alive : (c : Inc) (p : ℕ) (us : List Inc) (s : State) (i : Inc) → UnderCall c p us (activations_in s.incarnations) s.next_inc.0 → is_one_of i us ≡ true → is_live s i ≡ true → is_live s c ≡ true
+pub under_alive : (c : Inc) (p : ℕ) (us : List Inc) (s : State) (i : Inc) → UnderCall c p us (activations_in s.incarnations) s.next_inc.0 → is_one_of i us ≡ true
+    → is_live s i ≡ true → is_live s c ≡ true
 under_alive c p us s i u h live = found_live s c (u.alive i (activation (incarnation s i)) h (activation_live s.incarnations i live))

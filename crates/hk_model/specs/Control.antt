@@ -1,5 +1,6 @@
 -- The control of a process: what it does next, and how a reply changes that. docs/RULES.md, "Control of a process".
-use Rattle.std.specs.Prelude.{ℕ, zero, suc, ◌+◌, ◌-◌, ◌%◌, ◌^◌, ◌==◌, Bool, true, false, List, [], ◌∷◌, length, Option, Some, None, nat_lt, if◌then◌else◌, slice_index, slice_get, slice_set, map, min, replicate}
+use Rattle.std.specs.Prelude.{ℕ, zero, suc, ◌+◌, ◌-◌, ◌%◌, ◌^◌, ◌==◌, Bool, true, false, List, [], ◌∷◌, length, Option, Some, None, nat_lt, if◌then◌else◌, slice_index, slice_get}
+use Rattle.std.specs.Prelude.{slice_set, map, min, replicate}
 use Rattle.hk_model.specs.declared.calls.Call.{Call}
 use Rattle.hk_model.specs.declared.calls.Call.TheVariants as call
 use Rattle.hk_model.specs.declared.calls.Reply.{Reply}
@@ -15,7 +16,7 @@ use Rattle.hk_model.specs.declared.frames.Frame.{Frame}
 use Rattle.hk_model.specs.declared.frames.Todo.{Todo}
 use Rattle.hk_model.specs.declared.frames.Todo.TheVariants.{Do, Halt}
 use Rattle.hk_model.specs.Limits.{index_bound, local_limit, register_limit}
-use Rattle.hk_model.specs.Setup.{Setup}
+use Rattle.hk_model.specs.WorldValue.{WorldValue}
 
 -- a frame at the beginning of a code
 abbrev pub new_frame : ℕ → Frame
@@ -79,7 +80,7 @@ meaning f (instr.IfLess left right to) = Local (if nat_lt (operand f left) (oper
 meaning f (instr.IfDenied to) = Local (if f.refused then go_to f to else step_over f)
 
 -- the instructions of a code
-abbrev pub steps_of : Setup → ℕ → List Instr
+abbrev pub steps_of : WorldValue → ℕ → List Instr
 steps_of w code = elim (slice_get w.codes code) [ None ↦ [] | Some c ↦ c.steps ]
 
 -- what stands next in a frame: at the code's end a return
@@ -93,7 +94,7 @@ next_from zero steps f (Local g) = (Halt, f)
 next_from (suc budget) steps f (Local g) = next_from budget steps g (here steps g)
 
 -- the next call or halt of a process, and the context that its local instructions leave
-unfoldable pub next : Setup → Context → Todo × Context
+unfoldable pub next : WorldValue → Context → Todo × Context
 next w [] = (Halt, [])
 next w (f ∷ rest) =
     let found = next_from local_limit (steps_of w f.code) f (here (steps_of w f.code) f) in (found.0, found.1 ∷ rest)
@@ -121,7 +122,7 @@ is_refusal Waits = false
 is_refusal (No refusal) = true
 
 -- the frame behind a call
-abbrev pub behind : Setup → Frame → Reply → Frame
+abbrev pub behind : WorldValue → Frame → Reply → Frame
 behind w f reply =
     let here = slice_get (steps_of w f.code) f.at in
     record (with_word f here reply) {
@@ -136,6 +137,6 @@ frames_after (call.Leave give) Done None (f ∷ rest) = rest
 frames_after _ reply None frames = frames
 
 -- the context for the next turn, after a call was answered
-unfoldable pub after : Setup → Context → Call → Reply → Option ℕ → Context
+unfoldable pub after : WorldValue → Context → Call → Reply → Option ℕ → Context
 after w [] c reply code = []
 after w (f ∷ rest) c reply code = frames_after c reply code (behind w f reply ∷ rest)

@@ -9,12 +9,12 @@ use Rattle.hk_model.specs.declared.entries.Entry.{Entry}
 use Rattle.hk_model.specs.declared.entries.Entry.TheVariants.{Empty, Held, Form}
 use Rattle.hk_model.specs.declared.lines.Line.{Line}
 use Rattle.hk_rights.specs.Rights.{special_rights, minus}
-use Rattle.hk_model.specs.Setup.{Setup}
+use Rattle.hk_model.specs.WorldValue.{WorldValue}
 use Rattle.hk_model.specs.State.{State, object}
 use Rattle.hk_model.specs.Targets.{ENV+A0}
 use Rattle.hk_model.specs.Opening.{opening}
 use Rattle.hk_model.specs.Running.{opened, state_at}
-use Rattle.hk_model.specs.Places.{Place, standing, named}
+use Rattle.hk_model.specs.Places.{Place, standing, object_named}
 use Rattle.hk_model.specs.Lines.{told}
 use Rattle.hk_model.specs.Ways.{Within}
 use Rattle.hk_model.specs.Origins.{Maker, ByCreate, ByCopy, ByMakeTemplate, Origin, From, Through, Made, line_origin}
@@ -36,7 +36,7 @@ abbrev pub extended : State → (Place → Chain) → Option Origin → Place �
 extended s chains None p = chains p
 extended s chains (Some (From q)) p = Link (s.events + 1) q (standing s q) None (chains q)
 extended s chains (Some (Through q form)) p =
-    Link (s.events + 1) q (standing s q) (Some (record { form = form; of = (object s (named (standing s q))).of })) (chains q)
+    Link (s.events + 1) q (standing s q) (Some (record { form = form; of = (object s (object_named (standing s q))).of })) (chains q)
 extended s chains (Some (Made by target)) p = MadeAt (s.events + 1) by target
 
 -- the chains after one more line
@@ -44,7 +44,7 @@ abbrev pub extend : State → Line → State → (Place → Chain) → (Place �
 extend s line t chains p = extended s chains (line_origin s line p) p
 
 -- the chain of each place after these lines
-abbrev pub chains : Setup → List Line → Place → Chain
+abbrev pub chains : WorldValue → List Line → Place → Chain
 chains w lines = told extend w (opened w) lines Opened
 
 -- the same object with no right more, or the same template
@@ -107,13 +107,13 @@ IfThere (Held cap) P = P
 IfThere (Form form) P = P
 
 -- what stands at the end of a chain stood so at the opening, or was made so, and each link is one
-abbrev pub Descends : Setup → Entry → Chain → Type 0
+abbrev pub Descends : WorldValue → Entry → Chain → Type 0
 Descends w x (Opened p) = IfThere x (x ≡ standing (opening w) p)
 Descends w x (MadeAt line by target) = IsMade by target x
 Descends w x (Link line place entry gate rest) = IfThere x (IsLink entry gate x × Descends w entry rest)
 
 -- the descent law: at every moment, what stands at a place descends by the chain of that place
-abbrev pub DescentLaw : Setup → List Line → Type 0
+abbrev pub DescentLaw : WorldValue → List Line → Type 0
 DescentLaw w lines = (moment : ℕ) (p : Place) → Descends w (standing (state_at w lines moment) p) (chains w (take moment lines) p)
 
 -- the numbers of a chain's lines fall from its first link on; the first is no greater than this
@@ -123,5 +123,5 @@ LinesFall most (MadeAt line by target) = (1 ≤ line) × (line ≤ most)
 LinesFall most (Link line place entry gate rest) = (1 ≤ line) × (line ≤ most) × LinesFall (line - 1) rest
 
 -- at every moment the numbers of each chain's lines fall, and none is greater than the moment
-abbrev pub ChainsFall : Setup → List Line → Type 0
+abbrev pub ChainsFall : WorldValue → List Line → Type 0
 ChainsFall w lines = (moment : ℕ) (p : Place) → LinesFall moment (chains w (take moment lines) p)

@@ -19,7 +19,7 @@ use Rattle.hk_model.specs.declared.world.Kind.TheVariants as kind
 use Rattle.hk_model.specs.declared.world.Task.{Task}
 use Rattle.hk_model.specs.Limits.{event_limit}
 use Rattle.hk_model.specs.Targets.{DATA}
-use Rattle.hk_model.specs.Setup.{Setup, setup}
+use Rattle.hk_model.specs.WorldValue.{WorldValue, world_value}
 
 -- sets of rights
 
@@ -62,8 +62,8 @@ abbrev pub task : List ℕ → ℕ → List Entry → Task
 task label code slots = record { label = label; code = code; slots = slots }
 
 -- a capability
-abbrev pub held : ℕ → ℕ → Entry
-held n rights = Held (record { name = name n; rights = rights })
+abbrev pub capability : ℕ → ℕ → Entry
+capability n rights = Held (record { name = name n; rights = rights })
 
 -- the names of the objects, and the numbers of the codes
 
@@ -115,7 +115,7 @@ main_steps =
 
 -- what each process holds: the procedure, the object and the lock
 abbrev pub main_slots : List Entry
-main_slots = held bump A0 ∷ held total GETDATA+PUTDATA+MODIFY ∷ held lock MODIFY+A0+A1 ∷ []
+main_slots = capability bump A0 ∷ capability total GETDATA+PUTDATA+MODIFY ∷ capability lock MODIFY+A0+A1 ∷ []
 
 -- the process of this number: `w` and the number is its label
 abbrev pub process_numbered : ℕ → Task
@@ -127,5 +127,5 @@ processes_from n zero = []
 processes_from n (suc k) = process_numbered n ∷ processes_from (n + 1) k
 
 -- the generated world of so many processes
-unfoldable pub generate : ℕ → Setup
-generate k = setup event_limit objects (code (codes "cbump") bump_steps ∷ code (codes "main") main_steps ∷ []) (processes_from 0 k)
+unfoldable pub generate : ℕ → WorldValue
+generate k = world_value event_limit objects (code (codes "cbump") bump_steps ∷ code (codes "main") main_steps ∷ []) (processes_from 0 k)

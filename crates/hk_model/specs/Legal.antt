@@ -5,7 +5,7 @@ use Rattle.hk_model.specs.declared.lines.Line.{Line}
 use Rattle.hk_model.specs.declared.lines.End.{End}
 use Rattle.hk_model.specs.declared.lines.End.TheVariants as end
 use Rattle.hk_model.specs.declared.objects.Process.{Process}
-use Rattle.hk_model.specs.Setup.{Setup}
+use Rattle.hk_model.specs.WorldValue.{WorldValue}
 use Rattle.hk_model.specs.State.{State}
 use Rattle.hk_model.specs.Processors.{is_over, has_ended, is_waiting, may_step}
 use Rattle.hk_model.specs.Running.{AreStepsOf, state_after}
@@ -20,6 +20,6 @@ end_word s =
     else None
 
 -- each line is the step of its processor after the lines before it, and the end word is that of the last state
-pub record IsLegal (w : Setup) (lines : List Line) (end : End) : Type 0 where
+pub record IsLegal (w : WorldValue) (lines : List Line) (end : End) : Type 0 where
   pub steps : AreStepsOf w lines
   pub ends : end_word (state_after w lines) ≡ Some end

@@ -10,7 +10,7 @@ use Rattle.hk_model.specs.declared.calls.Reply.{Reply}
 use Rattle.hk_model.specs.declared.lines.What.{What}
 use Rattle.hk_model.specs.declared.lines.What.TheVariants as what
 use Rattle.hk_model.specs.declared.lines.Line.{Line}
-use Rattle.hk_model.specs.Setup.{Setup}
+use Rattle.hk_model.specs.WorldValue.{WorldValue}
 use Rattle.hk_model.specs.State.{State}
 use Rattle.hk_model.specs.Control.{is_refusal}
 use Rattle.hk_model.specs.Running.{Machine, moved}
@@ -72,6 +72,6 @@ line_before lines zero = None
 line_before lines (suc earlier) = slice_get lines earlier
 
 -- what is told of a history from a machine on: of each line, from the states before and after it
-abbrev pub told : {G : Type 0} → (State → Line → State → G → G) → Setup → Machine → List Line → G → G
+abbrev pub told : {G : Type 0} → (State → Line → State → G → G) → WorldValue → Machine → List Line → G → G
 told f w m [] so_far = so_far
 told f w m (line ∷ lines) so_far = told f w (moved w m line.cpu) lines (f m.state line (moved w m line.cpu).state so_far)

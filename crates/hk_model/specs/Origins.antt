@@ -7,8 +7,8 @@ use Rattle.hk_model.specs.declared.entries.Param.{Param}
 use Rattle.hk_model.specs.declared.entries.Entry.{Entry}
 use Rattle.hk_model.specs.declared.lines.Line.{Line}
 use Rattle.hk_model.specs.State.{State}
-use Rattle.hk_model.specs.Places.{Place, SlotOf, EntryOf, end_of, named_by, found}
-use Rattle.hk_model.specs.Ways.{Way, Walked, Stored, Lessened, Merged, Inherited, Copied, CopyOf, Created, Formed, Gone, line_way}
+use Rattle.hk_model.specs.Places.{Place, SlotOf, EntryOf, walk_end, named_by, found}
+use Rattle.hk_model.specs.Ways.{Way, Walked, Stored, Lessened, Merged, Inherited, Copied, CopyOf, Created, Formed, Emptied, line_way}
 
 -- the call that made an entry, with the name of the new object
 pub data Maker : Type 0 where
@@ -24,7 +24,7 @@ pub data Origin : Type 0 where
 
 -- the origin of a way: none where nothing is written but that the place is empty
 abbrev pub origin_of : State → Inc → Way → Option Origin
-origin_of s inc (Walked path) = Some (From (end_of s inc path))
+origin_of s inc (Walked path) = Some (From (walk_end s inc path))
 origin_of s inc (Stored slot) = Some (From (SlotOf inc slot))
 origin_of s inc (Lessened slot keep) = Some (From (SlotOf inc slot))
 origin_of s inc (Merged slot form) = Some (Through (SlotOf inc slot) form)
@@ -33,7 +33,7 @@ origin_of s inc (Copied path index) = Some (From (EntryOf (named_by s inc path) 
 origin_of s inc (CopyOf path) = Some (Made (ByCopy s.next_name) (found s inc path))
 origin_of s inc (Created path) = Some (Made (ByCreate s.next_name) (found s inc path))
 origin_of s inc (Formed path kind) = Some (Made ByMakeTemplate (found s inc path))
-origin_of s inc Gone = None
+origin_of s inc Emptied = None
 
 -- the origin of each place that a line writes with an entry; none of a place that it leaves, or empties
 abbrev pub line_origin : State → Line → Place → Option Origin

@@ -42,16 +42,16 @@ cap_of (Held cap) = Some cap
 cap_of (Form form) = None
 
 -- the object that a capability names; of another entry the name 0, which stands for none
-abbrev pub named : Entry → Name
-named (Held cap) = cap.name
-named Empty = record { 0 = 0 }
-named (Form form) = record { 0 = 0 }
+abbrev pub object_named : Entry → Name
+object_named (Held cap) = cap.name
+object_named Empty = record { 0 = 0 }
+object_named (Form form) = record { 0 = 0 }
 
 -- the rights of a capability; of another entry none
-abbrev pub rights_of : Entry → ℕ
-rights_of (Held cap) = cap.rights
-rights_of Empty = 0
-rights_of (Form form) = 0
+abbrev pub rights_held : Entry → ℕ
+rights_held (Held cap) = cap.rights
+rights_held Empty = 0
+rights_held (Form form) = 0
 
 -- an Amplify template, as it merges; of another entry a template that no merge uses
 abbrev pub form_of : Entry → Param
@@ -62,7 +62,7 @@ form_of (Held cap) = record { of = None; check = 0; give = 0 }
 
 -- the place one step further: an index in the list of the object that the entry at a place names
 abbrev pub next_place : State → Place → ℕ → Place
-next_place s place at = EntryOf (named (standing s place)) at
+next_place s place at = EntryOf (object_named (standing s place)) at
 
 -- the last place of a walk from a place on
 abbrev pub end_from : State → Place → List ℕ → Place
@@ -75,9 +75,9 @@ passed_from s place [] = place ∷ []
 passed_from s place (at ∷ rest) = place ∷ passed_from s (next_place s place at) rest
 
 -- the last place of an incarnation's walk; of no walk, a slot that no incarnation has
-abbrev pub end_of : State → Inc → List ℕ → Place
-end_of s inc [] = SlotOf inc slot_limit
-end_of s inc (at ∷ rest) = end_from s (SlotOf inc at) rest
+abbrev pub walk_end : State → Inc → List ℕ → Place
+walk_end s inc [] = SlotOf inc slot_limit
+walk_end s inc (at ∷ rest) = end_from s (SlotOf inc at) rest
 
 -- all places that an incarnation's walk passes, the last one too
 abbrev pub passed : State → Inc → List ℕ → List Place
@@ -86,7 +86,7 @@ passed s inc (at ∷ rest) = passed_from s (SlotOf inc at) rest
 
 -- the object that a path of an incarnation names
 abbrev pub named_by : State → Inc → List ℕ → Name
-named_by s inc path = named (standing s (end_of s inc path))
+named_by s inc path = object_named (standing s (walk_end s inc path))
 
 -- what an answer gives, nothing where it is a refusal
 abbrev pub entry_given : Result Entry Refusal → Entry

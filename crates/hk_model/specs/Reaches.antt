@@ -1,5 +1,5 @@
 -- Which objects a call may come to change: its modifiable and its unconfined reach. docs/RULES.md, "Reaches".
-use Rattle.std.specs.Prelude.{◌≡◌, ℕ, ◌≤◌, Bool, true, ◌&&◌, List, [], ◌∷◌, Option, Some, None, if◌then◌else◌, slice_get, option_map, nat_le}
+use Rattle.std.specs.Prelude.{◌≡◌, ℕ, ◌≤◌, Bool, true, false, ◌&&◌, List, [], ◌∷◌, Option, Some, None, if◌then◌else◌, slice_get, option_map, nat_le}
 use Rattle.std.specs.Option.{option_and_then}
 use Rattle.hk_model.specs.declared.names.Name.{Name}
 use Rattle.hk_model.specs.declared.names.Inc.{Inc}
@@ -7,19 +7,28 @@ use Rattle.hk_model.specs.declared.entries.Cap.{Cap}
 use Rattle.hk_model.specs.declared.entries.Entry.{Entry}
 use Rattle.hk_model.specs.declared.entries.Entry.TheVariants.{Held}
 use Rattle.hk_model.specs.declared.lines.Line.{Line}
+use Rattle.hk_model.specs.declared.reaches.Hop.{Hop}
+use Rattle.hk_model.specs.declared.reaches.Hop.TheVariants as hop_by
 use Rattle.hk_rights.specs.Rights.{has, modify_right, unconf_right}
-use Rattle.hk_model.specs.Setup.{Setup}
+use Rattle.hk_model.specs.WorldValue.{WorldValue}
 use Rattle.hk_model.specs.State.{State, object}
 use Rattle.hk_model.specs.Running.{state_at}
 use Rattle.hk_model.specs.Places.{cap_of}
 use Rattle.hk_model.specs.Under.{is_made_under, parameters}
 
--- a hop from an object to one for which its list holds a capability at an index, at a moment: by the entry, or handed to
--- what was made under the call
-pub record Hop : Type 0 where
-  pub index : ℕ
-  pub moment : ℕ
-  pub handed : Bool
+-- a hop is from an object to one for which its list holds a capability at an index, at a moment
+abbrev pub index_of : Hop → ℕ
+index_of (hop_by.Entry index moment) = index
+index_of (hop_by.Handed index moment) = index
+
+abbrev pub moment_of : Hop → ℕ
+moment_of (hop_by.Entry index moment) = moment
+moment_of (hop_by.Handed index moment) = moment
+
+-- it is handed to what was made under the call, and not by the entry
+abbrev pub is_handed : Hop → Bool
+is_handed (hop_by.Entry index moment) = false
+is_handed (hop_by.Handed index moment) = true
 
 -- where a reach has come to: an object, whether it stands good for the modifiable and for the unconfined reach, and at
 -- which moment
@@ -46,15 +55,15 @@ listed_cap s name index = option_and_then cap_of (slice_get (object s name).entr
 -- from one that stands good for the modifiable reach to one that was made under the call
 abbrev pub onward : (Name → Bool) → Hop → Reached → Cap → Option Reached
 onward made hop from cap =
-    if hop.handed
-    then (if from.modify && made cap.name then Some (handed_over hop.moment cap) else None)
-    else (if from.unconf then Some (reached_by hop.moment cap) else None)
+    if is_handed hop
+    then (if from.modify && made cap.name then Some (handed_over (moment_of hop) cap) else None)
+    else (if from.unconf then Some (reached_by (moment_of hop) cap) else None)
 
 -- where a hop leads, if it can be made, with the states at all moments and what was made under the call: moments never
 -- fall
 abbrev pub hop_to : (ℕ → State) → (Name → Bool) → Hop → Reached → Option Reached
 hop_to at made hop from =
-    if nat_le from.moment hop.moment then option_and_then (onward made hop from) (listed_cap (at hop.moment) from.name hop.index) else None
+    if nat_le from.moment (moment_of hop) then option_and_then (onward made hop from) (listed_cap (at (moment_of hop)) from.name (index_of hop)) else None
 
 -- where the hops lead, if each can be made
 abbrev pub follow : (ℕ → State) → (Name → Bool) → List Hop → Reached → Option Reached
@@ -70,7 +79,8 @@ abbrev pub reach : (ℕ → State) → (Name → Bool) → List Entry → ℕ �
 reach at made params k param hops = option_and_then (follow at made hops) (param_reached params k param)
 
 -- the parameter and the hops lead to the object by a moment, where it stands good
-pub record IsReach (at : ℕ → State) (made : Name → Bool) (params : List Entry) (k : ℕ) (good_for : Reached → Bool) (moment : ℕ) (name : Name) (param : ℕ) (hops : List Hop) : Type 0 where
+pub record IsReach (at : ℕ → State) (made : Name → Bool) (params : List Entry) (k : ℕ) (good_for : Reached → Bool) (moment : ℕ) (name : Name) (param : ℕ)
+    (hops : List Hop) : Type 0 where
   pub there : Reached
   pub leads : reach at made params k param hops ≡ Some there
   pub same : there.name ≡ name
@@ -84,12 +94,12 @@ pub record IsReached (at : ℕ → State) (made : Name → Bool) (params : List 
   pub is : IsReach at made params k good_for moment name param hops
 
 -- the modifiable reach of the call that begins at moment k, at a moment
-abbrev pub IsModifiable : Setup → List Line → ℕ → Inc → ℕ → Name → Type 0
+abbrev pub IsModifiable : WorldValue → List Line → ℕ → Inc → ℕ → Name → Type 0
 IsModifiable w lines k call moment name =
     IsReached (state_at w lines) (is_made_under w lines k call) (parameters w lines k call) k (λ there. there.modify) moment name
 
 -- the unconfined reach
-abbrev pub IsUnconfined : Setup → List Line → ℕ → Inc → ℕ → Name → Type 0
+abbrev pub IsUnconfined : WorldValue → List Line → ℕ → Inc → ℕ → Name → Type 0
 IsUnconfined w lines k call moment name =
     IsReached (state_at w lines) (is_made_under w lines k call) (parameters w lines k call) k (λ there. there.unconf) moment name
 
@@ -101,17 +111,21 @@ pub record AreReaches (at : ℕ → State) (made : Name → Bool) (params : List
   pub param_unconf : (param : ℕ) (cap : Cap) → slice_get params param ≡ Some (Held cap) → has cap.rights unconf_right ≡ true → U k cap.name
   pub later_modify : (early late : ℕ) (x : Name) → k ≤ early → early ≤ late → M early x → M late x
   pub later_unconf : (early late : ℕ) (x : Name) → k ≤ early → early ≤ late → U early x → U late x
-  pub entry_modify : (moment index : ℕ) (x : Name) (cap : Cap) → k ≤ moment → U moment x → listed_cap (at moment) x index ≡ Some cap → has cap.rights modify_right ≡ true → M moment cap.name
-  pub entry_unconf : (moment index : ℕ) (x : Name) (cap : Cap) → k ≤ moment → U moment x → listed_cap (at moment) x index ≡ Some cap → has cap.rights unconf_right ≡ true → U moment cap.name
-  pub handed : (moment index : ℕ) (x : Name) (cap : Cap) → k ≤ moment → M moment x → listed_cap (at moment) x index ≡ Some cap → made cap.name ≡ true → M moment cap.name × U moment cap.name
+  pub entry_modify : (moment index : ℕ) (x : Name) (cap : Cap) → k ≤ moment → U moment x → listed_cap (at moment) x index ≡ Some cap → has cap.rights modify_right ≡ true
+      → M moment cap.name
+  pub entry_unconf : (moment index : ℕ) (x : Name) (cap : Cap) → k ≤ moment → U moment x → listed_cap (at moment) x index ≡ Some cap → has cap.rights unconf_right ≡ true
+      → U moment cap.name
+  pub handed : (moment index : ℕ) (x : Name) (cap : Cap) → k ≤ moment → M moment x → listed_cap (at moment) x index ≡ Some cap → made cap.name ≡ true
+      → M moment cap.name × U moment cap.name
 
 -- the sets keep the rules, and all tests of names that keep them pass what is in the sets: so the sets are the least
 pub record AreLeastReaches (at : ℕ → State) (made : Name → Bool) (params : List Entry) (k : ℕ) (M U : ℕ → Name → Type 0) : Type 0 where
   pub keep : AreReaches at made params k M U
-  pub least : (m u : ℕ → Name → Bool) → AreReaches at made params k (λ moment x. m moment x ≡ true) (λ moment x. u moment x ≡ true) → (moment : ℕ) (x : Name) → (M moment x → m moment x ≡ true) × (U moment x → u moment x ≡ true)
+  pub least : (m u : ℕ → Name → Bool) → AreReaches at made params k (λ moment x. m moment x ≡ true) (λ moment x. u moment x ≡ true) → (moment : ℕ) (x : Name)
+      → (M moment x → m moment x ≡ true) × (U moment x → u moment x ≡ true)
 
 -- the law of the reaches: those of each call are the least sets that keep their rules
-abbrev pub ReachLaw : Setup → List Line → Type 0
+abbrev pub ReachLaw : WorldValue → List Line → Type 0
 ReachLaw w lines =
     (k : ℕ) (call : Inc)
     → AreLeastReaches (state_at w lines) (is_made_under w lines k call) (parameters w lines k call) k (IsModifiable w lines k call) (IsUnconfined w lines k call)

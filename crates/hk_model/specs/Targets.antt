@@ -49,8 +49,8 @@ is_general of = of.0 == DATA || of.0 == UNIVERSAL || nat_lt LNS of.0
 abbrev pub is_listed : Name → Bool
 is_listed of = of.0 == UNIVERSAL || of.0 == PROCEDURE || nat_lt LNS of.0
 
-abbrev pub is_type : ℕ → Name → Bool
-is_type n of = of.0 == n
+abbrev pub is_of_type : ℕ → Name → Bool
+is_of_type n of = of.0 == n
 
 -- every change of an object asks for MODIFY besides the particular right
 abbrev pub PUTDATA+MODIFY : ℕ

@@ -6,7 +6,7 @@ use Rattle.hk_model.specs.declared.verdicts.Misstep.{Misstep}
 use Rattle.hk_model.specs.declared.verdicts.Misstep.TheVariants as misstep
 use Rattle.hk_model.specs.declared.verdicts.Verdict.{Verdict}
 use Rattle.hk_model.specs.declared.verdicts.Verdict.TheVariants as verdict
-use Rattle.hk_model.specs.Setup.{Setup}
+use Rattle.hk_model.specs.WorldValue.{WorldValue}
 use Rattle.hk_model.specs.Running.{AreStepsOf, line_of, machine_at, state_after}
 use Rattle.hk_model.specs.Legal.{IsLegal, end_word}
 
@@ -23,7 +23,7 @@ Differs (Some step) line misstep.Reply = IsBySame step line × (step.what ≡ li
 Differs _ line _ = ⊥
 
 -- line n, counted from 1, is the first that is not the step of its processor, for this cause
-pub record IsBadLine (w : Setup) (lines : List Line) (n : ℕ) (cause : Misstep) : Type 0 where
+pub record IsBadLine (w : WorldValue) (lines : List Line) (n : ℕ) (cause : Misstep) : Type 0 where
   pub before : ℕ
   pub number : n ≡ before + 1
   pub line : Line
@@ -32,17 +32,17 @@ pub record IsBadLine (w : Setup) (lines : List Line) (n : ℕ) (cause : Misstep)
   pub differs : Differs (line_of w (machine_at w lines before) line.cpu) line cause
 
 -- all lines are steps, and the end word is not that of the last state; n is the number of lines plus one
-pub record IsBadEnd (w : Setup) (lines : List Line) (end : End) (n : ℕ) : Type 0 where
+pub record IsBadEnd (w : WorldValue) (lines : List Line) (end : End) (n : ℕ) : Type 0 where
   pub number : n ≡ length lines + 1
   pub steps : AreStepsOf w lines
   pub differs : end_word (state_after w lines) ≡ Some end → ⊥
 
 -- the first bad line n with its first cause, or the bad end word behind all lines
-abbrev pub IsMisstep : Setup → List Line → End → ℕ → Misstep → Type 0
+abbrev pub IsMisstep : WorldValue → List Line → End → ℕ → Misstep → Type 0
 IsMisstep w lines end n misstep.EndWord = IsBadEnd w lines end n
 IsMisstep w lines end n cause = IsBadLine w lines n cause
 
 -- the verdict on these lines and this end word
-abbrev pub IsVerdict : Setup → List Line → End → Verdict → Type 0
+abbrev pub IsVerdict : WorldValue → List Line → End → Verdict → Type 0
 IsVerdict w lines end verdict.Legal = IsLegal w lines end
 IsVerdict w lines end (verdict.Illegal n cause) = IsMisstep w lines end n cause

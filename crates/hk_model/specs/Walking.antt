@@ -44,8 +44,8 @@ held (Form form) step = Err (refused.NotCap step)
 held (Held cap) step = Ok cap
 
 -- one step further, from the entry at a step
-abbrev pub hop : State → Entry → ℕ → ℕ → Result Entry Refusal
-hop s entry at step = do
+abbrev pub hop_on : State → Entry → ℕ → ℕ → Result Entry Refusal
+hop_on s entry at step = do
   cap ← held entry step
   allowed cap.rights LOAD step
   next ← item_at (object s cap.name).entries at (step + 1)
@@ -54,7 +54,7 @@ hop s entry at step = do
 -- the entry at the end of the path, from the entry at a step
 abbrev pub walk_on : State → Entry → List ℕ → ℕ → Result Entry Refusal
 walk_on s entry [] step = Ok entry
-walk_on s entry (at ∷ rest) step = hop s entry at step >>= (λ next. walk_on s next rest (step + 1))
+walk_on s entry (at ∷ rest) step = hop_on s entry at step >>= (λ next. walk_on s next rest (step + 1))
 
 -- what an incarnation's path leads to: its first index is a slot
 abbrev pub walk : State → Inc → List ℕ → Result Entry Refusal

@@ -19,7 +19,7 @@ use Rattle.hk_model.specs.Walking.{walk}
 use Rattle.hk_model.specs.Merging.{merged, inherited}
 use Rattle.hk_model.specs.Targets.{ENV+A0}
 use Rattle.hk_model.specs.Rule.{copied, made_form}
-use Rattle.hk_model.specs.Places.{Place, SlotOf, EntryOf, same_place, standing, rights_of, form_of, end_of, named_by, found}
+use Rattle.hk_model.specs.Places.{Place, SlotOf, EntryOf, same_place, standing, rights_held, form_of, walk_end, named_by, found}
 use Rattle.hk_model.specs.Lines.{done_call, makes_object, enters_call, leaves_call, changes_path}
 
 -- the ways in which an entry comes to a place that a call writes; slots are those of the calling incarnation
@@ -41,7 +41,7 @@ pub data Way : Type 0 where
   Created : (path : List ℕ) → Way
   Formed : (path : List ℕ) (kind : Making) → Way
   -- an Erase or a Drop
-  Gone : Way
+  Emptied : Way
 
 -- the way of a place if it is the one that is written
 abbrev pub written : Place → Place → Way → Option Way
@@ -77,15 +77,15 @@ way s inc (call.Load path into) p = written (SlotOf inc into.0) p (Walked path)
 way s inc (call.Store path at from) p = written (EntryOf (named_by s inc path) at) p (Stored from.0)
 way s inc (call.Append path from) p =
     written (EntryOf (named_by s inc path) (length (object s (named_by s inc path)).entries)) p (Stored from.0)
-way s inc (call.Erase path at) p = written (EntryOf (named_by s inc path) at) p Gone
-way s inc (call.Drop slot) p = written (SlotOf inc slot.0) p Gone
+way s inc (call.Erase path at) p = written (EntryOf (named_by s inc path) at) p Emptied
+way s inc (call.Drop slot) p = written (SlotOf inc slot.0) p Emptied
 way s inc (call.Restrict slot keep) p = written (SlotOf inc slot.0) p (Lessened slot.0 keep)
 way s inc (call.MakeTemplate path kind into) p = written (SlotOf inc into.0) p (Formed path kind)
 way s inc (call.Create path into) p = written (SlotOf inc into.0) p (Created path)
-way s inc (call.Merge path cap into) p = written (SlotOf inc into.0) p (Merged cap.0 (form_of (standing s (end_of s inc path))))
+way s inc (call.Merge path cap into) p = written (SlotOf inc into.0) p (Merged cap.0 (form_of (standing s (walk_end s inc path))))
 way s inc (call.Copy path into) p = copied_way s inc path into p
 way s inc (call.Enter path args into) p =
-    entered_way s (named_by s inc path) (not (has (rights_of (found s inc path)) unconf_right)) args p
+    entered_way s (named_by s inc path) (not (has (rights_held (found s inc path)) unconf_right)) args p
 way s inc (call.Leave give) p = returned_way (incarnation s inc).caller (incarnation s inc).into.0 give p
 way s inc _ p = None
 
@@ -159,7 +159,7 @@ Writes s inc (Copied path index) x = IsCopied s inc path index x
 Writes s inc (CopyOf path) x = IsCopyOf s inc path x
 Writes s inc (Created path) x = IsCreated s inc path x
 Writes s inc (Formed path kind) x = IsFormed s inc path kind x
-Writes s inc Gone x = x ≡ Empty
+Writes s inc Emptied x = x ≡ Empty
 
 -- what can stand at a place after a call: where it has a way, nothing but what the way gives, and else nothing but what was
 -- there. This is an upper bound: nothing comes but by its way, and a place may become empty, as one does that goes with its
@@ -189,8 +189,3 @@ IsWritable s inc c (EntryOf name index) = ((makes_object c ≡ true) × (name �
 pub record IsWrittenBy (s : State) (inc : Inc) (c : Call) (t : State) : Type 0 where
   pub entries : (p : Place) → Wrote s inc (standing s p) (way s inc c p) (standing t p)
   pub places : (p : Place) → IsSome (way s inc c p) → IsWritable s inc (Some c) p
-
--- what a line can have written, everywhere: the same upper bound, by which nothing comes but by its way and a place may become
--- empty
-abbrev pub IsWrittenByLine : State → Line → State → Type 0
-IsWrittenByLine s line t = (p : Place) → Wrote s line.inc (standing s p) (line_way s line p) (standing t p)

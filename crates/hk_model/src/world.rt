@@ -1,7 +1,7 @@
 //! A world: what a script declares (`docs/RULES.md`, "Worlds").
 
 ghost use Rattle.std.specs.Prelude.{◌≡◌, IfOk, length};
-ghost use Rattle.hk_model.specs.Setup.{IsWorld, setup};
+ghost use Rattle.hk_model.specs.WorldValue.{IsWorld, world_value};
 
 use crate::copying::{Duplicate, duplicates};
 use crate::instructions::Instr;
@@ -58,7 +58,7 @@ pub struct Task {
 }
 
 /// A world that can be run. Each name, code number and jump target in it exists, labels are well
-/// formed and distinct, and all numbers are in their ranges. Contracts see a `Setup`.
+/// formed and distinct, and all numbers are in their ranges. Contracts see a `WorldValue`.
 #[derive(Drop)]
 pub struct World {
     limit: u32,
@@ -68,20 +68,20 @@ pub struct World {
 }
 
 impl Model for World {
-    ghost use Rattle.hk_model.specs.Setup.{Setup, setup, IsWorld};
+    ghost use Rattle.hk_model.specs.WorldValue.{WorldValue, world_value, IsWorld};
 
-    ghost Value = { Setup };
+    ghost Value = { WorldValue };
 
-    ghost view = { λ w. setup w.limit w.objects w.codes w.tasks };
+    ghost view = { λ w. world_value w.limit w.objects w.codes w.tasks };
 
-    ghost invariant = { λ w. IsWorld (setup w.limit w.objects w.codes w.tasks) };
+    ghost invariant = { λ w. IsWorld (world_value w.limit w.objects w.codes w.tasks) };
 }
 
 impl World {
     /// The world of these parts.
     pub fn new(limit: u32, objects: Items<Born>, codes: Items<Code>, tasks: Items<Task>) -> World
-        requires { IsWorld (setup limit objects codes tasks) }
-        ensures { result ≡ setup limit objects codes tasks }
+        requires { IsWorld (world_value limit objects codes tasks) }
+        ensures { result ≡ world_value limit objects codes tasks }
     {
         World {
             limit,

@@ -1,5 +1,6 @@
 -- What keeps an index.
-use Rattle.std.proofs.Common.{◌≡◌, ◌≢◌, ℕ, zero, suc, ◌<◌, ◌≤◌, ◌%◌, Bool, true, false, cond, List, [], ◌∷◌, ◌++◌, length, set, map, Option, Some, None, IsSome, refl, ap, ◌∙◌, sym, subst, arith, ⊎_elim, ◌||◌, length-set, replicate, get_or-set_same, get_or-set_other}
+use Rattle.std.proofs.Common.{◌≡◌, ◌≢◌, ℕ, zero, suc, ◌<◌, ◌≤◌, ◌%◌, Bool, true, false, cond, List, [], ◌∷◌, ◌++◌, length, set, map, Option, Some, None, IsSome, refl, ap, ◌∙◌, sym}
+use Rattle.std.proofs.Common.{subst, arith, ⊎_elim, ◌||◌, length-set, replicate, get_or-set_same, get_or-set_other}
 use Rattle.std.specs.Prelude.{slice_get}
 use Rattle.std.proofs.lemmas.Bool.Decides.{nat_tests}
 use Rattle.std.proofs.lemmas.Bool.{cases_eq}
@@ -103,7 +104,9 @@ index_clear ns c d s h low e =
           (cases_eq t s);
       named = λ m t small here.
           ⊎_elim
-          (λ (same : t ≡ s). let k : (t == s) ≡ true = grind (arith, nat_tests) in absurd (let q : cond (t == s) false (in_list c.lists m t) ≡ true = sym (now m t) ∙ here in let r : cond true false (in_list c.lists m t) ≡ true = subst (λ (b : Bool). cond b false (in_list c.lists m t) ≡ true) k q in cc))
+          (λ (same : t ≡ s). let k : (t == s) ≡ true = grind (arith, nat_tests) in absurd
+          (let q : cond (t == s) false (in_list c.lists m t) ≡ true = sym (now m t) ∙ here in let r : cond true false (in_list c.lists m t) ≡ true = subst
+          (λ (b : Bool). cond b false (in_list c.lists m t) ≡ true) k q in cc))
           (λ (other : t ≢ s).
           let k : (t == s) ≡ false = grind (arith, nat_tests) in
           let q : cond (t == s) false (in_list c.lists m t) ≡ true = sym (now m t) ∙ here in
@@ -118,7 +121,8 @@ any-nothing (suc k) zero s = refl
 any-nothing (suc k) (suc l) s = any-nothing k l s
 
 -- nothing is in lists with nothing in them
-pub index_empty : (ns : List (Option Name)) (c : Chained) (size : ℕ) → size ≡ 65536 → c ≡ record { cells = size; lists = replicate size [] } → length ns ≡ size → ((k : ℕ) → named_at ns k ≡ None) → IsIndexed ns c
+pub index_empty : (ns : List (Option Name)) (c : Chained) (size : ℕ) → size ≡ 65536 → c ≡ record { cells = size; lists = replicate size [] } → length ns ≡ size
+    → ((k : ℕ) → named_at ns k ≡ None) → IsIndexed ns c
 index_empty ns c size small e room none = record {
   room = room ∙ small;
   cells = ap (λ (v : Chained). v.cells) e ∙ small;

@@ -20,15 +20,18 @@ shelf_change ps next s f h = record {
   room = length-set ps s _ ∙ h.room;
 }
 
-pub shelf_make : (ps : List (Option (Name × Body))) (next : Name) (s : ℕ) (o : Body) → IsShelf ps next → s < length ps → IsShelf (set ps s (Some (next, o))) (record { 0 = next.0 + 1 })
+pub shelf_make : (ps : List (Option (Name × Body))) (next : Name) (s : ℕ) (o : Body) → IsShelf ps next → s < length ps
+    → IsShelf (set ps s (Some (next, o))) (record { 0 = next.0 + 1 })
 shelf_make ps next s o h low = record {
   apart = λ i j n a b. ⊎_elim
       (λ (x : i ≡ s × (name_at (set ps s (Some (next, o))) i ≡ Some next)). ⊎_elim
       (λ (y : j ≡ s × (name_at (set ps s (Some (next, o))) j ≡ Some next)). x.0 ∙ sym y.0)
-      (λ (y : j ≢ s × (name_at (set ps s (Some (next, o))) j ≡ name_at ps j)). let same : n ≡ next = cc in let low : n.0 < next.0 = h.below j n (sym y.1 ∙ b) in let e : n.0 ≡ next.0 = ap (λ (m : Name). m.0) same in absurd (omega arith))
+      (λ (y : j ≢ s × (name_at (set ps s (Some (next, o))) j ≡ name_at ps j)). let same : n ≡ next = cc in let low : n.0 < next.0 = h.below j n (sym y.1 ∙ b) in let e : n.0
+      ≡ next.0 = ap (λ (m : Name). m.0) same in absurd (omega arith))
       (name_at_set ps s (Some (next, o)) j low))
       (λ (x : i ≢ s × (name_at (set ps s (Some (next, o))) i ≡ name_at ps i)). ⊎_elim
-      (λ (y : j ≡ s × (name_at (set ps s (Some (next, o))) j ≡ Some next)). let same : n ≡ next = cc in let low : n.0 < next.0 = h.below i n (sym x.1 ∙ a) in let e : n.0 ≡ next.0 = ap (λ (m : Name). m.0) same in absurd (omega arith))
+      (λ (y : j ≡ s × (name_at (set ps s (Some (next, o))) j ≡ Some next)). let same : n ≡ next = cc in let low : n.0 < next.0 = h.below i n (sym x.1 ∙ a) in let e : n.0
+      ≡ next.0 = ap (λ (m : Name). m.0) same in absurd (omega arith))
       (λ (y : j ≢ s × (name_at (set ps s (Some (next, o))) j ≡ name_at ps j)). h.apart i j n (sym x.1 ∙ a) (sym y.1 ∙ b))
       (name_at_set ps s (Some (next, o)) j low))
       (name_at_set ps s (Some (next, o)) i low);

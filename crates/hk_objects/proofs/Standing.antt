@@ -1,5 +1,6 @@
 -- What a change of a slot does to the objects by rising name.
-use Rattle.std.proofs.Common.{◌≡◌, ◌≢◌, ℕ, zero, suc, ◌+◌, ◌<◌, ◌≤◌, List, [], ◌∷◌, length, set, Option, Some, None, refl, ap, ◌∙◌, sym, arith, ⊎_elim, ◌⊎◌, inl, inr, option_map, IfSome, IsSome, get_or-set_same, get_or-set_other}
+use Rattle.std.proofs.Common.{◌≡◌, ◌≢◌, ℕ, zero, suc, ◌+◌, ◌<◌, ◌≤◌, List, [], ◌∷◌, length, set, Option, Some, None, refl, ap, ◌∙◌, sym, arith, ⊎_elim, ◌⊎◌, inl, inr, option_map}
+use Rattle.std.proofs.Common.{IfSome, IsSome, get_or-set_same, get_or-set_other}
 use Rattle.std.proofs.lemmas.List.{set-set, set-get_or, get_or_past}
 use Rattle.std.proofs.lemmas.Bool.{cases_eq, cases_lt}
 use Rattle.std.proofs.lemmas.Bool.Decides.{nat_tests}
@@ -33,12 +34,14 @@ module _ {X : Type 0} where
   remove-insert n o (e ∷ es) absent = grind (arith, nat_tests, remove-insert n o es)
 
   -- two new objects, in either order
-  pub insert_comm : (n m : Name) (o w : X) (es : List (Name × X)) → n.0 ≢ m.0 → insert_entry name_cmp (insert_entry name_cmp es n o) m w ≡ insert_entry name_cmp (insert_entry name_cmp es m w) n o
+  pub insert_comm : (n m : Name) (o w : X) (es : List (Name × X)) → n.0 ≢ m.0
+      → insert_entry name_cmp (insert_entry name_cmp es n o) m w ≡ insert_entry name_cmp (insert_entry name_cmp es m w) n o
   insert_comm n m o w [] apart = grind (arith, nat_tests)
   insert_comm n m o w (e ∷ es) apart = grind (arith, nat_tests, insert_comm n m o w es apart)
 
   -- what stands in a slot stands in order among the others
-  pub standing-place : (ps : List (Option (Name × X))) (s : ℕ) (n : Name) (o : X) → place ps s ≡ Some (n, o) → ((k : ℕ) → k ≢ s → name_at ps k ≡ Some n → ⊥) → standing ps ≡ insert_entry name_cmp (standing (set ps s None)) n o
+  pub standing-place : (ps : List (Option (Name × X))) (s : ℕ) (n : Name) (o : X) → place ps s ≡ Some (n, o) → ((k : ℕ) → k ≢ s → name_at ps k ≡ Some n → ⊥)
+      → standing ps ≡ insert_entry name_cmp (standing (set ps s None)) n o
   standing-place [] s n o here alone = absurd (cc)
   standing-place (p ∷ ps) zero n o here alone = rw here refl
   standing-place (None ∷ ps) (suc s) n o here alone =
@@ -68,7 +71,8 @@ module _ {X : Type 0} where
       ap (lookup (same_name n)) (standing-place ps s n o here (alone_from_apart ps s n o here apart)) ∙ lookup-insert_same n o _
 
   -- one more object in a free slot
-  pub standing_make : (ps : List (Option (Name × X))) (s : ℕ) (n : Name) (o : X) → place ps s ≡ None → s < length ps → ((k : ℕ) → name_at ps k ≡ Some n → ⊥) → standing (set ps s (Some (n, o))) ≡ insert_entry name_cmp (standing ps) n o
+  pub standing_make : (ps : List (Option (Name × X))) (s : ℕ) (n : Name) (o : X) → place ps s ≡ None → s < length ps → ((k : ℕ) → name_at ps k ≡ Some n → ⊥)
+      → standing (set ps s (Some (n, o))) ≡ insert_entry name_cmp (standing ps) n o
   standing_make ps s n o free low fresh =
       let new : List (Option (Name × X)) = set ps s (Some (n, o)) in
       let old : set new s None ≡ ps = set-set ps s _ _ ∙ ap (set ps s) (sym free) ∙ set-get_or ps s None in
@@ -76,11 +80,13 @@ module _ {X : Type 0} where
       ∙ ap (λ qs. insert_entry name_cmp (standing qs) n o) old
 
   -- an object in place of another of its name
-  pub standing-put : (ps : List (Option (Name × X))) (s : ℕ) (n : Name) (o w : X) → place ps s ≡ Some (n, o) → AreApart ps → standing (set ps s (Some (n, w))) ≡ set_value (same_name n) (standing ps) w
+  pub standing-put : (ps : List (Option (Name × X))) (s : ℕ) (n : Name) (o w : X) → place ps s ≡ Some (n, o) → AreApart ps
+      → standing (set ps s (Some (n, w))) ≡ set_value (same_name n) (standing ps) w
   standing-put ps s n o w here apart =
       let low : s < length ps = within ps s n o here in
       let alone = alone_from_apart ps s n o here apart in
-      standing-place (set ps s (Some (n, w))) s n w (get_or-set_same ps s _ _ low) (λ k other named. alone k other (sym (ap (option_map (λ (e : Name × X). e.0)) (get_or-set_other ps s k _ _ other)) ∙ named))
+      standing-place (set ps s (Some (n, w))) s n w (get_or-set_same ps s _ _ low)
+      (λ k other named. alone k other (sym (ap (option_map (λ (e : Name × X). e.0)) (get_or-set_other ps s k _ _ other)) ∙ named))
       ∙ ap (λ qs. insert_entry name_cmp (standing qs) n w) (set-set ps s _ _)
       ∙ sym (set-insert n o w _)
       ∙ ap (λ es. set_value (same_name n) es w) (sym (standing-place ps s n o here alone))
@@ -88,12 +94,14 @@ module _ {X : Type 0} where
   gone : (ps : List (Option (Name × X))) (s : ℕ) (n : Name) → s < length ps → ((k : ℕ) → k ≢ s → name_at ps k ≡ Some n → ⊥) → (k : ℕ) → name_at (set ps s None) k ≡ Some n → ⊥
   gone ps s n low alone k named =
       ⊎_elim
-      (λ (same : k ≡ s). let e : name_at (set ps s None) k ≡ None = rw same (ap (option_map (λ (e : Name × X). e.0)) (get_or-set_same ps s None None low)) in absurd (cc (e, named)))
+      (λ (same : k ≡ s). let e : name_at (set ps s None) k ≡ None = rw same (ap (option_map (λ (e : Name × X). e.0)) (get_or-set_same ps s None None low))
+      in absurd (cc (e, named)))
       (λ (other : k ≢ s). alone k other (sym (ap (option_map (λ (e : Name × X). e.0)) (get_or-set_other ps s k _ _ other)) ∙ named))
       (cases_eq k s)
 
   -- an object taken away
-  pub standing-remove : (ps : List (Option (Name × X))) (s : ℕ) (n : Name) (o : X) → place ps s ≡ Some (n, o) → AreApart ps → standing (set ps s None) ≡ remove_entry (same_name n) (standing ps)
+  pub standing-remove : (ps : List (Option (Name × X))) (s : ℕ) (n : Name) (o : X) → place ps s ≡ Some (n, o) → AreApart ps
+      → standing (set ps s None) ≡ remove_entry (same_name n) (standing ps)
   standing-remove ps s n o here apart =
       let low : s < length ps = within ps s n o here in
       let alone = alone_from_apart ps s n o here apart in
@@ -116,7 +124,8 @@ module _ {X : Type 0} where
   name_at_change (p ∷ ps) (suc s) f (suc k) = name_at_change ps s f k
 
   -- and the object alone is another
-  pub standing_change : (ps : List (Option (Name × X))) (s : ℕ) (f : X → X) → AreApart ps → IfSome (place ps s) (λ e. standing (change ps s f) ≡ set_value (same_name e.0) (standing ps) (f e.1))
+  pub standing_change : (ps : List (Option (Name × X))) (s : ℕ) (f : X → X) → AreApart ps
+      → IfSome (place ps s) (λ e. standing (change ps s f) ≡ set_value (same_name e.0) (standing ps) (f e.1))
   standing_change ps s f apart = with (place ps s) refl where
     with : (p : Option (Name × X)) → place ps s ≡ p → IfSome p (λ e. standing (set ps s (option_map (λ e. (e.0, f e.1)) p)) ≡ set_value (same_name e.0) (standing ps) (f e.1))
     with None h = tt
@@ -124,7 +133,8 @@ module _ {X : Type 0} where
 
   pub lookup_absent_below : (ps : List (Option (Name × X))) (n : Name) → ((k : ℕ) → k < length ps → name_at ps k ≡ Some n → ⊥) → lookup (same_name n) (standing ps) ≡ None
   lookup_absent_below ps n none =
-      lookup-absent ps n (λ k h. ⊎_elim (λ (low : k < length ps). none k low h) (λ (high : length ps ≤ k). let e : name_at ps k ≡ None = ap (option_map (λ (e : Name × X). e.0)) (get_or_past ps k None high) in absurd (cc (e, h))) (cases_lt k (length ps)))
+      lookup-absent ps n (λ k h. ⊎_elim (λ (low : k < length ps). none k low h)
+      (λ (high : length ps ≤ k). let e : name_at ps k ≡ None = ap (option_map (λ (e : Name × X). e.0)) (get_or_past ps k None high) in absurd (cc (e, h))) (cases_lt k (length ps)))
 
   pub standing_gone : (ps : List (Option (Name × X))) (s : ℕ) → AreApart ps → IfSome (place ps s) (λ e. standing (set ps s None) ≡ remove_entry (same_name e.0) (standing ps))
   standing_gone ps s apart = with (place ps s) refl where
@@ -133,7 +143,8 @@ module _ {X : Type 0} where
     with (Some e) h = standing-remove ps s e.0 e.1 h apart
 
   -- the names after a write
-  pub name_at_set : (ps : List (Option (Name × X))) (s : ℕ) (p : Option (Name × X)) (k : ℕ) → s < length ps → (k ≡ s × (name_at (set ps s p) k ≡ option_map (λ (e : Name × X). e.0) p)) ⊎ (k ≢ s × (name_at (set ps s p) k ≡ name_at ps k))
+  pub name_at_set : (ps : List (Option (Name × X))) (s : ℕ) (p : Option (Name × X)) (k : ℕ) → s < length ps
+      → (k ≡ s × (name_at (set ps s p) k ≡ option_map (λ (e : Name × X). e.0) p)) ⊎ (k ≢ s × (name_at (set ps s p) k ≡ name_at ps k))
   name_at_set ps s p k low =
       ⊎_elim
       (λ (same : k ≡ s). inl (same, rw same (ap (option_map (λ (e : Name × X). e.0)) (get_or-set_same ps s p None low))))
@@ -147,7 +158,8 @@ module _ {X : Type 0} where
 
   pub none_from_below : (ps : List (Option (Name × X))) (n : Name) → ((k : ℕ) → k < length ps → name_at ps k ≡ Some n → ⊥) → (k : ℕ) → name_at ps k ≡ Some n → ⊥
   none_from_below ps n none k h =
-      ⊎_elim (λ (low : k < length ps). none k low h) (λ (high : length ps ≤ k). let e : name_at ps k ≡ None = ap (option_map (λ (e : Name × X). e.0)) (get_or_past ps k None high) in absurd (cc (e, h))) (cases_lt k (length ps))
+      ⊎_elim (λ (low : k < length ps). none k low h) (λ (high : length ps ≤ k). let e : name_at ps k ≡ None = ap (option_map (λ (e : Name × X). e.0)) (get_or_past ps k None high)
+      in absurd (cc (e, h))) (cases_lt k (length ps))
 
   length-insert : (n : Name) (o : X) (es : List (Name × X)) → lookup (same_name n) es ≡ None → length (insert_entry name_cmp es n o) ≡ length es + 1
   length-insert n o [] absent = refl
@@ -177,7 +189,8 @@ module _ {X : Type 0} where
   one_free [] s low free = absurd (omega arith)
   one_free (p ∷ ps) zero low free = rw free (let h = few_standing ps in omega arith)
   one_free (None ∷ ps) (suc s) low free = let h = few_standing ps in omega arith
-  one_free (Some e ∷ ps) (suc s) low free = let h : length (standing ps) < length ps = one_free ps s (omega arith) free in let i = length-insert-le e.0 e.1 (standing ps) in omega arith
+  one_free (Some e ∷ ps) (suc s) low free =
+      let h : length (standing ps) < length ps = one_free ps s (omega arith) free in let i = length-insert-le e.0 e.1 (standing ps) in omega arith
 
   -- where a slot has a name an object stands
   pub stands_named : (ps : List (Option (Name × X))) (s : ℕ) (n : Name) → name_at ps s ≡ Some n → IsSome (place ps s)

@@ -1,5 +1,6 @@
 -- What keeps a table with its index and its free slots.
-use Rattle.std.proofs.Common.{◌≡◌, ◌≢◌, ℕ, ◌+◌, ◌<◌, Bool, true, false, ◌||◌, List, [], ◌∷◌, ◌++◌, length, set, Option, Some, None, IsSome, option_map, refl, ap, ◌∙◌, sym, arith, ⊎_elim, get_or-set_same, get_or-set_other, length-set, IsTrue, ◌↔◌}
+use Rattle.std.proofs.Common.{◌≡◌, ◌≢◌, ℕ, ◌+◌, ◌<◌, Bool, true, false, ◌||◌, List, [], ◌∷◌, ◌++◌, length, set, Option, Some, None, IsSome, option_map, refl, ap, ◌∙◌, sym, arith}
+use Rattle.std.proofs.Common.{⊎_elim, get_or-set_same, get_or-set_other, length-set, IsTrue, ◌↔◌}
 use Rattle.std.specs.Prelude.{◌==◌, nat_lt}
 use Rattle.std.proofs.lemmas.Bool.Decides.{nat_tests}
 use Rattle.std.proofs.lemmas.List.Folds.{list_any-append}
@@ -115,7 +116,8 @@ module _ (ps : List (Option (Name × Body))) (names : List (Option Name)) (free 
   full_or_not true empty some = (λ h. full_table (empty refl), λ e. refl)
   full_or_not false empty some = (λ h. absurd (cc), λ e. absurd (let one = some refl in let k : length (standing ps) < 65536 = room_left one.0 one.1 one.2 in omega arith))
 
-pub table_empty : (ps : List (Option (Name × Body))) (names : List (Option Name)) (free : List ℕ) (next : Name) → length ps ≡ 65536 → length names ≡ 65536 → ((k : ℕ) → place ps k ≡ None)
+pub table_empty : (ps : List (Option (Name × Body))) (names : List (Option Name)) (free : List ℕ) (next : Name) → length ps ≡ 65536 → length names ≡ 65536
+    → ((k : ℕ) → place ps k ≡ None)
     → ((k : ℕ) → named_at names k ≡ None) → ((k : ℕ) → has free k ≡ nat_lt k 65536) → IsTable ps names free next
 table_empty ps names free next room size empty unnamed all = record {
   shelf = empty_shelf ps next empty room;

@@ -139,7 +139,8 @@ module _ (first : Name) (numbers : List ℕ) (lost : List Name) (exact : Bool) (
   held_in t e = subst (λ (u : Tally). Moved u (tally first (set numbers at (was + 1)) lost exact) (name ∷ []) []) e held
 
   -- an object is named once less
-  pub released : (left : ℕ) (list : List Name) → left + 1 ≡ was → ((n : Name) → is_among n lost ≡ true → is_among n list ≡ true) → (left ≡ 0 → is_among name list ≡ true) → Moved before (tally first (set numbers at left) list exact) [] (name ∷ [])
+  pub released : (left : ℕ) (list : List Name) → left + 1 ≡ was → ((n : Name) → is_among n lost ≡ true → is_among n list ≡ true) → (left ≡ 0 → is_among name list ≡ true)
+      → Moved before (tally first (set numbers at left) list exact) [] (name ∷ [])
   released left list less more last = record {
     first = refl;
     exact = λ e. e;
@@ -158,7 +159,8 @@ module _ (first : Name) (numbers : List ℕ) (lost : List Name) (exact : Bool) (
         subst (λ (n : Name). is_among n list ≡ true) (sym same) (last (sym (new_number left k s) ∙ none))) (λ s. more (made before k) (f (sym (get_or-set_other numbers at k left 0 s) ∙ none)));
   }
 
-  pub released_in : (left : ℕ) (list : List Name) (t : Tally) → before ≡ t → left + 1 ≡ was → ((n : Name) → is_among n lost ≡ true → is_among n list ≡ true) → (left ≡ 0 → is_among name list ≡ true) → Moved t (tally first (set numbers at left) list exact) [] (name ∷ [])
+  pub released_in : (left : ℕ) (list : List Name) (t : Tally) → before ≡ t → left + 1 ≡ was → ((n : Name) → is_among n lost ≡ true → is_among n list ≡ true)
+      → (left ≡ 0 → is_among name list ≡ true) → Moved t (tally first (set numbers at left) list exact) [] (name ∷ [])
   released_in left list t e less more last = subst (λ (u : Tally). Moved u (tally first (set numbers at left) list exact) [] (name ∷ [])) e (released left list less more last)
 
 -- what is pushed is on the list, beside the others
@@ -166,7 +168,8 @@ pub pushed_more : (name : Name) (lost : List Name) (n : Name) → is_among n los
 pushed_more name lost n h = list_any-append (same_name n) lost (name ∷ []) ∙ or_left (is_among n lost) (is_among n (name ∷ [])) h
 
 pub pushed : (name : Name) (lost : List Name) → is_among name (lost ++ name ∷ []) ≡ true
-pushed name lost = list_any-append (same_name name) lost (name ∷ []) ∙ or_right (is_among name lost) (is_among name (name ∷ [])) (or_left (same_name name name) false (name_laws.refl name))
+pushed name lost =
+    list_any-append (same_name name) lost (name ∷ []) ∙ or_right (is_among name lost) (is_among name (name ∷ [])) (or_left (same_name name name) false (name_laws.refl name))
 
 -- ---- several moves
 
@@ -186,7 +189,8 @@ both a b c came went came' went' f g = record {
 }
 
 -- names that come and go alike
-pub alike : (a b : Tally) (came went came' went' : List Name) → ((n : Name) → times n came' + times n went ≡ times n came + times n went') → Moved a b came went → Moved a b came' went'
+pub alike : (a b : Tally) (came went came' went' : List Name) → ((n : Name) → times n came' + times n went ≡ times n came + times n went') → Moved a b came went
+    → Moved a b came' went'
 alike a b came went came' went' same f = record {
   first = f.first;
   exact = f.exact;
@@ -198,24 +202,32 @@ alike a b came went came' went' same f = record {
 }
 
 -- the names of one thing more come
-pub more_come : {A : Type 0} (names : A → List Name) (xs : List A) (i : ℕ) (x d : A) (a b c : Tally) → i < length xs → x ≡ get_or xs i d → Moved a b (flat_map names (take i xs)) [] → Moved b c (names x) [] → Moved a c (flat_map names (take (i + 1) xs)) []
+pub more_come : {A : Type 0} (names : A → List Name) (xs : List A) (i : ℕ) (x d : A) (a b c : Tally) → i < length xs → x ≡ get_or xs i d → Moved a b (flat_map names (take i xs)) []
+    → Moved b c (names x) [] → Moved a c (flat_map names (take (i + 1) xs)) []
 more_come names xs i x d a b c there is f g =
-    let more : flat_map names (take (i + 1) xs) ≡ flat_map names (take i xs) ++ names x = ap (flat_map names) (take_more xs i d there ∙ ap (λ y. take i xs ++ y ∷ []) (sym is)) ∙ flat_map-append names (take i xs) (x ∷ []) ∙ ap (λ ys. flat_map names (take i xs) ++ ys) (append-nil (names x)) in
+    let more : flat_map names (take (i + 1) xs) ≡ flat_map names (take i xs) ++ names x =
+    ap (flat_map names) (take_more xs i d there ∙ ap (λ y. take i xs ++ y ∷ []) (sym is)) ∙ flat_map-append names (take i xs) (x ∷ []) ∙ ap (λ ys. flat_map names (take i xs) ++ ys) (append-nil (names x)) in
     subst (λ (came : List Name). Moved a c came []) (sym more) (both a b c (flat_map names (take i xs)) [] (names x) [] f g)
 
-pub more_go : {A : Type 0} (names : A → List Name) (xs : List A) (i : ℕ) (x d : A) (a b c : Tally) → i < length xs → x ≡ get_or xs i d → Moved a b [] (flat_map names (take i xs)) → Moved b c [] (names x) → Moved a c [] (flat_map names (take (i + 1) xs))
+pub more_go : {A : Type 0} (names : A → List Name) (xs : List A) (i : ℕ) (x d : A) (a b c : Tally) → i < length xs → x ≡ get_or xs i d → Moved a b [] (flat_map names (take i xs))
+    → Moved b c [] (names x) → Moved a c [] (flat_map names (take (i + 1) xs))
 more_go names xs i x d a b c there is f g =
-    let more : flat_map names (take (i + 1) xs) ≡ flat_map names (take i xs) ++ names x = ap (flat_map names) (take_more xs i d there ∙ ap (λ y. take i xs ++ y ∷ []) (sym is)) ∙ flat_map-append names (take i xs) (x ∷ []) ∙ ap (λ ys. flat_map names (take i xs) ++ ys) (append-nil (names x)) in
+    let more : flat_map names (take (i + 1) xs) ≡ flat_map names (take i xs) ++ names x =
+    ap (flat_map names) (take_more xs i d there ∙ ap (λ y. take i xs ++ y ∷ []) (sym is)) ∙ flat_map-append names (take i xs) (x ∷ []) ∙ ap (λ ys. flat_map names (take i xs) ++ ys) (append-nil (names x)) in
     subst (λ (went : List Name). Moved a c [] went) (sym more) (both a b c [] (flat_map names (take i xs)) [] (names x) f g)
 
 -- a push that gives no error
-pub push_ok : {A E : Type 0} (r : Result A E) (lost list : List Name) (name : Name) → is_err r ≡ false → list ≡ (if is_ok r then lost ++ name ∷ [] else lost) → list ≡ lost ++ name ∷ []
+pub push_ok : {A E : Type 0} (r : Result A E) (lost list : List Name) (name : Name) → is_err r ≡ false → list ≡ (if is_ok r then lost ++ name ∷ [] else lost)
+    → list ≡ lost ++ name ∷ []
 push_ok (Ok x) lost list name e h = h
 push_ok (Err x) lost list name e h = absurd (cc)
 
 -- where one that does not stand, or is named, goes from the list, the others are found
-pub found_without : (t : Tally) (objects : List (Name × Object)) (name : Name) (rest : List Name) (k : ℕ) → t.lost ≡ rest ++ name ∷ [] → (is_some (lookup (same_name name) objects) ≡ true → is_unnamed t name ≡ true → ⊥) → has_made t k objects ≡ true → IsFound t k → number t k ≡ 0 → is_among (made t k) rest ≡ true
-found_without t objects name rest k list not_lost stands found none = by (is_among (made t k) rest) (same_name (made t k) name) refl refl (sym (list_any-append (same_name (made t k)) rest (name ∷ [])) ∙ (ap (is_among (made t k)) (sym list) ∙ found none))
+pub found_without : (t : Tally) (objects : List (Name × Object)) (name : Name) (rest : List Name) (k : ℕ) → t.lost ≡ rest ++ name ∷ []
+    → (is_some (lookup (same_name name) objects) ≡ true → is_unnamed t name ≡ true → ⊥) → has_made t k objects ≡ true → IsFound t k → number t k ≡ 0
+    → is_among (made t k) rest ≡ true
+found_without t objects name rest k list not_lost stands found none =
+    by (is_among (made t k) rest) (same_name (made t k) name) refl refl (sym (list_any-append (same_name (made t k)) rest (name ∷ [])) ∙ (ap (is_among (made t k)) (sym list) ∙ found none))
   where
     again : nat_lt (made t k).0 t.first_new.0 ≡ false
     again = grind (arith, nat_tests)
@@ -233,7 +245,8 @@ found_without t objects name rest k list not_lost stands found none = by (is_amo
         absurd (not_lost (subst (λ (n : Name). is_some (lookup (same_name n) objects) ≡ true) same stands) (subst (λ (n : Name). is_unnamed t n ≡ true) same unnamed))
     by false false e f h = absurd (false≢true h)
 
-pub found_dropped : (start t new : Tally) (objects : List (Name × Object)) (name : Name) → t ≡ record start { lost = t.lost } → t.lost ≡ take (length t.lost - 1) t.lost ++ name ∷ [] → new ≡ record t { lost = take (length t.lost - 1) t.lost }
+pub found_dropped : (start t new : Tally) (objects : List (Name × Object)) (name : Name) → t ≡ record start { lost = t.lost }
+    → t.lost ≡ take (length t.lost - 1) t.lost ++ name ∷ [] → new ≡ record t { lost = take (length t.lost - 1) t.lost }
     → (is_some (lookup (same_name name) objects) ≡ true → is_unnamed t name ≡ true → ⊥) → ((k : ℕ) → has_made start k objects ≡ true → IsFound start k → IsFound t k) → (k : ℕ) → has_made start k objects ≡ true → IsFound start k → IsFound new k
 found_dropped start t new objects name same list is not_lost found k stands f none =
     let first : start.first_new ≡ t.first_new = sym (ap (λ (u : Tally). u.first_new) same) in

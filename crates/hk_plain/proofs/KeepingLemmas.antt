@@ -19,16 +19,18 @@ use Rattle.hk_model.specs.State.{State, name_cmp, same_name}
 use Rattle.hk_model.specs.Keeping.{are_supporting, stands, kept_objects, restricted}
 use Rattle.hk_model.proofs.Standing.{name_same, name_laws, on_cond}
 use Rattle.hk_model.proofs.Keeping.{of_set, of_all}
-use Rattle.hk_plain.specs.Marking.{all_but}
+use Rattle.hk_plain.specs.Marking.{is_none_of}
 use Rattle.hk_model.proofs.KeepingLemmas.{all_kept, kept_removed}
 
 -- each object of a list stands in it
 pub each_stands : (es : List (Name × Object)) → AllByRecursion (λ (e : Name × Object). is_some (lookup (same_name e.0) es) ≡ true) es
 each_stands es = more es es (λ n h. h)
   where
-    more : (rest all : List (Name × Object)) → ((n : Name) → is_some (lookup (same_name n) rest) ≡ true → is_some (lookup (same_name n) all) ≡ true) → AllByRecursion (λ (e : Name × Object). is_some (lookup (same_name e.0) all) ≡ true) rest
+    more : (rest all : List (Name × Object)) → ((n : Name) → is_some (lookup (same_name n) rest) ≡ true → is_some (lookup (same_name n) all) ≡ true)
+        → AllByRecursion (λ (e : Name × Object). is_some (lookup (same_name e.0) all) ≡ true) rest
     more [] all f = tt
-    more (e ∷ rest) all f = (f e.0 (rw (name_laws.refl e.0) refl), more rest all (λ n h. f n (on_cond (λ (o : Option Object). is_some o ≡ true) (same_name n e.0) (Some e.1) (lookup (same_name n) rest) (λ k. refl) (λ k. h))))
+    more (e ∷ rest) all f =
+        (f e.0 (rw (name_laws.refl e.0) refl), more rest all (λ n h. f n (on_cond (λ (o : Option Object). is_some o ≡ true) (same_name n e.0) (Some e.1) (lookup (same_name n) rest) (λ k. refl) (λ k. h))))
 
 -- what holds of each entry holds of each name that stands
 pub at_each : (P : Name → Type 0) (es : List (Name × Object)) (n : Name) → AllByRecursion (λ (e : Name × Object). P e.0) es → is_some (lookup (same_name n) es) ≡ true → P n
@@ -41,10 +43,12 @@ at_each P (e ∷ es) n a g = by (at_each P es n a.1) (same_name n e.0) refl g
 
 -- where each object stays, all are kept
 pub all_stay : (s : State) → AllByRecursion (λ (e : Name × Object). are_supporting s s.objects e.0 ≡ true) s.objects → kept_objects s ≡ s.objects
-all_stay s h = all_kept s (λ n g k. subst (λ (os : List (Name × Object)). are_supporting s os n ≡ true) (sym (of_all s.objects)) (at_each (λ (m : Name). are_supporting s s.objects m ≡ true) s.objects n h g))
+all_stay s h =
+    all_kept s (λ n g k. subst (λ (os : List (Name × Object)). are_supporting s os n ≡ true) (sym (of_all s.objects)) (at_each (λ (m : Name). are_supporting s s.objects m ≡ true) s.objects n h g))
 
 -- an object goes that nothing names, and the same are kept; where all are kept nothing goes
-pub restricted_removed : (s : State) (n : Name) → stands s n ≡ true → are_supporting s s.objects n ≡ false → restricted (record s { objects = remove_entry (same_name n) s.objects }) ≡ restricted s
+pub restricted_removed : (s : State) (n : Name) → stands s n ≡ true → are_supporting s s.objects n ≡ false
+    → restricted (record s { objects = remove_entry (same_name n) s.objects }) ≡ restricted s
 restricted_removed s n there lost = ap (λ (os : List (Name × Object)). record s { objects = os }) (kept_removed s n there lost)
 
 pub restricted_same : (s : State) → kept_objects s ≡ s.objects → s ≡ restricted s
@@ -54,7 +58,8 @@ pub removed_shorter : (n : Name) (es : List (Name × Object)) → is_some (looku
 removed_shorter n [] h = absurd (false≢true h)
 removed_shorter n (e ∷ es) h = by (removed_shorter n es) (same_name n e.0) h
   where
-    by : (is_some (lookup (same_name n) es) ≡ true → length (remove_entry (same_name n) es) < length es) → (b : Bool) → is_some (cond b (Some e.1) (lookup (same_name n) es)) ≡ true → length (cond b es (e ∷ remove_entry (same_name n) es)) < length (e ∷ es)
+    by : (is_some (lookup (same_name n) es) ≡ true → length (remove_entry (same_name n) es) < length es) → (b : Bool) → is_some (cond b (Some e.1) (lookup (same_name n) es)) ≡ true
+        → length (cond b es (e ∷ remove_entry (same_name n) es)) < length (e ∷ es)
     by rest true l = omega arith
     by rest false l = let r = rest l in omega arith
 
@@ -66,22 +71,28 @@ opening_or_new : (s : State) (name : Name) → is_new s name ≡ false → nat_l
 opening_or_new s name h = grind (arith, nat_tests)
 
 -- what holds of all holds of those that are new
-all_new : (P : Name → Type 0) (s : State) (es : List (Name × Object)) → AllByRecursion (λ (e : Name × Object). P e.0) es → AllByRecursion (λ (e : Name × Object). P e.0) (filter (λ (e : Name × Object). is_new s e.0) es)
+all_new : (P : Name → Type 0) (s : State) (es : List (Name × Object)) → AllByRecursion (λ (e : Name × Object). P e.0) es
+    → AllByRecursion (λ (e : Name × Object). P e.0) (filter (λ (e : Name × Object). is_new s e.0) es)
 all_new P s [] a = tt
-all_new P s (e ∷ es) a = on_cond (λ (l : List (Name × Object)). AllByRecursion (λ (e : Name × Object). P e.0) l) (is_new s e.0) (e ∷ filter (λ (e : Name × Object). is_new s e.0) es) (filter (λ (e : Name × Object). is_new s e.0) es) (λ k. (a.0, all_new P s es a.1)) (λ k. all_new P s es a.1)
+all_new P s (e ∷ es) a =
+    on_cond (λ (l : List (Name × Object)). AllByRecursion (λ (e : Name × Object). P e.0) l) (is_new s e.0) (e ∷ filter (λ (e : Name × Object). is_new s e.0) es) (filter (λ (e : Name × Object). is_new s e.0) es) (λ k. (a.0, all_new P s es a.1)) (λ k. all_new P s es a.1)
 
 pub new_stand : (s : State) → AllByRecursion (λ (e : Name × Object). stands s e.0 ≡ true) (filter (λ (e : Name × Object). is_new s e.0) s.objects)
 new_stand s = all_new (λ (n : Name). stands s n ≡ true) s s.objects (each_stands s.objects)
 
 -- the others stay, so all stay where the new ones do
-pub new_stay : (s : State) (es : List (Name × Object)) → AllByRecursion (λ (e : Name × Object). are_supporting s s.objects e.0 ≡ true) (filter (λ (e : Name × Object). is_new s e.0) es) → AllByRecursion (λ (e : Name × Object). are_supporting s s.objects e.0 ≡ true) es
+pub new_stay : (s : State) (es : List (Name × Object))
+    → AllByRecursion (λ (e : Name × Object). are_supporting s s.objects e.0 ≡ true) (filter (λ (e : Name × Object). is_new s e.0) es)
+    → AllByRecursion (λ (e : Name × Object). are_supporting s s.objects e.0 ≡ true) es
 new_stay s [] a = tt
 new_stay s (e ∷ es) a = by (new_stay s es) (is_new s e.0) refl a
   where
     rest : List (Name × Object)
     rest = filter (λ (e : Name × Object). is_new s e.0) es
 
-    by : (AllByRecursion (λ (e : Name × Object). are_supporting s s.objects e.0 ≡ true) rest → AllByRecursion (λ (e : Name × Object). are_supporting s s.objects e.0 ≡ true) es) → (b : Bool) → is_new s e.0 ≡ b → AllByRecursion (λ (e : Name × Object). are_supporting s s.objects e.0 ≡ true) (cond b (e ∷ rest) rest) → AllByRecursion (λ (e : Name × Object). are_supporting s s.objects e.0 ≡ true) (e ∷ es)
+    by : (AllByRecursion (λ (e : Name × Object). are_supporting s s.objects e.0 ≡ true) rest → AllByRecursion (λ (e : Name × Object). are_supporting s s.objects e.0 ≡ true) es)
+        → (b : Bool) → is_new s e.0 ≡ b → AllByRecursion (λ (e : Name × Object). are_supporting s s.objects e.0 ≡ true) (cond b (e ∷ rest) rest)
+        → AllByRecursion (λ (e : Name × Object). are_supporting s s.objects e.0 ≡ true) (e ∷ es)
     by more true k l = (l.0, more l.1)
     by more false k l = (rw (opening_or_new s e.0 k) refl, more l)
 
@@ -125,7 +136,8 @@ put_here : (name : Name) (p : Name → Bool) (o : Object) (es : List (Name × Ob
 put_here name p o es = let here : (name.0 == name.0) ≡ true = grind (arith, nat_tests) in rw here refl
 
 -- put beside all, and then only those of the set stay: it stands beside those of the set
-pub put_beside : (name : Name) (o : Object) (p : Name → Bool) (es : List (Name × Object)) → IsStrictlySortedBy name_cmp (keys_of es) → of_set (passing name p) (insert_entry name_cmp es name o) ≡ insert_entry name_cmp (of_set p es) name o
+pub put_beside : (name : Name) (o : Object) (p : Name → Bool) (es : List (Name × Object)) → IsStrictlySortedBy name_cmp (keys_of es)
+    → of_set (passing name p) (insert_entry name_cmp es name o) ≡ insert_entry name_cmp (of_set p es) name o
 put_beside name o p [] h = put_here name p o []
 put_beside name o p (e ∷ es) h = by (put_beside name o p es (sorted_tail name_cmp e.0 (keys_of es) h)) (name_cmp name e.0) refl
   where
@@ -139,25 +151,29 @@ put_beside name o p (e ∷ es) h = by (put_beside name o p es (sorted_tail name_
     by_equal k true = rw k refl
     by_equal k false =
         let same : name ≡ e.0 = name_same name e.0 (ap is_eq k) in
-        let first : insert_entry name_cmp (of_set p es) name o ≡ (name, o) ∷ of_set p es = put_first name o (of_set p es) (past_some name p es (subst (λ (n : Name). ArePast n es) (sym same) (past_first e es (sorted_head name_cmp e.0 (keys_of es) h)))) in
+        let first : insert_entry name_cmp (of_set p es) name o ≡ (name, o) ∷ of_set p es =
+        put_first name o (of_set p es) (past_some name p es (subst (λ (n : Name). ArePast n es) (sym same) (past_first e es (sorted_head name_cmp e.0 (keys_of es) h)))) in
         sym (first ∙ ap (λ (n : Name). (n, o) ∷ of_set p es) same)
 
-    by_greater : of_set (passing name p) (insert_entry name_cmp es name o) ≡ insert_entry name_cmp (of_set p es) name o → name_cmp name e.0 ≡ Greater → (b : Bool) → cond b (e ∷ of_set (passing name p) (insert_entry name_cmp es name o)) (of_set (passing name p) (insert_entry name_cmp es name o)) ≡ insert_entry name_cmp (cond b (e ∷ of_set p es) (of_set p es)) name o
+    by_greater : of_set (passing name p) (insert_entry name_cmp es name o) ≡ insert_entry name_cmp (of_set p es) name o → name_cmp name e.0 ≡ Greater → (b : Bool)
+        → cond b (e ∷ of_set (passing name p) (insert_entry name_cmp es name o)) (of_set (passing name p) (insert_entry name_cmp es name o)) ≡ insert_entry name_cmp (cond b (e ∷ of_set p es) (of_set p es)) name o
     by_greater later k true = rw k (ap (λ (l : List (Name × Object)). e ∷ l) later)
     by_greater later k false = later
 
-    by : of_set (passing name p) (insert_entry name_cmp es name o) ≡ insert_entry name_cmp (of_set p es) name o → (c : Ordering) → name_cmp name e.0 ≡ c → of_set (passing name p) (match_ordering c ((name, o) ∷ e ∷ es) ((e.0, o) ∷ es) (e ∷ insert_entry name_cmp es name o)) ≡ insert_entry name_cmp (of_set p (e ∷ es)) name o
+    by : of_set (passing name p) (insert_entry name_cmp es name o) ≡ insert_entry name_cmp (of_set p es) name o → (c : Ordering) → name_cmp name e.0 ≡ c
+        → of_set (passing name p) (match_ordering c ((name, o) ∷ e ∷ es) ((e.0, o) ∷ es) (e ∷ insert_entry name_cmp es name o)) ≡ insert_entry name_cmp (of_set p (e ∷ es)) name o
     by later Less k =
         let all : ArePast name (e ∷ es) = (k, past_more name e es k (past_first e es (sorted_head name_cmp e.0 (keys_of es) h))) in
         put_here name p o (e ∷ es) ∙ (ap (λ (l : List (Name × Object)). (name, o) ∷ l) (passing_past name p (e ∷ es) all) ∙ sym (put_first name o (of_set p (e ∷ es)) (past_some name p (e ∷ es) all)))
     by later Equal k =
         let same : name ≡ e.0 = name_same name e.0 (ap is_eq k) in
         let it : (e.0.0 == name.0) ≡ true = is_it name.0 e.0.0 k in
-        let rest : of_set (passing name p) es ≡ of_set p es = passing_past name p es (subst (λ (n : Name). ArePast n es) (sym same) (past_first e es (sorted_head name_cmp e.0 (keys_of es) h))) in
+        let rest : of_set (passing name p) es ≡ of_set p es =
+        passing_past name p es (subst (λ (n : Name). ArePast n es) (sym same) (past_first e es (sorted_head name_cmp e.0 (keys_of es) h))) in
         rw (it, rest) (by_equal k (p e.0))
     by later Greater k = let other : (e.0.0 == name.0) ≡ false = is_other name.0 e.0.0 k in rw other (by_greater later k (p e.0))
 
 -- where none go, all stay
-pub all_but_none : (names : List Name) (es : List (Name × Object)) → length names ≡ 0 → of_set (all_but names) es ≡ es
+pub all_but_none : (names : List Name) (es : List (Name × Object)) → length names ≡ 0 → of_set (is_none_of names) es ≡ es
 all_but_none [] es h = of_all es
 all_but_none (n ∷ names) es h = absurd (omega arith)

@@ -1,6 +1,7 @@
 -- Marks one after another, to the rooted objects.
 use Rattle.std.proofs.Math.Seq.{drop-cons, drop-length}
-use Rattle.std.proofs.Common.{◌≡◌, ℕ, suc, get_or, drop, ◌<◌, ◌≤◌, ◌+◌, List, [], ◌∷◌, ◌++◌, length, Bool, true, false, Some, None, refl, sym, ◌∙◌, ap, arith, cond, subst, length-append}
+use Rattle.std.proofs.Common.{◌≡◌, ℕ, suc, get_or, drop, ◌<◌, ◌≤◌, ◌+◌, List, [], ◌∷◌, ◌++◌, length, Bool, true, false, Some, None, refl, sym, ◌∙◌, ap, arith, cond, subst}
+use Rattle.std.proofs.Common.{length-append}
 use mathlib.Core.Logic.{inl, inr}
 use Rattle.std.specs.Prelude.{◌⊎◌, ◌||◌, not, nat_lt, is_some}
 use Rattle.std.specs.Ordering.{is_eq}
@@ -26,7 +27,7 @@ use Rattle.hk_model.specs.Keeping.{object_names, outer_names, names_with, is_amo
 use Rattle.hk_model.proofs.Standing.{name_same, name_laws}
 use Rattle.hk_model.proofs.Keeping.{of_set, inner}
 use Rattle.hk_plain.proofs.KeepingLemmas.{all_but_none}
-use Rattle.hk_plain.specs.Marking.{Marking, AreMarked, AreBegun, AreUnderway, all_but}
+use Rattle.hk_plain.specs.Marking.{Marking, AreMarked, AreBegun, AreUnderway, is_none_of}
 
 or_cases : (a b : Bool) → (a || b) ≡ true → (a ≡ true) ⊎ (b ≡ true)
 or_cases true b h = inl refl
@@ -113,7 +114,8 @@ none_marked name m h = record {
 }
 
 -- a mark on an object that has none
-pub one_marked : (name : Name) (m : Marking) (rest : List Name) → ((n : Name) → is_among n rest ≡ cond (same_name name n) false (is_among n m.unmarked)) → length rest + 1 ≡ length m.unmarked → AreMarked (name ∷ []) m (record { unmarked = rest; todo = m.todo ++ name ∷ [] })
+pub one_marked : (name : Name) (m : Marking) (rest : List Name) → ((n : Name) → is_among n rest ≡ cond (same_name name n) false (is_among n m.unmarked))
+    → length rest + 1 ≡ length m.unmarked → AreMarked (name ∷ []) m (record { unmarked = rest; todo = m.todo ++ name ∷ [] })
 one_marked name m rest f many = record {
   all = λ n k. subst (λ (x : Name). is_among x rest ≡ false) (sym (the_one n name k)) gone;
   fewer = λ n k. by_same n (same_name name n) (f n) k;
@@ -131,7 +133,8 @@ one_marked name m rest f many = record {
     by_same n true e k = absurd (false≢true (sym e ∙ k))
     by_same n false e k = sym e ∙ k
 
-    by_only : (n : Name) (b : Bool) → same_name name n ≡ b → is_among n rest ≡ cond b false (is_among n m.unmarked) → is_among n m.unmarked ≡ true → is_among n rest ≡ false → is_among n (name ∷ []) ≡ true
+    by_only : (n : Name) (b : Bool) → same_name name n ≡ b → is_among n rest ≡ cond b false (is_among n m.unmarked) → is_among n m.unmarked ≡ true → is_among n rest ≡ false
+        → is_among n (name ∷ []) ≡ true
     by_only n true s e k g = subst (λ (x : Name). is_among x (name ∷ []) ≡ true) (name_same name n s) (is_the_one name)
     by_only n false s e k g = absurd (true≢false (sym k ∙ (sym e ∙ g)))
 
@@ -151,14 +154,16 @@ not_begun objects first_new = record {
 }
 
 -- the name is the first one, or not in the others either
-past_first : (n : Name) (e : Name × Object) (rest : List (Name × Object)) → is_some (lookup (same_name n) rest) ≡ false → (n ≡ e.0) ⊎ (is_some (lookup (same_name n) (e ∷ rest)) ≡ false)
+past_first : (n : Name) (e : Name × Object) (rest : List (Name × Object)) → is_some (lookup (same_name n) rest) ≡ false
+    → (n ≡ e.0) ⊎ (is_some (lookup (same_name n) (e ∷ rest)) ≡ false)
 past_first n e rest h = by (same_name n e.0) refl
   where
     by : (b : Bool) → same_name n e.0 ≡ b → (n ≡ e.0) ⊎ (is_some (cond b (Some e.1) (lookup (same_name n) rest)) ≡ false)
     by true k = inl (name_same n e.0 k)
     by false k = inr h
 
-pub begun_old : (e : Name × Object) (rest objects : List (Name × Object)) (first_new : Name) (m : Marking) → AreBegun (e ∷ rest) objects first_new m → nat_lt e.0.0 first_new.0 ≡ true → AreBegun rest objects first_new (record { unmarked = m.unmarked; todo = m.todo ++ e.0 ∷ [] })
+pub begun_old : (e : Name × Object) (rest objects : List (Name × Object)) (first_new : Name) (m : Marking) → AreBegun (e ∷ rest) objects first_new m
+    → nat_lt e.0.0 first_new.0 ≡ true → AreBegun rest objects first_new (record { unmarked = m.unmarked; todo = m.todo ++ e.0 ∷ [] })
 begun_old e rest objects first_new m b old = record {
   opened = b.opened;
   only = λ n h g k. by_only n h k (past_first n e rest g);
@@ -166,11 +171,13 @@ begun_old e rest objects first_new m b old = record {
   marked = λ n h. by_marked n (in_append n m.todo (e.0 ∷ []) h);
 }
   where
-    by_only : (n : Name) → is_some (lookup (same_name n) objects) ≡ true → is_among n m.unmarked ≡ false → (n ≡ e.0) ⊎ (is_some (lookup (same_name n) (e ∷ rest)) ≡ false) → nat_lt n.0 first_new.0 ≡ true
+    by_only : (n : Name) → is_some (lookup (same_name n) objects) ≡ true → is_among n m.unmarked ≡ false → (n ≡ e.0) ⊎ (is_some (lookup (same_name n) (e ∷ rest)) ≡ false)
+        → nat_lt n.0 first_new.0 ≡ true
     by_only n h k (inl g) = rw g old
     by_only n h k (inr g) = b.only n h g k
 
-    by_noted : (n : Name) → is_some (lookup (same_name n) objects) ≡ true → is_among n m.unmarked ≡ false → (n ≡ e.0) ⊎ (is_some (lookup (same_name n) (e ∷ rest)) ≡ false) → is_among n (m.todo ++ e.0 ∷ []) ≡ true
+    by_noted : (n : Name) → is_some (lookup (same_name n) objects) ≡ true → is_among n m.unmarked ≡ false → (n ≡ e.0) ⊎ (is_some (lookup (same_name n) (e ∷ rest)) ≡ false)
+        → is_among n (m.todo ++ e.0 ∷ []) ≡ true
     by_noted n h k (inl g) = append_right n m.todo (e.0 ∷ []) (subst (λ (x : Name). is_among x (e.0 ∷ []) ≡ true) (sym g) (is_the_one e.0))
     by_noted n h k (inr g) = append_left n m.todo (e.0 ∷ []) (b.noted n h g k)
 
@@ -178,7 +185,9 @@ begun_old e rest objects first_new m b old = record {
     by_marked n (inl h) = b.marked n h
     by_marked n (inr h) = rw (the_one n e.0 h) old
 
-pub begun_new : (e : Name × Object) (rest objects : List (Name × Object)) (first_new : Name) (m : Marking) (more : List Name) → AreBegun (e ∷ rest) objects first_new m → nat_lt e.0.0 first_new.0 ≡ false → ((n : Name) → is_among n more ≡ cond (same_name e.0 n) true (is_among n m.unmarked)) → AreBegun rest objects first_new (record { unmarked = more; todo = m.todo })
+pub begun_new : (e : Name × Object) (rest objects : List (Name × Object)) (first_new : Name) (m : Marking) (more : List Name) → AreBegun (e ∷ rest) objects first_new m
+    → nat_lt e.0.0 first_new.0 ≡ false → ((n : Name) → is_among n more ≡ cond (same_name e.0 n) true (is_among n m.unmarked))
+    → AreBegun rest objects first_new (record { unmarked = more; todo = m.todo })
 begun_new e rest objects first_new m more b new f = record {
   opened = λ n h. by_opened n h (same_name e.0 n) refl (f n);
   only = λ n h g k. let p = parts n (same_name e.0 n) refl (f n) k in b.only n h (others n p.0 g) p.1;
@@ -190,7 +199,8 @@ begun_new e rest objects first_new m more b new f = record {
     by_opened n h true s k = let same : e.0 ≡ n = name_same e.0 n s in absurd (true≢false (sym h ∙ (ap (λ (x : Name). nat_lt x.0 first_new.0) (sym same) ∙ new)))
     by_opened n h false s k = k ∙ b.opened n h
 
-    parts : (n : Name) (c : Bool) → same_name e.0 n ≡ c → is_among n more ≡ cond c true (is_among n m.unmarked) → is_among n more ≡ false → (same_name e.0 n ≡ false) × (is_among n m.unmarked ≡ false)
+    parts : (n : Name) (c : Bool) → same_name e.0 n ≡ c → is_among n more ≡ cond c true (is_among n m.unmarked) → is_among n more ≡ false
+        → (same_name e.0 n ≡ false) × (is_among n m.unmarked ≡ false)
     parts n true s k h = absurd (true≢false (sym k ∙ h))
     parts n false s k h = (s, sym k ∙ h)
 
@@ -222,7 +232,8 @@ underway s a b begun f = record {
     by_marked n (inr h) = h
 
 -- what an object of a set names, the set names
-named_by_set : (set : Name → Bool) (n k : Name) (es : List (Name × Object)) → is_some (lookup (same_name n) es) ≡ true → set n ≡ true → is_among k (object_names (unwrap_or (lookup (same_name n) es) no_object)) ≡ true → is_among k (inner (of_set set es)) ≡ true
+named_by_set : (set : Name → Bool) (n k : Name) (es : List (Name × Object)) → is_some (lookup (same_name n) es) ≡ true → set n ≡ true
+    → is_among k (object_names (unwrap_or (lookup (same_name n) es) no_object)) ≡ true → is_among k (inner (of_set set es)) ≡ true
 named_by_set set n k [] h g i = absurd (false≢true h)
 named_by_set set n k (e ∷ es) h g i = by (named_by_set set n k es) (same_name n e.0) refl h i
   where
@@ -242,7 +253,8 @@ named_by_set set n k (e ∷ es) h g i = by (named_by_set set n k es) (same_name 
     by later false j there l = more (set e.0) (later there g l)
 
 -- an object is looked at: what it names is marked
-pub looked_at : (s : State) (m after : Marking) (rest : List Name) (n : Name) → AreUnderway s m → m.todo ≡ rest ++ n ∷ [] → stands s n ≡ true → AreMarked (object_names (object s n)) (record { unmarked = m.unmarked; todo = rest }) after → AreUnderway s after
+pub looked_at : (s : State) (m after : Marking) (rest : List Name) (n : Name) → AreUnderway s m → m.todo ≡ rest ++ n ∷ [] → stands s n ≡ true
+    → AreMarked (object_names (object s n)) (record { unmarked = m.unmarked; todo = rest }) after → AreUnderway s after
 looked_at s m after rest n u is there f = record {
   opened = λ k h. stays_marked _ _ after f k (u.opened k h);
   outer = λ k h. stays_marked _ _ after f k (u.outer k h);
@@ -254,15 +266,18 @@ looked_at s m after rest n u is there f = record {
     of_rest : (k : Name) → is_among k rest ≡ true → is_among k m.todo ≡ true
     of_rest k h = rw is (append_left k rest (n ∷ []) h)
 
-    by_todo : (k : Name) → (is_among k rest ≡ true) ⊎ (is_among k (n ∷ []) ≡ true) → (is_among k after.todo ≡ true) ⊎ ((j : Name) → is_among j (object_names (object s k)) ≡ true → is_among j after.unmarked ≡ false)
+    by_todo : (k : Name) → (is_among k rest ≡ true) ⊎ (is_among k (n ∷ []) ≡ true)
+        → (is_among k after.todo ≡ true) ⊎ ((j : Name) → is_among j (object_names (object s k)) ≡ true → is_among j after.unmarked ≡ false)
     by_todo k (inl h) = inl (f.still k h)
     by_todo k (inr h) = inr (λ j g. f.all j (subst (λ (x : Name). is_among j (object_names (object s x)) ≡ true) (the_one k n h) g))
 
-    by_before : (k : Name) → (is_among k m.todo ≡ true) ⊎ ((j : Name) → is_among j (object_names (object s k)) ≡ true → is_among j m.unmarked ≡ false) → (is_among k after.todo ≡ true) ⊎ ((j : Name) → is_among j (object_names (object s k)) ≡ true → is_among j after.unmarked ≡ false)
+    by_before : (k : Name) → (is_among k m.todo ≡ true) ⊎ ((j : Name) → is_among j (object_names (object s k)) ≡ true → is_among j m.unmarked ≡ false)
+        → (is_among k after.todo ≡ true) ⊎ ((j : Name) → is_among j (object_names (object s k)) ≡ true → is_among j after.unmarked ≡ false)
     by_before k (inl h) = by_todo k (in_append k rest (n ∷ []) (rw is at h))
     by_before k (inr h) = inr (λ j g. stays_marked _ _ after f j (h j g))
 
-    by_inner : (k : Name) → stands s k ≡ true → (c : Bool) → is_among k m.unmarked ≡ c → is_among k after.unmarked ≡ false → (is_among k after.todo ≡ true) ⊎ ((j : Name) → is_among j (object_names (object s k)) ≡ true → is_among j after.unmarked ≡ false)
+    by_inner : (k : Name) → stands s k ≡ true → (c : Bool) → is_among k m.unmarked ≡ c → is_among k after.unmarked ≡ false
+        → (is_among k after.todo ≡ true) ⊎ ((j : Name) → is_among j (object_names (object s k)) ≡ true → is_among j after.unmarked ≡ false)
     by_inner k h true e g = inl (f.noted k e g)
     by_inner k h false e g = by_before k (u.inner k h e)
 
@@ -281,7 +296,8 @@ looked_at s m after rest n u is there f = record {
     by_marked k (inr h) = h
 
 -- a name of nothing is passed over
-pub passed_over : (s : State) (m : Marking) (rest : List Name) (n : Name) → AreUnderway s m → m.todo ≡ rest ++ n ∷ [] → stands s n ≡ false → AreUnderway s (record { unmarked = m.unmarked; todo = rest })
+pub passed_over : (s : State) (m : Marking) (rest : List Name) (n : Name) → AreUnderway s m → m.todo ≡ rest ++ n ∷ [] → stands s n ≡ false
+    → AreUnderway s (record { unmarked = m.unmarked; todo = rest })
 passed_over s m rest n u is gone = record {
   opened = u.opened;
   outer = u.outer;
@@ -294,7 +310,8 @@ passed_over s m rest n u is gone = record {
     by_todo k h (inl g) = g
     by_todo k h (inr g) = absurd (true≢false (sym h ∙ (ap (stands s) (the_one k n g) ∙ gone)))
 
-    by_before : (k : Name) → stands s k ≡ true → (is_among k m.todo ≡ true) ⊎ ((j : Name) → is_among j (object_names (object s k)) ≡ true → is_among j m.unmarked ≡ false) → (is_among k rest ≡ true) ⊎ ((j : Name) → is_among j (object_names (object s k)) ≡ true → is_among j m.unmarked ≡ false)
+    by_before : (k : Name) → stands s k ≡ true → (is_among k m.todo ≡ true) ⊎ ((j : Name) → is_among j (object_names (object s k)) ≡ true → is_among j m.unmarked ≡ false)
+        → (is_among k rest ≡ true) ⊎ ((j : Name) → is_among j (object_names (object s k)) ≡ true → is_among j m.unmarked ≡ false)
     by_before k h (inl g) = inl (by_todo k h (in_append k rest (n ∷ []) (rw is at g)))
     by_before k h (inr g) = inr g
 
@@ -316,29 +333,33 @@ sorted_found (e ∷ es) h = (rw (name_laws.refl e.0) refl, later es (sorted_head
     later (x ∷ rest) a f = (rw (apart x.0 a.0) f.0, later rest a.1 f.1)
 
 -- what is named by a marked object is marked, where nothing is left to be looked at
-inner_marked : (s : State) (m : Marking) → AreUnderway s m → m.todo ≡ [] → (n : Name) (es : List (Name × Object)) → AreFound es s.objects → is_among n (inner (of_set (all_but m.unmarked) es)) ≡ true → is_among n m.unmarked ≡ false
+inner_marked : (s : State) (m : Marking) → AreUnderway s m → m.todo ≡ [] → (n : Name) (es : List (Name × Object)) → AreFound es s.objects
+    → is_among n (inner (of_set (is_none_of m.unmarked) es)) ≡ true → is_among n m.unmarked ≡ false
 inner_marked s m u done n [] a h = absurd (false≢true h)
 inner_marked s m u done n (e ∷ es) a h = by (inner_marked s m u done n es a.1) (is_among e.0 m.unmarked) refl h
   where
     rest : List (Name × Object)
-    rest = of_set (all_but m.unmarked) es
+    rest = of_set (is_none_of m.unmarked) es
 
-    here : (is_among e.0 m.todo ≡ true) ⊎ ((k : Name) → is_among k (object_names (object s e.0)) ≡ true → is_among k m.unmarked ≡ false) → is_among n (object_names e.1) ≡ true → is_among n m.unmarked ≡ false
+    here : (is_among e.0 m.todo ≡ true) ⊎ ((k : Name) → is_among k (object_names (object s e.0)) ≡ true → is_among k m.unmarked ≡ false) → is_among n (object_names e.1) ≡ true
+        → is_among n m.unmarked ≡ false
     here (inl t) g = absurd (false≢true (sym (ap (is_among e.0) done) ∙ t))
     here (inr f) g = f n (rw a.0 g)
 
-    by_names : (is_among n (inner rest) ≡ true → is_among n m.unmarked ≡ false) → is_among e.0 m.unmarked ≡ false → (is_among n (object_names e.1) ≡ true) ⊎ (is_among n (inner rest) ≡ true) → is_among n m.unmarked ≡ false
+    by_names : (is_among n (inner rest) ≡ true → is_among n m.unmarked ≡ false) → is_among e.0 m.unmarked ≡ false
+        → (is_among n (object_names e.1) ≡ true) ⊎ (is_among n (inner rest) ≡ true) → is_among n m.unmarked ≡ false
     by_names later g (inl k) = here (u.inner e.0 (rw a.0 refl) g) k
     by_names later g (inr k) = later k
 
-    by : (is_among n (inner rest) ≡ true → is_among n m.unmarked ≡ false) → (b : Bool) → is_among e.0 m.unmarked ≡ b → is_among n (inner (cond (not b) (e ∷ rest) rest)) ≡ true → is_among n m.unmarked ≡ false
+    by : (is_among n (inner rest) ≡ true → is_among n m.unmarked ≡ false) → (b : Bool) → is_among e.0 m.unmarked ≡ b → is_among n (inner (cond (not b) (e ∷ rest) rest)) ≡ true
+        → is_among n m.unmarked ≡ false
     by later true g k = later k
     by later false g k = by_names later g (in_append n (object_names e.1) (inner rest) k)
 
 -- then the marked objects are the rooted ones
-pub are_rooted : (s : State) (m : Marking) → AreUnderway s m → m.todo ≡ [] → IsStrictlySortedBy name_cmp (keys_of s.objects) → AreRooted s (all_but m.unmarked)
+pub are_rooted : (s : State) (m : Marking) → AreUnderway s m → m.todo ≡ [] → IsStrictlySortedBy name_cmp (keys_of s.objects) → AreRooted s (is_none_of m.unmarked)
 are_rooted s m u done sorted = record {
-  closed = λ n h g. not_from_false (is_among n m.unmarked) (by_ways n (or_cases (is_opening s n) (is_among n (names_with s (members s (all_but m.unmarked)))) g));
+  closed = λ n h g. not_from_false (is_among n m.unmarked) (by_ways n (or_cases (is_opening s n) (is_among n (names_with s (members s (is_none_of m.unmarked)))) g));
   least = λ set closed n h g. u.least set closed n h (false_from_not (is_among n m.unmarked) g);
 }
   where
@@ -346,30 +367,35 @@ are_rooted s m u done sorted = record {
     false_from_not true h = absurd (false≢true h)
     false_from_not false h = refl
 
-    by_names : (n : Name) → (is_among n (outer_names s) ≡ true) ⊎ (is_among n (inner (members s (all_but m.unmarked))) ≡ true) → is_among n m.unmarked ≡ false
+    by_names : (n : Name) → (is_among n (outer_names s) ≡ true) ⊎ (is_among n (inner (members s (is_none_of m.unmarked))) ≡ true) → is_among n m.unmarked ≡ false
     by_names n (inl h) = u.outer n h
     by_names n (inr h) = inner_marked s m u done n s.objects (sorted_found s.objects sorted) h
 
-    by_ways : (n : Name) → (is_opening s n ≡ true) ⊎ (is_among n (names_with s (members s (all_but m.unmarked))) ≡ true) → is_among n m.unmarked ≡ false
+    by_ways : (n : Name) → (is_opening s n ≡ true) ⊎ (is_among n (names_with s (members s (is_none_of m.unmarked))) ≡ true) → is_among n m.unmarked ≡ false
     by_ways n (inl h) = u.opened n h
-    by_ways n (inr h) = by_names n (in_append n (outer_names s) (inner (members s (all_but m.unmarked))) h)
+    by_ways n (inr h) = by_names n (in_append n (outer_names s) (inner (members s (is_none_of m.unmarked))) h)
 
 -- ---- marks on what a list of things names
 
-pub marked_step : {A : Type 0} (f : A → List Name) (x : A) (rest : List A) (whole : List Name) (start now next : Marking) → ((final : Marking) → AreMarked (flat_map f (x ∷ rest)) now final → AreMarked whole start final) → AreMarked (f x) now next → (final : Marking) → AreMarked (flat_map f rest) next final → AreMarked whole start final
+pub marked_step : {A : Type 0} (f : A → List Name) (x : A) (rest : List A) (whole : List Name) (start now next : Marking)
+    → ((final : Marking) → AreMarked (flat_map f (x ∷ rest)) now final → AreMarked whole start final) → AreMarked (f x) now next → (final : Marking)
+    → AreMarked (flat_map f rest) next final → AreMarked whole start final
 marked_step f x rest whole start now next h g final k = h final (then_marked (f x) (flat_map f rest) now next final g k)
 
 pub marked_end : (whole : List Name) (start now : Marking) → ((final : Marking) → AreMarked [] now final → AreMarked whole start final) → AreMarked whole start now
 marked_end whole start now h = h now (nothing_marked now)
 
 -- in the order of a list, from a place on
-pub marked_at : {A : Type 0} (f : A → List Name) (es : List A) (i : ℕ) (x d : A) (start now next : Marking) → i < length es → x ≡ get_or es i d → ((final : Marking) → AreMarked (flat_map f (drop i es)) now final → AreMarked (flat_map f es) start final) → AreMarked (f x) now next → (final : Marking) → AreMarked (flat_map f (drop (i + 1) es)) next final → AreMarked (flat_map f es) start final
+pub marked_at : {A : Type 0} (f : A → List Name) (es : List A) (i : ℕ) (x d : A) (start now next : Marking) → i < length es → x ≡ get_or es i d
+    → ((final : Marking) → AreMarked (flat_map f (drop i es)) now final → AreMarked (flat_map f es) start final) → AreMarked (f x) now next → (final : Marking)
+    → AreMarked (flat_map f (drop (i + 1) es)) next final → AreMarked (flat_map f es) start final
 marked_at {A} f es i x d start now next there is h g =
     let one_on : suc i ≡ i + 1 = omega arith in
     let cons : drop i es ≡ x ∷ drop (i + 1) es = drop-cons es i d there ∙ (ap (λ (y : A). y ∷ drop (suc i) es) (sym is) ∙ ap (λ (k : ℕ). x ∷ drop k es) one_on) in
     marked_step f x (drop (i + 1) es) (flat_map f es) start now next (subst (λ (l : List A). (final : Marking) → AreMarked (flat_map f l) now final → AreMarked (flat_map f es) start final) cons h) g
 
-pub marked_past : {A : Type 0} (f : A → List Name) (es : List A) (i : ℕ) (start now : Marking) → i ≤ length es → length es ≤ i → ((final : Marking) → AreMarked (flat_map f (drop i es)) now final → AreMarked (flat_map f es) start final) → AreMarked (flat_map f es) start now
+pub marked_past : {A : Type 0} (f : A → List Name) (es : List A) (i : ℕ) (start now : Marking) → i ≤ length es → length es ≤ i
+    → ((final : Marking) → AreMarked (flat_map f (drop i es)) now final → AreMarked (flat_map f es) start final) → AreMarked (flat_map f es) start now
 marked_past {A} f es i start now to from h =
     let end : i ≡ length es = omega arith in
     let none : drop i es ≡ [] = rw end (drop-length es) in
@@ -377,12 +403,14 @@ marked_past {A} f es i start now to from h =
 
 -- ---- as the walk takes them
 
-pub looked_next : (s : State) (m popped after : Marking) (n : Name) (o : Object) → AreUnderway s m → m ≡ record popped { todo = popped.todo ++ n ∷ [] } → lookup (same_name n) s.objects ≡ Some o → AreMarked (object_names o) popped after → AreUnderway s after
+pub looked_next : (s : State) (m popped after : Marking) (n : Name) (o : Object) → AreUnderway s m → m ≡ record popped { todo = popped.todo ++ n ∷ [] }
+    → lookup (same_name n) s.objects ≡ Some o → AreMarked (object_names o) popped after → AreUnderway s after
 looked_next s m popped after n o u is found f =
     let before : Marking = record popped { todo = popped.todo ++ n ∷ [] } in
     looked_at s before after popped.todo n (subst (AreUnderway s) is u) refl (rw found refl) (rw found f)
 
-pub passed_next : (s : State) (m popped : Marking) (n : Name) → AreUnderway s m → m ≡ record popped { todo = popped.todo ++ n ∷ [] } → lookup (same_name n) s.objects ≡ None → AreUnderway s popped
+pub passed_next : (s : State) (m popped : Marking) (n : Name) → AreUnderway s m → m ≡ record popped { todo = popped.todo ++ n ∷ [] } → lookup (same_name n) s.objects ≡ None
+    → AreUnderway s popped
 passed_next s m popped n u is absent =
     let before : Marking = record popped { todo = popped.todo ++ n ∷ [] } in
     passed_over s before popped.todo n (subst (AreUnderway s) is u) refl (rw absent refl)
@@ -395,11 +423,13 @@ there_is n h = grind (arith, nat_tests)
 there_is_not : (n : ℕ) → 65536 ≤ n → nat_lt n object_limit ≡ false
 there_is_not n h = grind (arith, nat_tests)
 
-pub room_there : (s : State) (names : List Name) → length s.objects < 65536 → names ≡ [] → room_made s ≡ Ok (members s (all_but names))
+pub room_there : (s : State) (names : List Name) → length s.objects < 65536 → names ≡ [] → room_made s ≡ Ok (members s (is_none_of names))
 room_there s names few none = rw (there_is (length s.objects) few, none) (ap (λ (es : List (Name × Object)). Ok es) (sym (all_but_none [] s.objects refl)))
 
-pub room_found : (s : State) (names : List Name) → AreRooted s (all_but names) → 65536 ≤ length s.objects → length (members s (all_but names)) < 65536 → room_made s ≡ Ok (members s (all_but names))
-room_found s names rooted full few = rw (there_is_not (length s.objects) full, rooted_is s (all_but names) rooted, there_is (length (members s (all_but names))) few) refl
+pub room_found : (s : State) (names : List Name) → AreRooted s (is_none_of names) → 65536 ≤ length s.objects → length (members s (is_none_of names)) < 65536
+    → room_made s ≡ Ok (members s (is_none_of names))
+room_found s names rooted full few = rw (there_is_not (length s.objects) full, rooted_is s (is_none_of names) rooted, there_is (length (members s (is_none_of names))) few) refl
 
-pub no_room : (s : State) (names : List Name) → AreRooted s (all_but names) → 65536 ≤ length s.objects → 65536 ≤ length (members s (all_but names)) → room_made s ≡ Err (refused.Full full.Objects)
-no_room s names rooted full many = rw (there_is_not (length s.objects) full, rooted_is s (all_but names) rooted, there_is_not (length (members s (all_but names))) many) refl
+pub no_room : (s : State) (names : List Name) → AreRooted s (is_none_of names) → 65536 ≤ length s.objects → 65536 ≤ length (members s (is_none_of names))
+    → room_made s ≡ Err (refused.Full full.Objects)
+no_room s names rooted full many = rw (there_is_not (length s.objects) full, rooted_is s (is_none_of names) rooted, there_is_not (length (members s (is_none_of names))) many) refl

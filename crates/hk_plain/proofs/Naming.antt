@@ -16,7 +16,8 @@ pub among_more : {A : Type 0} (f : A → List Name) (name : Name) (x : A) (xs : 
 among_more f name x xs = list_any-append (same_name name) (f x) (flat_map f xs)
 
 -- what supports an object is found among the slots, the waiting processes and the objects
-pub among_all : (s : State) (objects : List (Name × Object)) (name : Name) → are_supporting s objects name ≡ (nat_lt name.0 s.first_new.0 || (is_among name (flat_map (λ (e : Inc × Incarnation). flat_map entry_names e.1.slots) s.incarnations) || (is_among name (flat_map (λ (p : Process). run_names p.run) s.processes) || is_among name (flat_map (λ (e : Name × Object). object_names e.1) objects))))
+pub among_all : (s : State) (objects : List (Name × Object)) (name : Name)
+    → are_supporting s objects name ≡ (nat_lt name.0 s.first_new.0 || (is_among name (flat_map (λ (e : Inc × Incarnation). flat_map entry_names e.1.slots) s.incarnations) || (is_among name (flat_map (λ (p : Process). run_names p.run) s.processes) || is_among name (flat_map (λ (e : Name × Object). object_names e.1) objects))))
 among_all s objects name =
     let slots = flat_map (λ (e : Inc × Incarnation). flat_map entry_names e.1.slots) s.incarnations in
     let waits = flat_map (λ (p : Process). run_names p.run) s.processes in

@@ -1,5 +1,6 @@
 -- The places of processors, as processes run and rest.
-use Rattle.std.proofs.Common.{◌≡◌, ℕ, zero, suc, ◌+◌, ◌<◌, ◌≤◌, ◌==◌, ◌||◌, Bool, true, false, cond, List, [], ◌∷◌, length, get_or, replicate, Option, Some, None, refl, ap, sym, subst, ◌∙◌, arith, nat_lt}
+use Rattle.std.proofs.Common.{◌≡◌, ℕ, zero, suc, ◌+◌, ◌<◌, ◌≤◌, ◌==◌, ◌||◌, Bool, true, false, cond, List, [], ◌∷◌, length, get_or, replicate, Option, Some, None, refl, ap, sym}
+use Rattle.std.proofs.Common.{subst, ◌∙◌, arith, nat_lt}
 use Rattle.std.specs.Prelude.{slice_get, slice_set, count_by}
 use Rattle.std.specs.Option.{unwrap_or}
 use Rattle.std.specs.List.{list_any}
@@ -14,7 +15,7 @@ use Rattle.hk_model.specs.declared.objects.Process.{Process}
 use Rattle.hk_model.specs.declared.objects.ProcessState.{ProcessState}
 use Rattle.hk_model.specs.declared.objects.ProcessState.TheVariants.{Ready, Running, Waiting, Ended}
 use Rattle.hk_model.specs.Processors.{is_on, is_running, runner_from}
-use Rattle.hk_plain.specs.Runners.{process_at, with_run, with_current, is_live, weight, has_place, place_of, freed, IsPlaced}
+use Rattle.hk_plain.specs.Runners.{process_at, with_run, with_current, runner_lives, weight, has_place, place_of, freed, IsPlaced}
 
 -- numbers and their tests
 
@@ -64,7 +65,8 @@ alone None n q has apart = refl
 alone (Some proc) n q has apart = grind (arith, nat_tests)
 
 -- after a process is taken from its processor, the places show what runs besides
-pub gone : (run : ℕ → ProcessState) (places : List (Option Proc)) (n : ℕ) → Shows run places → (q : ℕ) (cpu : Cpu) → has_place (place_of (freed places (run n)) cpu) q ≡ cond (q == n) false (is_on cpu (run q))
+pub gone : (run : ℕ → ProcessState) (places : List (Option Proc)) (n : ℕ) → Shows run places → (q : ℕ) (cpu : Cpu)
+    → has_place (place_of (freed places (run n)) cpu) q ≡ cond (q == n) false (is_on cpu (run q))
 gone run places n shows q cpu = by (run n) refl
   where
     -- where it did not run on this processor
@@ -102,10 +104,12 @@ resting cpu (Waiting at) h = refl
 resting cpu Ended h = refl
 
 -- a process rests
-pub rested : (ps : List Process) (places : List (Option Proc)) (n : ℕ) (x : Process) → n < length ps → is_running x.run ≡ false → Shows (runs_of ps) places → Shows (runs_of (slice_set ps n x)) (freed places (process_at ps n).run)
+pub rested : (ps : List Process) (places : List (Option Proc)) (n : ℕ) (x : Process) → n < length ps → is_running x.run ≡ false → Shows (runs_of ps) places
+    → Shows (runs_of (slice_set ps n x)) (freed places (process_at ps n).run)
 rested ps places n x there rests shows q cpu = by (q == n) refl (gone (runs_of ps) places n shows q cpu)
   where
-    by : (b : Bool) → (q == n) ≡ b → has_place (place_of (freed places (process_at ps n).run) cpu) q ≡ cond b false (is_on cpu (process_at ps q).run) → is_on cpu (process_at (slice_set ps n x) q).run ≡ has_place (place_of (freed places (process_at ps n).run) cpu) q
+    by : (b : Bool) → (q == n) ≡ b → has_place (place_of (freed places (process_at ps n).run) cpu) q ≡ cond b false (is_on cpu (process_at ps q).run)
+        → is_on cpu (process_at (slice_set ps n x) q).run ≡ has_place (place_of (freed places (process_at ps n).run) cpu) q
     by true e left =
         let same : q ≡ n = is_same q n e in
         let new : process_at (slice_set ps n x) q ≡ x = rw same (set_same (record { run = Ended; current = record { 0 = 0 } }) ps n x there) in
@@ -118,7 +122,8 @@ none_runs : (ps : List Process) (cpu : Cpu) (n : ℕ) → runner_from ps cpu n �
 none_runs [] cpu n idle q = refl
 none_runs (p ∷ ps) cpu n idle q = by (is_on cpu p.run) refl q idle (λ m later. none_runs ps cpu (n + 1) later m)
   where
-    by : (b : Bool) → is_on cpu p.run ≡ b → (m : ℕ) → cond b (Some (record { 0 = n })) (runner_from ps cpu (n + 1)) ≡ None → ((k : ℕ) → runner_from ps cpu (n + 1) ≡ None → is_on cpu (process_at ps k).run ≡ false) → is_on cpu (process_at (p ∷ ps) m).run ≡ false
+    by : (b : Bool) → is_on cpu p.run ≡ b → (m : ℕ) → cond b (Some (record { 0 = n })) (runner_from ps cpu (n + 1)) ≡ None
+        → ((k : ℕ) → runner_from ps cpu (n + 1) ≡ None → is_on cpu (process_at ps k).run ≡ false) → is_on cpu (process_at (p ∷ ps) m).run ≡ false
     by true e m f rest = absurd (cc)
     by false e zero f rest = e
     by false e (suc m) f rest = rest m f
@@ -130,7 +135,9 @@ on_same (Waiting at) c cpu same = refl
 on_same Ended c cpu same = refl
 
 -- a process runs on a processor that ran nothing
-pub started : (ps : List Process) (places : List (Option Proc)) (n : ℕ) (x : Process) (cpu : Cpu) (proc : Proc) → n < length ps → cpu.0 < length (freed places (process_at ps n).run) → x.run ≡ Running cpu → proc.0 ≡ n → runner_from ps cpu 0 ≡ None → Shows (runs_of ps) places → Shows (runs_of (slice_set ps n x)) (slice_set (freed places (process_at ps n).run) cpu.0 (Some proc))
+pub started : (ps : List Process) (places : List (Option Proc)) (n : ℕ) (x : Process) (cpu : Cpu) (proc : Proc) → n < length ps
+    → cpu.0 < length (freed places (process_at ps n).run) → x.run ≡ Running cpu → proc.0 ≡ n → runner_from ps cpu 0 ≡ None → Shows (runs_of ps) places
+    → Shows (runs_of (slice_set ps n x)) (slice_set (freed places (process_at ps n).run) cpu.0 (Some proc))
 started ps places n x cpu proc there room runs is idle shows q c = by (c.0 == cpu.0) refl (q == n) refl
   where
     here : c.0 ≡ cpu.0 → place_of (slice_set (freed places (process_at ps n).run) cpu.0 (Some proc)) c ≡ Some proc
@@ -142,7 +149,8 @@ started ps places n x cpu proc there room runs is idle shows q c = by (c.0 == cp
     old : (q ≡ n → ⊥) → process_at (slice_set ps n x) q ≡ process_at ps q
     old other = set_other (record { run = Ended; current = record { 0 = 0 } }) ps n q x other
 
-    by : (a : Bool) → (c.0 == cpu.0) ≡ a → (b : Bool) → (q == n) ≡ b → is_on c (process_at (slice_set ps n x) q).run ≡ has_place (place_of (slice_set (freed places (process_at ps n).run) cpu.0 (Some proc)) c) q
+    by : (a : Bool) → (c.0 == cpu.0) ≡ a → (b : Bool) → (q == n) ≡ b
+        → is_on c (process_at (slice_set ps n x) q).run ≡ has_place (place_of (slice_set (freed places (process_at ps n).run) cpu.0 (Some proc)) c) q
     by true e true f =
         let same : c.0 ≡ cpu.0 = is_same c.0 cpu.0 e in
         let at : q ≡ n = is_same q n f in
@@ -159,11 +167,13 @@ started ps places n x cpu proc there room runs is idle shows q c = by (c.0 == cp
         elsewhere b f ∙ sym (ap (λ (place : Option Proc). has_place place q) (set_other None (freed places (process_at ps n).run) cpu.0 c.0 (Some proc) other) ∙ gone (runs_of ps) places n shows q c)
       where
         elsewhere : (b : Bool) → (q == n) ≡ b → is_on c (process_at (slice_set ps n x) q).run ≡ cond (q == n) false (is_on c (process_at ps q).run)
-        elsewhere true f = ap (λ (p : Process). is_on c p.run) (new (is_same q n f)) ∙ ap (is_on c) runs ∙ turned cpu.0 c.0 ∙ e ∙ sym (ap (λ (t : Bool). cond t false (is_on c (process_at ps q).run)) f)
+        elsewhere true f =
+            ap (λ (p : Process). is_on c p.run) (new (is_same q n f)) ∙ ap (is_on c) runs ∙ turned cpu.0 c.0 ∙ e ∙ sym (ap (λ (t : Bool). cond t false (is_on c (process_at ps q).run)) f)
         elsewhere false f = ap (λ (p : Process). is_on c p.run) (old (is_other q n f)) ∙ sym (ap (λ (t : Bool). cond t false (is_on c (process_at ps q).run)) f)
 
 -- the places show who runs where
-first_on : (ps : List Process) (cpu : Cpu) (n k : ℕ) → is_on cpu (process_at ps k).run ≡ true → ((q : ℕ) → q < k → is_on cpu (process_at ps q).run ≡ false) → runner_from ps cpu n ≡ Some (record { 0 = n + k })
+first_on : (ps : List Process) (cpu : Cpu) (n k : ℕ) → is_on cpu (process_at ps k).run ≡ true → ((q : ℕ) → q < k → is_on cpu (process_at ps q).run ≡ false)
+    → runner_from ps cpu n ≡ Some (record { 0 = n + k })
 first_on [] cpu n k on before = absurd (cc)
 first_on (p ∷ ps) cpu n zero on before = let same : n + 0 ≡ n = omega arith in rw (on, same) refl
 first_on (p ∷ ps) cpu n (suc k) on before =
@@ -195,7 +205,8 @@ rests : (ps : List Process) (q : ℕ) → list_any (λ (p : Process). is_running
 rests [] q h = refl
 rests (p ∷ ps) q h = by (is_running p.run) refl q h (λ m later. rests ps m later)
   where
-    by : (b : Bool) → is_running p.run ≡ b → (m : ℕ) → (b || list_any (λ (x : Process). is_running x.run) ps) ≡ false → ((k : ℕ) → list_any (λ (x : Process). is_running x.run) ps ≡ false → is_running (process_at ps k).run ≡ false) → is_running (process_at (p ∷ ps) m).run ≡ false
+    by : (b : Bool) → is_running p.run ≡ b → (m : ℕ) → (b || list_any (λ (x : Process). is_running x.run) ps) ≡ false
+        → ((k : ℕ) → list_any (λ (x : Process). is_running x.run) ps ≡ false → is_running (process_at ps k).run ≡ false) → is_running (process_at (p ∷ ps) m).run ≡ false
     by true e m f rest = absurd (cc)
     by false e zero f rest = e
     by false e (suc m) f rest = rest m f
@@ -204,7 +215,8 @@ pub none_placed : (ps : List Process) → list_any (λ (p : Process). is_running
 none_placed ps rest q cpu = resting cpu (process_at ps q).run (rests ps q rest) ∙ sym (ap (λ (place : Option Proc). has_place place q) (all_default None 16 cpu.0))
 
 -- what is kept for another current incarnation
-pub same_shows : (ps : List Process) (places : List (Option Proc)) (n : ℕ) (x : Process) → n < length ps → x.run ≡ (process_at ps n).run → Shows (runs_of ps) places → Shows (runs_of (slice_set ps n x)) places
+pub same_shows : (ps : List Process) (places : List (Option Proc)) (n : ℕ) (x : Process) → n < length ps → x.run ≡ (process_at ps n).run → Shows (runs_of ps) places
+    → Shows (runs_of (slice_set ps n x)) places
 same_shows ps places n x there is shows q cpu = by (q == n) refl
   where
     by : (b : Bool) → (q == n) ≡ b → is_on cpu (process_at (slice_set ps n x) q).run ≡ has_place (place_of places cpu) q
@@ -216,27 +228,30 @@ same_shows ps places n x there is shows q cpu = by (q == n) refl
         ap (λ (p : Process). is_on cpu p.run) (set_other (record { run = Ended; current = record { 0 = 0 } }) ps n q x (is_other q n e)) ∙ shows q cpu
 
 -- how many are live after one changes
-pub recount : (ps : List Process) (n : ℕ) (x : Process) → n < length ps → count_by (λ (p : Process). is_live p.run) (slice_set ps n x) + weight (process_at ps n).run ≡ count_by (λ (p : Process). is_live p.run) ps + weight x.run
+pub recount : (ps : List Process) (n : ℕ) (x : Process) → n < length ps
+    → count_by (λ (p : Process). runner_lives p.run) (slice_set ps n x) + weight (process_at ps n).run ≡ count_by (λ (p : Process). runner_lives p.run) ps + weight x.run
 recount ps n x there =
     let d : Process = record { run = Ended; current = record { 0 = 0 } } in
-    ap (λ (p : Process). count_by (λ (y : Process). is_live y.run) (slice_set ps n x) + weight p.run) (unwrap_or-slice_get ps n d)
+    ap (λ (p : Process). count_by (λ (y : Process). runner_lives y.run) (slice_set ps n x) + weight p.run) (unwrap_or-slice_get ps n d)
     ∙ sum_by-set (λ (p : Process). weight p.run) ps n x d there
 
-pub weight_within : (ps : List Process) (n : ℕ) → n < length ps → weight (process_at ps n).run ≤ count_by (λ (p : Process). is_live p.run) ps
+pub weight_within : (ps : List Process) (n : ℕ) → n < length ps → weight (process_at ps n).run ≤ count_by (λ (p : Process). runner_lives p.run) ps
 weight_within ps n there =
     let d : Process = record { run = Ended; current = record { 0 = 0 } } in
     let read : process_at ps n ≡ get_or ps n d = unwrap_or-slice_get ps n d in
     rw read (get_or-le-sum_by (λ (p : Process). weight p.run) ps n d there)
 
 -- whether some are live
-pub any_counted : (ps : List Process) → nat_lt 0 (count_by (λ (p : Process). is_live p.run) ps) ≡ list_any (λ (p : Process). is_live p.run) ps
+pub any_counted : (ps : List Process) → nat_lt 0 (count_by (λ (p : Process). runner_lives p.run) ps) ≡ list_any (λ (p : Process). runner_lives p.run) ps
 any_counted [] = refl
-any_counted (p ∷ ps) = by (is_live p.run) (sum_by-cons (λ (x : Process). weight x.run) p ps) (any_counted ps)
+any_counted (p ∷ ps) = by (runner_lives p.run) (sum_by-cons (λ (x : Process). weight x.run) p ps) (any_counted ps)
   where
-    by : (b : Bool) → count_by (λ (x : Process). is_live x.run) (p ∷ ps) ≡ cond b 1 0 + count_by (λ (x : Process). is_live x.run) ps → nat_lt 0 (count_by (λ (x : Process). is_live x.run) ps) ≡ list_any (λ (x : Process). is_live x.run) ps → nat_lt 0 (count_by (λ (x : Process). is_live x.run) (p ∷ ps)) ≡ (b || list_any (λ (x : Process). is_live x.run) ps)
+    by : (b : Bool) → count_by (λ (x : Process). runner_lives x.run) (p ∷ ps) ≡ cond b 1 0 + count_by (λ (x : Process). runner_lives x.run) ps
+        → nat_lt 0 (count_by (λ (x : Process). runner_lives x.run) ps) ≡ list_any (λ (x : Process). runner_lives x.run) ps
+        → nat_lt 0 (count_by (λ (x : Process). runner_lives x.run) (p ∷ ps)) ≡ (b || list_any (λ (x : Process). runner_lives x.run) ps)
     by true more rest = grind (arith, nat_tests)
     by false more rest =
-        let same : count_by (λ (x : Process). is_live x.run) (p ∷ ps) ≡ count_by (λ (x : Process). is_live x.run) ps = omega (arith, more) in
+        let same : count_by (λ (x : Process). runner_lives x.run) (p ∷ ps) ≡ count_by (λ (x : Process). runner_lives x.run) ps = omega (arith, more) in
         ap (nat_lt 0) same ∙ rest
 
 -- the processes as they stand, where one was read
@@ -244,17 +259,20 @@ pub read_at : (ps : List Process) (n : ℕ) (y : Process) → n < length ps → 
 read_at ps n y there read =
     ap (λ (o : Option Process). unwrap_or o (record { run = Ended; current = record { 0 = 0 } })) (slice_get_read ps (length ps) n y refl there read)
 
-pub run_written : (ps : List Process) (proc : Proc) (run : ProcessState) (y : Process) → proc.0 < length ps → y ≡ get_or ps proc.0 y → slice_set ps proc.0 (record { run = run; current = y.current }) ≡ with_run ps proc run
+pub run_written : (ps : List Process) (proc : Proc) (run : ProcessState) (y : Process) → proc.0 < length ps → y ≡ get_or ps proc.0 y
+    → slice_set ps proc.0 (record { run = run; current = y.current }) ≡ with_run ps proc run
 run_written ps proc run y there read =
     ap (λ (p : Process). slice_set ps proc.0 (record { run = run; current = p.current })) (sym (read_at ps proc.0 y there read))
 
-pub current_written : (ps : List Process) (proc : Proc) (inc : Inc) (y : Process) → proc.0 < length ps → y ≡ get_or ps proc.0 y → slice_set ps proc.0 (record { run = y.run; current = inc }) ≡ with_current ps proc inc
+pub current_written : (ps : List Process) (proc : Proc) (inc : Inc) (y : Process) → proc.0 < length ps → y ≡ get_or ps proc.0 y
+    → slice_set ps proc.0 (record { run = y.run; current = inc }) ≡ with_current ps proc inc
 current_written ps proc inc y there read =
     ap (λ (p : Process). slice_set ps proc.0 (record { run = p.run; current = inc })) (sym (read_at ps proc.0 y there read))
 
 -- what is kept beside the processes, as one of them changes
 
-pub placed_rested : (ps : List Process) (places left : List (Option Proc)) (live later : ℕ) (n : ℕ) (x y : Process) → IsPlaced ps places live → n < length ps → y ≡ get_or ps n y → left ≡ freed places y.run → is_running x.run ≡ false → later + weight y.run ≡ live + weight x.run → IsPlaced (slice_set ps n x) left later
+pub placed_rested : (ps : List Process) (places left : List (Option Proc)) (live later : ℕ) (n : ℕ) (x y : Process) → IsPlaced ps places live → n < length ps → y ≡ get_or ps n y
+    → left ≡ freed places y.run → is_running x.run ≡ false → later + weight y.run ≡ live + weight x.run → IsPlaced (slice_set ps n x) left later
 placed_rested ps places left live later n x y h there read free rests count =
     let was : process_at ps n ≡ y = read_at ps n y there read in
     let freed_is : freed places (process_at ps n).run ≡ left = ap (λ (p : Process). freed places p.run) was ∙ sym free in
@@ -265,7 +283,9 @@ placed_rested ps places left live later n x y h there read free rests count =
       counted = omega (arith, h.counted, recount ps n x there, kept, count);
     }
 
-pub placed_started : (ps : List Process) (places left : List (Option Proc)) (live later : ℕ) (n : ℕ) (x y : Process) (cpu : Cpu) (proc : Proc) → IsPlaced ps places live → n < length ps → y ≡ get_or ps n y → left ≡ freed places y.run → cpu.0 < length left → x.run ≡ Running cpu → proc.0 ≡ n → runner_from ps cpu 0 ≡ None → later + weight y.run ≡ live + weight x.run → IsPlaced (slice_set ps n x) (slice_set left cpu.0 (Some proc)) later
+pub placed_started : (ps : List Process) (places left : List (Option Proc)) (live later : ℕ) (n : ℕ) (x y : Process) (cpu : Cpu) (proc : Proc) → IsPlaced ps places live
+    → n < length ps → y ≡ get_or ps n y → left ≡ freed places y.run → cpu.0 < length left → x.run ≡ Running cpu → proc.0 ≡ n → runner_from ps cpu 0 ≡ None
+    → later + weight y.run ≡ live + weight x.run → IsPlaced (slice_set ps n x) (slice_set left cpu.0 (Some proc)) later
 placed_started ps places left live later n x y cpu proc h there read free room runs is idle count =
     let was : process_at ps n ≡ y = read_at ps n y there read in
     let freed_is : freed places (process_at ps n).run ≡ left = ap (λ (p : Process). freed places p.run) was ∙ sym free in
@@ -277,7 +297,8 @@ placed_started ps places left live later n x y cpu proc h there read free room r
       counted = omega (arith, h.counted, recount ps n x there, kept, count);
     }
 
-pub placed_current : (ps : List Process) (places : List (Option Proc)) (live : ℕ) (n : ℕ) (x y : Process) → IsPlaced ps places live → n < length ps → y ≡ get_or ps n y → x.run ≡ y.run → IsPlaced (slice_set ps n x) places live
+pub placed_current : (ps : List Process) (places : List (Option Proc)) (live : ℕ) (n : ℕ) (x y : Process) → IsPlaced ps places live → n < length ps → y ≡ get_or ps n y
+    → x.run ≡ y.run → IsPlaced (slice_set ps n x) places live
 placed_current ps places live n x y h there read is =
     let was : process_at ps n ≡ y = read_at ps n y there read in
     let same : x.run ≡ (process_at ps n).run = is ∙ ap (λ (p : Process). p.run) (sym was) in

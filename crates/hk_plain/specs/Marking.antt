@@ -29,7 +29,8 @@ pub record AreMarked (names : List Name) (before after : Marking) : Type 0 where
 -- of these objects those below a name are marked, and no others; of `rest` nothing is said
 pub record AreBegun (rest objects : List (Name × Object)) (first_new : Name) (m : Marking) : Type 0 where
   pub opened : (n : Name) → nat_lt n.0 first_new.0 ≡ true → is_among n m.unmarked ≡ false
-  pub only : (n : Name) → is_some (lookup (same_name n) objects) ≡ true → is_some (lookup (same_name n) rest) ≡ false → is_among n m.unmarked ≡ false → nat_lt n.0 first_new.0 ≡ true
+  pub only : (n : Name) → is_some (lookup (same_name n) objects) ≡ true → is_some (lookup (same_name n) rest) ≡ false → is_among n m.unmarked ≡ false
+      → nat_lt n.0 first_new.0 ≡ true
   pub noted : (n : Name) → is_some (lookup (same_name n) objects) ≡ true → is_some (lookup (same_name n) rest) ≡ false → is_among n m.unmarked ≡ false → is_among n m.todo ≡ true
   pub marked : (n : Name) → is_among n m.todo ≡ true → nat_lt n.0 first_new.0 ≡ true
 
@@ -38,20 +39,21 @@ pub record AreBegun (rest objects : List (Name × Object)) (first_new : Name) (m
 pub record AreUnderway (s : State) (m : Marking) : Type 0 where
   pub opened : (n : Name) → is_opening s n ≡ true → is_among n m.unmarked ≡ false
   pub outer : (n : Name) → is_among n (outer_names s) ≡ true → is_among n m.unmarked ≡ false
-  pub inner : (n : Name) → stands s n ≡ true → is_among n m.unmarked ≡ false → (is_among n m.todo ≡ true) ⊎ ((k : Name) → is_among k (object_names (object s n)) ≡ true → is_among k m.unmarked ≡ false)
+  pub inner : (n : Name) → stands s n ≡ true → is_among n m.unmarked ≡ false
+      → (is_among n m.todo ≡ true) ⊎ ((k : Name) → is_among k (object_names (object s n)) ≡ true → is_among k m.unmarked ≡ false)
   pub least : (set : Name → Bool) → IsClosed s set → (n : Name) → stands s n ≡ true → is_among n m.unmarked ≡ false → set n ≡ true
   pub marked : (n : Name) → is_among n m.todo ≡ true → is_among n m.unmarked ≡ false
 
 -- all names but these
-abbrev pub all_but : List Name → Name → Bool
-all_but names name = not (is_among name names)
+abbrev pub is_none_of : List Name → Name → Bool
+is_none_of names name = not (is_among name names)
 
 -- an object of these names goes, unless it is the one that is made
 abbrev pub goes : Name → List Name → Name → Bool
-goes name names other = not (other.0 == name.0 || all_but names other)
+goes name names other = not (other.0 == name.0 || is_none_of names other)
 
 -- the objects that go where one more is made, or the refusal, or want of memory
 abbrev pub Spares : State → Result (BTreeSet Name) Stop → Type 0
-Spares s (Ok spare) = room_made s ≡ Ok (members s (all_but spare.keys))
+Spares s (Ok spare) = room_made s ≡ Ok (members s (is_none_of spare.keys))
 Spares s (Err (Refused refusal)) = room_made s ≡ Err refusal
 Spares s (Err OutOfMemory) = ⊤

@@ -5,5 +5,5 @@ use Rattle.hk_model.specs.declared.objects.Object.{Object}
 use Rattle.hk_model.specs.Opening.{numbered}
 
 -- the objects, each with its name, from 0 on
-abbrev pub named : List Object → List (Name × Object)
-named objects = numbered (λ n. record { 0 = n }) 0 objects
+abbrev pub with_names : List Object → List (Name × Object)
+with_names objects = numbered (λ n. record { 0 = n }) 0 objects

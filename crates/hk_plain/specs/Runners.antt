@@ -21,12 +21,12 @@ abbrev pub with_current : List Process → Proc → Inc → List Process
 with_current ps proc inc = slice_set ps proc.0 (record (process_at ps proc.0) { current = inc })
 
 -- a process is ready or runs
-abbrev pub is_live : ProcessState → Bool
-is_live run = is_ready run || is_running run
+abbrev pub runner_lives : ProcessState → Bool
+runner_lives run = is_ready run || is_running run
 
 -- what a process counts among the live ones
 abbrev pub weight : ProcessState → ℕ
-weight run = if is_live run then 1 else 0
+weight run = if runner_lives run then 1 else 0
 
 -- the place of a processor has the process of this number
 abbrev pub has_place : Option Proc → ℕ → Bool
@@ -48,4 +48,4 @@ freed places Ended = places
 pub record IsPlaced (ps : List Process) (places : List (Option Proc)) (live : ℕ) : Type 0 where
   pub few : length ps ≤ 256
   pub placed : (q : ℕ) (cpu : Cpu) → is_on cpu (process_at ps q).run ≡ has_place (place_of places cpu) q
-  pub counted : live ≡ count_by (λ p. is_live p.run) ps
+  pub counted : live ≡ count_by (λ p. runner_lives p.run) ps

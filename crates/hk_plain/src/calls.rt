@@ -5,7 +5,7 @@ ghost use Rattle.hk_model.specs.declared.calls.Reply.TheVariants.{Done};
 ghost use Rattle.hk_model.specs.State.{process};
 ghost use Rattle.hk_model.specs.Walking.{walk};
 ghost use Rattle.hk_model.specs.Rule.{outcome, rule, answered, settled, counted};
-ghost use Rattle.hk_model.specs.Processors.{may_step, code_found, entered, is_running};
+ghost use Rattle.hk_model.specs.Processors.{may_step, code_found, entered_code, is_running};
 ghost use Rattle.hk_plain.specs.Giving.{Gives};
 ghost use Rattle.hk_plain.specs.Numbers.{HasNumbers, FewNumbers, TakesOne};
 
@@ -97,7 +97,7 @@ impl Tables {
 
     // The code of the procedure that a call enters if it is answered Done.
     fn code_entered(&self, inc: Inc, call: &Call) -> Option<u16>
-        ensures { result ≡ entered self.now inc call.now Done }
+        ensures { result ≡ entered_code self.now inc call.now Done }
     {
         match call {
             Call::Enter { proc: path, .. } => self.code_at(inc, path),
@@ -110,7 +110,7 @@ impl Tables {
         requires below { IsTrue (may_step self.old) }
         requires numbers { FewNumbers self.old }
         ensures reply { IfOk result (λ acted. rule self.old proc call.now ≡ (acted.reply, self.new)) }
-        ensures code { IfOk result (λ acted. acted.code ≡ entered self.old (process self.old proc).current call.now acted.reply) }
+        ensures code { IfOk result (λ acted. acted.code ≡ entered_code self.old (process self.old proc).current call.now acted.reply) }
         ensures gone { IfOk result (λ acted. acted.gone ≡ not (is_running (process self.new proc).run)) }
         ensures numbers { OnOk result (FewNumbers self.new) }
         ensures err { OnErr result (self.new ≡ self.old) }

@@ -7,7 +7,7 @@ ghost use Rattle.hk_model.specs.declared.objects.Object.{Object};
 ghost use Rattle.hk_model.specs.State.{name_cmp};
 ghost use Rattle.hk_model.specs.Keeping.{AreRooted, members};
 ghost use Rattle.hk_model.specs.Rule.{add_beside};
-ghost use Rattle.hk_plain.specs.Marking.{AreUnderway, Spares, all_but, goes};
+ghost use Rattle.hk_plain.specs.Marking.{AreUnderway, Spares, is_none_of, goes};
 ghost use Rattle.hk_plain.specs.Counts.{Moved, inner_names};
 ghost use Rattle.hk_plain.specs.Numbers.{HasNumbers};
 
@@ -16,13 +16,14 @@ use crate::counts::Counts;
 use crate::marks::Marks;
 use crate::stop::Stop;
 use crate::tables::Tables;
+use hk_model::limits::OBJECT_LIMIT;
 use hk_model::{Name, NoMemory, Object, Refusal, What8};
 use std::alloc::Global;
 use std::collections::{BTreeMap, BTreeSet};
 
 // How many objects stand beside these.
 fn count_but(objects: &BTreeMap<Name, Object>, spare: &BTreeSet<Name>) -> usize
-    ensures { result ≡ length (filter (λ (e : Name × Object). all_but spare.now.keys e.0) objects.now.entries) }
+    ensures { result ≡ length (filter (λ (e : Name × Object). is_none_of spare.now.keys e.0) objects.now.entries) }
 {
     let _many = objects.len();
     let mut count = 0;
@@ -67,7 +68,7 @@ fn put_beside(
     counts: &mut Counts,
 ) -> Result<(), NoMemory>
     ensures counted { Moved counts.old counts.new (inner_names objects.new.entries) (inner_names objects.old.entries) }
-    ensures ok { OnOk result (objects.new.entries ≡ insert_entry name_cmp (filter (λ (e : Name × Object). all_but spare.now.keys e.0) objects.old.entries) name object) }
+    ensures ok { OnOk result (objects.new.entries ≡ insert_entry name_cmp (filter (λ (e : Name × Object). is_none_of spare.now.keys e.0) objects.old.entries) name object) }
     ensures err { OnErr result (objects.new.entries ≡ objects.old.entries) }
 {
     insert(objects, name, object, counts)?;
@@ -94,7 +95,7 @@ impl Tables {
 
     // The objects that are not rooted.
     fn unrooted(&self, alloc: Global) -> Result<BTreeSet<Name>, NoMemory>
-        ensures { IfOk result (λ spare. AreRooted self.now (all_but spare.keys)) }
+        ensures { IfOk result (λ spare. AreRooted self.now (is_none_of spare.keys)) }
     {
         let mut marks = Marks::begin(alloc, &self.objects, self.counts.first_new())?;
         marks.mark_slots(self.incarnations.all())?;
@@ -108,11 +109,11 @@ impl Tables {
     pub(crate) fn spare_objects(&self, alloc: Global) -> Result<BTreeSet<Name>, Stop>
         ensures { Spares self.now result }
     {
-        if self.objects.len() < 65536 {
+        if self.objects.len() < OBJECT_LIMIT {
             return Ok(BTreeSet::new(alloc));
         }
         let spare = self.unrooted(alloc)?;
-        if count_but(&self.objects, &spare) < 65536 {
+        if count_but(&self.objects, &spare) < OBJECT_LIMIT {
             return Ok(spare);
         }
         let what = What8::Objects;
@@ -126,7 +127,7 @@ impl Tables {
         spare: &BTreeSet<Name>,
     ) -> Result<(), NoMemory>
         requires { HasNumbers self.old }
-        ensures ok { OnOk result (self.new ≡ add_beside self.old (members self.old (all_but spare.now.keys)) object) }
+        ensures ok { OnOk result (self.new ≡ add_beside self.old (members self.old (is_none_of spare.now.keys)) object) }
         ensures err { OnErr result (self.new ≡ self.old) }
     {
         let name = self.next_name;

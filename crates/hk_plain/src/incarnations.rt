@@ -39,7 +39,6 @@ impl Model for Incarnations {
 }
 
 // The incarnation of a number goes, with what its slots name.
-
 fn remove_one(live: &mut BTreeMap<Inc, Incarnation>, inc: Inc, counts: &mut Counts)
     ensures live { live.new.entries ≡ remove_entry (same_inc inc) live.old.entries }
     ensures counted { Moved counts.old counts.new (slot_names live.new.entries) (slot_names live.old.entries) }

@@ -10,6 +10,7 @@ use crate::counted::{push_entry, set_entry};
 use crate::stop::Stop;
 use crate::tables::Tables;
 use crate::targets::{Wanted, slot_at, storable};
+use hk_model::limits::ENTRY_LIMIT;
 use hk_model::{Answer, Entry, Inc, Name, Path, Refusal, Slot, Template, What8};
 use hk_rights::Rights;
 use std::marker::PhantomData;
@@ -42,7 +43,7 @@ impl Tables {
     fn push_entry(&mut self, name: Name, entry: Entry) -> Result<Answer, Stop>
         ensures { Gives self.old (entry_added self.old name entry) result self.new }
     {
-        if self.entries_of(name) >= 256 {
+        if self.entries_of(name) >= ENTRY_LIMIT {
             let what = What8::Entries;
             return Err(Stop::Refused(Refusal::Full { what }));
         }

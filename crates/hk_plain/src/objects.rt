@@ -8,7 +8,7 @@ ghost use Rattle.hk_model.specs.Rule.{can_be_created, plain_object, copied, crea
 ghost use Rattle.hk_plain.specs.Giving.{Gives};
 ghost use Rattle.hk_plain.specs.Numbers.{HasNumbers};
 ghost use Rattle.hk_plain.specs.Additions.{object_made};
-ghost use Rattle.hk_plain.specs.Marking.{all_but};
+ghost use Rattle.hk_plain.specs.Marking.{is_none_of};
 
 use crate::stop::Stop;
 use crate::tables::Tables;
@@ -112,7 +112,7 @@ impl Tables {
         rights: Rights,
     ) -> Result<Answer, Stop>
         requires { HasNumbers self.old }
-        ensures { Gives self.old (object_made self.old (members self.old (all_but spare.now.keys)) inc slot new rights) result self.new }
+        ensures { Gives self.old (object_made self.old (members self.old (is_none_of spare.now.keys)) inc slot new rights) result self.new }
     {
         let name = self.next_name;
         self.add_beside(new, spare)?;

@@ -8,7 +8,7 @@ ghost use Rattle.hk_model.specs.declared.world.Born.{Born};
 ghost use Rattle.hk_model.specs.State.{no_object};
 ghost use Rattle.hk_model.specs.Processors.{is_running};
 ghost use Rattle.hk_model.specs.Opening.{object_of, base_of, bases, all_ready, proc_numbers, opening};
-ghost use Rattle.hk_plain.specs.Opening.{named};
+ghost use Rattle.hk_plain.specs.Opening.{with_names};
 ghost use Rattle.hk_plain.specs.Numbers.{FewNumbers};
 ghost use Rattle.hk_plain.specs.Counts.{Moved, inner_names, slot_names};
 
@@ -64,7 +64,7 @@ fn object_of(alloc: Global, kind: &Kind) -> Result<Object, AllocError>
 
 // The kernel types, which have the names 0 to 6.
 fn kernel_types(alloc: Global, counts: &mut Counts) -> Result<BTreeMap<Name, Object>, NoMemory>
-    ensures objects { IfOk result (λ objects. objects.entries ≡ named (replicate 7 no_object)) }
+    ensures objects { IfOk result (λ objects. objects.entries ≡ with_names (replicate 7 no_object)) }
     ensures counted { IfOk result (λ objects. Moved counts.old counts.new (inner_names objects.entries) []) }
 {
     let mut objects = BTreeMap::new(alloc);
@@ -81,7 +81,7 @@ fn objects_of(
     counts: &mut Counts,
 ) -> Result<BTreeMap<Name, Object>, NoMemory>
     ensures counted { IfOk result (λ objects. Moved counts.old counts.new (inner_names objects.entries) []) }
-    ensures objects { IfOk result (λ objects. objects.entries ≡ named (replicate 7 no_object ++ map (λ (b : Born). object_of b.kind) born.now)) }
+    ensures objects { IfOk result (λ objects. objects.entries ≡ with_names (replicate 7 no_object ++ map (λ (b : Born). object_of b.kind) born.now)) }
 {
     let mut objects = kernel_types(alloc, counts)?;
     for (i, object) in born.iter().enumerate() {

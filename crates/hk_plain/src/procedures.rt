@@ -2,7 +2,7 @@
 
 ghost use Rattle.std.specs.Prelude.{◌≡◌, ◌<◌, ◌≤◌, ◌+◌, length, map, IfOk};
 ghost use Rattle.hk_model.specs.State.{object, incarnation};
-ghost use Rattle.hk_model.specs.Rule.{slots_at, type_held, argument, enter_procedure, leave, given};
+ghost use Rattle.hk_model.specs.Rule.{slots_at, type_held, argument, enter_procedure, leave, returned_cap};
 ghost use Rattle.hk_model.specs.Merging.{name_space};
 ghost use Rattle.hk_plain.specs.Giving.{Gives};
 ghost use Rattle.hk_plain.specs.Numbers.{HasNumbers};
@@ -11,6 +11,7 @@ use crate::stop::Stop;
 use crate::tables::Tables;
 use crate::targets::{Wanted, slot_at};
 use hk_merge::{Arg, allowed, build_space, held};
+use hk_model::limits::{DEPTH_LIMIT, SLOT_LIMIT};
 use hk_model::{
     Answer, Args, Cap, Entries, Entry, Inc, Incarnation, Name, Path, Proc, ProcessState, Refusal,
     Slot, Template,
@@ -26,7 +27,7 @@ fn slots_at(slots: &[u8], first: u8) -> Result<(), Refusal>
     ensures { result ≡ slots_at slots.now first }
 {
     for (i, slot) in slots.iter().enumerate() {
-        if *slot >= 64 {
+        if usize::from(*slot) >= SLOT_LIMIT {
             return Err(Refusal::Range {
                 step: first + i as u8,
             });
@@ -123,7 +124,7 @@ impl Tables {
         let confined = !cap.rights.has(Right::UNCONF);
         let held = self.args(alloc, inc, args.as_slice())?;
         let space = self.space_of(cap.name, held.as_slice(), confined, step)?;
-        if self.depth(proc) >= 64 {
+        if self.depth(proc) >= DEPTH_LIMIT {
             return Err(Stop::Refused(Refusal::Deep));
         }
         self.add_incarnation(
@@ -142,7 +143,7 @@ impl Tables {
 
     // What a return hands to its caller: nothing, or a capability with ENV.
     fn given(&self, inc: Inc, give: Option<Slot>) -> Result<Option<Cap>, Refusal>
-        ensures { result ≡ given (incarnation self.now inc).slots give }
+        ensures { result ≡ returned_cap (incarnation self.now inc).slots give }
     {
         match give {
             None => Ok(None),

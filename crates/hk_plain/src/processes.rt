@@ -8,10 +8,11 @@ ghost use Rattle.std.specs.List.{list_any};
 ghost use Rattle.hk_model.specs.declared.objects.Process.{Process};
 ghost use Rattle.hk_model.specs.declared.objects.ProcessState.TheVariants.{Running};
 ghost use Rattle.hk_model.specs.Processors.{runner_from, is_running};
-ghost use Rattle.hk_plain.specs.Runners.{with_run, with_current, is_live, freed, place_of, weight};
+ghost use Rattle.hk_plain.specs.Runners.{with_run, with_current, runner_lives, freed, place_of, weight};
 ghost use Rattle.hk_plain.specs.Counts.{Moved, waiting_names};
 
 use crate::counts::Counts;
+use hk_model::limits::CPU_LIMIT;
 use hk_model::{Cpu, Inc, Proc, Process, ProcessState};
 use std::marker::Model;
 
@@ -39,7 +40,7 @@ impl Model for Processes {
 
 // Whether a process is ready or runs.
 fn is_live(run: ProcessState) -> bool
-    ensures { result ≡ is_live run }
+    ensures { result ≡ runner_lives run }
 {
     match run {
         ProcessState::Ready | ProcessState::Running(_) => true,
@@ -49,7 +50,7 @@ fn is_live(run: ProcessState) -> bool
 
 // How many processes are live.
 fn count_live(all: &[Process]) -> usize
-    ensures { result ≡ count_by (λ (p : Process). is_live p.run) all.now }
+    ensures { result ≡ count_by (λ (p : Process). runner_lives p.run) all.now }
 {
     all.iter().filter(|process| is_live(process.run)).count()
 }
@@ -81,7 +82,7 @@ fn free(places: &mut [Option<Proc>; 16], before: ProcessState)
 {
     if let ProcessState::Running(cpu) = before {
         let at = cpu.0 as usize;
-        if at < 16 {
+        if at < usize::from(CPU_LIMIT) {
             places[at] = None;
         }
     }
@@ -118,7 +119,7 @@ impl Processes {
 
     // Whether some process is ready or runs.
     pub(crate) fn some_live(&self) -> bool
-        ensures { result ≡ list_any (λ (p : Process). is_live p.run) self.now }
+        ensures { result ≡ list_any (λ (p : Process). runner_lives p.run) self.now }
     {
         self.live > 0
     }

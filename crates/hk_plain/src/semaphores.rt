@@ -9,6 +9,7 @@ ghost use Rattle.hk_plain.specs.Giving.{Gives};
 use crate::stop::Stop;
 use crate::tables::Tables;
 use crate::targets::Wanted;
+use hk_model::limits::TOKEN_LIMIT;
 use hk_model::{Answer, Inc, Items, Name, NoMemory, Path, Proc, ProcessState, Refusal, What8};
 use hk_rights::Rights;
 use std::alloc::{AllocError, Global};
@@ -103,7 +104,7 @@ impl Tables {
         ensures { Gives self.old (token_given self.old name (object self.old name) []) result self.new }
     {
         let count = self.count_of(name);
-        if count >= 65535 {
+        if count >= TOKEN_LIMIT {
             let what = What8::Tokens;
             return Err(Stop::Refused(Refusal::Full { what }));
         }

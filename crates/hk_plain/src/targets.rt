@@ -8,6 +8,7 @@ ghost use Rattle.hk_plain.specs.Kinds.{is_wanted};
 
 use crate::tables::Tables;
 use hk_merge::{allowed, held};
+use hk_model::limits::SLOT_LIMIT;
 use hk_model::{Cap, Entry, Inc, Name, Path, Refusal, Slot};
 use hk_rights::Rights;
 
@@ -42,8 +43,9 @@ impl Wanted {
 pub(crate) fn slot_at(slot: Slot, step: u8) -> Result<usize, Refusal>
     ensures { result ≡ slot_at slot step }
 {
-    if slot.0 < 64 {
-        Ok(slot.0 as usize)
+    let at = usize::from(slot.0);
+    if at < SLOT_LIMIT {
+        Ok(at)
     } else {
         Err(Refusal::Range { step })
     }

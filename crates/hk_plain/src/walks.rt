@@ -3,7 +3,7 @@
 ghost use Rattle.std.specs.Prelude.{◌≡◌, ◌<◌, ◌+◌, bit_and};
 ghost use Rattle.hk_model.specs.State.{object, incarnation};
 ghost use Rattle.hk_model.specs.Refusing.{item_at};
-ghost use Rattle.hk_model.specs.Walking.{walk, hop, obtained, reduced_rights, local_rights};
+ghost use Rattle.hk_model.specs.Walking.{walk, hop_on, obtained, reduced_rights, local_rights};
 
 use crate::tables::Tables;
 use hk_merge::{allowed, confined_rights, held};
@@ -80,7 +80,7 @@ impl Tables {
     // One step of a walk.
     fn hop(&self, entry: Entry, at: u16, step: u8) -> Result<Entry, Refusal>
         requires { step < 255 }
-        ensures { result ≡ hop self.now entry at step }
+        ensures { result ≡ hop_on self.now entry at step }
     {
         let cap = held(entry, step)?;
         allowed(cap.rights, Rights::LOAD, step)?;

@@ -10,6 +10,7 @@ ghost use Rattle.hk_plain.specs.Additions.{word_added};
 use crate::stop::Stop;
 use crate::tables::Tables;
 use crate::targets::Wanted;
+use hk_model::limits::WORD_LIMIT;
 use hk_model::{Answer, Inc, Name, Path, Refusal, What8};
 use hk_rights::Rights;
 
@@ -53,7 +54,7 @@ impl Tables {
         ensures { Gives self.old (word_added self.old name word) result self.new }
     {
         if let Some(object) = self.objects.get_mut(&name) {
-            if object.words.len() >= 4096 {
+            if object.words.len() >= WORD_LIMIT {
                 let what = What8::Words;
                 return Err(Stop::Refused(Refusal::Full { what }));
             }

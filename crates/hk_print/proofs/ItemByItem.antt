@@ -10,21 +10,25 @@ use Rattle.hk_format.specs.declared.syntax.Item.{Item}
 use Rattle.hk_model.specs.declared.world.Born.{Born}
 use Rattle.hk_model.specs.declared.world.Code.{Code}
 use Rattle.hk_model.specs.declared.world.Task.{Task}
-use Rattle.hk_model.specs.Setup.{Setup}
+use Rattle.hk_model.specs.WorldValue.{WorldValue}
 use Rattle.hk_format.specs.Spelling.{item_lines}
-use Rattle.hk_format.specs.Canonical.{canon, spoken, limit_items, object_item, code_item, task_item, syntax_of}
-use Rattle.hk_print.specs.ItemTexts.{line_text, item_text}
+use Rattle.hk_format.specs.Names.{spoken}
+use Rattle.hk_format.specs.Canonical.{canon, limit_items, object_item, code_item, task_item, syntax_of}
+use Rattle.hk_print.specs.ItemTexts.{pieces_line, item_text}
 
-items_text : (items : List Item) → flat_map line_text (flat_map item_lines items) ≡ flat_map item_text items
+items_text : (items : List Item) → flat_map pieces_line (flat_map item_lines items) ≡ flat_map item_text items
 items_text [] = refl
-items_text (i ∷ is) = flat_map-append line_text (item_lines i) (flat_map item_lines is) ∙ ap (λ (t : List ℕ). item_text i ++ t) (items_text is)
+items_text (i ∷ is) = flat_map-append pieces_line (item_lines i) (flat_map item_lines is) ∙ ap (λ (t : List ℕ). item_text i ++ t) (items_text is)
 
 -- the header, the limit, the objects, the codes, the processes
-pub canon_is : (w : Setup) → canon w ≡ (((codes "hydra 1\n" ++ flat_map item_text (limit_items w.limit)) ++ flat_map (λ (b : Born). item_text (object_item (spoken w) b)) w.objects) ++ flat_map (λ (c : Code). item_text (code_item c)) w.codes) ++ flat_map (λ (t : Task). item_text (task_item (spoken w) t)) w.tasks
+pub canon_is : (w : WorldValue)
+    → canon w ≡ (((codes "hydra 1\n" ++ flat_map item_text (limit_items w.limit)) ++ flat_map (λ (b : Born). item_text (object_item (spoken w) b)) w.objects)
+        ++ flat_map (λ (c : Code). item_text (code_item c)) w.codes) ++ flat_map (λ (t : Task). item_text (task_item (spoken w) t)) w.tasks
 unfolding canon digits
 canon_is w =
     ap (λ (t : List ℕ). codes "hydra 1\n" ++ t) (items_text (syntax_of w) ∙ parts)
-    ∙ sym (append_assoc (codes "hydra 1\n" ++ limits ++ objects) coded tasks ∙ append_assoc (codes "hydra 1\n" ++ limits) objects (coded ++ tasks) ∙ append_assoc (codes "hydra 1\n") limits (objects ++ (coded ++ tasks)))
+    ∙ sym (append_assoc (codes "hydra 1\n" ++ limits ++ objects) coded tasks ∙ append_assoc (codes "hydra 1\n" ++ limits) objects (coded ++ tasks)
+        ∙ append_assoc (codes "hydra 1\n") limits (objects ++ (coded ++ tasks)))
   where
     limits : List ℕ
     limits = flat_map item_text (limit_items w.limit)

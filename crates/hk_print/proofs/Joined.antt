@@ -10,7 +10,8 @@ separator b [] = []
 separator b (x ∷ xs) = b ∷ []
 
 -- one text more at the end
-pub joined : {X : Type 0} (b : ℕ) (text : X → List ℕ) (xs : List X) (y : X) → join_with_byte b (map text (xs ++ y ∷ [])) ≡ join_with_byte b (map text xs) ++ (separator b xs ++ text y)
+pub joined : {X : Type 0} (b : ℕ) (text : X → List ℕ) (xs : List X) (y : X)
+    → join_with_byte b (map text (xs ++ y ∷ [])) ≡ join_with_byte b (map text xs) ++ (separator b xs ++ text y)
 joined b text [] y = refl
 joined b text (x ∷ []) y = refl
 joined b text (x ∷ z ∷ xs) y = ap (λ (t : List ℕ). text x ++ b ∷ t) (joined b text (z ∷ xs) y) ∙ sym (append_assoc (text x) (b ∷ join_with_byte b (map text (z ∷ xs))) (b ∷ text y))
@@ -20,9 +21,12 @@ some_before b [] y = refl
 some_before b (x ∷ xs) y = refl
 
 -- the text of the next item is written behind what stands before it
-pub joined_next : {X : Type 0} (b : ℕ) (text : X → List ℕ) (xs : List X) (i : ℕ) (d : X) {out before pushed new : List ℕ} → i < length xs → out ≡ join_with_byte b (map text (take i xs)) → before ≡ separator b (take i xs) → pushed ≡ out ++ before → new ≡ pushed ++ text (get_or xs i d) → new ≡ join_with_byte b (map text (take (i + 1) xs))
+pub joined_next : {X : Type 0} (b : ℕ) (text : X → List ℕ) (xs : List X) (i : ℕ) (d : X) {out before pushed new : List ℕ} → i < length xs
+    → out ≡ join_with_byte b (map text (take i xs)) → before ≡ separator b (take i xs) → pushed ≡ out ++ before → new ≡ pushed ++ text (get_or xs i d)
+    → new ≡ join_with_byte b (map text (take (i + 1) xs))
 joined_next b text xs i d inside e f p n =
-    n ∙ rw (p, e, f, take_more xs i d inside) (append_assoc (join_with_byte b (map text (take i xs))) (separator b (take i xs)) (text (get_or xs i d)) ∙ sym (joined b text (take i xs) (get_or xs i d)))
+    n ∙ rw (p, e, f, take_more xs i d inside) (append_assoc (join_with_byte b (map text (take i xs))) (separator b (take i xs)) (text (get_or xs i d))
+        ∙ sym (joined b text (take i xs) (get_or xs i d)))
 
 -- and the byte stands before the one behind it
 pub separated_next : {X : Type 0} (b : ℕ) (xs : List X) (i : ℕ) (d : X) → i < length xs → (b ∷ []) ≡ separator b (take (i + 1) xs)

@@ -4,8 +4,9 @@ mod ItemByItem
 mod Items
 mod Joined
 mod Names
-mod Pieces
+pub mod Pieces
 mod Places
 mod Registers
 mod StepByStep
 mod WordByWord
+pub mod Spelled

@@ -16,12 +16,15 @@ kept : (test : ℕ → Bool) (ns : List ℕ) (n : ℕ) → filter test (ns ++ n 
 kept test [] n = refl
 kept test (m ∷ ns) n = go (test m) (kept test ns n)
   where
-    go : (b : Bool) → filter test (ns ++ n ∷ []) ≡ filter test ns ++ cond (test n) (n ∷ []) [] → cond b (m ∷ filter test (ns ++ n ∷ [])) (filter test (ns ++ n ∷ [])) ≡ cond b (m ∷ filter test ns) (filter test ns) ++ cond (test n) (n ∷ []) []
+    go : (b : Bool) → filter test (ns ++ n ∷ []) ≡ filter test ns ++ cond (test n) (n ∷ []) []
+        → cond b (m ∷ filter test (ns ++ n ∷ [])) (filter test (ns ++ n ∷ [])) ≡ cond b (m ∷ filter test ns) (filter test ns) ++ cond (test n) (n ∷ []) []
     go true e = ap (λ (t : List ℕ). m ∷ t) e
     go false e = e
 
 -- the name of the next right is written
-pub name_pushed : (test : ℕ → Bool) (ns : List ℕ) (i d : ℕ) (text before : List ℕ) → i < length ns → test (get_or ns i d) ≡ true → text ≡ names_text (filter test (take i ns)) → before ≡ separator 43 (filter test (take i ns)) → (text ++ (before ++ name_of (get_or ns i d)) ≡ names_text (filter test (take (i + 1) ns))) × ((43 ∷ []) ≡ separator 43 (filter test (take (i + 1) ns)))
+pub name_pushed : (test : ℕ → Bool) (ns : List ℕ) (i d : ℕ) (text before : List ℕ) → i < length ns → test (get_or ns i d) ≡ true → text ≡ names_text (filter test (take i ns))
+    → before ≡ separator 43 (filter test (take i ns))
+    → (text ++ (before ++ name_of (get_or ns i d)) ≡ names_text (filter test (take (i + 1) ns))) × ((43 ∷ []) ≡ separator 43 (filter test (take (i + 1) ns)))
 name_pushed test ns i d text before inside has e f =
     let more : filter test (take (i + 1) ns) ≡ filter test (take i ns) ++ get_or ns i d ∷ [] = rw (take_more ns i d inside) (kept test (take i ns) (get_or ns i d) ∙ rw has refl) in
     (rw (e, f, more) (sym (joined 43 name_of (filter test (take i ns)) (get_or ns i d))), rw more (sym (some_before 43 (filter test (take i ns)) (get_or ns i d))))

@@ -6,7 +6,7 @@ use Rattle.std.proofs.lemmas.List.Folds.{list_any_more}
 use Rattle.std.proofs.lemmas.Bool.{eqb-true, eqb-false}
 use Rattle.hk_model.specs.declared.instructions.Instr.{Instr}
 use Rattle.hk_model.specs.declared.instructions.Instr.TheVariants as instr
-use Rattle.hk_model.specs.Setup.{IsInstr}
+use Rattle.hk_model.specs.WorldValue.{IsInstr}
 use Rattle.hk_format.specs.Canonical.{jumps_to}
 use Rattle.hk_print.specs.Jumps.{target_of}
 
@@ -41,7 +41,8 @@ or_false true = refl
 or_false false = refl
 
 -- a jump marks its place
-pub mark_set : (marks : List Bool) (steps : List Instr) (i : ℕ) (d : Instr) (to n : ℕ) → i < length steps → to < length marks → target_of (get_or steps i d) ≡ Some to → get_or marks n false ≡ list_any (jumps_to n) (take i steps) → get_or (set marks to true) n false ≡ list_any (jumps_to n) (take (i + 1) steps)
+pub mark_set : (marks : List Bool) (steps : List Instr) (i : ℕ) (d : Instr) (to n : ℕ) → i < length steps → to < length marks → target_of (get_or steps i d) ≡ Some to
+    → get_or marks n false ≡ list_any (jumps_to n) (take i steps) → get_or (set marks to true) n false ≡ list_any (jumps_to n) (take (i + 1) steps)
 mark_set marks steps i d to n inside within goes before =
     rw (list_any_more (jumps_to n) steps i d inside, jumps_some n (get_or steps i d) to goes) (go (eqb to n) refl)
   where
@@ -50,6 +51,7 @@ mark_set marks steps i d to n inside within goes before =
     go false e = get_or-set_other marks to n true false (λ same. eqb-false to n e (sym same)) ∙ before ∙ sym (or_false (list_any (jumps_to n) (take i steps)))
 
 -- and another instruction marks none
-pub mark_kept : (marks : List Bool) (steps : List Instr) (i : ℕ) (d : Instr) (n : ℕ) → i < length steps → target_of (get_or steps i d) ≡ None → get_or marks n false ≡ list_any (jumps_to n) (take i steps) → get_or marks n false ≡ list_any (jumps_to n) (take (i + 1) steps)
+pub mark_kept : (marks : List Bool) (steps : List Instr) (i : ℕ) (d : Instr) (n : ℕ) → i < length steps → target_of (get_or steps i d) ≡ None
+    → get_or marks n false ≡ list_any (jumps_to n) (take i steps) → get_or marks n false ≡ list_any (jumps_to n) (take (i + 1) steps)
 mark_kept marks steps i d n inside goes before =
     rw (list_any_more (jumps_to n) steps i d inside, jumps_none n (get_or steps i d) goes) (before ∙ sym (or_false (list_any (jumps_to n) (take i steps))))

@@ -26,17 +26,21 @@ mark_found (m ∷ ms) zero mark inside e = e
 mark_found (m ∷ ms) (suc n) mark inside e = mark_found ms n mark (omega arith) e
 
 -- a marked place has its label's line
-pub label_written : (all : List Instr) (n : ℕ) (mark : Bool) (old new : List ℕ) → mark ≡ list_any (jumps_to n) all → new ≡ old ++ cond mark (body_text (LabelIs (label_text n))) [] → new ≡ old ++ parts_text (label_parts all n)
+pub label_written : (all : List Instr) (n : ℕ) (mark : Bool) (old new : List ℕ) → mark ≡ list_any (jumps_to n) all → new ≡ old ++ cond mark (body_text (LabelIs (label_text n))) []
+    → new ≡ old ++ parts_text (label_parts all n)
 label_written all n mark old new e written = written ∙ ap (λ (t : List ℕ). old ++ t) (rw e (sym (label_spelled all n)))
 
 -- the label and the line of an instruction are what the lines from it on begin with
-pub step_written : (all : List Instr) (i : ℕ) (d : Instr) (whole out labelled text new : List ℕ) → i < length all → out ++ parts_text (code_parts all i (drop i all)) ≡ whole → labelled ≡ out ++ parts_text (label_parts all i) → text ≡ spell_line (written_pieces (written_of (get_or all i d))) → new ≡ labelled ++ (text ++ 10 ∷ []) → new ++ parts_text (code_parts all (i + 1) (drop (i + 1) all)) ≡ whole
+pub step_written : (all : List Instr) (i : ℕ) (d : Instr) (whole out labelled text new : List ℕ) → i < length all → out ++ parts_text (code_parts all i (drop i all)) ≡ whole
+    → labelled ≡ out ++ parts_text (label_parts all i) → text ≡ spell_line (written_pieces (written_of (get_or all i d))) → new ≡ labelled ++ (text ++ 10 ∷ [])
+    → new ++ parts_text (code_parts all (i + 1) (drop (i + 1) all)) ≡ whole
 step_written all i d whole out labelled text new inside before l e n =
     let cut = drop_more all i d inside in
     let line = body_text (StepIs (written_of (get_or all i d))) in
     let label = parts_text (label_parts all i) in
     let rest = parts_text (code_parts all (i + 1) (drop (i + 1) all)) in
-    let split : parts_text (code_parts all i (drop i all)) ≡ label ++ (line ++ rest) = rw cut (parts_joined (label_parts all i) (part (StepIs (written_of (get_or all i d))) ∷ code_parts all (i + 1) (drop (i + 1) all))) in
+    let split : parts_text (code_parts all i (drop i all)) ≡ label ++ (line ++ rest) = rw cut
+        (parts_joined (label_parts all i) (part (StepIs (written_of (get_or all i d))) ∷ code_parts all (i + 1) (drop (i + 1) all))) in
     rw (n, e, l) (append_assoc (out ++ label) line rest ∙ append_assoc out label (line ++ rest)) ∙ (ap (λ (t : List ℕ). out ++ t) (sym split) ∙ before)
 
 drop_all : (all : List Instr) → drop (length all) all ≡ []
@@ -44,7 +48,8 @@ drop_all [] = refl
 drop_all (i ∷ is) = drop_all is
 
 -- behind the last instruction stands the label of the code's end
-pub steps_over : (all : List Instr) (i : ℕ) (whole out new : List ℕ) → i ≡ length all → out ++ parts_text (code_parts all i (drop i all)) ≡ whole → new ≡ out ++ parts_text (label_parts all (length all)) → new ≡ whole
+pub steps_over : (all : List Instr) (i : ℕ) (whole out new : List ℕ) → i ≡ length all → out ++ parts_text (code_parts all i (drop i all)) ≡ whole
+    → new ≡ out ++ parts_text (label_parts all (length all)) → new ≡ whole
 steps_over all i whole out new e before n =
     let last : drop i all ≡ [] = rw e (drop_all all) in
     n ∙ (let done = rw last at before in rw e at done)

@@ -38,41 +38,51 @@ put_first w (l ∷ ls) some = append_assoc (32 ∷ decimal w) (numbers_text l) (
 
 line_begun : (lines : List (List ℕ)) → (lines ≡ [] → ⊥) → flat_map words_line lines ≡ codes "words" ++ begun_lines lines
 line_begun [] some = absurd (some refl)
-line_begun (l ∷ ls) some = append_assoc (codes "words" ++ numbers_text l) (10 ∷ []) (flat_map words_line ls) ∙ append_assoc (codes "words") (numbers_text l) (10 ∷ flat_map words_line ls)
+line_begun (l ∷ ls) some =
+    append_assoc (codes "words" ++ numbers_text l) (10 ∷ []) (flat_map words_line ls) ∙ append_assoc (codes "words") (numbers_text l) (10 ∷ flat_map words_line ls)
 
 -- all words stand behind the first `words`
 pub words_begun : (w : ℕ) (ws : List ℕ) → parts_text (word_parts (w ∷ ws)) ≡ codes "words" ++ begun_lines (words_from 5 (w ∷ ws))
 words_begun w ws = lines_text (words_from 5 (w ∷ ws)) ∙ line_begun (words_from 5 (w ∷ ws)) (from_some 5 (w ∷ ws))
 
 -- a word that fits stands on its line
-pub word_fits : (used w : ℕ) (ws : List ℕ) → used + number_bytes w ≤ 1000 → begun_lines (words_from used (w ∷ ws)) ≡ (32 ∷ decimal w) ++ begun_lines (words_from (used + number_bytes w) ws)
+pub word_fits : (used w : ℕ) (ws : List ℕ) → used + number_bytes w ≤ 1000
+    → begun_lines (words_from used (w ∷ ws)) ≡ (32 ∷ decimal w) ++ begun_lines (words_from (used + number_bytes w) ws)
 word_fits used w ws fits = rw (le-leb (used + number_bytes w) 1000 fits) (put_first w (words_from (used + number_bytes w) ws) (from_some (used + number_bytes w) ws))
 
 -- and one that does not fit begins the next line
-pub word_breaks : (used w : ℕ) (ws : List ℕ) → 1000 < used + number_bytes w → begun_lines (words_from used (w ∷ ws)) ≡ (10 ∷ codes "words") ++ ((32 ∷ decimal w) ++ begun_lines (words_from (5 + number_bytes w) ws))
+pub word_breaks : (used w : ℕ) (ws : List ℕ) → 1000 < used + number_bytes w
+    → begun_lines (words_from used (w ∷ ws)) ≡ (10 ∷ codes "words") ++ ((32 ∷ decimal w) ++ begun_lines (words_from (5 + number_bytes w) ws))
 word_breaks used w ws over =
     let no : leb (used + number_bytes w) 1000 ≡ false = grind (arith, nat_tests) in
     let rest = words_from (5 + number_bytes w) ws in
-    rw no (ap (λ (t : List ℕ). 10 ∷ t) (line_begun (onto_first w rest) (onto_some w rest) ∙ ap (λ (t : List ℕ). codes "words" ++ t) (put_first w rest (from_some (5 + number_bytes w) ws))))
+    rw no (ap (λ (t : List ℕ). 10 ∷ t) (line_begun (onto_first w rest) (onto_some w rest) ∙ ap (λ (t : List ℕ). codes "words" ++ t)
+        (put_first w rest (from_some (5 + number_bytes w) ws))))
 
 -- a word is written on its line
-pub word_written : (used w len : ℕ) (old number new rest : List ℕ) → used + len ≤ 1000 → number ≡ 32 ∷ decimal w → len ≡ length number → new ≡ old ++ number → new ++ begun_lines (words_from (used + len) rest) ≡ old ++ begun_lines (words_from used (w ∷ rest))
+pub word_written : (used w len : ℕ) (old number new rest : List ℕ) → used + len ≤ 1000 → number ≡ 32 ∷ decimal w → len ≡ length number → new ≡ old ++ number
+    → new ++ begun_lines (words_from (used + len) rest) ≡ old ++ begun_lines (words_from used (w ∷ rest))
 word_written used w len old number new rest fits e l n =
     let same : len ≡ number_bytes w = l ∙ ap length e ∙ omega arith in
-    rw (n, e, same) (append_assoc old (32 ∷ decimal w) (begun_lines (words_from (used + number_bytes w) rest)) ∙ ap (λ (t : List ℕ). old ++ t) (sym (word_fits used w rest (omega arith))))
+    rw (n, e, same) (append_assoc old (32 ∷ decimal w) (begun_lines (words_from (used + number_bytes w) rest))
+        ∙ ap (λ (t : List ℕ). old ++ t) (sym (word_fits used w rest (omega arith))))
 
 -- or on the next
-pub word_moved : (used w len : ℕ) (old number broken new rest : List ℕ) → 1000 < used + len → number ≡ 32 ∷ decimal w → len ≡ length number → broken ≡ old ++ (10 ∷ codes "words") → new ≡ broken ++ number → new ++ begun_lines (words_from (5 + len) rest) ≡ old ++ begun_lines (words_from used (w ∷ rest))
+pub word_moved : (used w len : ℕ) (old number broken new rest : List ℕ) → 1000 < used + len → number ≡ 32 ∷ decimal w → len ≡ length number → broken ≡ old ++ (10 ∷ codes "words")
+    → new ≡ broken ++ number → new ++ begun_lines (words_from (5 + len) rest) ≡ old ++ begun_lines (words_from used (w ∷ rest))
 word_moved used w len old number broken new rest over e l b n =
     let same : len ≡ number_bytes w = l ∙ ap length e ∙ omega arith in
-    rw (n, b, e, same) (append_assoc (old ++ (10 ∷ codes "words")) (32 ∷ decimal w) (begun_lines (words_from (5 + number_bytes w) rest)) ∙ append_assoc old (10 ∷ codes "words") ((32 ∷ decimal w) ++ begun_lines (words_from (5 + number_bytes w) rest)) ∙ ap (λ (t : List ℕ). old ++ t) (sym (word_breaks used w rest (omega arith))))
+    rw (n, b, e, same) (append_assoc (old ++ (10 ∷ codes "words")) (32 ∷ decimal w) (begun_lines (words_from (5 + number_bytes w) rest))
+        ∙ append_assoc old (10 ∷ codes "words") ((32 ∷ decimal w) ++ begun_lines (words_from (5 + number_bytes w) rest))
+        ∙ ap (λ (t : List ℕ). old ++ t) (sym (word_breaks used w rest (omega arith))))
 
 drop_all : (words : List ℕ) → drop (length words) words ≡ []
 drop_all [] = refl
 drop_all (w ∷ ws) = drop_all ws
 
 -- all words are written
-pub words_over : (words : List ℕ) (i used : ℕ) (old pushed out new : List ℕ) → (words ≡ [] → ⊥) → i ≡ length words → pushed ≡ old ++ codes "words" → out ++ begun_lines (words_from used (drop i words)) ≡ pushed ++ begun_lines (words_from 5 words) → new ≡ out ++ 10 ∷ [] → new ≡ old ++ parts_text (word_parts words)
+pub words_over : (words : List ℕ) (i used : ℕ) (old pushed out new : List ℕ) → (words ≡ [] → ⊥) → i ≡ length words → pushed ≡ old ++ codes "words"
+    → out ++ begun_lines (words_from used (drop i words)) ≡ pushed ++ begun_lines (words_from 5 words) → new ≡ out ++ 10 ∷ [] → new ≡ old ++ parts_text (word_parts words)
 words_over [] i used old pushed out new some e p before n = absurd (some refl)
 words_over (w ∷ ws) i used old pushed out new some e p before n =
     let last : drop i (w ∷ ws) ≡ [] = rw e (drop_all (w ∷ ws)) in

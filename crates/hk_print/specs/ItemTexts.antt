@@ -9,27 +9,28 @@ use Rattle.hk_format.specs.declared.syntax.Part.{Part}
 use Rattle.hk_format.specs.Pieces.{Piece}
 use Rattle.hk_format.specs.Texts.{ended_line, spell_line, spell_lines}
 use Rattle.hk_format.specs.Spelling.{body_pieces, item_lines}
-use Rattle.hk_format.specs.Canonical.{Spoken, entry_body, param_body}
+use Rattle.hk_format.specs.Names.{Names, object_text}
+use Rattle.hk_format.specs.EntryTexts.{entry_text, param_text}
 
 -- a line of these pieces
-abbrev pub line_text : List Piece → List ℕ
-line_text pieces = ended_line (spell_line pieces)
+abbrev pub pieces_line : List Piece → List ℕ
+pieces_line pieces = ended_line (spell_line pieces)
 
 -- a line inside an item
 abbrev pub body_text : Body → List ℕ
-body_text body = line_text (body_pieces body)
+body_text body = pieces_line (body_pieces body)
 
 -- lines inside an item
 abbrev pub parts_text : List Part → List ℕ
 parts_text parts = flat_map (λ (p : Part). body_text p.body) parts
 
 -- the line of an entry
-abbrev pub entry_text : Spoken → Entry → List ℕ
-entry_text s entry = body_text (entry_body s entry)
+abbrev pub entry_line : Names → Entry → List ℕ
+entry_line names entry = ended_line (entry_text (object_text names) entry)
 
 -- the line of a parameter
-abbrev pub param_text : Spoken → Param → List ℕ
-param_text s param = body_text (param_body s param)
+abbrev pub param_line : Names → Param → List ℕ
+param_line names param = ended_line (param_text (object_text names) param)
 
 -- all lines of an item
 abbrev pub item_text : Item → List ℕ

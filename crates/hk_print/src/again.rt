@@ -8,7 +8,7 @@ use hk_model::World;
 
 /// The canonical script of a world is a script, and it declares this world: what reads it, by all
 /// three passes, gives this world. The function does nothing; its contract is the law.
-#[tactic(auto, using(hk_model::proofs::WorldAgain::world_again))]
+#[tactic(auto, using(hk_format::proofs::WorldAgain::world_again))]
 pub fn canonical_is_read_again(declared: &World)
     ensures { world (canon declared.now) ≡ Ok declared.now }
 {

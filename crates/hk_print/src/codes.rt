@@ -5,7 +5,7 @@ ghost use Rattle.std.specs.List.{AllByRecursion, flat_map, list_any};
 ghost use Rattle.hk_format.specs.declared.syntax.Body.TheVariants.{LabelIs};
 ghost use Rattle.hk_model.specs.declared.world.Code.{Code};
 ghost use Rattle.hk_model.specs.Limits.{code_limit};
-ghost use Rattle.hk_model.specs.Setup.{IsCode, IsInstr};
+ghost use Rattle.hk_model.specs.WorldValue.{IsCode, IsInstr};
 ghost use Rattle.hk_format.specs.Canonical.{code_item, code_parts, jumps_to, label_text};
 ghost use Rattle.hk_print.specs.ItemTexts.{body_text, item_text, parts_text};
 ghost use Rattle.hk_print.specs.Jumps.{target_of};

@@ -1,7 +1,7 @@
 //! How an instruction is spelled (`docs/FORMATS.md`, "Texts of calls").
 
 ghost use Rattle.std.specs.Prelude.{◌≡◌, IfOk, string_bytes};
-ghost use Rattle.hk_model.specs.Setup.{IsInstr, IsRoute};
+ghost use Rattle.hk_model.specs.WorldValue.{IsInstr, IsRoute};
 ghost use Rattle.hk_format.specs.Texts.{spell_line};
 ghost use Rattle.hk_format.specs.Spelling.{written_pieces};
 ghost use Rattle.hk_format.specs.Canonical.{written_of, making_text};

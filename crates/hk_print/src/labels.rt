@@ -1,8 +1,8 @@
 //! The labels that stand for numbers in a script (`docs/FORMATS.md`, "Names").
 
 ghost use Rattle.std.specs.Prelude.{◌≡◌, ◌+◌, ◌<◌, ◌≤◌, [], length, slice_index_or};
-ghost use Rattle.hk_model.specs.Setup.{IsObject, IsTypeOrAny};
-ghost use Rattle.hk_format.specs.Canonical.{spoken, object_text, code_text, kind_text};
+ghost use Rattle.hk_model.specs.WorldValue.{IsObject};
+ghost use Rattle.hk_format.specs.Names.{spoken, object_text, code_text};
 
 use hk_model::{Name, World};
 
@@ -32,17 +32,6 @@ fn declared_label(world: &World, number: u64) -> &str
 {
     let place = (number - 7) as usize;
     world.objects()[place].label.as_str()
-}
-
-/// The label of a type, or `any`.
-pub(crate) fn kind_label(world: &World, of: Option<Name>) -> &str
-    requires { IsTypeOrAny world.now of }
-    ensures { result.now ≡ kind_text (spoken world.now) of }
-{
-    match of {
-        Some(name) => object_label(world, name),
-        None => "any",
-    }
 }
 
 /// The label of a code.

@@ -4,7 +4,7 @@
 
 pub mod again;
 mod codes;
-mod entries;
+pub mod entries;
 pub mod instructions;
 mod labels;
 mod objects;
@@ -13,12 +13,15 @@ mod processes;
 pub mod rights;
 pub mod script;
 mod shapes;
+pub mod spellers;
 #[cfg(test)]
 mod tests;
 mod words;
 
 pub use again::canonical_is_read_again;
+pub use entries::{write_entry, write_param};
 pub use instructions::instr_text;
 pub use operands::{operand_text, register_text, route_text};
-pub use rights::rights_text;
+pub use rights::{RIGHT_NUMBERS, right_of, rights_text};
 pub use script::script_text;
+pub use spellers::{ByNumber, Speller};

@@ -4,8 +4,9 @@ ghost use Rattle.std.specs.Prelude.{◌≡◌, ◌++◌, OnOk, string_bytes};
 ghost use Rattle.std.specs.List.{AllByRecursion, flat_map};
 ghost use Rattle.hk_model.specs.declared.world.Born.{Born};
 ghost use Rattle.hk_model.specs.declared.world.Kind.TheVariants as kind;
-ghost use Rattle.hk_model.specs.Setup.{IsKind};
-ghost use Rattle.hk_format.specs.Canonical.{spoken, object_item, kind_item};
+ghost use Rattle.hk_model.specs.WorldValue.{IsKind};
+ghost use Rattle.hk_format.specs.Names.{spoken};
+ghost use Rattle.hk_format.specs.Canonical.{object_item, kind_item};
 ghost use Rattle.hk_print.specs.ItemTexts.{item_text};
 
 use crate::entries::{write_entries, write_params};

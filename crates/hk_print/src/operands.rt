@@ -1,7 +1,7 @@
 //! How paths and operands of instructions are spelled (`docs/FORMATS.md`, "Pieces").
 
 ghost use Rattle.std.specs.Prelude.{◌≡◌, ◌++◌, ◌<◌, ◌∷◌, IfOk, OnOk, string_bytes};
-ghost use Rattle.hk_model.specs.Setup.{IsIndex, IsOperand, IsReg, IsRoute};
+ghost use Rattle.hk_model.specs.WorldValue.{IsIndex, IsOperand, IsReg, IsRoute};
 ghost use Rattle.hk_format.specs.Pieces.{spell, spell_index, register_text};
 ghost use Rattle.hk_format.specs.Operands.{operand_piece, route_piece};
 

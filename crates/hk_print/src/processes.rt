@@ -3,8 +3,9 @@
 ghost use Rattle.std.specs.Prelude.{◌≡◌, ◌++◌, OnOk, string_bytes};
 ghost use Rattle.std.specs.List.{flat_map};
 ghost use Rattle.hk_model.specs.declared.world.Task.{Task};
-ghost use Rattle.hk_model.specs.Setup.{IsTask};
-ghost use Rattle.hk_format.specs.Canonical.{spoken, task_item};
+ghost use Rattle.hk_model.specs.WorldValue.{IsTask};
+ghost use Rattle.hk_format.specs.Names.{spoken};
+ghost use Rattle.hk_format.specs.Canonical.{task_item};
 ghost use Rattle.hk_print.specs.ItemTexts.{item_text};
 
 use crate::entries::write_entries;

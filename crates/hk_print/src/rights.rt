@@ -30,11 +30,11 @@ fn rights_names(alloc: Global, rights: Rights) -> Result<String, NoMemory>
     requires { IsRightsWord rights }
     ensures { IfOk result (λ t. string_bytes t ≡ join_with_byte 43 (map name_of (filter (has rights) right_numbers))) }
 {
-    names_among(alloc, &NUMBERS, rights)
+    names_among(alloc, &RIGHT_NUMBERS, rights)
 }
 
-/// The numbers of the rights, rising.
-const NUMBERS: [u8; 19] = [
+/// The numbers of the rights, rising (`docs/RULES.md`, "Rights").
+pub const RIGHT_NUMBERS: [u8; 19] = [
     0, 1, 2, 3, 4, 5, 6, 7, 8, 9, 10, 16, 17, 18, 19, 20, 21, 22, 23,
 ];
 
@@ -46,7 +46,7 @@ fn names_among(alloc: Global, numbers: &[u8], rights: Rights) -> Result<String, 
     let mut out = String::new(alloc);
     let mut separator = "";
     for number in numbers {
-        if let Some(right) = right_in(rights, *number) {
+        if let Some(right) = right_of(rights, *number) {
             push_name(&mut out, separator, right)?;
             separator = "+";
         }
@@ -55,7 +55,7 @@ fn names_among(alloc: Global, numbers: &[u8], rights: Rights) -> Result<String, 
 }
 
 /// The right of this number, if a set has it.
-fn right_in(rights: Rights, number: u8) -> Option<Right>
+pub fn right_of(rights: Rights, number: u8) -> Option<Right>
     requires { IsRightsWord rights }
     ensures { result ≡ (if has rights number then Some number else None) }
 {

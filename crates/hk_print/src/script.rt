@@ -8,11 +8,9 @@ ghost use Rattle.hk_print.specs.ItemTexts.{item_text};
 use crate::codes::write_codes;
 use crate::objects::write_objects;
 use crate::processes::write_processes;
+use hk_model::limits::USUAL_LIMIT;
 use hk_model::{NoMemory, Text, World};
 use std::alloc::Global;
-
-/// The limit of a script that names none.
-const USUAL_LIMIT: u32 = 10000;
 
 /// The canonical script of a world: the one script in the canonical form that declares this world.
 /// The only error is want of memory.

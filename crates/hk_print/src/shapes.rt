@@ -2,7 +2,7 @@
 //! (`docs/FORMATS.md`, "Texts of calls").
 
 ghost use Rattle.std.specs.Prelude.{◌≡◌, ◌∷◌, ◌++◌, [], IfOk, string_bytes, map};
-ghost use Rattle.hk_model.specs.Setup.{IsOperand, IsReg, IsRoute};
+ghost use Rattle.hk_model.specs.WorldValue.{IsOperand, IsReg, IsRoute};
 ghost use Rattle.hk_format.specs.Pieces.{Word, Number};
 ghost use Rattle.hk_format.specs.Operands.{operand_piece, register_piece, rights_set_piece, route_piece, slot_piece, argument_pieces};
 ghost use Rattle.hk_format.specs.Texts.{spell_line};

@@ -2,21 +2,23 @@
 
 ghost use Rattle.std.specs.Prelude.{◌≡◌, ◌<◌, ◌≤◌, []};
 ghost use Rattle.hk_model.specs.Limits.{event_limit};
-ghost use Rattle.hk_model.specs.Setup.{setup};
+ghost use Rattle.hk_model.specs.WorldValue.{world_value};
 
 use crate::{
-    canonical_is_read_again, instr_text, operand_text, register_text, rights_text, route_text,
-    script_text,
+    ByNumber, Speller, canonical_is_read_again, instr_text, operand_text, register_text, right_of,
+    rights_text, route_text, script_text, write_entry, write_param,
 };
-use hk_model::{Index, Instr, Items, NoMemory, Operand, Route, Slot, World};
-use hk_rights::Rights;
+use hk_model::{
+    Cap, Entry, Index, Instr, Items, Name, NoMemory, Operand, Param, Route, Slot, Template, World,
+};
+use hk_rights::{Right, Rights};
 use std::alloc::Global;
 use std::test::Fail;
 
 fn empty_world(alloc: Global, limit: u32) -> World
     requires some { 0 < limit }
     requires few { limit ≤ event_limit }
-    ensures { result ≡ setup limit [] [] [] }
+    ensures { result ≡ world_value limit [] [] [] }
 {
     World::new(
         limit,
@@ -86,5 +88,62 @@ fn instructions_are_spelled(rt: HostRuntime) -> Result<(), Fail> {
     };
     let line = instr_text(alloc, &jump, 1).map_err(|_error: NoMemory| "memory")?;
     assert_eq!(rt; line.as_str(), "iflt r2 5 l1");
+    Ok(())
+}
+
+#[test]
+fn rights_of_a_set_are_found_by_number() {
+    let found = right_of(Rights::GETDATA, 0);
+    let other = right_of(Rights::GETDATA, 1);
+    let _found = (found == Some(Right::GETDATA), other.is_none());
+}
+
+#[test]
+fn entries_are_spelled_by_numbers(rt: HostRuntime) -> Result<(), Fail> {
+    let alloc = rt.alloc();
+    let entries = [
+        Entry::Empty,
+        Entry::Held(Cap {
+            name: Name(65536),
+            rights: Rights::PUTDATA_MODIFY,
+        }),
+        Entry::Form(Template::Amplify {
+            of: None,
+            check: Rights::none(),
+            give: Rights::all(),
+        }),
+        Entry::Form(Template::Create {
+            of: Name(8),
+            give: Rights::GETDATA,
+        }),
+    ];
+    let texts = [
+        "empty",
+        "cap 65536 PUTDATA+MODIFY",
+        "amplify any - ALL",
+        "create 8 GETDATA",
+    ];
+    for i in 0..4 {
+        let mut out = String::new(alloc);
+        write_entry(alloc, &mut out, &ByNumber, entries[i]).map_err(|_error: NoMemory| "memory")?;
+        assert_eq!(rt; out.as_str(), texts[i]);
+    }
+    Ok(())
+}
+
+#[test]
+fn names_are_spelled_by_labels(rt: HostRuntime) -> Result<(), Fail> {
+    let alloc = rt.alloc();
+    let world = empty_world(alloc, 1);
+    let name = world.spell(alloc, Name(1)).map_err(|_error: NoMemory| "memory")?;
+    assert_eq!(rt; name.as_str(), "DATA");
+    let param = Param {
+        of: Some(Name(6)),
+        check: Rights::GETDATA,
+        give: Rights::none(),
+    };
+    let mut out = String::new(alloc);
+    write_param(alloc, &mut out, &world, param).map_err(|_error: NoMemory| "memory")?;
+    assert_eq!(rt; out.as_str(), "param LNS GETDATA -");
     Ok(())
 }

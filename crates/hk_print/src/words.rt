@@ -7,10 +7,8 @@ ghost use Rattle.hk_print.specs.ItemTexts.{parts_text};
 ghost use Rattle.hk_print.specs.WordLines.{begun_lines};
 
 use hk_model::NoMemory;
+use hk_model::limits::LINE_BYTES;
 use std::alloc::Global;
-
-/// The bytes that a line can have, without its line feed.
-const LINE_BYTES: usize = 1000;
 
 /// The bytes of `words`.
 const WORDS_BYTES: usize = 5;
@@ -36,7 +34,8 @@ pub(crate) fn write_words(alloc: Global, out: &mut String, words: &[u32]) -> Res
 fn write_word(alloc: Global, out: &mut String, used: usize, word: u32) -> Result<usize, NoMemory>
     requires { used ≤ line_bytes }
     ensures few { IfOk result (λ end. end ≤ line_bytes) }
-    ensures text { IfOk result (λ end. (rest : List ℕ) → string_bytes out.new ++ begun_lines (words_from end rest) ≡ string_bytes out.old ++ begun_lines (words_from used (word ∷ rest))) }
+    ensures text { IfOk result (λ end. (rest : List ℕ)
+        → string_bytes out.new ++ begun_lines (words_from end rest) ≡ string_bytes out.old ++ begun_lines (words_from used (word ∷ rest))) }
 {
     let number = format!(in alloc; " {word}")?;
     if used + number.len() <= LINE_BYTES {

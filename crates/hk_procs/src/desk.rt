@@ -2,7 +2,7 @@
 
 ghost use Rattle.std.specs.Prelude.{◌≡◌, Bool};
 ghost use Rattle.hk_model.specs.declared.calls.Call.{Call};
-ghost use Rattle.hk_model.specs.Setup.{Setup};
+ghost use Rattle.hk_model.specs.WorldValue.{WorldValue};
 ghost use Rattle.hk_turn.specs.declared.pass.Pass.{Pass as PassOf};
 ghost use Rattle.hk_turn.specs.Passes.{pass_number, seen_list};
 ghost use Rattle.hk_procs.specs.declared.notes.Noted.{Noted as NotedOf};
@@ -23,7 +23,7 @@ use std::sync::Wait;
 /// beginning of it.
 pub trait Desk {
     /// The world whose processes are run.
-    ghost world: { Setup };
+    ghost world: { WorldValue };
 
     /// Whether a call may be answered with want of memory.
     ghost wants: { Call → Bool };

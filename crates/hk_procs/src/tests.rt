@@ -1,7 +1,7 @@
 // A worker at a desk of a world without processes.
 
 ghost use Rattle.std.specs.Prelude.{◌≡◌, ◌<◌, [], IfOk};
-ghost use Rattle.hk_model.specs.Setup.{setup};
+ghost use Rattle.hk_model.specs.WorldValue.{world_value};
 ghost use Rattle.hk_turn.specs.Passes.{pass_number, seen_list};
 
 use crate::{Asked, Called, Desk, Ended, Gate, Noted, work};
@@ -32,10 +32,10 @@ struct Quiet;
 
 impl Desk for Quiet {
     ghost use Rattle.std.specs.Prelude.{◌≡◌, [], false};
-    ghost use Rattle.hk_model.specs.Setup.{setup};
+    ghost use Rattle.hk_model.specs.WorldValue.{world_value};
     ghost use Rattle.hk_turn.specs.Passes.{seen_list};
 
-    ghost world = { setup 1 [] [] [] };
+    ghost world = { world_value 1 [] [] [] };
 
     ghost wants = { λ _. false };
 

@@ -40,12 +40,14 @@ pub filtered_own : (p : ℕ) (es : List (Inc × Activation)) → amount p (filte
 filtered_own p [] = refl
 filtered_own p (e ∷ es) = by (e.1.proc.0 == p) refl (filtered_own p es)
   where
-    by : (b : Bool) → (e.1.proc.0 == p) ≡ b → amount p (filter (λ (x : Inc × Activation). not (x.1.proc.0 == p)) es) ≡ 0 → amount p (cond (not b) (e ∷ filter (λ (x : Inc × Activation). not (x.1.proc.0 == p)) es) (filter (λ (x : Inc × Activation). not (x.1.proc.0 == p)) es)) ≡ 0
+    by : (b : Bool) → (e.1.proc.0 == p) ≡ b → amount p (filter (λ (x : Inc × Activation). not (x.1.proc.0 == p)) es) ≡ 0
+        → amount p (cond (not b) (e ∷ filter (λ (x : Inc × Activation). not (x.1.proc.0 == p)) es) (filter (λ (x : Inc × Activation). not (x.1.proc.0 == p)) es)) ≡ 0
     by true g h = h
     by false g h = rw g h
 
 -- one less where what goes was of the process
-pub removed_own : (p : ℕ) (k : Inc) (x : Activation) (es : List (Inc × Activation)) → look_up k es ≡ Some x → x.proc.0 ≡ p → amount p (remove_entry (same_inc k) es) + 1 ≤ amount p es
+pub removed_own : (p : ℕ) (k : Inc) (x : Activation) (es : List (Inc × Activation)) → look_up k es ≡ Some x → x.proc.0 ≡ p
+    → amount p (remove_entry (same_inc k) es) + 1 ≤ amount p es
 removed_own p k x [] h own = absurd (cc)
 removed_own p k x (e ∷ es) h own = by (same_inc k e.0) h (λ g. removed_own p k x es g own)
   where
@@ -56,11 +58,13 @@ removed_own p k x (e ∷ es) h own = by (same_inc k e.0) h (λ g. removed_own p 
     one true g = omega arith
     one false g = absurd (true≢false (sym g))
 
-    further : (b : Bool) → amount p (remove_entry (same_inc k) es) + 1 ≤ amount p es → cond b (1 + amount p (remove_entry (same_inc k) es)) (amount p (remove_entry (same_inc k) es)) + 1 ≤ cond b (1 + amount p es) (amount p es)
+    further : (b : Bool) → amount p (remove_entry (same_inc k) es) + 1 ≤ amount p es
+        → cond b (1 + amount p (remove_entry (same_inc k) es)) (amount p (remove_entry (same_inc k) es)) + 1 ≤ cond b (1 + amount p es) (amount p es)
     further true g = omega (arith, g)
     further false g = g
 
-    by : (b : Bool) → cond b (Some e.1) (look_up k es) ≡ Some x → (look_up k es ≡ Some x → amount p (remove_entry (same_inc k) es) + 1 ≤ amount p es) → amount p (cond b es (e ∷ remove_entry (same_inc k) es)) + 1 ≤ amount p (e ∷ es)
+    by : (b : Bool) → cond b (Some e.1) (look_up k es) ≡ Some x → (look_up k es ≡ Some x → amount p (remove_entry (same_inc k) es) + 1 ≤ amount p es)
+        → amount p (cond b es (e ∷ remove_entry (same_inc k) es)) + 1 ≤ amount p (e ∷ es)
     by true g later = let same : e.1 ≡ x = cc in one (e.1.proc.0 == p) (itself e.1.proc.0 (ap (λ (a : Activation). a.proc.0) same ∙ own))
     by false g later = further (e.1.proc.0 == p) (later g)
 
@@ -84,7 +88,8 @@ counted_lives p low high (e ∷ es) rises some = by (e.1.proc.0 == p) refl some 
     apart i up true g = let same : i.0 ≡ e.0.0 = ap (λ (k : Inc). k.0) (inc_same i e.0 g) in absurd (omega (arith, same, up))
     apart i up false g = refl
 
-    by : (b : Bool) → (e.1.proc.0 == p) ≡ b → 1 ≤ cond b (1 + amount p (activations_in es)) (amount p (activations_in es)) → (1 ≤ amount p (activations_in es) → OfProcess es p (e.0.0 + 1)) → OfProcess (e ∷ es) p low
+    by : (b : Bool) → (e.1.proc.0 == p) ≡ b → 1 ≤ cond b (1 + amount p (activations_in es)) (amount p (activations_in es))
+        → (1 ≤ amount p (activations_in es) → OfProcess es p (e.0.0 + 1)) → OfProcess (e ∷ es) p low
     by true g some later =
         let itself = inc_laws.refl e.0 in
         record { inc = e.0; is = e.1; lives = rw itself refl; own = here e.1.proc.0 g; above = rises.0 }

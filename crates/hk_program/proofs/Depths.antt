@@ -30,7 +30,8 @@ pub amount_added : (p : ℕ) (es : List (Inc × Activation)) (n : Inc) (x : Acti
 amount_added p [] n x = refl
 amount_added p (e ∷ es) n x = by (e.1.proc.0 == p) (x.proc.0 == p) (amount_added p es n x)
   where
-    by : (b c : Bool) → amount p (es ++ (n, x) ∷ []) ≡ cond c (1 + amount p es) (amount p es) → cond b (1 + amount p (es ++ (n, x) ∷ [])) (amount p (es ++ (n, x) ∷ [])) ≡ cond c (1 + cond b (1 + amount p es) (amount p es)) (cond b (1 + amount p es) (amount p es))
+    by : (b c : Bool) → amount p (es ++ (n, x) ∷ []) ≡ cond c (1 + amount p es) (amount p es)
+        → cond b (1 + amount p (es ++ (n, x) ∷ [])) (amount p (es ++ (n, x) ∷ [])) ≡ cond c (1 + cond b (1 + amount p es) (amount p es)) (cond b (1 + amount p es) (amount p es))
     by true true h = ap (λ (k : ℕ). 1 + k) h
     by true false h = ap (λ (k : ℕ). 1 + k) h
     by false true h = h
@@ -59,7 +60,8 @@ not_counted q p m h = rw (no q p h) refl
     no : (q p : ℕ) → (q ≡ p → ⊥) → (q == p) ≡ false
     no q p h = grind (arith, nat_tests, h)
 
-amount_kept : (p : ℕ) (k : Inc) (es : List (Inc × Activation)) → ((x : Activation) → look_up k es ≡ Some x → x.proc.0 ≡ p → ⊥) → amount p es ≤ amount p (remove_entry (same_inc k) es)
+amount_kept : (p : ℕ) (k : Inc) (es : List (Inc × Activation)) → ((x : Activation) → look_up k es ≡ Some x → x.proc.0 ≡ p → ⊥)
+    → amount p es ≤ amount p (remove_entry (same_inc k) es)
 amount_kept p k [] h = omega arith
 amount_kept p k (e ∷ es) h =
     on_cond (λ l. amount p (e ∷ es) ≤ amount p l) (same_inc k e.0) es (e ∷ remove_entry (same_inc k) es)
@@ -75,9 +77,12 @@ amount_halted p r (e ∷ es) h = by (e.1.proc.0 == r) refl (amount_halted p r es
     of_it : (q p r : ℕ) → (q == r) ≡ true → (p ≡ r → ⊥) → q ≡ p → ⊥
     of_it q p r e h g = let a : q ≡ r = grind (arith, nat_tests, e) in h (omega arith)
 
-    by : (b : Bool) → (e.1.proc.0 == r) ≡ b → amount p es ≤ amount p (filter (λ (x : Inc × Activation). not (x.1.proc.0 == r)) es) → amount p (e ∷ es) ≤ amount p (cond (not b) (e ∷ filter (λ (x : Inc × Activation). not (x.1.proc.0 == r)) es) (filter (λ (x : Inc × Activation). not (x.1.proc.0 == r)) es))
+    by : (b : Bool) → (e.1.proc.0 == r) ≡ b → amount p es ≤ amount p (filter (λ (x : Inc × Activation). not (x.1.proc.0 == r)) es)
+        → amount p (e ∷ es) ≤ amount p (cond (not b) (e ∷ filter (λ (x : Inc × Activation). not (x.1.proc.0 == r)) es)
+        (filter (λ (x : Inc × Activation). not (x.1.proc.0 == r)) es))
     by true g a = let same = not_counted e.1.proc.0 p (amount p es) (of_it e.1.proc.0 p r g h) in omega (arith, same, a)
-    by false g a = let more = counted_too (e.1.proc.0 == p) (amount p es) (amount p (filter (λ (x : Inc × Activation). not (x.1.proc.0 == r)) es)) 0 (omega (arith, a)) in omega (arith, more)
+    by false g a =
+        let more = counted_too (e.1.proc.0 == p) (amount p es) (amount p (filter (λ (x : Inc × Activation). not (x.1.proc.0 == r)) es)) 0 (omega (arith, a)) in omega (arith, more)
 
 -- ---- the turn of a line
 
@@ -91,20 +96,26 @@ module _ (s : State) (line : Line) (t : State) (sound : Sound s) where
   -- every other process has as many as before, at least
   pub others_stand : Turn s line t → (p : ℕ) → (p ≡ line.proc.0 → ⊥) → depth s (record { 0 = p }) ≤ depth t (record { 0 = p }) + 0
   others_stand (Still q e) p other = of_lists p 0 (rw q.activations (omega arith))
-  others_stand (Enter e) p other = of_lists p 0 (rw (e.activations, amount_added p (activations_in s.incarnations) s.next_inc (record { proc = line.proc; caller = Some line.inc })) (more (line.proc.0 == p)))
+  others_stand (Enter e) p other =
+      of_lists p 0 (rw (e.activations, amount_added p (activations_in s.incarnations) s.next_inc (record { proc = line.proc; caller = Some line.inc })) (more (line.proc.0 == p)))
     where
       more : (b : Bool) → amount p (activations_in s.incarnations) ≤ cond b (1 + amount p (activations_in s.incarnations)) (amount p (activations_in s.incarnations)) + 0
       more true = omega arith
       more false = omega arith
-  others_stand (Leave e) p other = of_lists p 0 (rw e.activations (let a = amount_kept p line.inc (activations_in s.incarnations) (λ x h g. other (sym g ∙ now_own x e.now h)) in omega (arith, a)))
+  others_stand (Leave e) p other =
+      of_lists p 0 (rw e.activations (let a = amount_kept p line.inc (activations_in s.incarnations) (λ x h g. other (sym g ∙ now_own x e.now h)) in omega (arith, a)))
   others_stand (Halt e) p other = of_lists p 0 (rw e.activations (let a = amount_halted p line.proc.0 (activations_in s.incarnations) other in omega (arith, a)))
 
   -- its own has as many where nothing is entered or left
   pub still_stands : Turn s line t → done_call line ≢ None → leaves_call (done_call line) ≡ false → depth s line.proc ≤ depth t line.proc
   still_stands (Still q e) some h = let a = of_lists line.proc.0 0 (rw q.activations (omega arith)) in omega (arith, a)
-  still_stands (Enter e) some h = let a = of_lists line.proc.0 0 (rw (e.activations, amount_added line.proc.0 (activations_in s.incarnations) s.next_inc (record { proc = line.proc; caller = Some line.inc })) (more (line.proc.0 == line.proc.0))) in omega (arith, a)
+  still_stands (Enter e) some h =
+      let a = of_lists line.proc.0 0 (rw (e.activations, amount_added line.proc.0 (activations_in s.incarnations) s.next_inc (record { proc = line.proc; caller = Some line.inc }))
+      (more (line.proc.0 == line.proc.0))) in omega (arith, a)
     where
-      more : (b : Bool) → amount line.proc.0 (activations_in s.incarnations) ≤ cond b (1 + amount line.proc.0 (activations_in s.incarnations)) (amount line.proc.0 (activations_in s.incarnations)) + 0
+      more : (b : Bool)
+          → amount line.proc.0 (activations_in s.incarnations) ≤ cond b (1 + amount line.proc.0 (activations_in s.incarnations))
+          (amount line.proc.0 (activations_in s.incarnations)) + 0
       more true = omega arith
       more false = omega arith
   still_stands (Leave e) some h = absurd (true≢false (sym e.leaves ∙ h))

@@ -1,5 +1,6 @@
 -- The event of a process as a step: what its call is given, and what it leaves.
-use Rattle.std.specs.Prelude.{◌≡◌, ℕ, zero, suc, ◌+◌, ◌<◌, ◌==◌, List, [], ◌∷◌, length, Bool, true, false, Option, Some, None, IfSome, IfNone, not, nat_lt, slice_set, get_or, option_map, map, refl}
+use Rattle.std.specs.Prelude.{◌≡◌, ℕ, zero, suc, ◌+◌, ◌<◌, ◌==◌, List, [], ◌∷◌, length, Bool, true, false, Option, Some, None, IfSome, IfNone, not, nat_lt, slice_set, get_or}
+use Rattle.std.specs.Prelude.{option_map, map, refl}
 use Rattle.std.proofs.Common.{arith, ap, sym, ◌∙◌, subst, cond}
 use Rattle.std.proofs.lemmas.Bool.{true≢false}
 use Rattle.std.proofs.lemmas.Bool.Decides.{nat_tests}
@@ -18,7 +19,7 @@ use Rattle.hk_model.specs.declared.objects.ProcessState.TheVariants.{Ready, Runn
 use Rattle.hk_model.specs.declared.frames.Todo.{Todo}
 use Rattle.hk_model.specs.Limits.{cpu_limit}
 use Rattle.hk_model.specs.declared.world.Task.{Task}
-use Rattle.hk_model.specs.Setup.{Setup}
+use Rattle.hk_model.specs.WorldValue.{WorldValue}
 use Rattle.hk_model.specs.Opening.{opening}
 use Rattle.hk_model.specs.State.{State, process}
 use Rattle.hk_model.specs.Processors.{is_on, is_ready, runner, runner_from, running_on, may_step, dispatched, dispatched_from, process_on, acted_on, entered_on}
@@ -63,7 +64,7 @@ run_within (p ∷ ps) cpu (suc n) h = let a = run_within ps cpu n h in omega (ar
 
 -- ---- what the call is given
 
-module _ (w : Setup) (m : Machine) (cpu : Cpu) (proc : Proc) (inc : Inc) (sound : IsSound w m) (runs : running_on m.state cpu ≡ Some (proc, inc)) where
+module _ (w : WorldValue) (m : Machine) (cpu : Cpu) (proc : Proc) (inc : Inc) (sound : IsSound w m) (runs : running_on m.state cpu ≡ Some (proc, inc)) where
   here : runner m.state cpu ≡ Some proc
   here = runner_is m.state cpu proc inc runs
 
@@ -83,7 +84,8 @@ module _ (w : Setup) (m : Machine) (cpu : Cpu) (proc : Proc) (inc : Inc) (sound 
   pub read_code : (c : Call) (reply : Reply) → IfSome (entered_on m.state cpu c reply) (λ code. code < length w.codes)
   read_code c reply = rw here (sound_code w m proc c reply sound)
 
-  pub read_room : (frames : Context) → frames ≡ get_or m.contexts proc.0 frames → (c : Call) → IfSome (entered_on m.state cpu c (acted_on m.state cpu c).0) (λ code. length frames < 64)
+  pub read_room : (frames : Context) → frames ≡ get_or m.contexts proc.0 frames → (c : Call)
+      → IfSome (entered_on m.state cpu c (acted_on m.state cpu c).0) (λ code. length frames < 64)
   read_room frames h c = rw (here, ← context_read frames h) (sound_room w m proc c sound)
 
   -- the line and the machine of a turn
@@ -94,13 +96,16 @@ module _ (w : Setup) (m : Machine) (cpu : Cpu) (proc : Proc) (inc : Inc) (sound 
   event_is todo = rw (here, inc_is m.state cpu proc inc runs) refl
 
   -- what is made of a turn is the event
-  event_turn : (frames : Context) (made : What × Reply × State × Context) → frames ≡ get_or m.contexts proc.0 frames → turn w m.state (process_on m.state cpu) (next w frames) ≡ made
+  event_turn : (frames : Context) (made : What × Reply × State × Context) → frames ≡ get_or m.contexts proc.0 frames
+      → turn w m.state (process_on m.state cpu) (next w frames) ≡ made
       → of_turn made ≡ event w m cpu proc (next w (context_of m proc))
   event_turn frames made h e =
-      sym (ap of_turn e) ∙ (ap (λ (f : Context). of_turn (turn w m.state (process_on m.state cpu) (next w f))) (sym (context_read frames h)) ∙ sym (event_is (next w (context_of m proc))))
+      sym (ap of_turn e) ∙
+      (ap (λ (f : Context). of_turn (turn w m.state (process_on m.state cpu) (next w f))) (sym (context_read frames h)) ∙ sym (event_is (next w (context_of m proc))))
 
   -- and the step of the processor
-  pub turn_steps : (frames : Context) (made : What × Reply × State × Context) → frames ≡ get_or m.contexts proc.0 frames → cpu.0 < 16 → may_step m.state ≡ true → turn w m.state (process_on m.state cpu) (next w frames) ≡ made
+  pub turn_steps : (frames : Context) (made : What × Reply × State × Context) → frames ≡ get_or m.contexts proc.0 frames → cpu.0 < 16 → may_step m.state ≡ true
+      → turn w m.state (process_on m.state cpu) (next w frames) ≡ made
       → step w m cpu ≡ Some (of_turn made)
   turn_steps frames made h low may e = step_is w m cpu may (is_low cpu.0 low) ∙ (rw here (ap Some (sym (event_turn frames made h e))))
     where
@@ -112,12 +117,15 @@ module _ (w : Setup) (m : Machine) (cpu : Cpu) (proc : Proc) (inc : Inc) (sound 
 pub second_is : (p q : Proc) (i j : Inc) → ◌≡◌ {A = Option (Proc × Inc)} (Some (p, i)) (Some (q, j)) → i ≡ j
 second_is p q i j h = let same : ◌≡◌ {A = Proc × Inc} (p, i) (q, j) = cc in ap (λ (x : Proc × Inc). x.1) same
 
-gets_it : (ps : List Process) (cpu : Cpu) (k n : ℕ) (new : Process) → runner_from ps cpu k ≡ None → n < length ps → is_on cpu new.run ≡ true → runner_from (slice_set ps n new) cpu k ≡ Some (record { 0 = k + n })
+gets_it : (ps : List Process) (cpu : Cpu) (k n : ℕ) (new : Process) → runner_from ps cpu k ≡ None → n < length ps → is_on cpu new.run ≡ true
+    → runner_from (slice_set ps n new) cpu k ≡ Some (record { 0 = k + n })
 gets_it [] cpu k n new idle h on = absurd (omega arith)
 gets_it (p ∷ ps) cpu k zero new idle h on = rw on (ap (λ (x : ℕ). let proc : Proc = record { 0 = x } in Some proc) (omega arith))
 gets_it (p ∷ ps) cpu k (suc n) new idle h on = by (is_on cpu p.run) refl idle (λ rest. gets_it ps cpu (k + 1) n new rest (omega arith) on)
   where
-    by : (b : Bool) → is_on cpu p.run ≡ b → cond b (Some (record { 0 = k })) (runner_from ps cpu (k + 1)) ≡ None → (runner_from ps cpu (k + 1) ≡ None → runner_from (slice_set ps n new) cpu (k + 1) ≡ Some (record { 0 = k + 1 + n })) → cond b (Some (record { 0 = k })) (runner_from (slice_set ps n new) cpu (k + 1)) ≡ Some (record { 0 = k + suc n })
+    by : (b : Bool) → is_on cpu p.run ≡ b → cond b (Some (record { 0 = k })) (runner_from ps cpu (k + 1)) ≡ None
+        → (runner_from ps cpu (k + 1) ≡ None → runner_from (slice_set ps n new) cpu (k + 1) ≡ Some (record { 0 = k + 1 + n }))
+        → cond b (Some (record { 0 = k })) (runner_from (slice_set ps n new) cpu (k + 1)) ≡ Some (record { 0 = k + suc n })
     by true e g rest = absurd (cc)
     by false e g rest = rest g ∙ ap (λ (x : ℕ). let proc : Proc = record { 0 = x } in Some proc) (omega arith)
 
@@ -127,7 +135,8 @@ ready_within (p ∷ ps) zero h = omega arith
 ready_within (p ∷ ps) (suc n) h = let a = ready_within ps n h in omega (arith, a)
 
 -- the process that is dispatched runs on the processor
-pub dispatched_runs : (w : Setup) (m : Machine) (cpu : Cpu) (proc : Proc) (t : State) → IsSound w m → running_on m.state cpu ≡ None → dispatched m.state cpu ≡ Some (proc, t) → running_on t cpu ≡ Some (proc, (process t proc).current)
+pub dispatched_runs : (w : WorldValue) (m : Machine) (cpu : Cpu) (proc : Proc) (t : State) → IsSound w m → running_on m.state cpu ≡ None → dispatched m.state cpu ≡ Some (proc, t)
+    → running_on t cpu ≡ Some (proc, (process t proc).current)
 dispatched_runs w m cpu proc t sound off h = rw (runs m.state.ready refl h) refl
   where
     self : (n : ℕ) → (n == n) ≡ true
@@ -142,11 +151,13 @@ dispatched_runs w m cpu proc t sound off h = rw (runs m.state.ready refl h) refl
         let made = given_to m.state cpu first rest in
         let same : ◌≡◌ {A = Proc × State} (first, made) (proc, t) = cc in
         let queue = subst (λ qs. IsQueue m.state.processes Ready qs) e (sound_kept w m sound).regular.ready in
-        let got : runner made cpu ≡ Some (record { 0 = 0 + first.0 }) = gets_it m.state.processes cpu 0 first.0 (record (process m.state first) { run = Running cpu }) idle (ready_within m.state.processes first.0 queue.0.0) (self cpu.0) in
+        let got : runner made cpu ≡ Some (record { 0 = 0 + first.0 }) =
+        gets_it m.state.processes cpu 0 first.0 (record (process m.state first) { run = Running cpu }) idle (ready_within m.state.processes first.0 queue.0.0) (self cpu.0) in
         subst (λ (x : Proc × State). runner x.1 cpu ≡ Some x.0) same (got ∙ ap (λ (x : ℕ). let p : Proc = record { 0 = x } in Some p) (omega arith))
 
 -- where a processor runs nothing its step is a dispatch
-idle_steps : (w : Setup) (m : Machine) (cpu : Cpu) → cpu.0 < 16 → may_step m.state ≡ true → running_on m.state cpu ≡ None → step w m cpu ≡ dispatch_event m cpu (dispatched m.state cpu)
+idle_steps : (w : WorldValue) (m : Machine) (cpu : Cpu) → cpu.0 < 16 → may_step m.state ≡ true → running_on m.state cpu ≡ None
+    → step w m cpu ≡ dispatch_event m cpu (dispatched m.state cpu)
 idle_steps w m cpu low may idle = step_is w m cpu may (is_low cpu.0 low) ∙ (rw (runner_none m.state cpu idle) refl)
   where
     is_low : (n : ℕ) → n < 16 → nat_lt n cpu_limit ≡ true
@@ -162,17 +173,20 @@ current_before s cpu proc t h = by s.ready h
         let same : ◌≡◌ {A = Proc × State} (first, given_to s cpu first rest) (proc, t) = cc in
         subst (λ (x : Proc × State). (process x.1 x.0).current ≡ (process s x.0).current) same (current_stays s cpu first rest)
 
-pub dispatch_steps : (w : Setup) (m : Machine) (cpu : Cpu) (proc : Proc) (inc : Inc) (t : State) → cpu.0 < 16 → may_step m.state ≡ true → running_on m.state cpu ≡ None → dispatched m.state cpu ≡ Some (proc, t) → inc ≡ (process t proc).current
+pub dispatch_steps : (w : WorldValue) (m : Machine) (cpu : Cpu) (proc : Proc) (inc : Inc) (t : State) → cpu.0 < 16 → may_step m.state ≡ true → running_on m.state cpu ≡ None
+    → dispatched m.state cpu ≡ Some (proc, t) → inc ≡ (process t proc).current
     → step w m cpu ≡ Some (record { cpu = cpu; proc = proc; inc = inc; what = what.Dispatch; reply = Done }, record m { state = t })
 dispatch_steps w m cpu proc inc t low may idle h e = idle_steps w m cpu low may idle ∙ (let same = current_before m.state cpu proc t h in rw (h, e, same) refl)
 
-pub nothing_steps : (w : Setup) (m : Machine) (cpu : Cpu) → cpu.0 < 16 → may_step m.state ≡ true → running_on m.state cpu ≡ None → dispatched m.state cpu ≡ None → step w m cpu ≡ None
+pub nothing_steps : (w : WorldValue) (m : Machine) (cpu : Cpu) → cpu.0 < 16 → may_step m.state ≡ true → running_on m.state cpu ≡ None → dispatched m.state cpu ≡ None
+    → step w m cpu ≡ None
 nothing_steps w m cpu low may idle h = idle_steps w m cpu low may idle ∙ (rw h refl)
 
 -- ---- the opening
 
 -- the machine of a kernel that has opened the world and of the contexts of its processes
-pub opening_is : (w : Setup) (s : State) (contexts : List Context) → s ≡ opening w → contexts ≡ map (λ (t : Task). new_frame t.code ∷ []) w.tasks → record { state = s; contexts = contexts } ≡ opened w
+pub opening_is : (w : WorldValue) (s : State) (contexts : List Context) → s ≡ opening w → contexts ≡ map (λ (t : Task). new_frame t.code ∷ []) w.tasks
+    → record { state = s; contexts = contexts } ≡ opened w
 unfolding opened
 opening_is w s contexts h g = rw (h, g) refl
 
@@ -186,6 +200,7 @@ pub if_none : (P : Type 0) (o : Option Line) → P → IfNone o P
 if_none P None h = h
 if_none P (Some line) h = tt
 
-pub dispatch_sound : (w : Setup) (m new : Machine) (cpu : Cpu) (o : Option Line) → IsSound w m → IfSome o (λ line. step w m cpu ≡ Some (line, new)) → IfNone o ((step w m cpu ≡ None) × (new ≡ m)) → IsSound w new
+pub dispatch_sound : (w : WorldValue) (m new : Machine) (cpu : Cpu) (o : Option Line) → IsSound w m → IfSome o (λ line. step w m cpu ≡ Some (line, new))
+    → IfNone o ((step w m cpu ≡ None) × (new ≡ m)) → IsSound w new
 dispatch_sound w m new cpu (Some line) h g k = step_sound w m cpu line new h g
 dispatch_sound w m new cpu None h g k = subst (IsSound w) (sym k.1) h

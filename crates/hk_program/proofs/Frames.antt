@@ -1,5 +1,6 @@
 -- What a turn and a reply leave of the frames of a process: frames of the world, and how many.
-use Rattle.std.specs.Prelude.{◌≡◌, ℕ, zero, suc, ◌+◌, ◌<◌, ◌≤◌, ◌==◌, List, [], ◌∷◌, length, Bool, true, false, Option, Some, None, nat_lt, slice_get, slice_set, IfSome, refl, if◌then◌else◌}
+use Rattle.std.specs.Prelude.{◌≡◌, ℕ, zero, suc, ◌+◌, ◌<◌, ◌≤◌, ◌==◌, List, [], ◌∷◌, length, Bool, true, false, Option, Some, None, nat_lt, slice_get, slice_set, IfSome, refl}
+use Rattle.std.specs.Prelude.{if◌then◌else◌}
 use Rattle.std.specs.List.{AllByRecursion}
 use Rattle.std.proofs.Common.{arith, ◌∙◌}
 use Rattle.std.proofs.lemmas.Bool.Decides.{nat_tests}
@@ -14,8 +15,9 @@ use Rattle.hk_model.specs.declared.instructions.Instr.{Instr}
 use Rattle.hk_model.specs.declared.instructions.Instr.TheVariants as instr
 use Rattle.hk_model.specs.declared.world.Code.{Code}
 use Rattle.hk_model.specs.Limits.{local_limit}
-use Rattle.hk_model.specs.Setup.{Setup, IsInstr, IsCode}
-use Rattle.hk_model.specs.Control.{Context, Meaning, Calls, Local, meaning, here, next_from, next, after, frames_after, behind, with_word, steps_of, step_over, go_to, operand, target_register}
+use Rattle.hk_model.specs.WorldValue.{WorldValue, IsInstr, IsCode}
+use Rattle.hk_model.specs.Control.{Context, Meaning, Calls, Local, meaning, here, next_from, next, after, frames_after, behind, with_word, steps_of, step_over, go_to, operand}
+use Rattle.hk_model.specs.Control.{target_register}
 use Rattle.hk_model.proofs.Standing.{on_cond}
 use Rattle.hk_program.specs.Contexts.{IsFrame, AreFrames}
 
@@ -70,7 +72,7 @@ code_steps codes all (Some c) n e = (one_of IsCode codes n c all e).1
 -- ---- a turn
 
 -- what is next leaves frames of the world
-pub next_frames : (w : Setup) (frames : Context) → AllByRecursion IsCode w.codes → AreFrames w frames → AreFrames w (next w frames).1
+pub next_frames : (w : WorldValue) (frames : Context) → AllByRecursion IsCode w.codes → AreFrames w frames → AreFrames w (next w frames).1
 unfolding next
 next_frames w [] codes h = tt
 next_frames w (f ∷ rest) codes h =
@@ -80,7 +82,7 @@ next_frames w (f ∷ rest) codes h =
     ((rw r.1 h.0.0, rw r.1 r.0), h.1)
 
 -- as many as before, and changes the current one alone
-pub next_length : (w : Setup) (frames : Context) → length (next w frames).1 ≡ length frames
+pub next_length : (w : WorldValue) (frames : Context) → length (next w frames).1 ≡ length frames
 unfolding next
 next_length w [] = refl
 next_length w (f ∷ rest) = refl
@@ -98,22 +100,24 @@ word_code f (Some i) (Word n) = by (target_register i)
     by None = refl
     by (Some reg) = refl
 
-behind_frame : (w : Setup) (f : Frame) (reply : Reply) → IsFrame w f → IsFrame w (behind w f reply)
+behind_frame : (w : WorldValue) (f : Frame) (reply : Reply) → IsFrame w f → IsFrame w (behind w f reply)
 behind_frame w f reply h =
     let same = word_code f (slice_get (steps_of w f.code) f.at) reply in
     (rw same h.0, rw same (on_cond (λ n. n ≤ length (steps_of w f.code)) (nat_lt f.at (length (steps_of w f.code))) (f.at + 1) f.at (λ g. grind (arith, nat_tests)) (λ g. h.1)))
 
-kept_frames : (w : Setup) (c : Call) (reply : Reply) (frames : Context) → AreFrames w frames → AreFrames w (frames_after c reply None frames)
+kept_frames : (w : WorldValue) (c : Call) (reply : Reply) (frames : Context) → AreFrames w frames → AreFrames w (frames_after c reply None frames)
 kept_frames w (call.Leave give) Done [] h = h
 kept_frames w (call.Leave give) Done (f ∷ rest) h = h.1
 kept_frames w c reply frames h = h
 
-code_frames : (w : Setup) (c : Call) (reply : Reply) (code : Option ℕ) (frames : Context) → IfSome code (λ n. n < length w.codes) → AreFrames w frames → AreFrames w (frames_after c reply code frames)
+code_frames : (w : WorldValue) (c : Call) (reply : Reply) (code : Option ℕ) (frames : Context) → IfSome code (λ n. n < length w.codes) → AreFrames w frames
+    → AreFrames w (frames_after c reply code frames)
 code_frames w c reply None frames g h = kept_frames w c reply frames h
 code_frames w c reply (Some n) frames g h = ((g, omega arith), h)
 
 -- a reply leaves frames of the world, where an entered code is one of the world
-pub after_frames : (w : Setup) (frames : Context) (c : Call) (reply : Reply) (code : Option ℕ) → IfSome code (λ n. n < length w.codes) → AreFrames w frames → AreFrames w (after w frames c reply code)
+pub after_frames : (w : WorldValue) (frames : Context) (c : Call) (reply : Reply) (code : Option ℕ) → IfSome code (λ n. n < length w.codes) → AreFrames w frames
+    → AreFrames w (after w frames c reply code)
 unfolding after
 after_frames w [] c reply code g h = tt
 after_frames w (f ∷ rest) c reply code g h = code_frames w c reply code (behind w f reply ∷ rest) g (behind_frame w f reply h.0, h.1)
@@ -128,19 +132,19 @@ code_length c reply None frames = let h = kept_length c reply frames in omega (a
 code_length c reply (Some n) frames = omega arith
 
 -- at most one more than before
-pub after_length : (w : Setup) (frames : Context) (c : Call) (reply : Reply) (code : Option ℕ) → length (after w frames c reply code) ≤ length frames + 1
+pub after_length : (w : WorldValue) (frames : Context) (c : Call) (reply : Reply) (code : Option ℕ) → length (after w frames c reply code) ≤ length frames + 1
 unfolding after
 after_length w [] c reply code = omega arith
 after_length w (f ∷ rest) c reply code = code_length c reply code (behind w f reply ∷ rest)
 
 -- no more where no procedure was entered
-pub after_kept : (w : Setup) (frames : Context) (c : Call) (reply : Reply) → length (after w frames c reply None) ≤ length frames
+pub after_kept : (w : WorldValue) (frames : Context) (c : Call) (reply : Reply) → length (after w frames c reply None) ≤ length frames
 unfolding after
 after_kept w [] c reply = omega arith
 after_kept w (f ∷ rest) c reply = kept_length c reply (behind w f reply ∷ rest)
 
 -- and one less after a return
-pub after_left : (w : Setup) (frames : Context) (give : Option Slot) (n : ℕ) → length frames ≤ n + 1 → length (after w frames (call.Leave give) Done None) ≤ n
+pub after_left : (w : WorldValue) (frames : Context) (give : Option Slot) (n : ℕ) → length frames ≤ n + 1 → length (after w frames (call.Leave give) Done None) ≤ n
 unfolding after
 after_left w [] give n h = omega arith
 after_left w (f ∷ rest) give n h = omega (arith, h)

@@ -1,5 +1,6 @@
 -- A process has one frame for each of its live incarnations.
-use Rattle.std.specs.Prelude.{◌≡◌, ◌⊎◌, ℕ, zero, suc, ◌+◌, ◌-◌, ◌≤◌, ◌<◌, ◌==◌, List, [], ◌∷◌, length, Bool, true, false, Option, Some, None, Ok, Err, IfOk, IsSome, map, not, slice_get, slice_set, take, refl}
+use Rattle.std.specs.Prelude.{◌≡◌, ◌⊎◌, ℕ, zero, suc, ◌+◌, ◌-◌, ◌≤◌, ◌<◌, ◌==◌, List, [], ◌∷◌, length, Bool, true, false, Option, Some, None, Ok, Err, IfOk, IsSome, map, not}
+use Rattle.std.specs.Prelude.{slice_get, slice_set, take, refl}
 use Rattle.std.specs.Option.{unwrap_or}
 use Rattle.std.specs.Map.{lookup, remove_entry}
 use Rattle.std.proofs.Common.{arith, ap, sym, ◌∙◌, subst, cond}
@@ -23,12 +24,12 @@ use Rattle.hk_model.specs.declared.frames.Todo.{Todo}
 use Rattle.hk_model.specs.declared.frames.Todo.TheVariants.{Do, Halt}
 use Rattle.hk_model.specs.declared.objects.Object.{Object}
 use Rattle.hk_model.specs.declared.world.Task.{Task}
-use Rattle.hk_model.specs.Setup.{Setup, IsWorld}
+use Rattle.hk_model.specs.WorldValue.{WorldValue, IsWorld}
 use Rattle.hk_model.specs.State.{State, process, same_inc, no_object}
 use Rattle.hk_model.specs.Walking.{walk}
-use Rattle.hk_model.specs.Targets.{PROCEDURE, is_type, target}
+use Rattle.hk_model.specs.Targets.{PROCEDURE, is_of_type, target}
 use Rattle.hk_model.specs.Rule.{Outcome, outcome, rule, settled, answered, depth, enter_procedure, leave}
-use Rattle.hk_model.specs.Processors.{runner, entered, code_found, halted}
+use Rattle.hk_model.specs.Processors.{runner, entered_code, code_found, halted}
 use Rattle.hk_model.specs.Control.{Context, next, after, frames_after, behind, new_frame}
 use Rattle.hk_model.specs.Opening.{opening, bases}
 use Rattle.hk_model.specs.Lines.{done_by, done_call, enters_call, leaves_call}
@@ -68,24 +69,26 @@ kept_same (call.Leave give) Waits frames h = refl
 kept_same (call.Leave give) (No e) frames h = refl
 kept_same c reply frames h = refl
 
-after_same : (w : Setup) (frames : Context) (c : Call) (reply : Reply) → leaves_call (done_by (what.Call c) reply) ≡ false → length (after w frames c reply None) ≡ length frames
+after_same : (w : WorldValue) (frames : Context) (c : Call) (reply : Reply) → leaves_call (done_by (what.Call c) reply) ≡ false
+    → length (after w frames c reply None) ≡ length frames
 unfolding after
 after_same w [] c reply h = refl
 after_same w (f ∷ rest) c reply h = kept_same c reply (behind w f reply ∷ rest) h
 
-after_entered : (w : Setup) (frames : Context) (c : Call) (reply : Reply) (code : Option ℕ) → 1 ≤ length frames → IsSome code → length (after w frames c reply code) ≡ 1 + length frames
+after_entered : (w : WorldValue) (frames : Context) (c : Call) (reply : Reply) (code : Option ℕ) → 1 ≤ length frames → IsSome code
+    → length (after w frames c reply code) ≡ 1 + length frames
 unfolding after
 after_entered w [] c reply code some h = absurd (omega (arith, some))
 after_entered w (f ∷ rest) c reply None some h = absurd (true≢false (sym h))
 after_entered w (f ∷ rest) c reply (Some n) some h = omega arith
 
-after_returned : (w : Setup) (frames : Context) (give : Option Slot) → length frames ≤ length (after w frames (call.Leave give) Done None) + 1
+after_returned : (w : WorldValue) (frames : Context) (give : Option Slot) → length frames ≤ length (after w frames (call.Leave give) Done None) + 1
 unfolding after
 after_returned w [] give = omega arith
 after_returned w (f ∷ rest) give = omega arith
 
 -- who makes a call has a frame
-some_frame : (w : Setup) (context : Context) (c : Call) (frames : Context) → next w context ≡ (Do c, frames) → 1 ≤ length context
+some_frame : (w : WorldValue) (context : Context) (c : Call) (frames : Context) → next w context ≡ (Do c, frames) → 1 ≤ length context
 unfolding next
 some_frame w [] c frames h = let e : Halt ≡ Do c = ap (λ (f : Todo × Context). f.0) h in absurd (cc)
 some_frame w (f ∷ rest) c frames h = omega arith
@@ -109,7 +112,8 @@ module _ (m : Machine) (t : State) (p : ℕ) (new : Context) where
   context_here (x ∷ xs) (suc p) h = context_here xs p h
 
   -- an event of a process keeps it where it does for its own frames
-  event_full : IsFull m → ((q : ℕ) → (q ≡ p → ⊥) → depth t (proc_at q) ≤ depth m.state (proc_at q)) → (depth t (proc_at p) ≡ 0) ⊎ ((1 ≤ length (context_of m (proc_at p))) × (depth t (proc_at p) ≤ length new)) → IsFull changed_machine
+  event_full : IsFull m → ((q : ℕ) → (q ≡ p → ⊥) → depth t (proc_at q) ≤ depth m.state (proc_at q))
+      → (depth t (proc_at p) ≡ 0) ⊎ ((1 ≤ length (context_of m (proc_at p))) × (depth t (proc_at p) ≤ length new)) → IsFull changed_machine
   event_full h others own q = elim (cases_eq q p) [
     | inl e ↦ subst (λ (k : ℕ). depth t (proc_at k) ≤ length (context_of changed_machine (proc_at k))) (sym e) (here own)
     | inr other ↦
@@ -120,7 +124,8 @@ module _ (m : Machine) (t : State) (p : ℕ) (new : Context) where
         omega (arith, few, old, count)
   ]
     where
-      here : (depth t (proc_at p) ≡ 0) ⊎ ((1 ≤ length (context_of m (proc_at p))) × (depth t (proc_at p) ≤ length new)) → depth t (proc_at p) ≤ length (context_of changed_machine (proc_at p))
+      here : (depth t (proc_at p) ≡ 0) ⊎ ((1 ≤ length (context_of m (proc_at p))) × (depth t (proc_at p) ≤ length new))
+          → depth t (proc_at p) ≤ length (context_of changed_machine (proc_at p))
       here (inl none) = omega (arith, none)
       here (inr some) =
           let same : length (context_of changed_machine (proc_at p)) ≡ length new = ap (λ (o : Option Context). length (unwrap_or o [])) (context_here m.contexts p some.0) in
@@ -157,7 +162,8 @@ module _ (s : State) (line : Line) (t : State) where
   one_more turn enters =
       let e = enters_turn s line t turn enters in
       let added = amount_added line.proc.0 (activations_in s.incarnations) s.next_inc (record { proc = line.proc; caller = Some line.inc }) in
-      let most : amount line.proc.0 (activations_in t.incarnations) ≤ amount line.proc.0 (activations_in s.incarnations) + 1 = rw e.activations (rw added (counted (line.proc.0 == line.proc.0) (amount line.proc.0 (activations_in s.incarnations)))) in
+      let most : amount line.proc.0 (activations_in t.incarnations) ≤ amount line.proc.0 (activations_in s.incarnations) + 1 =
+      rw e.activations (rw added (counted (line.proc.0 == line.proc.0) (amount line.proc.0 (activations_in s.incarnations)))) in
       let a = depth_is s line.proc.0 in let b = depth_is t line.proc.0 in omega (arith, a, b, most)
     where
       counted : (b : Bool) (n : ℕ) → cond b (1 + n) n ≤ n + 1
@@ -167,22 +173,25 @@ module _ (s : State) (line : Line) (t : State) where
 -- ---- an event of a process
 
 -- an entered procedure has a code
-code_there : (s : State) → ProceduresHaveCodes s → (inc : Inc) (path : List ℕ) (rights : ℕ) (cap : Cap) → target s inc path (is_type PROCEDURE) rights ≡ Ok cap → IsSome (code_found s (walk s inc path))
+code_there : (s : State) → ProceduresHaveCodes s → (inc : Inc) (path : List ℕ) (rights : ℕ) (cap : Cap) → target s inc path (is_of_type PROCEDURE) rights ≡ Ok cap
+    → IsSome (code_found s (walk s inc path))
 code_there s codes inc path rights cap h =
-    let g = target_is s inc path (is_type PROCEDURE) rights cap h in
+    let g = target_is s inc path (is_of_type PROCEDURE) rights cap h in
     rw g.leads (has_code (there s.objects cap.name) refl g.typed)
   where
-    has_code : (o : Option Object) → there s.objects cap.name ≡ o → is_type PROCEDURE (unwrap_or o no_object).of ≡ true → IsSome (unwrap_or o no_object).code
+    has_code : (o : Option Object) → there s.objects cap.name ≡ o → is_of_type PROCEDURE (unwrap_or o no_object).of ≡ true → IsSome (unwrap_or o no_object).code
     has_code None e p = absurd (true≢false (sym p))
     has_code (Some x) e p = codes cap.name x e p
 
-enter_code : (s : State) → ProceduresHaveCodes s → (proc : Proc) (inc : Inc) (path args : List ℕ) (into : Slot) → IfOk (enter_procedure s proc inc path args into) (λ f. IsSome (code_found s (walk s inc path)))
+enter_code : (s : State) → ProceduresHaveCodes s → (proc : Proc) (inc : Inc) (path args : List ℕ) (into : Slot)
+    → IfOk (enter_procedure s proc inc path args into) (λ f. IsSome (code_found s (walk s inc path)))
 unfolding enter_procedure
 enter_code s codes proc inc path args into =
     let leaf = code_there s codes inc path in
     search (then_is, and_is, leaf) depth 12
 
-module _ (w : Setup) (m : Machine) (cpu : Cpu) (proc : Proc) (frames : Context) (kept : Kept w m) (currents : CurrentsCallNone m.state) (codes : ProceduresHaveCodes m.state) (full : IsFull m)
+module _ (w : WorldValue) (m : Machine) (cpu : Cpu) (proc : Proc) (frames : Context) (kept : Kept w m) (currents : CurrentsCallNone m.state)
+    (codes : ProceduresHaveCodes m.state) (full : IsFull m)
     (runs : runner m.state cpu ≡ Some proc) (some : 1 ≤ length (context_of m proc)) (many : length frames ≡ length (context_of m proc)) where
   abbrev s : State
   s = m.state
@@ -200,12 +209,13 @@ module _ (w : Setup) (m : Machine) (cpu : Cpu) (proc : Proc) (frames : Context) 
       let number = depth_is s proc.0 in
       let counted : 1 ≤ amount proc.0 (activations_in s.incarnations) = omega (arith, some, fits, number) in
       let o = counted_lives proc.0 0 s.next_inc.0 s.incarnations kept.sound.rises counted in
-      let here : IsSome (lookup (same_inc inc) s.incarnations) = subst (λ (n : ℕ). IsSome (lookup (same_inc (process s (proc_at n)).current) s.incarnations)) o.own (currents.lives o.inc o.is o.lives) in
+      let here : IsSome (lookup (same_inc inc) s.incarnations) =
+      subst (λ (n : ℕ). IsSome (lookup (same_inc (process s (proc_at n)).current) s.incarnations)) o.own (currents.lives o.inc o.is o.lives) in
       let live = activation_live s.incarnations inc here in
       (_, (live, kept.sound.stacked.own proc.0 inc _ (runs_current s cpu proc runs) live))
 
   abbrev Own : Call → Outcome → Type 0
-  Own c o = depth (settled s o).1 proc ≤ length (after w frames c (settled s o).0 (entered s inc c (settled s o).0))
+  Own c o = depth (settled s o).1 proc ≤ length (after w frames c (settled s o).0 (entered_code s inc c (settled s o).0))
 
   abbrev call_line : Call → Reply → Line
   call_line c reply = proc_line s cpu proc (what.Call c) reply
@@ -218,24 +228,29 @@ module _ (w : Setup) (m : Machine) (cpu : Cpu) (proc : Proc) (frames : Context) 
       let less = removed_own proc.0 inc x.0 (activations_in s.incarnations) x.1.0 x.1.1 in
       let before = depth_is s proc.0 in
       let after_it : amount proc.0 (activations_in f.1.incarnations) ≡ depth f.1 proc = depth_is f.1 proc.0 in
-      let same : amount proc.0 (activations_in f.1.incarnations) ≡ amount proc.0 (remove_entry (same_inc inc) (activations_in s.incarnations)) = ap (amount proc.0) left.activations in
+      let same : amount proc.0 (activations_in f.1.incarnations) ≡ amount proc.0 (remove_entry (same_inc inc) (activations_in s.incarnations)) =
+      ap (amount proc.0) left.activations in
       let behind_it = after_returned w frames give in
       let few = old in
       rw done (omega (arith, less, before, after_it, same, behind_it, few))
 
-  entered_own : (path args : List ℕ) (into : Slot) (f : Answer × State) → outcome s proc inc (call.Enter path args into) ≡ Ok f → Turn s (call_line (call.Enter path args into) (answered f.0)) (settled s (Ok f)).1 → Own (call.Enter path args into) (Ok f)
+  entered_own : (path args : List ℕ) (into : Slot) (f : Answer × State) → outcome s proc inc (call.Enter path args into) ≡ Ok f
+      → Turn s (call_line (call.Enter path args into) (answered f.0)) (settled s (Ok f)).1 → Own (call.Enter path args into) (Ok f)
   entered_own path args into f e turn =
       let by = if_ok (turns.EntersBy s proc inc) (enter_procedure s proc inc path args into) f (enters_by s proc inc path args into) e in
       let code = if_ok (λ f. IsSome (code_found s (walk s inc path))) (enter_procedure s proc inc path args into) f (enter_code s codes proc inc path args into) e in
-      let enters : enters_call (done_by (what.Call (call.Enter path args into)) (answered f.0)) ≡ true = ap (λ (a : Answer). enters_call (done_by (what.Call (call.Enter path args into)) (answered a))) by.done in
+      let enters : enters_call (done_by (what.Call (call.Enter path args into)) (answered f.0)) ≡ true =
+      ap (λ (a : Answer). enters_call (done_by (what.Call (call.Enter path args into)) (answered a))) by.done in
       let more = one_more s (call_line (call.Enter path args into) (answered f.0)) (settled s (Ok f)).1 turn enters in
       let longer = after_entered w frames (call.Enter path args into) Done (code_found s (walk s inc path)) (omega (arith, some, many)) code in
       let few = old in
-      let same : length (after w frames (call.Enter path args into) (answered f.0) (entered s inc (call.Enter path args into) (answered f.0))) ≡ length (after w frames (call.Enter path args into) Done (code_found s (walk s inc path))) =
-      ap (λ (a : Answer). length (after w frames (call.Enter path args into) (answered a) (entered s inc (call.Enter path args into) (answered a)))) by.done in
+      let same : length (after w frames (call.Enter path args into) (answered f.0) (entered_code s inc (call.Enter path args into) (answered f.0))) ≡ length
+      (after w frames (call.Enter path args into) Done (code_found s (walk s inc path))) =
+      ap (λ (a : Answer). length (after w frames (call.Enter path args into) (answered a) (entered_code s inc (call.Enter path args into) (answered a)))) by.done in
       omega (arith, more, longer, few, same)
 
-  quiet_own : (c : Call) (f : Answer × State) → enters_call (Some c) ≡ false → leaves_call (Some c) ≡ false → Turn s (call_line c (answered f.0)) (settled s (Ok f)).1 → Own c (Ok f)
+  quiet_own : (c : Call) (f : Answer × State) → enters_call (Some c) ≡ false → leaves_call (Some c) ≡ false → Turn s (call_line c (answered f.0)) (settled s (Ok f)).1
+      → Own c (Ok f)
   quiet_own c f e l turn =
       let d = answered_done c f.0 in
       let none : enters_call (done_by (what.Call c) (answered f.0)) ≡ false = ap enters_call d ∙ e in
@@ -256,17 +271,20 @@ module _ (w : Setup) (m : Machine) (cpu : Cpu) (proc : Proc) (frames : Context) 
   call_full : (c : Call) → IsFull (event w m cpu proc (Do c, frames)).1
   call_full c =
       let turn = turn_each.calls s cpu proc c runs kept.sound.rises in
-      event_full m (rule s proc c).1 proc.0 (after w frames c (rule s proc c).0 (entered s inc c (rule s proc c).0)) full (others_fewer s (call_line c (rule s proc c).0) (rule s proc c).1 turn)
+      event_full m (rule s proc c).1 proc.0 (after w frames c (rule s proc c).0 (entered_code s inc c (rule s proc c).0)) full
+      (others_fewer s (call_line c (rule s proc c).0) (rule s proc c).1 turn)
       (inr (some, own_full c (outcome s proc inc c) refl turn))
 
-halt_full : (w : Setup) (m : Machine) (cpu : Cpu) (proc : Proc) (frames : Context) → Kept w m → IsFull m → runner m.state cpu ≡ Some proc → IsFull (event w m cpu proc (Halt, frames)).1
+halt_full : (w : WorldValue) (m : Machine) (cpu : Cpu) (proc : Proc) (frames : Context) → Kept w m → IsFull m → runner m.state cpu ≡ Some proc
+    → IsFull (event w m cpu proc (Halt, frames)).1
 halt_full w m cpu proc frames kept full runs =
     let turn = turn_each.halts m.state cpu proc runs kept.sound.rises in
     let number : amount proc.0 (activations_in (halted m.state proc).incarnations) ≡ depth (halted m.state proc) proc = depth_is (halted m.state proc) proc.0 in
-    let none : amount proc.0 (activations_in (halted m.state proc).incarnations) ≡ 0 = ap (amount proc.0) (activations_filter proc.0 m.state.incarnations) ∙ filtered_own proc.0 (activations_in m.state.incarnations) in
+    let none : amount proc.0 (activations_in (halted m.state proc).incarnations) ≡ 0 =
+    ap (amount proc.0) (activations_filter proc.0 m.state.incarnations) ∙ filtered_own proc.0 (activations_in m.state.incarnations) in
     event_full m (halted m.state proc) proc.0 [] full (others_fewer m.state (proc_line m.state cpu proc what.Halt Done) (halted m.state proc) turn) (inl (sym number ∙ none))
 
-moved_full : (w : Setup) (m : Machine) (cpu : Cpu) → Kept w m → CurrentsCallNone m.state → ProceduresHaveCodes m.state → IsFull m → IsFull (moved w m cpu)
+moved_full : (w : WorldValue) (m : Machine) (cpu : Cpu) → Kept w m → CurrentsCallNone m.state → ProceduresHaveCodes m.state → IsFull m → IsFull (moved w m cpu)
 moved_full w m cpu kept currents codes full = moved_by w m cpu IsFull full (record {
   none = tt;
   calls = λ proc c frames may r e.
@@ -285,7 +303,8 @@ none_of q n (t ∷ ts) h =
     let apart : (n == q) ≡ false = grind (arith, nat_tests, h) in
     rw apart (none_of q (n + 1) ts (omega (arith, h)))
 
-base_full : (q n : ℕ) (ts : List Task) → n ≤ q → amount q (activations_in (bases n ts)) ≤ length (unwrap_or (slice_get (map (λ (t : Task). let frames : Context = new_frame t.code ∷ [] in frames) ts) (q - n)) [])
+base_full : (q n : ℕ) (ts : List Task) → n ≤ q
+    → amount q (activations_in (bases n ts)) ≤ length (unwrap_or (slice_get (map (λ (t : Task). let frames : Context = new_frame t.code ∷ [] in frames) ts) (q - n)) [])
 base_full q n [] h = omega arith
 base_full q n (t ∷ ts) h = by (n == q) refl (base_full q (n + 1) ts)
   where
@@ -295,8 +314,11 @@ base_full q n (t ∷ ts) h = by (n == q) refl (base_full q (n + 1) ts)
     there_is : (n == q) ≡ false → n + 1 ≤ q
     there_is e = grind (arith, nat_tests, e, h)
 
-    by : (b : Bool) → (n == q) ≡ b → (n + 1 ≤ q → amount q (activations_in (bases (n + 1) ts)) ≤ length (unwrap_or (slice_get (map (λ (t : Task). let frames : Context = new_frame t.code ∷ [] in frames) ts) (q - (n + 1))) []))
-        → cond b (1 + amount q (activations_in (bases (n + 1) ts))) (amount q (activations_in (bases (n + 1) ts))) ≤ length (unwrap_or (slice_get (map (λ (t : Task). let frames : Context = new_frame t.code ∷ [] in frames) (t ∷ ts)) (q - n)) [])
+    by : (b : Bool) → (n == q) ≡ b
+        → (n + 1 ≤ q → amount q (activations_in (bases (n + 1) ts)) ≤ length
+        (unwrap_or (slice_get (map (λ (t : Task). let frames : Context = new_frame t.code ∷ [] in frames) ts) (q - (n + 1))) []))
+        → cond b (1 + amount q (activations_in (bases (n + 1) ts))) (amount q (activations_in (bases (n + 1) ts))) ≤ length
+        (unwrap_or (slice_get (map (λ (t : Task). let frames : Context = new_frame t.code ∷ [] in frames) (t ∷ ts)) (q - n)) [])
     by true e later =
         let same = here e in
         let zero_is : q - n ≡ 0 = omega (arith, same) in
@@ -307,7 +329,7 @@ base_full q n (t ∷ ts) h = by (n == q) refl (base_full q (n + 1) ts)
         let next : q - n ≡ suc (q - (n + 1)) = omega (arith, up) in
         rw next (later up)
 
-opened_full : (w : Setup) → IsFull (opened w)
+opened_full : (w : WorldValue) → IsFull (opened w)
 unfolding opened opening
 opened_full w q =
     let number = depth_is (opening w) q in
@@ -318,7 +340,7 @@ opened_full w q =
 
 -- ---- every moment
 
-at_opening : (w : Setup) (lines : List Line) → machine_at w lines 0 ≡ opened w
+at_opening : (w : WorldValue) (lines : List Line) → machine_at w lines 0 ≡ opened w
 at_opening w [] = refl
 at_opening w (x ∷ lines) = refl
 
@@ -328,7 +350,7 @@ no_more [] (suc n) h = refl
 no_more (x ∷ lines) zero h = absurd (cc)
 no_more (x ∷ lines) (suc n) h = ap (λ (l : List Line). x ∷ l) (no_more lines n h)
 
-module _ (w : Setup) (lines : List Line) (world : IsWorld w) (steps : AreStepsOf w lines) where
+module _ (w : WorldValue) (lines : List Line) (world : IsWorld w) (steps : AreStepsOf w lines) where
   kept_at : (moment : ℕ) → Kept w (machine_at w lines moment)
   kept_at moment = sound_kept w (machine_at w lines moment) (sound_after w (take moment lines) (first_steps w (opened w) lines moment steps) world)
 
@@ -338,7 +360,9 @@ module _ (w : Setup) (lines : List Line) (world : IsWorld w) (steps : AreStepsOf
     where
       by : IsFull (machine_at w lines n) → (o : Option Line) → slice_get lines n ≡ o → IsFull (machine_at w lines (suc n))
       by h None e = subst (λ (l : List Line). IsFull (after_lines w (opened w) l)) (sym (no_more lines n e)) h
-      by h (Some line) e = subst IsFull (sym (after_next w (opened w) lines n line e)) (moved_full w (machine_at w lines n) line.cpu (kept_at n) (currents_at w lines steps n) (codes_at w lines world steps n) h)
+      by h (Some line) e =
+          subst IsFull (sym (after_next w (opened w) lines n line e))
+          (moved_full w (machine_at w lines n) line.cpu (kept_at n) (currents_at w lines steps n) (codes_at w lines world steps n) h)
 
   pub frames_are : (moment : ℕ) (proc : Proc) → length (context_of (machine_at w lines moment) proc) ≡ depth (state_at w lines moment) proc
   frames_are moment proc =

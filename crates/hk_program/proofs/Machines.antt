@@ -10,10 +10,10 @@ use Rattle.hk_model.specs.declared.calls.Call.{Call}
 use Rattle.hk_model.specs.declared.calls.Reply.{Reply}
 use Rattle.hk_model.specs.declared.lines.Line.{Line}
 use Rattle.hk_model.specs.Limits.{depth_limit}
-use Rattle.hk_model.specs.Setup.{Setup, IsWorld}
+use Rattle.hk_model.specs.WorldValue.{WorldValue, IsWorld}
 use Rattle.hk_model.specs.State.{State, process}
 use Rattle.hk_model.specs.Rule.{rule, depth}
-use Rattle.hk_model.specs.Processors.{is_on, runner, may_step, halted, entered}
+use Rattle.hk_model.specs.Processors.{is_on, runner, may_step, halted, entered_code}
 use Rattle.hk_model.specs.Control.{Context}
 use Rattle.hk_model.specs.Running.{Machine, context_of, step, line_of, moved, after_lines, opened, AreSteps, AreStepsOf, state_after}
 use Rattle.hk_model.proofs.Steps.{given_to}
@@ -22,14 +22,14 @@ use Rattle.hk_program.specs.Contexts.{AreFrames}
 use Rattle.hk_program.specs.Machines.{IsSound}
 use Rattle.hk_program.proofs.Queues.{run_at, runs_on, on_one}
 use Rattle.hk_program.proofs.Regular.{goes_each}
-use Rattle.hk_program.proofs.Kept.{Kept, moved_kept, context_fits, entered_code, entered_room}
+use Rattle.hk_program.proofs.Kept.{Kept, moved_kept, context_fits, entered_is_code, entered_room}
 use Rattle.hk_program.proofs.Opened.{opened_kept}
 use Rattle.hk_program.proofs.StepCases.{step_by, moved_by}
 
 -- ---- histories that grow at their end
 
 -- the line of a processor's step is that processor's
-pub step_cpu : (w : Setup) (m : Machine) (cpu : Cpu) → IfSome (step w m cpu) (λ f. f.0.cpu ≡ cpu)
+pub step_cpu : (w : WorldValue) (m : Machine) (cpu : Cpu) → IfSome (step w m cpu) (λ f. f.0.cpu ≡ cpu)
 step_cpu w m cpu = step_by w m cpu (λ found. IfSome found (λ f. f.0.cpu ≡ cpu)) (record {
   none = tt;
   calls = λ proc c frames may r e. refl;
@@ -38,20 +38,22 @@ step_cpu w m cpu = step_by w m cpu (λ found. IfSome found (λ f. f.0.cpu ≡ cp
 })
 
 -- the machine after these lines and one more
-pub after_snoc : (w : Setup) (m : Machine) (lines : List Line) (line : Line) → after_lines w m (lines ++ line ∷ []) ≡ moved w (after_lines w m lines) line.cpu
+pub after_snoc : (w : WorldValue) (m : Machine) (lines : List Line) (line : Line) → after_lines w m (lines ++ line ∷ []) ≡ moved w (after_lines w m lines) line.cpu
 after_snoc w m [] line = refl
 after_snoc w m (x ∷ lines) line = after_snoc w (moved w m x.cpu) lines line
 
-steps_more : (w : Setup) (m : Machine) (lines : List Line) (line : Line) → AreSteps w m lines → line_of w (after_lines w m lines) line.cpu ≡ Some line → AreSteps w m (lines ++ line ∷ [])
+steps_more : (w : WorldValue) (m : Machine) (lines : List Line) (line : Line) → AreSteps w m lines → line_of w (after_lines w m lines) line.cpu ≡ Some line
+    → AreSteps w m (lines ++ line ∷ [])
 steps_more w m [] line h e = (e, tt)
 steps_more w m (x ∷ lines) line h e = (h.0, steps_more w (moved w m x.cpu) lines line h.1 e)
 
 -- one step more: the history and its machine
-pub record IsLonger (w : Setup) (lines : List Line) (line : Line) (new : Machine) : Type 0 where
+pub record IsLonger (w : WorldValue) (lines : List Line) (line : Line) (new : Machine) : Type 0 where
   pub steps : AreStepsOf w (lines ++ line ∷ [])
   pub is : new ≡ after_lines w (opened w) (lines ++ line ∷ [])
 
-pub steps_snoc : (w : Setup) (lines : List Line) (m : Machine) (cpu : Cpu) (line : Line) (new : Machine) → AreStepsOf w lines → m ≡ after_lines w (opened w) lines → step w m cpu ≡ Some (line, new) → IsLonger w lines line new
+pub steps_snoc : (w : WorldValue) (lines : List Line) (m : Machine) (cpu : Cpu) (line : Line) (new : Machine) → AreStepsOf w lines → m ≡ after_lines w (opened w) lines
+    → step w m cpu ≡ Some (line, new) → IsLonger w lines line new
 steps_snoc w lines m cpu line new h is e = record {
   steps = steps_more w (opened w) lines line h (subst (λ (k : Machine). line_of w k line.cpu ≡ Some line) is there);
   is = sym goes ∙ ap (λ (k : Machine). moved w k line.cpu) is ∙ sym (after_snoc w (opened w) lines line);
@@ -68,43 +70,45 @@ steps_snoc w lines m cpu line new h is e = record {
 
 -- ---- sound machines
 
-pub opened_sound : (w : Setup) → IsWorld w → IsSound w (opened w)
+pub opened_sound : (w : WorldValue) → IsWorld w → IsSound w (opened w)
 opened_sound w world = record { world = world; lines = []; steps = tt; is = refl }
 
-pub sound_after : (w : Setup) (lines : List Line) → AreStepsOf w lines → IsWorld w → IsSound w (after_lines w (opened w) lines)
+pub sound_after : (w : WorldValue) (lines : List Line) → AreStepsOf w lines → IsWorld w → IsSound w (after_lines w (opened w) lines)
 sound_after w lines h world = record { world = world; lines = lines; steps = h; is = refl }
 
-pub step_sound : (w : Setup) (m : Machine) (cpu : Cpu) (line : Line) (new : Machine) → IsSound w m → step w m cpu ≡ Some (line, new) → IsSound w new
+pub step_sound : (w : WorldValue) (m : Machine) (cpu : Cpu) (line : Line) (new : Machine) → IsSound w m → step w m cpu ≡ Some (line, new) → IsSound w new
 step_sound w m cpu line new h e =
     let longer = steps_snoc w h.lines m cpu line new h.steps h.is e in
     record { world = h.world; lines = h.lines ++ line ∷ []; steps = longer.steps; is = longer.is }
 
-pub moved_sound : (w : Setup) (m : Machine) (cpu : Cpu) → IsSound w m → IsSound w (moved w m cpu)
+pub moved_sound : (w : WorldValue) (m : Machine) (cpu : Cpu) → IsSound w m → IsSound w (moved w m cpu)
 moved_sound w m cpu h = by (step w m cpu) refl
   where
     by : (found : Option (Line × Machine)) → step w m cpu ≡ found → IsSound w (unwrap_or (option_map (λ f. f.1) found) m)
     by None e = h
     by (Some f) e = step_sound w m cpu f.0 f.1 h e
 
-after_kept : (w : Setup) (m : Machine) (lines : List Line) → IsWorld w → Kept w m → Kept w (after_lines w m lines)
+after_kept : (w : WorldValue) (m : Machine) (lines : List Line) → IsWorld w → Kept w m → Kept w (after_lines w m lines)
 after_kept w m [] world h = h
 after_kept w m (line ∷ lines) world h = after_kept w (moved w m line.cpu) lines world (moved_kept w m line.cpu world h)
 
 -- a sound machine has what every machine of the world keeps
-pub sound_kept : (w : Setup) (m : Machine) → IsSound w m → Kept w m
+pub sound_kept : (w : WorldValue) (m : Machine) → IsSound w m → Kept w m
 sound_kept w m h = subst (Kept w) (sym h.is) (after_kept w (opened w) h.lines h.world (opened_kept w h.world))
 
 -- the context of a process has frames of the world
-pub sound_frames : (w : Setup) (m : Machine) (proc : Proc) → IsSound w m → AreFrames w (context_of m proc)
+pub sound_frames : (w : WorldValue) (m : Machine) (proc : Proc) → IsSound w m → AreFrames w (context_of m proc)
 sound_frames w m proc h = (context_fits w m proc (sound_kept w m h)).0
 
 -- the code of an entered procedure is one of the world
-pub sound_code : (w : Setup) (m : Machine) (proc : Proc) (c : Call) (reply : Reply) → IsSound w m → IfSome (entered m.state (process m.state proc).current c reply) (λ code. code < length w.codes)
-sound_code w m proc c reply h = entered_code w m.state (process m.state proc).current c reply (sound_kept w m h).regular
+pub sound_code : (w : WorldValue) (m : Machine) (proc : Proc) (c : Call) (reply : Reply) → IsSound w m
+    → IfSome (entered_code m.state (process m.state proc).current c reply) (λ code. code < length w.codes)
+sound_code w m proc c reply h = entered_is_code w m.state (process m.state proc).current c reply (sound_kept w m h).regular
 
 -- and there is room for its frame
-pub sound_room : (w : Setup) (m : Machine) (proc : Proc) (c : Call) → IsSound w m → IfSome (entered m.state (process m.state proc).current c (rule m.state proc c).0) (λ code. length (context_of m proc) < 64)
-sound_room w m proc c h = by (entered m.state (process m.state proc).current c (rule m.state proc c).0) (entered_room m.state proc c)
+pub sound_room : (w : WorldValue) (m : Machine) (proc : Proc) (c : Call) → IsSound w m
+    → IfSome (entered_code m.state (process m.state proc).current c (rule m.state proc c).0) (λ code. length (context_of m proc) < 64)
+sound_room w m proc c h = by (entered_code m.state (process m.state proc).current c (rule m.state proc c).0) (entered_room m.state proc c)
   where
     by : (o : Option ℕ) → IfSome o (λ code. depth m.state proc < depth_limit) → IfSome o (λ code. length (context_of m proc) < 64)
     by None g = tt
@@ -113,7 +117,7 @@ sound_room w m proc c h = by (entered m.state (process m.state proc).current c (
 -- ---- events
 
 -- where a step is made the lines before it are fewer than the limit, which is the world's
-pub lines_few : (w : Setup) (lines : List Line) → IsWorld w → AreStepsOf w lines → may_step (state_after w lines) ≡ true → length lines < w.limit
+pub lines_few : (w : WorldValue) (lines : List Line) → IsWorld w → AreStepsOf w lines → may_step (state_after w lines) ≡ true → length lines < w.limit
 lines_few w lines world h may =
     let kept = sound_kept w (after_lines w (opened w) lines) (sound_after w lines h world) in
     let limit = kept.regular.limit in
@@ -121,7 +125,7 @@ lines_few w lines world h may =
     grind (arith, nat_tests, may, limit, events)
 
 -- the events never pass the limit
-events_kept : (w : Setup) (m : Machine) (cpu : Cpu) → Kept w m → m.state.events ≤ w.limit → (moved w m cpu).state.events ≤ w.limit
+events_kept : (w : WorldValue) (m : Machine) (cpu : Cpu) → Kept w m → m.state.events ≤ w.limit → (moved w m cpu).state.events ≤ w.limit
 events_kept w m cpu h few = moved_by w m cpu (λ k. k.state.events ≤ w.limit) few (record {
   none = tt;
   calls = λ proc c frames may r e. more (rule m.state proc c).1 may (events_each.calls m.state cpu proc c r);
@@ -132,12 +136,12 @@ events_kept w m cpu h few = moved_by w m cpu (λ k. k.state.events ≤ w.limit) 
     more : (t : State) → may_step m.state ≡ true → t.events ≡ m.state.events + 1 → t.events ≤ w.limit
     more t may e = let limit = h.regular.limit in grind (arith, nat_tests, may, e, limit)
 
-events_within : (w : Setup) (m : Machine) (lines : List Line) → IsWorld w → Kept w m → m.state.events ≤ w.limit → (after_lines w m lines).state.events ≤ w.limit
+events_within : (w : WorldValue) (m : Machine) (lines : List Line) → IsWorld w → Kept w m → m.state.events ≤ w.limit → (after_lines w m lines).state.events ≤ w.limit
 events_within w m [] world h few = few
 events_within w m (line ∷ lines) world h few = events_within w (moved w m line.cpu) lines world (moved_kept w m line.cpu world h) (events_kept w m line.cpu h few)
 
 -- a history has no more lines than the world has events
-pub lines_within : (w : Setup) (lines : List Line) → IsWorld w → AreStepsOf w lines → length lines ≤ w.limit
+pub lines_within : (w : WorldValue) (lines : List Line) → IsWorld w → AreStepsOf w lines → length lines ≤ w.limit
 lines_within w lines world h =
     let zero = opened_events w in
     let a = events_within w (opened w) lines world (opened_kept w world) (omega (arith, zero)) in
@@ -146,7 +150,7 @@ lines_within w lines world h =
 
 -- ---- other processors
 
-pub other_runs : (w : Setup) (m : Machine) (cpu other : Cpu) → IsSound w m → (cpu.0 ≡ other.0 → ⊥) → runner (moved w m other).state cpu ≡ runner m.state cpu
+pub other_runs : (w : WorldValue) (m : Machine) (cpu other : Cpu) → IsSound w m → (cpu.0 ≡ other.0 → ⊥) → runner (moved w m other).state cpu ≡ runner m.state cpu
 other_runs w m cpu other h apart =
     let reg = (sound_kept w m h).regular in
     moved_by w m other (λ k. runner k.state cpu ≡ runner m.state cpu) refl (record {
@@ -164,7 +168,8 @@ context_there (x ∷ xs) (suc p) zero new h = refl
 context_there (x ∷ xs) (suc p) (suc q) new h = context_there xs p q new (λ e. h (ap suc e))
 
 -- nor does a step of another processor change the context of the process that this one runs
-pub other_context : (w : Setup) (m : Machine) (cpu other : Cpu) (proc : Proc) → (cpu.0 ≡ other.0 → ⊥) → runner m.state cpu ≡ Some proc → context_of (moved w m other) proc ≡ context_of m proc
+pub other_context : (w : WorldValue) (m : Machine) (cpu other : Cpu) (proc : Proc) → (cpu.0 ≡ other.0 → ⊥) → runner m.state cpu ≡ Some proc
+    → context_of (moved w m other) proc ≡ context_of m proc
 other_context w m cpu other proc apart here =
     moved_by w m other (λ k. context_of k proc ≡ context_of m proc) refl (record {
       none = tt;

@@ -91,7 +91,8 @@ once_more q [] h g = (tt, tt)
 once_more q (x ∷ qs) h g = (others_more x.0 q qs (λ e. h.0 (sym e)) g.0, once_more q qs h.1 g.1)
 
 -- a process joins the queue
-pub queue_joined : (ps : List Process) (r : ProcessState) (new : Process) (q : Proc) (qs : List Proc) → (run_at ps q.0 ≡ r → ⊥) → (run_at ps q.0 ≡ Ended → ⊥) → new.run ≡ r → IsQueue ps r qs → IsQueue (slice_set ps q.0 new) r (qs ++ q ∷ [])
+pub queue_joined : (ps : List Process) (r : ProcessState) (new : Process) (q : Proc) (qs : List Proc) → (run_at ps q.0 ≡ r → ⊥) → (run_at ps q.0 ≡ Ended → ⊥) → new.run ≡ r
+    → IsQueue ps r qs → IsQueue (slice_set ps q.0 new) r (qs ++ q ∷ [])
 queue_joined ps r new q qs h there e g =
     let other = others_do ps r q.0 qs h g.0 in
     (all_more (slice_set ps q.0 new) r q qs (run_here ps q.0 new there ∙ e) (others_kept ps r q.0 new qs other g.0), once_more q qs other g.1)
@@ -99,7 +100,8 @@ queue_joined ps r new q qs h there e g =
 -- ---- who runs on a processor
 
 -- a process that was not on the processor and is not now
-pub runner_kept : (ps : List Process) (cpu : Cpu) (n k : ℕ) (new : Process) → is_on cpu new.run ≡ is_on cpu (run_at ps n) → runner_from (slice_set ps n new) cpu k ≡ runner_from ps cpu k
+pub runner_kept : (ps : List Process) (cpu : Cpu) (n k : ℕ) (new : Process) → is_on cpu new.run ≡ is_on cpu (run_at ps n)
+    → runner_from (slice_set ps n new) cpu k ≡ runner_from ps cpu k
 runner_kept [] cpu n k new h = refl
 runner_kept (p ∷ ps) cpu zero k new h = rw h refl
 runner_kept (p ∷ ps) cpu (suc n) k new h = rw (runner_kept ps cpu n (k + 1) new h) refl
@@ -108,7 +110,9 @@ runs_from : (ps : List Process) (cpu : Cpu) (k : ℕ) (proc : Proc) → runner_f
 runs_from [] cpu k proc h = absurd (cc)
 runs_from (p ∷ ps) cpu k proc h = by (is_on cpu p.run) refl h (λ g. runs_from ps cpu (k + 1) proc g)
   where
-    by : (b : Bool) → is_on cpu p.run ≡ b → cond b (Some (record { 0 = k })) (runner_from ps cpu (k + 1)) ≡ Some proc → (runner_from ps cpu (k + 1) ≡ Some proc → (j : ℕ) × (proc.0 ≡ k + 1 + j) × (is_on cpu (run_at ps j) ≡ true)) → (j : ℕ) × (proc.0 ≡ k + j) × (is_on cpu (run_at (p ∷ ps) j) ≡ true)
+    by : (b : Bool) → is_on cpu p.run ≡ b → cond b (Some (record { 0 = k })) (runner_from ps cpu (k + 1)) ≡ Some proc
+        → (runner_from ps cpu (k + 1) ≡ Some proc → (j : ℕ) × (proc.0 ≡ k + 1 + j) × (is_on cpu (run_at ps j) ≡ true))
+        → (j : ℕ) × (proc.0 ≡ k + j) × (is_on cpu (run_at (p ∷ ps) j) ≡ true)
     by true e g rest = let same : record { 0 = k } ≡ proc = cc in let n : k ≡ proc.0 = ap (λ (x : Proc). x.0) same in (0, omega arith, e)
     by false e g rest = let r = rest g in (suc r.0, omega (arith, r.1), r.2)
 

@@ -12,21 +12,25 @@ use Rattle.hk_model.specs.declared.lines.Line.{Line}
 use Rattle.hk_model.specs.declared.frames.Todo.{Todo}
 use Rattle.hk_model.specs.declared.frames.Todo.TheVariants.{Do, Halt}
 use Rattle.hk_model.specs.Limits.{cpu_limit}
-use Rattle.hk_model.specs.Setup.{Setup}
+use Rattle.hk_model.specs.WorldValue.{WorldValue}
 use Rattle.hk_model.specs.Processors.{runner, may_step, dispatched_from}
 use Rattle.hk_model.specs.Control.{Context, next}
 use Rattle.hk_model.specs.Running.{Machine, context_of, event, event_of, dispatch_event, step, moved}
 use Rattle.hk_model.proofs.Steps.{proc_line, given_to}
 
 -- what is to hold of a step, by the kinds of events
-pub record ByEvent (w : Setup) (m : Machine) (cpu : Cpu) (Q : Option (Line × Machine) → Type 0) : Type 0 where
+pub record ByEvent (w : WorldValue) (m : Machine) (cpu : Cpu) (Q : Option (Line × Machine) → Type 0) : Type 0 where
   pub none : Q None
-  pub calls : (proc : Proc) (c : Call) (frames : Context) → may_step m.state ≡ true → runner m.state cpu ≡ Some proc → next w (context_of m proc) ≡ (Do c, frames) → Q (Some (event w m cpu proc (Do c, frames)))
-  pub halts : (proc : Proc) (frames : Context) → may_step m.state ≡ true → runner m.state cpu ≡ Some proc → next w (context_of m proc) ≡ (Halt, frames) → Q (Some (event w m cpu proc (Halt, frames)))
-  pub dispatches : (first : Proc) (rest : List Proc) → may_step m.state ≡ true → m.state.ready ≡ first ∷ rest → Q (Some (proc_line m.state cpu first what.Dispatch Done, record m { state = given_to m.state cpu first rest }))
+  pub calls : (proc : Proc) (c : Call) (frames : Context) → may_step m.state ≡ true → runner m.state cpu ≡ Some proc → next w (context_of m proc) ≡ (Do c, frames)
+      → Q (Some (event w m cpu proc (Do c, frames)))
+  pub halts : (proc : Proc) (frames : Context) → may_step m.state ≡ true → runner m.state cpu ≡ Some proc → next w (context_of m proc) ≡ (Halt, frames)
+      → Q (Some (event w m cpu proc (Halt, frames)))
+  pub dispatches : (first : Proc) (rest : List Proc) → may_step m.state ≡ true → m.state.ready ≡ first ∷ rest
+      → Q (Some (proc_line m.state cpu first what.Dispatch Done, record m { state = given_to m.state cpu first rest }))
 
-module _ (w : Setup) (m : Machine) (cpu : Cpu) (Q : Option (Line × Machine) → Type 0) (each : ByEvent w m cpu Q) where
-  of_process : (proc : Proc) (todo : Todo × Context) → may_step m.state ≡ true → runner m.state cpu ≡ Some proc → next w (context_of m proc) ≡ todo → Q (Some (event w m cpu proc todo))
+module _ (w : WorldValue) (m : Machine) (cpu : Cpu) (Q : Option (Line × Machine) → Type 0) (each : ByEvent w m cpu Q) where
+  of_process : (proc : Proc) (todo : Todo × Context) → may_step m.state ≡ true → runner m.state cpu ≡ Some proc → next w (context_of m proc) ≡ todo
+      → Q (Some (event w m cpu proc todo))
   of_process proc (Do c, frames) may r e = each.calls proc c frames may r e
   of_process proc (Halt, frames) may r e = each.halts proc frames may r e
 
@@ -52,7 +56,7 @@ module _ (w : Setup) (m : Machine) (cpu : Cpu) (Q : Option (Line × Machine) →
   step_by = of_test (may_step m.state) refl
 
 -- what holds of the machine after each event, and of the machine as it is, holds after a step
-pub moved_by : (w : Setup) (m : Machine) (cpu : Cpu) (P : Machine → Type 0) → P m → ByEvent w m cpu (λ found. IfSome found (λ f. P f.1)) → P (moved w m cpu)
+pub moved_by : (w : WorldValue) (m : Machine) (cpu : Cpu) (P : Machine → Type 0) → P m → ByEvent w m cpu (λ found. IfSome found (λ f. P f.1)) → P (moved w m cpu)
 moved_by w m cpu P same each = by (step w m cpu) (step_by w m cpu (λ found. IfSome found (λ f. P f.1)) each)
   where
     by : (found : Option (Line × Machine)) → IfSome found (λ f. P f.1) → P (unwrap_or (option_map (λ f. f.1) found) m)
@@ -61,16 +65,16 @@ moved_by w m cpu P same each = by (step w m cpu) (step_by w m cpu (λ found. IfS
 
 -- ---- the step by what is known of its processor
 
-module _ (w : Setup) (m : Machine) (cpu : Cpu) (may : may_step m.state ≡ true) (low : nat_lt cpu.0 cpu_limit ≡ true) where
+module _ (w : WorldValue) (m : Machine) (cpu : Cpu) (may : may_step m.state ≡ true) (low : nat_lt cpu.0 cpu_limit ≡ true) where
   pub step_is : step w m cpu ≡ event_of w m cpu (runner m.state cpu)
   unfolding step
   step_is = rw (may, low) refl
 
-pub no_step : (w : Setup) (m : Machine) (cpu : Cpu) → may_step m.state ≡ false → step w m cpu ≡ None
+pub no_step : (w : WorldValue) (m : Machine) (cpu : Cpu) → may_step m.state ≡ false → step w m cpu ≡ None
 unfolding step
 no_step w m cpu h = rw h refl
 
-pub no_processor : (w : Setup) (m : Machine) (cpu : Cpu) → 16 ≤ cpu.0 → step w m cpu ≡ None
+pub no_processor : (w : WorldValue) (m : Machine) (cpu : Cpu) → 16 ≤ cpu.0 → step w m cpu ≡ None
 unfolding step
 no_processor w m cpu h = rw (high cpu.0 h) (by (may_step m.state))
   where

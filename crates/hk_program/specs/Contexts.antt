@@ -7,18 +7,18 @@ use Rattle.hk_model.specs.declared.calls.Reply.{Reply}
 use Rattle.hk_model.specs.declared.calls.Reply.TheVariants.{Done}
 use Rattle.hk_model.specs.declared.frames.Frame.{Frame}
 use Rattle.hk_model.specs.Control.{steps_of}
-use Rattle.hk_model.specs.Setup.{Setup}
+use Rattle.hk_model.specs.WorldValue.{WorldValue}
 
 -- a frame of a code of the world, at one of its instructions or at its end
-abbrev pub IsFrame : Setup → Frame → Type 0
+abbrev pub IsFrame : WorldValue → Frame → Type 0
 IsFrame w f = (f.code < length w.codes) × (f.at ≤ length (steps_of w f.code))
 
 -- frames of the world
-abbrev pub AreFrames : Setup → List Frame → Type 0
+abbrev pub AreFrames : WorldValue → List Frame → Type 0
 AreFrames w frames = AllByRecursion (IsFrame w) frames
 
 -- a process can go on by these frames: there is one, and all are of the world
-abbrev pub Fits : Setup → List Frame → Type 0
+abbrev pub Fits : WorldValue → List Frame → Type 0
 Fits w frames = (0 < length frames) × AreFrames w frames
 
 -- a return that was done

@@ -1,3 +1,4 @@
+pub mod Carrying
 pub mod Contexts
 pub mod Machines
 pub mod Meanings

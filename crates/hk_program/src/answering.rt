@@ -2,7 +2,7 @@
 
 ghost use Rattle.std.specs.Prelude.{◌≡◌, ◌<◌, IfSome, length, Some};
 ghost use Rattle.hk_model.specs.Limits.{code_limit};
-ghost use Rattle.hk_model.specs.Setup.{IsInstr, IsReg};
+ghost use Rattle.hk_model.specs.WorldValue.{IsInstr, IsReg};
 ghost use Rattle.hk_model.specs.Control as control;
 ghost use Rattle.hk_program.specs.Contexts.{AreFrames, IsFrame, is_return};
 

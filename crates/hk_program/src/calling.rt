@@ -2,7 +2,7 @@
 
 ghost use Rattle.std.specs.Prelude.{◌≡◌, false};
 ghost use Rattle.hk_model.specs.Limits.{code_limit};
-ghost use Rattle.hk_model.specs.Setup.{IsInstr};
+ghost use Rattle.hk_model.specs.WorldValue.{IsInstr};
 ghost use Rattle.hk_model.specs.Control.{meaning};
 ghost use Rattle.hk_program.specs.Meanings.{call_in, is_word_call, is_list_call, is_object_call};
 

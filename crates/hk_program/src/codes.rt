@@ -1,7 +1,7 @@
 //! The code that a frame is in.
 
 ghost use Rattle.std.specs.Prelude.{◌≡◌};
-ghost use Rattle.hk_model.specs.Setup.{IsCode};
+ghost use Rattle.hk_model.specs.WorldValue.{IsCode};
 ghost use Rattle.hk_model.specs.Control.{steps_of};
 ghost use Rattle.hk_program.specs.Contexts.{IsFrame};
 

@@ -3,12 +3,10 @@
 ghost use Rattle.std.specs.Prelude.{◌≡◌, ◌<◌, [], ◌∷◌, length, IfOk, IfSome, IfNone, slice_get, drop};
 ghost use Rattle.hk_model.specs.Control.{new_frame};
 
+use hk_model::limits::DEPTH_LIMIT;
 use hk_model::{Frame, NoMemory};
 use std::alloc::Global;
 use std::marker::Model;
-
-// How many frames there is room for, one for each incarnation that a process can have.
-const ROOM: usize = 64;
 
 /// The control of a process: its frames, at most 64 and one for each of its incarnations
 /// (`docs/RULES.md`, "Control of a process"). Contracts see the list of frames, the current one
@@ -36,7 +34,7 @@ impl Context {
     pub fn new(alloc: Global, code: u16) -> Result<Context, NoMemory>
         ensures { IfOk result (λ context. context ≡ new_frame code ∷ []) }
     {
-        let mut frames = Vec::with_capacity(alloc, ROOM)?;
+        let mut frames = Vec::with_capacity(alloc, DEPTH_LIMIT)?;
         frames.push_reserved(opened(code));
         Ok(Context { frames })
     }

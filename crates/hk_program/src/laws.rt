@@ -9,7 +9,8 @@ use hk_model::{Line, World};
 /// What every state of a history has (`docs/RULES.md`, "Objects, incarnations, processes"): each
 /// procedure that stands has a code; of the live incarnations of a process its current one is the
 /// caller of none, every other one is the caller of one, and the current one lives where any does;
-/// and the process has one frame for each of them.
+/// each caller lives, is of the process of the incarnation that it called, and called no other live
+/// one; and the process has one frame for each of them.
 ///
 /// `lines` are steps of `world` from its opening on, in the order of the history. The body only asks
 /// the world for its limit, since that call's clause tells that the world is one that can be run.

@@ -5,6 +5,7 @@
 
 mod answering;
 mod calling;
+mod carrying;
 mod codes;
 mod context;
 mod ending;
@@ -18,10 +19,11 @@ mod tests;
 mod vanishing;
 
 pub use answering::after;
+pub use carrying::{Carried, carry_out};
 pub use context::Context;
 pub use ending::end_word;
 pub use hk_model::{Frame, Todo};
 pub use laws::shapes_law;
-pub use machine::Machine;
+pub use machine::{Machine, beginnings};
 pub use running::next;
 pub use vanishing::kept_law;

@@ -12,15 +12,13 @@ ghost use Rattle.hk_model.specs.Running.{opened, step, turn};
 ghost use Rattle.hk_program.specs.Contexts.{AreFrames};
 ghost use Rattle.hk_program.specs.Machines.{IsSound};
 
-use crate::answering::after;
+use crate::carrying::carry_out;
 use crate::context::Context;
 use crate::running::next;
-use hk_model::{Call, Cpu, Inc, Kernel, Line, NoMemory, Proc, Reply, Task, Todo, What, World};
+use hk_model::limits::CPU_LIMIT;
+use hk_model::{Call, Cpu, Inc, Kernel, Line, NoMemory, Proc, Reply, Task, What, World};
 use std::alloc::Global;
 use std::marker::Model;
-
-// How many processors there are.
-const CPU_LIMIT: u8 = 16;
 
 /// A kernel with the control of each process of its world (`docs/RULES.md`, "Steps of
 /// processors"). Contracts see the state of the kernel and the frames of each process.
@@ -141,8 +139,9 @@ impl<K: Kernel> Machine<K> {
     }
 }
 
-// The context of each process as it begins.
-fn beginnings(alloc: Global, tasks: &[Task]) -> Result<Vec<Context>, NoMemory>
+/// The context of each process as it begins, by the numbers of the processes: its code's first
+/// instruction in one frame (`docs/RULES.md`, "Control of a process"). NoMemory is want of memory.
+pub fn beginnings(alloc: Global, tasks: &[Task]) -> Result<Vec<Context>, NoMemory>
     ensures { IfOk result (λ contexts. contexts.items ≡ map (λ (t : Task). new_frame t.code ∷ []) tasks.now) }
 {
     let mut contexts = Vec::with_capacity(alloc, tasks.len())?;
@@ -170,23 +169,14 @@ fn turn<K: Kernel>(
     ensures err { OnErr result ((K.state kernel.new ≡ K.state kernel.old) × (context.new ≡ context.old)) }
 {
     let frame = context.top();
-    match next(context, world) {
-        Todo::Do(call) => match kernel.act(alloc, cpu, call) {
-            Ok(acted) => {
-                after(context, world, &call, &acted);
-                Ok((What::Call(call), acted.reply))
+    let todo = next(context, world);
+    match carry_out(alloc, kernel, context, world, cpu, todo) {
+        Ok(made) => Ok((made.what, made.reply)),
+        Err(error) => {
+            if let Some(frame) = frame {
+                context.put_top(frame);
             }
-            Err(error) => {
-                if let Some(frame) = frame {
-                    context.put_top(frame);
-                }
-                Err(error)
-            }
-        },
-        Todo::Halt => {
-            kernel.halt(cpu);
-            context.clear();
-            Ok((What::Halt, Reply::Done))
+            Err(error)
         }
     }
 }

@@ -1,13 +1,11 @@
 //! What the operands of an instruction are worth in a frame.
 
 ghost use Rattle.std.specs.Prelude.{◌≡◌};
-ghost use Rattle.hk_model.specs.Setup.{IsOperand, IsIndex, IsRoute};
+ghost use Rattle.hk_model.specs.WorldValue.{IsOperand, IsIndex, IsRoute};
 ghost use Rattle.hk_model.specs.Control.{operand, index_of, path_of};
 
+use hk_model::limits::INDEX_BOUND;
 use hk_model::{Frame, Index, Operand, Path, Route};
-
-// The largest index of a path.
-const LARGEST_INDEX: u32 = 65535;
 
 /// A number, or what a register holds.
 pub(crate) fn worth(frame: &Frame, of: &Operand) -> u32
@@ -27,7 +25,7 @@ pub(crate) fn index(frame: &Frame, of: &Index) -> u16
 {
     match of {
         Index::Fixed(n) => *n,
-        Index::ByReg(reg) => frame.registers[*reg as usize].min(LARGEST_INDEX) as u16,
+        Index::ByReg(reg) => frame.registers[*reg as usize].min(INDEX_BOUND - 1) as u16,
     }
 }
 

@@ -2,7 +2,7 @@
 
 ghost use Rattle.std.specs.Prelude.{◌≡◌, ◌≤◌, IfSome, drop, length};
 ghost use Rattle.hk_model.specs.Limits.{local_limit};
-ghost use Rattle.hk_model.specs.Setup.{IsCode};
+ghost use Rattle.hk_model.specs.WorldValue.{IsCode};
 ghost use Rattle.hk_model.specs.Control as control;
 ghost use Rattle.hk_model.specs.Control.{here, next_from, steps_of};
 ghost use Rattle.hk_program.specs.Contexts.{AreFrames, IsFrame};
@@ -12,10 +12,8 @@ use crate::calling::call_of;
 use crate::codes::code_of;
 use crate::context::Context;
 use crate::stepping::stepped;
+use hk_model::limits::LOCAL_LIMIT;
 use hk_model::{Call, Code, Frame, Todo, World};
-
-// How many local instructions may be run between two kernel calls.
-const LOCAL_LIMIT: u32 = 10000;
 
 /// What a process does next: the kernel call that stands next behind its local instructions, at the
 /// code's end a return without a slot, or a halt where a local instruction still stands next behind

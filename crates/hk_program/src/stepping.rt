@@ -2,7 +2,7 @@
 
 ghost use Rattle.std.specs.Prelude.{◌≡◌, ◌<◌, slice_set, if◌then◌else◌};
 ghost use Rattle.hk_model.specs.Limits.{code_limit};
-ghost use Rattle.hk_model.specs.Setup.{IsInstr, IsReg};
+ghost use Rattle.hk_model.specs.WorldValue.{IsInstr, IsReg};
 ghost use Rattle.hk_model.specs.Control.{meaning, step_over, go_to};
 ghost use Rattle.hk_program.specs.Meanings.{frame_in};
 

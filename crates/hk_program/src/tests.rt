@@ -3,7 +3,7 @@
 ghost use Rattle.std.specs.Prelude.{◌≡◌, ◌<◌, ◌≤◌, [], ◌∷◌, IfOk, length};
 ghost use Rattle.std.specs.List.{AllByRecursion};
 ghost use Rattle.hk_model.specs.declared.instructions.Index.TheVariants.{Fixed};
-ghost use Rattle.hk_model.specs.Setup.{IsArguments, IsInstr};
+ghost use Rattle.hk_model.specs.WorldValue.{IsArguments, IsInstr};
 ghost use Rattle.hk_program.specs.Contexts.{AreFrames};
 
 use crate::{Context, Frame, Todo, after, next};

@@ -1,5 +1,6 @@
 -- Lists of processes and lists of cells.
-use Rattle.std.proofs.Common.{◌≡◌, ℕ, zero, suc, ◌+◌, ◌<◌, false, ◌||◌, List, [], ◌∷◌, ◌++◌, length, map, drop, set, replicate, Option, Some, option_map, refl, ap, ◌∙◌, sym, subst, arith}
+use Rattle.std.proofs.Common.{◌≡◌, ℕ, zero, suc, ◌+◌, ◌<◌, false, ◌||◌, List, [], ◌∷◌, ◌++◌, length, map, drop, set, replicate, Option, Some, option_map, refl, ap, ◌∙◌, sym, subst}
+use Rattle.std.proofs.Common.{arith}
 use Rattle.std.specs.Prelude.{slice_get, slice_index_or, ◌==◌}
 use Rattle.std.specs.List.{list_any}
 use Rattle.std.proofs.lemmas.List.{length-map, length-set}
@@ -88,8 +89,10 @@ pub queued_set : (c d : Chained) (n s : ℕ) (cells : List ℕ) → IsQueueing c
     → queued d n ≡ record (queued c n) { waiting = set (queued c n).waiting s (procs_of cells) }
 queued_set c d n s cells h e =
     ap (λ (v : Chained). queued v n) e
-    ∙ ap (λ (procs : List Proc). let q : Queued = record { processes = n; ready = procs; waiting = map procs_of (drop 1 (set c.lists (s + 1) cells)) } in q) (ap procs_of (set-first c.lists s cells))
-    ∙ ap (λ (waiting : List (List Proc)). let q : Queued = record { processes = n; ready = procs_of (listed c.lists 0); waiting = waiting } in q) (set-behind c.lists s cells h.some)
+    ∙ ap (λ (procs : List Proc). let q : Queued = record { processes = n; ready = procs; waiting = map procs_of (drop 1 (set c.lists (s + 1) cells)) } in q)
+    (ap procs_of (set-first c.lists s cells))
+    ∙ ap (λ (waiting : List (List Proc)). let q : Queued = record { processes = n; ready = procs_of (listed c.lists 0); waiting = waiting } in q)
+    (set-behind c.lists s cells h.some)
 
 pub pushed : (c d : Chained) (n s : ℕ) (proc : Proc) → IsQueueing c n → d ≡ record c { lists = set c.lists (s + 1) (listed c.lists (s + 1) ++ proc.0 ∷ []) }
     → queued d n ≡ record (queued c n) { waiting = set (queued c n).waiting s (waiters (queued c n) s ++ proc ∷ []) }
@@ -119,7 +122,8 @@ first-empty (suc k) = refl
 pub queued_empty : (c : Chained) (n m k : ℕ) → c ≡ record { cells = m; lists = replicate (k + 1) [] } → queued c n ≡ record { processes = n; ready = []; waiting = replicate k [] }
 queued_empty c n m k e =
     ap (λ (v : Chained). queued v n) e
-    ∙ ap (λ (procs : List Proc). let q : Queued = record { processes = n; ready = procs; waiting = map procs_of (drop 1 (replicate (k + 1) [])) } in q) (ap procs_of (first-empty (k + 1)))
+    ∙ ap (λ (procs : List Proc). let q : Queued = record { processes = n; ready = procs; waiting = map procs_of (drop 1 (replicate (k + 1) [])) } in q)
+    (ap procs_of (first-empty (k + 1)))
     ∙ ap (λ (waiting : List (List Proc)). let q : Queued = record { processes = n; ready = []; waiting = waiting } in q) (drop-replicate k)
 
 -- what is behind a process
@@ -135,7 +139,8 @@ pub behind_waiter : (c : Chained) (n s k : ℕ) (proc : Proc) (next : Option ℕ
 behind_waiter c n s k proc next h is inside here =
     let e = waiters-listed c n s in
     let found = get-found (listed c.lists (s + 1)) k proc (subst (λ (procs : List Proc). slice_get procs k ≡ Some proc) e here) in
-    ap (option_map proc_of) (is (s + 1) k (semaphore_in c n s h inside) found) ∙ get-procs (listed c.lists (s + 1)) (k + 1) ∙ ap (λ (procs : List Proc). slice_get procs (k + 1)) (sym e)
+    ap (option_map proc_of) (is (s + 1) k (semaphore_in c n s h inside) found) ∙ get-procs (listed c.lists (s + 1)) (k + 1) ∙ ap
+    (λ (procs : List Proc). slice_get procs (k + 1)) (sym e)
 
 pub first_waiter : (c : Chained) (n s : ℕ) → option_map proc_of (slice_get (listed c.lists (s + 1)) 0) ≡ slice_get (waiters (queued c n) s) 0
 first_waiter c n s = get-procs (listed c.lists (s + 1)) 0 ∙ ap (λ (procs : List Proc). slice_get procs 0) (sym (waiters-listed c n s))

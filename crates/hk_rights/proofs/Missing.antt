@@ -1,5 +1,6 @@
 -- The first right that is missing.
-use Rattle.std.proofs.Common.{◌≡◌, ◌==◌, ◌&&◌, ◌||◌, not, ◌^◌, ◌<◌, ℕ, suc, Bool, true, false, List, [], ◌∷◌, Some, None, refl, sym, ap, ◌∙◌, arith, inl, inr, cond, IsTrue, nat_le, find}
+use Rattle.std.proofs.Common.{◌≡◌, ◌==◌, ◌&&◌, ◌||◌, not, ◌^◌, ◌<◌, ℕ, suc, Bool, true, false, List, [], ◌∷◌, Some, None, refl, sym, ap, ◌∙◌, arith, inl, inr, cond, IsTrue, nat_le}
+use Rattle.std.proofs.Common.{find}
 use Rattle.std.proofs.lemmas.Bool.Decides.{nat_tests}
 use Rattle.std.proofs.lemmas.Option.{none-some}
 use Rattle.std.proofs.lemmas.Bool.{cases_order, true≢false, false≢true}
@@ -40,7 +41,8 @@ rising-past n low (k ∷ ns) up past =
     rw other (rising-past n (suc k) ns (right_of (nat_le low k) _ up) above)
 
 -- in a rising list the least number that passes is found
-find-least : (test : ℕ → Bool) (n low : ℕ) (ns : List ℕ) → rising low ns ≡ true → list_any (λ k. k == n) ns ≡ true → test n ≡ true → ((k : ℕ) → k < n → test k ≡ false) → find test ns ≡ Some n
+find-least : (test : ℕ → Bool) (n low : ℕ) (ns : List ℕ) → rising low ns ≡ true → list_any (λ k. k == n) ns ≡ true → test n ≡ true → ((k : ℕ) → k < n → test k ≡ false)
+    → find test ns ≡ Some n
 unfolding rising
 find-least test n low [] up there passes below = absurd (true≢false (sym there))
 find-least test n low (k ∷ ns) up there passes below =
@@ -96,10 +98,12 @@ pub HasAll-from_first_missing : (have need : ℕ) → IsRightsWord need → firs
 HasAll-from_first_missing have need word none = λ n needed. has-from_first_missing have need n none (HasAll-all_rights need word n needed) needed
 
 -- the least right that is needed and not there is missing first
-pub first_missing-some : (have need n : ℕ) → IsTrue (has all_rights n) → IsTrue (has (lacking need have) n) → ((k : ℕ) → k < n → has (lacking need have) k ≡ false) → first_missing have need ≡ Some n
+pub first_missing-some : (have need n : ℕ) → IsTrue (has all_rights n) → IsTrue (has (lacking need have) n) → ((k : ℕ) → k < n → has (lacking need have) k ≡ false)
+    → first_missing have need ≡ Some n
 unfolding first_missing rising
 first_missing-some have need n right missing least =
-    find-least (λ n. has need n && not (has have n)) n 0 right_numbers numbers_rise (listed n right) (sym (has-lacking need have n) ∙ missing) (λ k less. sym (has-lacking need have k) ∙ least k less)
+    find-least (λ n. has need n && not (has have n)) n 0 right_numbers numbers_rise (listed n right) (sym (has-lacking need have n) ∙ missing)
+    (λ k less. sym (has-lacking need have k) ∙ least k less)
 
 -- of one right
 pub first_missing-pow : (have n : ℕ) → IsTrue (has all_rights n) → has have n ≡ false → first_missing have (2 ^ n) ≡ Some n

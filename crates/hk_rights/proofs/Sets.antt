@@ -1,9 +1,11 @@
 -- Sets of rights: what each word of a set has.
-use Rattle.std.proofs.Common.{◌≡◌, ◌==◌, ◌&&◌, ◌||◌, not, ◌+◌, ◌-◌, ◌*◌, ◌%◌, ◌^◌, ◌<◌, ◌≤◌, min, max, ℕ, Bool, true, false, refl, sym, ap, ◌∙◌, arith, inl, inr, ◌⊎◌, IsTrue, bit_and, bit_or, bit_xor}
+use Rattle.std.proofs.Common.{◌≡◌, ◌==◌, ◌&&◌, ◌||◌, not, ◌+◌, ◌-◌, ◌*◌, ◌%◌, ◌^◌, ◌<◌, ◌≤◌, min, max, ℕ, Bool, true, false, refl, sym, ap, ◌∙◌, arith, inl, inr, ◌⊎◌, IsTrue}
+use Rattle.std.proofs.Common.{bit_and, bit_or, bit_xor}
 use Rattle.std.proofs.lemmas.Bool.Decides.{nat_tests}
 use Rattle.std.proofs.lemmas.Bool.{cases_lt, cases_eq, or_cases}
 use Rattle.std.proofs.lemmas.Nat.{pow_pos}
-use Rattle.std.proofs.lemmas.Nat.Bits.{bit_at_and, bit_at_or, bit_at_xor, bit_at_not, bit_at_above, bit_at-lt, bit_at-zero, bit_at-pow_same, bit_at-pow_other, same_from_bits, and_pow}
+use Rattle.std.proofs.lemmas.Nat.Bits.{bit_at_and, bit_at_or, bit_at_xor, bit_at_not, bit_at_above, bit_at-lt, bit_at-zero, bit_at-pow_same, bit_at-pow_other, same_from_bits}
+use Rattle.std.proofs.lemmas.Nat.Bits.{and_pow}
 use Rattle.std.specs.Int.{bit_at, w32}
 use Rattle.bitflags.specs.Sets.{without}
 use Rattle.hk_rights.specs.Rights.{has, HasAll}
@@ -133,8 +135,11 @@ HasAll-from_bit_and a b e = λ n there. has-bit_and_left a b n (ap (λ w. has w 
 
 one_of : (x p : ℕ) → x < 2 → 0 < p → (x * p == p) ≡ (x == 1)
 one_of x p low some = elim (cases_eq x 1) [
-  | inl e ↦ let same : (x * p == p) ≡ true = let here : x * p ≡ p = rw e (omega arith) in grind (arith, nat_tests) in let one : (x == 1) ≡ true = grind (arith, nat_tests) in same ∙ sym one
-  | inr e ↦ let other : (x * p == p) ≡ false = let zero : x ≡ 0 = omega arith in let here : x * p ≡ 0 = rw zero (omega arith) in grind (arith, nat_tests) in let one : (x == 1) ≡ false = grind (arith, nat_tests) in other ∙ sym one
+  | inl e ↦ let same : (x * p == p) ≡ true =
+      let here : x * p ≡ p = rw e (omega arith) in grind (arith, nat_tests) in let one : (x == 1) ≡ true = grind (arith, nat_tests) in same ∙ sym one
+  | inr e ↦ let other : (x * p == p) ≡ false =
+      let zero : x ≡ 0 = omega arith in let here : x * p ≡ 0 = rw zero (omega arith) in grind (arith, nat_tests) in let one : (x == 1) ≡ false = grind
+      (arith, nat_tests) in other ∙ sym one
 ]
 
 -- to have all of the set of one right is to have that right

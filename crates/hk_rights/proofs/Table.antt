@@ -1,5 +1,6 @@
 -- The table of rights: its numbers, its names and its words.
-use Rattle.std.proofs.Common.{◌≡◌, ◌==◌, ◌&&◌, not, ◌^◌, ◌<◌, ◌≤◌, ℕ, zero, suc, Bool, true, false, List, [], ◌∷◌, map, length, Option, Some, None, refl, sym, ap, ◌∙◌, arith, inl, inr, cond, option_map, IsTrue, lit<, find}
+use Rattle.std.proofs.Common.{◌≡◌, ◌==◌, ◌&&◌, not, ◌^◌, ◌<◌, ◌≤◌, ℕ, zero, suc, Bool, true, false, List, [], ◌∷◌, map, length, Option, Some, None, refl, sym, ap, ◌∙◌, arith, inl}
+use Rattle.std.proofs.Common.{inr, cond, option_map, IsTrue, lit<, find}
 use Rattle.std.specs.Prelude.{nat_eq}
 use Rattle.std.proofs.lemmas.Bool.Decides.{nat_tests, Decides-below_and}
 use Rattle.std.proofs.lemmas.Option.{none-some, same_Some}

@@ -2,7 +2,8 @@
 use Rattle.std.proofs.Common.{◌≡◌, ◌<◌, ◌^◌, ◌&&◌, not, ℕ, Bool, true, false, refl, sym, ap, ◌∙◌, arith, bit_and, bit_or}
 use Rattle.std.proofs.lemmas.Nat.{and_comm, and_le_l}
 use Rattle.hk_rights.specs.Rights.{all_rights, IsRightsWord, minus, HasAll, has}
-use Rattle.hk_rights.proofs.Sets.{HasAll-from_bit_and, bit_and-from_HasAll, HasAll-trans, HasAll-bit_and_left, HasAll-bit_and_right, HasAll-bit_or, HasAll-lacking, lacking, has-lacking, has-bit_and, same_rights, has-pow}
+use Rattle.hk_rights.proofs.Sets.{HasAll-from_bit_and, bit_and-from_HasAll, HasAll-trans, HasAll-bit_and_left, HasAll-bit_and_right, HasAll-bit_or, HasAll-lacking, lacking}
+use Rattle.hk_rights.proofs.Sets.{has-lacking, has-bit_and, same_rights, has-pow}
 
 -- the rights words are the words of sets of rights
 pub HasAll-all_rights : (a : ℕ) → IsRightsWord a → HasAll all_rights a

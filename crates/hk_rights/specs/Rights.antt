@@ -1,6 +1,7 @@
 -- Rights and sets of rights (`docs/RULES.md`, 'Rights'). A right is the number of its bit, and a set of rights is the
 -- word in which exactly the bits of its rights are set.
-use Rattle.std.specs.Prelude.{◌≡◌, ◌==◌, ◌&&◌, ◌||◌, not, nat_le, Bool, ℕ, ◌+◌, ◌/◌, ◌%◌, ◌^◌, List, [], ◌∷◌, Option, map, option_map, unwrap_or, codes, IsTrue, nat_eq, find, bit_and, bit_xor}
+use Rattle.std.specs.Prelude.{◌≡◌, ◌==◌, ◌&&◌, ◌||◌, not, nat_le, Bool, ℕ, ◌+◌, ◌/◌, ◌%◌, ◌^◌, List, [], ◌∷◌, Option, map, option_map, unwrap_or, codes, IsTrue, nat_eq, find}
+use Rattle.std.specs.Prelude.{bit_and, bit_xor}
 use Rattle.std.specs.Cmp.Lexicographic.{pointwise}
 
 -- a right: its name and the number of its bit

@@ -11,9 +11,9 @@ use Rattle.hk_format.specs.declared.syntax.Body.TheVariants.{WordsAre}
 use Rattle.hk_format.specs.declared.syntax.Written.{Written}
 use Rattle.hk_format.specs.declared.syntax.Written.TheVariants as written
 use Rattle.hk_format.specs.declared.syntax.Verb.TheVariants as verb
-use Rattle.hk_script.specs.declared.errors.LineError.{LineError}
-use Rattle.hk_script.specs.declared.errors.LineError.TheVariants as line_error
-use Rattle.hk_script.specs.Outcomes.{Fails}
+use Rattle.hk_format.specs.declared.errors.LineError.{LineError}
+use Rattle.hk_format.specs.declared.errors.LineError.TheVariants as line_error
+use Rattle.hk_format.specs.Outcomes.{Fails}
 use Rattle.hk_model.specs.Limits.{slot_limit}
 use Rattle.hk_format.specs.Pieces.{Piece, Word, Upper, Dash, Number, Path}
 use Rattle.hk_format.specs.Texts.{is_none}
@@ -42,7 +42,8 @@ pub words_turn : (done : List ℕ) (n : ℕ) (pieces left : List Piece) → want
 words_turn done n [] left h = cc
 words_turn done n (p ∷ ps) left h = rw (h, left_behind (as_number p) ps n left h) (go (each as_number ps))
   where
-    go : (r : Found (List ℕ)) → onward (onward r (λ xs rest. Ok (n ∷ xs, rest))) (λ more. end (WordsAre (done ++ more))) ≡ onward r (λ more. end (WordsAre ((done ++ n ∷ []) ++ more)))
+    go : (r : Found (List ℕ))
+        → onward (onward r (λ xs rest. Ok (n ∷ xs, rest))) (λ more. end (WordsAre (done ++ more))) ≡ onward r (λ more. end (WordsAre ((done ++ n ∷ []) ++ more)))
     go (Ok x) = ap (λ (ws : List ℕ). end (WordsAre ws) x.1) (sym (append_assoc done (n ∷ []) x.0))
     go (Err cause) = refl
 
@@ -82,30 +83,37 @@ slot_cause (Path steps) ps cause h = cc
 
 -- the slots that were read, the last of them apart, and those of these pieces, up to a number
 abbrev pub slots_on : Route → List ℕ → ℕ → ℕ → Reads Written
-slots_on proc done into room pieces = onward (at_most room (as_number_below slot_limit) pieces) (λ more. end (written.Enter proc (done ++ before_last into more) (slot_numbered (last_of into more))))
+slots_on proc done into room pieces =
+    onward (at_most room (as_number_below slot_limit) pieces) (λ more. end (written.Enter proc (done ++ before_last into more) (slot_numbered (last_of into more))))
 
 -- one slot more
-pub slots_turn : (proc : Route) (done : List ℕ) (into room : ℕ) (next : Slot) (pieces left : List Piece) → wanted as_slot pieces ≡ Ok (next, left) → slots_on proc done into (suc room) pieces ≡ slots_on proc (done ++ into ∷ []) next.0 room left
+pub slots_turn : (proc : Route) (done : List ℕ) (into room : ℕ) (next : Slot) (pieces left : List Piece) → wanted as_slot pieces ≡ Ok (next, left)
+    → slots_on proc done into (suc room) pieces ≡ slots_on proc (done ++ into ∷ []) next.0 room left
 slots_turn proc done into room next [] left h = cc
 slots_turn proc done into room next (p ∷ ps) left h = rw (slot_number p ps left next h, left_behind (as_slot p) ps next left h) (go (at_most room (as_number_below slot_limit) ps))
   where
-    go : (r : Found (List ℕ)) → onward (onward r (λ xs rest. Ok (next.0 ∷ xs, rest))) (λ more. end (written.Enter proc (done ++ before_last into more) (slot_numbered (last_of into more)))) ≡ onward r (λ more. end (written.Enter proc ((done ++ into ∷ []) ++ before_last next.0 more) (slot_numbered (last_of next.0 more))))
+    go : (r : Found (List ℕ))
+        → onward (onward r (λ xs rest. Ok (next.0 ∷ xs, rest))) (λ more. end (written.Enter proc (done ++ before_last into more) (slot_numbered (last_of into more))))
+        ≡ onward r (λ more. end (written.Enter proc ((done ++ into ∷ []) ++ before_last next.0 more) (slot_numbered (last_of next.0 more))))
     go (Ok x) = ap (λ (args : List ℕ). end (written.Enter proc args (slot_numbered (last_of next.0 x.0))) x.1) (sym (append_assoc done (into ∷ []) (before_last next.0 x.0)))
     go (Err cause) = refl
 
 -- one slot too many
-pub slots_full : (proc : Route) (done : List ℕ) (into : ℕ) (next : Slot) (pieces left : List Piece) → wanted as_slot pieces ≡ Ok (next, left) → slots_on proc done into zero pieces ≡ Err OutOfRange
+pub slots_full : (proc : Route) (done : List ℕ) (into : ℕ) (next : Slot) (pieces left : List Piece) → wanted as_slot pieces ≡ Ok (next, left)
+    → slots_on proc done into zero pieces ≡ Err OutOfRange
 slots_full proc done into next [] left h = cc
 slots_full proc done into next (p ∷ ps) left h = rw (slot_number p ps left next h)
 
 -- a slot that is refused
-pub slots_refused : (proc : Route) (done : List ℕ) (into room : ℕ) (cause : ParseCause) (pieces : List Piece) → is_none pieces ≡ false → wanted as_slot pieces ≡ Err cause → slots_on proc done into room pieces ≡ Err cause
+pub slots_refused : (proc : Route) (done : List ℕ) (into room : ℕ) (cause : ParseCause) (pieces : List Piece) → is_none pieces ≡ false → wanted as_slot pieces ≡ Err cause
+    → slots_on proc done into room pieces ≡ Err cause
 slots_refused proc done into room cause [] some h = absurd (false≢true (sym some))
 slots_refused proc done into zero cause (p ∷ ps) some h = rw (slot_cause p ps cause h)
 slots_refused proc done into (suc room) cause (p ∷ ps) some h = rw (slot_cause p ps cause h)
 
 -- no slot more
-pub slots_end : (proc : Route) (done : List ℕ) (into room : ℕ) (pieces : List Piece) → is_none pieces ≡ true → slots_on proc done into room pieces ≡ Ok (written.Enter proc done (slot_numbered into), pieces)
+pub slots_end : (proc : Route) (done : List ℕ) (into room : ℕ) (pieces : List Piece) → is_none pieces ≡ true
+    → slots_on proc done into room pieces ≡ Ok (written.Enter proc done (slot_numbered into), pieces)
 slots_end proc done into room [] none = rw append-nil
 slots_end proc done into room (p ∷ ps) none = absurd (false≢true none)
 
@@ -114,23 +122,26 @@ slot_wanted [] left s h = cc
 slot_wanted (p ∷ ps) left s h = slot_number p ps left s h
 
 -- the path and the first slot of a call
-pub call_begun : (before middle after : List Piece) (proc : Route) (into : Slot) → wanted as_route before ≡ Ok (proc, middle) → wanted as_slot middle ≡ Ok (into, after) → slots_on proc [] into.0 8 after ≡ instruction_of verb.Call before
+pub call_begun : (before middle after : List Piece) (proc : Route) (into : Slot) → wanted as_route before ≡ Ok (proc, middle) → wanted as_slot middle ≡ Ok (into, after)
+    → slots_on proc [] into.0 8 after ≡ instruction_of verb.Call before
 call_begun before middle after proc into h k = rw (h, slot_wanted middle after into k)
 
 -- a first slot that is refused
-pub call_bad : (before middle : List Piece) (proc : Route) (e : LineError) → wanted as_route before ≡ Ok (proc, middle) → Fails e (wanted as_slot middle) → Fails e (instruction_of verb.Call before)
+pub call_bad : (before middle : List Piece) (proc : Route) (e : (LineError ParseCause)) → wanted as_route before ≡ Ok (proc, middle) → Fails e (wanted as_slot middle)
+    → Fails e (instruction_of verb.Call before)
 call_bad before [] proc line_error.NoMemory h k = tt
 call_bad before (p ∷ ps) proc line_error.NoMemory h k = tt
 call_bad before [] proc (line_error.Bad cause) h k = let same : cause ≡ Missing = cc in rw (h, same)
 call_bad before (p ∷ ps) proc (line_error.Bad cause) h k = rw (h, slot_cause p ps cause k)
 
 -- a later slot that is refused
-pub slots_bad : (proc : Route) (done : List ℕ) (into room : ℕ) (e : LineError) (pieces : List Piece) → is_none pieces ≡ false → Fails e (wanted as_slot pieces) → Fails e (slots_on proc done into room pieces)
+pub slots_bad : (proc : Route) (done : List ℕ) (into room : ℕ) (e : (LineError ParseCause)) (pieces : List Piece) → is_none pieces ≡ false → Fails e (wanted as_slot pieces)
+    → Fails e (slots_on proc done into room pieces)
 slots_bad proc done into room line_error.NoMemory pieces some h = tt
 slots_bad proc done into room (line_error.Bad cause) pieces some h = slots_refused proc done into room cause pieces some h
 
 -- a word that is refused
-pub words_bad : (done : List ℕ) (e : LineError) (pieces : List Piece) → is_none pieces ≡ false → Fails e (wanted as_number pieces) → Fails e (words_on done pieces)
+pub words_bad : (done : List ℕ) (e : (LineError ParseCause)) (pieces : List Piece) → is_none pieces ≡ false → Fails e (wanted as_number pieces) → Fails e (words_on done pieces)
 words_bad done line_error.NoMemory pieces some h = tt
 words_bad done (line_error.Bad cause) pieces some h = words_refused done cause pieces some h
 
@@ -140,11 +151,13 @@ left_shorter form [] left x h = cc
 left_shorter form (p ∷ ps) left x h = rw (left_behind (form p) ps x left h) (omega arith)
 
 -- an answer that fails, and the same answer
-pub fails_same : {X : Type 0} (e : LineError) (one other : Result X ParseCause) → Fails e one → one ≡ other → Fails e other
+pub fails_same : {X : Type 0} (e : (LineError ParseCause)) (one other : Result X ParseCause) → Fails e one → one ≡ other → Fails e other
 fails_same e one other h same = rw (← same) h
 
 -- one argument more
-pub call_turn : (proc : Route) (args : List Slot) (into next : Slot) (pieces left : List Piece) (whole : Found Written) → length args < 8 → wanted as_slot pieces ≡ Ok (next, left) → slots_on proc (map (λ s. s.0) args) into.0 (8 - length args) pieces ≡ whole → slots_on proc (map (λ s. s.0) (args ++ into ∷ [])) next.0 (8 - length (args ++ into ∷ [])) left ≡ whole
+pub call_turn : (proc : Route) (args : List Slot) (into next : Slot) (pieces left : List Piece) (whole : Found Written) → length args < 8 → wanted as_slot pieces ≡ Ok (next, left)
+    → slots_on proc (map (λ s. s.0) args) into.0 (8 - length args) pieces ≡ whole
+    → slots_on proc (map (λ s. s.0) (args ++ into ∷ [])) next.0 (8 - length (args ++ into ∷ [])) left ≡ whole
 call_turn proc args into next pieces left whole few h k =
     let size = length-append args (into ∷ []) in
     let room : 8 - length args ≡ suc (8 - length (args ++ into ∷ [])) = omega arith in

@@ -10,5 +10,6 @@ list_any-map f p [] = refl
 list_any-map f p (x ∷ xs) = ap (λ b. p (f x) || b) (list_any-map f p xs)
 
 -- a name is among the keys where its text is among their texts
-pub names_known : (keys : List (String Global)) (name : String Global) (texts : List (List ℕ)) (text : List ℕ) → map string_bytes keys ≡ texts → string_bytes name ≡ text → list_any (string_eq name) keys ≡ is_among texts text
+pub names_known : (keys : List (String Global)) (name : String Global) (texts : List (List ℕ)) (text : List ℕ) → map string_bytes keys ≡ texts → string_bytes name ≡ text
+    → list_any (string_eq name) keys ≡ is_among texts text
 names_known keys name texts text h k = rw (← h, ← k) (sym (list_any-map string_bytes (same_text (string_bytes name)) keys))

@@ -13,10 +13,11 @@ use Rattle.hk_format.specs.declared.syntax.Verb.{Verb}
 use Rattle.hk_model.specs.Labels.{between, is_word, is_name, is_register, same_text}
 use Rattle.hk_model.specs.Limits.{slot_limit, index_bound}
 use Rattle.hk_format.specs.Pieces.{Piece, Word, Upper, Dash, Number, Path, is_upper, is_piece, is_index, register_of}
-use Rattle.hk_model.specs.Setup.{IsSlot, IsReg, IsOperand, IsIndex, IsRoute, IsWord32, BeginsAtSlot}
+use Rattle.hk_model.specs.WorldValue.{IsSlot, IsReg, IsOperand, IsIndex, IsRoute, IsWord32, BeginsAtSlot}
 use Rattle.hk_format.specs.Verbs.{verb_word, all_verbs}
 use Rattle.hk_format.specs.Reading.{Reads, Found, ◌>>=◌, onward, taken, wanted, end, unknown, optional, each, at_most}
-use Rattle.hk_format.specs.Forms.{as_verb, verb_found, as_word, as_name, as_type, as_rights, as_number, as_number_in, as_number_below, as_slot, slot_numbered, as_register, as_operand, as_route, is_route, is_index_below, route_of}
+use Rattle.hk_format.specs.Forms.{as_verb, verb_found, as_word, as_name, as_type, as_rights, as_number, as_number_in, as_number_below, as_slot, slot_numbered, as_register}
+use Rattle.hk_format.specs.Forms.{as_operand, as_route, is_route, is_index_below, route_of}
 use Rattle.hk_format.specs.Syntax.{IsWordText, IsName, IsTypeText, IsRightsText}
 use Rattle.hk_text.proofs.PiecesGood.{register_below}
 
@@ -67,7 +68,8 @@ wanted_good P form good (p ∷ ps) k =
     taken_good P (form p) ps (good p parts.0) parts.1
 
 -- a piece of this form, and then the next reader
-pub takes : {A B : Type 0} (P : A → Type 0) (Q : B → Type 0) (form : Piece → Result A ParseCause) (f : A → Reads B) → Forms P form → ((x : A) → P x → Good Q (f x)) → Good Q (wanted form >>= f)
+pub takes : {A B : Type 0} (P : A → Type 0) (Q : B → Type 0) (form : Piece → Result A ParseCause) (f : A → Reads B) → Forms P form → ((x : A) → P x → Good Q (f x))
+    → Good Q (wanted form >>= f)
 takes P Q form f good next = bind_good P Q (wanted form) f (wanted_good P form good) next
 
 -- nothing, or something with this property
@@ -87,13 +89,15 @@ optional_good {A} P form good (p ∷ ps) k = go (wanted form (p ∷ ps)) (wanted
 pub each_good : {A : Type 0} (P : A → Type 0) (form : Piece → Result A ParseCause) → Forms P form → Good (AllByRecursion P) (each form)
 unfolding Good
 each_good P form good [] k = (tt, refl)
-each_good {A} P form good (p ∷ ps) k = go (wanted form (p ∷ ps)) (each form ps) (wanted_good P form good (p ∷ ps) k) (each_good P form good ps (and_parts (is_piece p) (list_all is_piece ps) k).1)
+each_good {A} P form good (p ∷ ps) k = go (wanted form (p ∷ ps)) (each form ps) (wanted_good P form good (p ∷ ps) k)
+    (each_good P form good ps (and_parts (is_piece p) (list_all is_piece ps) k).1)
   where
     later : (x : A) (more : Found (List A)) → P x → Has (AllByRecursion P) more → Has (AllByRecursion P) (onward more (λ xs end. Ok (x ∷ xs, end)))
     later x (Ok xs) h m = ((h, m.0), m.1)
     later x (Err cause) h m = tt
 
-    go : (found : Found A) (more : Found (List A)) → Has P found → Has (AllByRecursion P) more → Has (AllByRecursion P) (onward found (λ x rest. onward more (λ xs end. Ok (x ∷ xs, end))))
+    go : (found : Found A) (more : Found (List A)) → Has P found → Has (AllByRecursion P) more
+        → Has (AllByRecursion P) (onward found (λ x rest. onward more (λ xs end. Ok (x ∷ xs, end))))
     go (Ok x) more h m = later x.0 more h.0 m
     go (Err cause) more h m = tt
 
@@ -109,13 +113,15 @@ at_most_good {A} zero P form good (p ∷ ps) k = go (wanted form (p ∷ ps))
     go : (found : Found A) → Has (AtMost zero P) (onward found (λ x rest. Err OutOfRange))
     go (Ok x) = tt
     go (Err cause) = tt
-at_most_good {A} (suc room) P form good (p ∷ ps) k = go (wanted form (p ∷ ps)) (at_most room form ps) (wanted_good P form good (p ∷ ps) k) (at_most_good room P form good ps (and_parts (is_piece p) (list_all is_piece ps) k).1)
+at_most_good {A} (suc room) P form good (p ∷ ps) k = go (wanted form (p ∷ ps)) (at_most room form ps) (wanted_good P form good (p ∷ ps) k)
+    (at_most_good room P form good ps (and_parts (is_piece p) (list_all is_piece ps) k).1)
   where
     later : (x : A) (more : Found (List A)) → P x → Has (AtMost room P) more → Has (AtMost (suc room) P) (onward more (λ xs end. Ok (x ∷ xs, end)))
     later x (Ok xs) h m = ((omega (arith, m.0.0), (h, m.0.1)), m.1)
     later x (Err cause) h m = tt
 
-    go : (found : Found A) (more : Found (List A)) → Has P found → Has (AtMost room P) more → Has (AtMost (suc room) P) (onward found (λ x rest. onward more (λ xs end. Ok (x ∷ xs, end))))
+    go : (found : Found A) (more : Found (List A)) → Has P found → Has (AtMost room P) more
+        → Has (AtMost (suc room) P) (onward found (λ x rest. onward more (λ xs end. Ok (x ∷ xs, end))))
     go (Ok x) more h m = later x.0 more h.0 m
     go (Err cause) more h m = tt
 

@@ -6,13 +6,12 @@ use Rattle.hk_format.specs.declared.syntax.Head.{Head}
 use Rattle.hk_format.specs.declared.syntax.Body.{Body}
 use Rattle.hk_format.specs.declared.syntax.Item.{Item}
 use Rattle.hk_format.specs.Grammar.{Read, Open, Refused, is_new, noted, is_new_label, noted_label}
-use Rattle.hk_script.specs.declared.errors.ParseError.{ParseError}
-use Rattle.hk_script.specs.declared.errors.ParseError.TheVariants as parse_error
-use Rattle.hk_script.specs.declared.errors.LineError.{LineError}
-use Rattle.hk_script.specs.declared.errors.LineError.TheVariants as line_error
+use Rattle.hk_format.specs.declared.errors.ReadError.{ReadError}
+use Rattle.hk_format.specs.declared.errors.ReadError.TheVariants as parse_error
+use Rattle.hk_format.specs.declared.errors.LineError.{LineError}
+use Rattle.hk_format.specs.declared.errors.LineError.TheVariants as line_error
 use Rattle.hk_script.specs.declared.reading.Opened.{Opened}
 use Rattle.hk_script.specs.declared.reading.Reading.{Reading}
-use Rattle.hk_script.specs.Outcomes.{Fails}
 
 -- an open item, and the labels that it has given
 abbrev pub open_of : Opened → Open
@@ -27,25 +26,20 @@ option_open (Some o) = Some (open_of o)
 abbrev pub read_of : Reading → Read
 read_of r = record { items = r.items; seen = record { names = r.names; limited = r.limited }; unclosed = option_open r.unclosed }
 
--- what was read is now what the grammar gives, or the cause is, or memory was wanting
-abbrev pub Becomes : Result (Unit {0}) LineError → Read → Result Read ParseCause → Type 0
-Becomes (Ok x) new given = given ≡ Ok new
-Becomes (Err error) new given = Fails error given
-
 -- what a head gives was kept, or it is no new head, or memory was wanting
-abbrev pub MatchNew : Result (Unit {0}) LineError → Read → Read → Head → Type 0
+abbrev pub MatchNew : Result (Unit {0}) (LineError ParseCause) → Read → Read → Head → Type 0
 MatchNew (Ok x) new old head = (is_new old.seen head ≡ true) × (new ≡ record old { seen = noted old.seen head })
 MatchNew (Err (line_error.Bad cause)) new old head = (is_new old.seen head ≡ false) × (cause ≡ Repeated)
 MatchNew (Err line_error.NoMemory) new old head = Unit {0}
 
 -- the label that a line may give was kept, or it is no new label, or memory was wanting
-abbrev pub MatchNewLabel : Result (Unit {0}) LineError → List (List ℕ) → List (List ℕ) → Body → Type 0
+abbrev pub MatchNewLabel : Result (Unit {0}) (LineError ParseCause) → List (List ℕ) → List (List ℕ) → Body → Type 0
 MatchNewLabel (Ok x) new old body = (is_new_label old body ≡ true) × (new ≡ noted_label old body)
 MatchNewLabel (Err (line_error.Bad cause)) new old body = (is_new_label old body ≡ false) × (cause ≡ Repeated)
 MatchNewLabel (Err line_error.NoMemory) new old body = Unit {0}
 
 -- the items are those that the grammar gives, or the line and the cause are
-abbrev pub Closes : Result (List Item) ParseError → Result (List Item) Refused → Type 0
+abbrev pub Closes : Result (List Item) (ReadError ParseCause) → Result (List Item) Refused → Type 0
 Closes (Ok items) given = given ≡ Ok items
 Closes (Err (parse_error.Refused line cause)) given = given ≡ Err (line, cause)
 Closes (Err parse_error.NoMemory) given = ⊥

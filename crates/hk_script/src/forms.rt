@@ -7,10 +7,11 @@ ghost use Rattle.hk_model.specs.Limits.{slot_limit};
 ghost use Rattle.hk_format.specs.Pieces.{Path, is_index_text, is_too_large, index_of};
 ghost use Rattle.hk_format.specs.Reading.{wanted};
 ghost use Rattle.hk_format.specs.Forms.{as_verb, as_word, as_name, as_type, as_rights, as_number, as_number_in, as_slot, as_register, as_operand, as_route, route_of};
-ghost use Rattle.hk_script.specs.declared.errors.LineError.TheVariants as line_error;
+ghost use Rattle.hk_format.specs.declared.errors.LineError.TheVariants as line_error;
 ghost use Rattle.hk_script.specs.Lines.{rest, index_in};
 ghost use Rattle.hk_script.specs.Paths.{AreIndices, cut_points, route_on};
-ghost use Rattle.hk_script.specs.Outcomes.{Reads, Gives, GivesRegister};
+ghost use Rattle.hk_format.specs.Outcomes.{Gives};
+ghost use Rattle.hk_script.specs.Outcomes.{Reads, GivesRegister};
 
 use crate::errors::LineError;
 use crate::line::Line;

@@ -12,11 +12,13 @@ mod names;
 mod parts;
 mod reading;
 mod script;
+mod spelled;
 #[cfg(test)]
 mod tests;
 mod verbs;
 
 pub use crate::errors::ParseError;
 pub use crate::script::{Syntax, parse};
+pub use crate::spelled::lines_spell_their_items;
 pub use crate::verbs::verb_of;
 pub use hk_format::{Body, Head, Item, MakingText, Part, Written};

@@ -26,7 +26,7 @@ impl<'a> Line<'a> {
     ghost use Rattle.hk_format.specs.Texts.{is_none};
     ghost use Rattle.hk_format.specs.Reading.{end};
     ghost use Rattle.hk_text.specs.Views.{text_of};
-    ghost use Rattle.hk_script.specs.declared.errors.LineError.TheVariants as line_error;
+    ghost use Rattle.hk_format.specs.declared.errors.LineError.TheVariants as line_error;
     ghost use Rattle.hk_script.specs.Lines.{rest, HasText};
     ghost use Rattle.hk_script.specs.Outcomes.{Reads};
 

@@ -4,9 +4,10 @@ ghost use Rattle.std.specs.Prelude.{◌≡◌, [], IsTrue, IsNone, IfOk, IfErr, 
 ghost use Rattle.std.specs.List.{list_all};
 ghost use Rattle.hk_format.specs.Pieces.{is_piece};
 ghost use Rattle.hk_format.specs.Grammar.{between_items, nothing_seen, after_line, begun, joined, closed, with_part};
-ghost use Rattle.hk_script.specs.declared.errors.LineError.TheVariants as line_error;
+ghost use Rattle.hk_format.specs.declared.errors.LineError.TheVariants as line_error;
 ghost use Rattle.hk_text.specs.Views.{seen};
-ghost use Rattle.hk_script.specs.Readings.{read_of, open_of, Becomes, MatchNew, MatchNewLabel, Closes};
+ghost use Rattle.hk_format.specs.Outcomes.{Becomes};
+ghost use Rattle.hk_script.specs.Readings.{read_of, open_of, MatchNew, MatchNewLabel, Closes};
 
 use crate::errors::{LineError, ParseError};
 use crate::heads::{has_parts, name_of};

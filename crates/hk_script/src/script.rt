@@ -5,7 +5,7 @@ ghost use Rattle.hk_format.specs.declared.causes.ParseCause.{ParseCause};
 ghost use Rattle.hk_format.specs.Texts.{text};
 ghost use Rattle.hk_format.specs.Grammar.{script};
 ghost use Rattle.hk_text.specs.Views.{line_seen};
-ghost use Rattle.hk_script.specs.Outcomes.{IsRefused};
+ghost use Rattle.hk_format.specs.Outcomes.{IsRefused};
 
 use crate::errors::ParseError;
 use crate::line::Line;

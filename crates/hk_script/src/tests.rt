@@ -1,4 +1,4 @@
-use crate::{ParseError, parse};
+use crate::{ParseError, lines_spell_their_items, parse};
 use hk_format::ParseCause;
 use hk_text::lines;
 use std::alloc::Global;
@@ -119,4 +119,22 @@ fn reads_the_items(rt: HostRuntime) -> Result<(), Fail> {
     let forward = b"hydra 1\nprocess p c\ncap d GETDATA+PUTDATA\nempty\nend\ntype t\nlimit 9\n";
     assert_eq!(rt; count(alloc, forward), Some(Ok(3)));
     Ok(())
+}
+
+// The law of the lines and the items of a source of at most a million bytes.
+#[tactic(auto, using(hk_text::proofs::LineCount::lines_few))]
+fn spelled(alloc: Global, source: &[u8]) {
+    if source.len() > 1_000_000 {
+        return;
+    }
+    if let Ok(lines) = lines(alloc, source) {
+        if let Ok(syntax) = parse(alloc, lines.as_slice(), source) {
+            lines_spell_their_items(source, lines.as_slice(), syntax.items());
+        }
+    }
+}
+
+#[test]
+fn lines_that_are_read_are_spelled(rt: HostRuntime) {
+    spelled(rt.alloc(), b"hydra 1\nobject d DATA\nwords 007\nend\n");
 }

@@ -5,7 +5,7 @@ use Rattle.hk_model.specs.declared.names.Proc.{Proc}
 use Rattle.hk_model.specs.declared.names.Cpu.{Cpu}
 use Rattle.hk_model.specs.declared.lines.Line.{Line}
 use Rattle.hk_model.specs.declared.frames.Todo.{Todo}
-use Rattle.hk_model.specs.Setup.{Setup}
+use Rattle.hk_model.specs.WorldValue.{WorldValue}
 use Rattle.hk_model.specs.State.{State}
 use Rattle.hk_model.specs.Control.{Context, next}
 use Rattle.hk_model.specs.Processors.{runner}
@@ -26,7 +26,7 @@ use Rattle.hk_shared.specs.Books.{IsNext, IsBookOf, added}
 use Rattle.hk_shared.proofs.LinesMost.{lines_most}
 use Rattle.hk_shared.proofs.Notes.{lines_book, few_notes, runner_same, context_same}
 
-module _ {K J : Type 0} (state : K → State) (w : Setup) (cpu : Cpu) (b : Book K J) (seen found : List Noted) (h : IsBookOf state w b found) where
+module _ {K J : Type 0} (state : K → State) (w : WorldValue) (cpu : Cpu) (b : Book K J) (seen found : List Noted) (h : IsBookOf state w b found) where
   lines_are : lines_of found ≡ b.lines.items
   lines_are = ap lines_of (sym h.0) ∙ lines_book b.lines.items b.stop
 
@@ -58,20 +58,26 @@ module _ {K J : Type 0} (state : K → State) (w : Setup) (cpu : Cpu) (b : Book 
     still_runs proc todo context m = sym (ap (λ (s : State). runner s cpu) found_state) ∙ (runner_same w h.1.valid cpu seen found goes found_steps ∙ m.0)
 
     -- and the same is next for it
-    pub still_next : (proc : Proc) (todo : Todo) (context : Context) → MakesNext w cpu seen proc todo context → (todo, context) ≡ next w (context_of (machine_after w b.lines.items) proc)
+    pub still_next : (proc : Proc) (todo : Todo) (context : Context) → MakesNext w cpu seen proc todo context
+        → (todo, context) ≡ next w (context_of (machine_after w b.lines.items) proc)
     still_next proc todo context m =
-        m.1 ∙ ap (λ (c : Context). next w c) (sym (context_same w h.1.valid cpu seen found goes found_steps proc m.0) ∙ ap (λ (ls : List Line). context_of (machine_after w ls) proc) lines_are)
+        m.1 ∙ ap (λ (c : Context). next w c) (sym (context_same w h.1.valid cpu seen found goes found_steps proc m.0) ∙ ap
+        (λ (ls : List Line). context_of (machine_after w ls) proc) lines_are)
 
 -- what the book answers is the desk's answer by what the pass had seen
-module _ (w : Setup) (cpu : Cpu) (seen found was now after : List Noted) (note : Option Noted) (goes : GoesOn owner_of cpu.0 seen found)
+module _ (w : WorldValue) (cpu : Cpu) (seen found was now after : List Noted) (note : Option Noted) (goes : GoesOn owner_of cpu.0 seen found)
     (was_is : was ≡ found) (now_is : now ≡ was ++ added note) (after_is : after ≡ found ++ added note) where
   same_after : now ≡ after
   same_after = now_is ∙ (ap (λ (ns : List Noted). ns ++ added note) was_is ∙ sym after_is)
 
   pub ask_answers : (answer : Asked) → AnswersAsk w cpu was now answer → AnswersAsk w cpu seen after answer
   ask_answers answer h =
-      ask_from w cpu seen found after goes answer (subst (λ (ns : List Noted). AnswersAsk w cpu found ns answer) same_after (subst (λ (ns : List Noted). AnswersAsk w cpu ns now answer) was_is h))
+      ask_from w cpu seen found after goes answer (subst (λ (ns : List Noted). AnswersAsk w cpu found ns answer) same_after
+      (subst (λ (ns : List Noted). AnswersAsk w cpu ns now answer) was_is h))
 
-  pub call_answers : (wants : Call → Bool) (proc : Proc) (next : Todo) (answer : Called) → AnswersCall w wants cpu was now proc next answer → AnswersCall w wants cpu seen after proc next answer
+  pub call_answers : (wants : Call → Bool) (proc : Proc) (next : Todo) (answer : Called) → AnswersCall w wants cpu was now proc next answer
+      → AnswersCall w wants cpu seen after proc next answer
   call_answers wants proc next answer h =
-      call_from w cpu seen found after goes wants proc next answer (subst (λ (ns : List Noted). AnswersCall w wants cpu found ns proc next answer) same_after (subst (λ (ns : List Noted). AnswersCall w wants cpu ns now proc next answer) was_is h))
+      call_from w cpu seen found after goes wants proc next answer
+      (subst (λ (ns : List Noted). AnswersCall w wants cpu found ns proc next answer) same_after
+      (subst (λ (ns : List Noted). AnswersCall w wants cpu ns now proc next answer) was_is h))

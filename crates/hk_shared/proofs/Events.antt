@@ -7,9 +7,9 @@ use mathlib.Core.Logic.{inl, inr}
 use Rattle.hk_model.specs.declared.names.Proc.{Proc}
 use Rattle.hk_model.specs.declared.names.Inc.{Inc}
 use Rattle.hk_model.specs.declared.names.Cpu.{Cpu}
-use Rattle.hk_model.specs.declared.calls.Call.{Call}
 use Rattle.hk_model.specs.declared.calls.Reply.{Reply}
 use Rattle.hk_model.specs.declared.calls.Reply.TheVariants.{Done}
+use Rattle.hk_model.specs.declared.lines.What.{What}
 use Rattle.hk_model.specs.declared.lines.What.TheVariants as what
 use Rattle.hk_model.specs.declared.lines.Line.{Line}
 use Rattle.hk_model.specs.declared.objects.Process.{Process}
@@ -17,18 +17,17 @@ use Rattle.hk_model.specs.declared.objects.ProcessState.TheVariants.{Ready}
 use Rattle.hk_model.specs.declared.frames.Todo.{Todo}
 use Rattle.hk_model.specs.declared.frames.Todo.TheVariants as todo
 use Rattle.hk_model.specs.Limits.{cpu_limit}
-use Rattle.hk_model.specs.Setup.{Setup, IsWorld}
+use Rattle.hk_model.specs.WorldValue.{WorldValue, IsWorld}
 use Rattle.hk_model.specs.State.{State, process}
-use Rattle.hk_model.specs.Control.{Context, next, after}
-use Rattle.hk_model.specs.Rule.{rule}
-use Rattle.hk_model.specs.Processors.{is_on, is_running, runner, running_on, may_step, acted_on, entered, entered_on, halted, halted_on, dispatched, dispatched_from}
-use Rattle.hk_model.specs.Running.{Machine, context_of, event, event_of, dispatch_event, step, AreStepsOf, state_after}
+use Rattle.hk_model.specs.Control.{Context, next}
+use Rattle.hk_model.specs.Processors.{is_on, is_running, process_on, runner, running_on, may_step, dispatched, dispatched_from}
+use Rattle.hk_model.specs.Running.{Machine, context_of, event, event_of, turn, dispatch_event, step, AreStepsOf, state_after}
 use Rattle.hk_model.proofs.Steps.{given_to, current_stays}
 use Rattle.hk_program.proofs.Queues.{run_at, runs_on}
 use Rattle.hk_program.proofs.Kept.{Kept}
 use Rattle.hk_program.proofs.StepCases.{step_is}
 use Rattle.hk_program.proofs.Machines.{IsLonger, steps_snoc, sound_after, sound_kept}
-use Rattle.hk_shared.specs.Contexts.{machine_after, rests, KeepsContexts}
+use Rattle.hk_shared.specs.Contexts.{machine_after, is_resting, KeepsContexts}
 use Rattle.hk_shared.proofs.Moves.{Moves, call_moves, halt_moves}
 use Rattle.hk_shared.proofs.Placed.{goes_on, gives_up, rests_back, dispatch_rests, dispatch_runs}
 use Rattle.hk_shared.proofs.PlacedAlways.{IsPlaced, placed_after, first_ready}
@@ -74,7 +73,7 @@ on_there (p ∷ ps) cpu (suc n) h = let g = on_there ps cpu n h in omega (arith,
 -- ---- the line of a call or a halt
 
 -- the line of a process, the state and the context that it leaves
-pub record Makes (w : Setup) (lines : List Line) (held : List (Option Context)) (cpu : Cpu) (proc : Proc) (line : Line) (t : State) (frames : Context) : Type 0 where
+pub record Makes (w : WorldValue) (lines : List Line) (held : List (Option Context)) (cpu : Cpu) (proc : Proc) (line : Line) (t : State) (frames : Context) : Type 0 where
   pub steps : AreStepsOf w (lines ++ line ∷ [])
   pub state : t ≡ state_after w (lines ++ line ∷ [])
   pub context : frames ≡ context_of (machine_after w (lines ++ line ∷ [])) proc
@@ -82,9 +81,10 @@ pub record Makes (w : Setup) (lines : List Line) (held : List (Option Context)) 
   pub gone : is_running (process t proc).run ≡ false → runner t cpu ≡ None
   pub count : length held ≡ length (machine_after w (lines ++ line ∷ [])).contexts
   pub there : proc.0 < length held
-  pub others : (n : ℕ) → (n ≡ proc.0 → ⊥) → rests (process t (record { 0 = n })).run ≡ true → slice_get held n ≡ Some (Some (context_of (machine_after w (lines ++ line ∷ [])) (record { 0 = n })))
+  pub others : (n : ℕ) → (n ≡ proc.0 → ⊥) → is_resting (process t (record { 0 = n })).run ≡ true
+      → slice_get held n ≡ Some (Some (context_of (machine_after w (lines ++ line ∷ [])) (record { 0 = n })))
 
-module _ (w : Setup) (lines : List Line) (held : List (Option Context)) (world : IsWorld w) (steps : AreStepsOf w lines) (keeps : KeepsContexts (machine_after w lines) held)
+module _ (w : WorldValue) (lines : List Line) (held : List (Option Context)) (world : IsWorld w) (steps : AreStepsOf w lines) (keeps : KeepsContexts (machine_after w lines) held)
     (cpu : Cpu) (low : cpu.0 < 16) (may : may_step (state_after w lines) ≡ true) where
   abbrev pub m : Machine
   m = machine_after w lines
@@ -107,7 +107,8 @@ module _ (w : Setup) (lines : List Line) (held : List (Option Context)) (world :
     there = rw keeps.count in_contexts;
     others = λ n apart g.
         keeps.each n (rests_back m.state proc t n moves apart g)
-        ∙ ap (λ (c : Context). Some (Some c)) (sym (ap (λ (o : Option Context). unwrap_or o []) (get_there m.contexts proc.0 n frames apart)) ∙ ap (λ (k : Machine). context_of k (proc_at n)) longer.is);
+        ∙ ap (λ (c : Context). Some (Some c)) (sym (ap (λ (o : Option Context). unwrap_or o []) (get_there m.contexts proc.0 n frames apart)) ∙ ap
+        (λ (k : Machine). context_of k (proc_at n)) longer.is);
   }
     where
       new : Machine
@@ -125,64 +126,51 @@ module _ (w : Setup) (lines : List Line) (held : List (Option Context)) (world :
   runs : (proc : Proc) (inc : Inc) → running_on m.state cpu ≡ Some (proc, inc) → (runner m.state cpu ≡ Some proc) × (inc ≡ (process m.state proc).current)
   runs proc inc = by (runner m.state cpu)
     where
-      by : (found : Option Proc) → option_map {U = Proc × Inc} (λ (p : Proc). (p, (process m.state p).current)) found ≡ Some (proc, inc) → (found ≡ Some proc) × (inc ≡ (process m.state proc).current)
+      by : (found : Option Proc) → option_map {U = Proc × Inc} (λ (p : Proc). (p, (process m.state p).current)) found ≡ Some (proc, inc)
+          → (found ≡ Some proc) × (inc ≡ (process m.state proc).current)
       by None h = absurd (cc)
       by (Some p) h =
           let pair : ◌≡◌ {A = Proc × Inc} (p, (process m.state p).current) (proc, inc) = cc in
           let same : p ≡ proc = ap (λ (f : Proc × Inc). f.0) pair in
           (ap Some same, sym (ap (λ (f : Proc × Inc). f.1) pair) ∙ ap (λ (q : Proc). (process m.state q).current) same)
 
-  event_is : (proc : Proc) (todo : Todo) (frames : Context) → runner m.state cpu ≡ Some proc → (todo, frames) ≡ next w (context_of m proc) → step w m cpu ≡ Some (event w m cpu proc (todo, frames))
+  event_is : (proc : Proc) (todo : Todo) (frames : Context) → runner m.state cpu ≡ Some proc → (todo, frames) ≡ next w (context_of m proc)
+      → step w m cpu ≡ Some (event w m cpu proc (todo, frames))
   event_is proc todo frames r e = step_is w m cpu may low_is ∙ (ap (event_of w m cpu) r ∙ ap (λ (f : Todo × Context). Some (event w m cpu proc f)) (sym e))
 
-  -- a call
-  pub call_makes : (proc : Proc) (inc : Inc) (c : Call) (frames : Context) (reply : Reply) (t : State) (code : Option ℕ) (new : Context)
-      → running_on m.state cpu ≡ Some (proc, inc) → (todo.Do c, frames) ≡ next w (context_of m proc) → acted_on m.state cpu c ≡ (reply, t)
-      → code ≡ entered_on m.state cpu c reply → new ≡ after w frames c reply code
-      → Makes w lines held cpu proc (record { cpu = cpu; proc = proc; inc = inc; what = what.Call c; reply = reply }) t new
-  call_makes proc inc c frames reply t code new on nx acted code_is new_is =
-      makes proc (record { cpu = cpu; proc = proc; inc = inc; what = what.Call c; reply = reply }) t new r.0 (subst (λ (k : State). Moves m.state proc k) state_is (call_moves w m.state kept.regular proc c))
-      (event_is proc (todo.Do c) frames r.0 nx ∙ ap Some whole)
+  -- what becomes of a process
+  moves_on : (proc : Proc) (next : Todo) (frames : Context) → Moves m.state proc (turn w m.state proc (next, frames)).2
+  moves_on proc (todo.Do c) frames = call_moves w m.state kept.regular proc c
+  moves_on proc todo.Halt frames = halt_moves m.state proc
+
+  -- what is next is carried out
+  pub turn_makes : (proc : Proc) (inc : Inc) (next_is : Todo) (frames : Context) (happened : What) (reply : Reply) (t : State) (new : Context)
+      → running_on m.state cpu ≡ Some (proc, inc) → (next_is, frames) ≡ next w (context_of m proc)
+      → turn w m.state (process_on m.state cpu) (next_is, frames) ≡ (happened, reply, t, new)
+      → Makes w lines held cpu proc (record { cpu = cpu; proc = proc; inc = inc; what = happened; reply = reply }) t new
+  turn_makes proc inc next_is frames happened reply t new on nx made =
+      makes proc (record { cpu = cpu; proc = proc; inc = inc; what = happened; reply = reply }) t new r.0
+      (subst (λ (x : What × Reply × State × Context). Moves m.state proc x.2) made_is (moves_on proc next_is frames))
+      (event_is proc next_is frames r.0 nx ∙ ap Some whole)
     where
       r : (runner m.state cpu ≡ Some proc) × (inc ≡ (process m.state proc).current)
       r = runs proc inc on
 
-      rule_is : rule m.state proc c ≡ (reply, t)
-      rule_is = sym (ap (λ (o : Option Proc). rule m.state (unwrap_or o (record { 0 = 0 })) c) r.0) ∙ acted
+      made_is : turn w m.state proc (next_is, frames) ≡ (happened, reply, t, new)
+      made_is = sym (ap (λ (o : Option Proc). turn w m.state (unwrap_or o (record { 0 = 0 })) (next_is, frames)) r.0) ∙ made
 
-      reply_is : (rule m.state proc c).0 ≡ reply
-      reply_is = ap (λ (f : Reply × State). f.0) rule_is
+      -- the line and the machine of what a turn came to
+      of_turn : Inc → What × Reply × State × Context → Line × Machine
+      of_turn i x = (record { cpu = cpu; proc = proc; inc = i; what = x.0; reply = x.1 }, record { state = x.2; contexts = slice_set m.contexts proc.0 x.3 })
 
-      state_is : (rule m.state proc c).1 ≡ t
-      state_is = ap (λ (f : Reply × State). f.1) rule_is
-
-      entered_is : entered m.state (process m.state proc).current c reply ≡ code
-      entered_is = sym (ap (λ (o : Option Proc). entered m.state (process m.state (unwrap_or o (record { 0 = 0 }))).current c reply) r.0) ∙ sym code_is
-
-      whole : event w m cpu proc (todo.Do c, frames) ≡ (record { cpu = cpu; proc = proc; inc = inc; what = what.Call c; reply = reply }, record { state = t; contexts = slice_set m.contexts proc.0 new })
-      whole = rw (r.1, new_is, ← entered_is, ← state_is, ← reply_is) refl
-
-  -- a halt
-  pub halt_makes : (proc : Proc) (inc : Inc) (frames : Context) (t : State)
-      → running_on m.state cpu ≡ Some (proc, inc) → (todo.Halt, frames) ≡ next w (context_of m proc) → t ≡ halted_on m.state cpu
-      → Makes w lines held cpu proc (record { cpu = cpu; proc = proc; inc = inc; what = what.Halt; reply = Done }) t []
-  halt_makes proc inc frames t on nx t_is =
-      makes proc (record { cpu = cpu; proc = proc; inc = inc; what = what.Halt; reply = Done }) t [] r.0 (subst (λ (k : State). Moves m.state proc k) state_is (halt_moves m.state proc))
-      (event_is proc todo.Halt frames r.0 nx ∙ ap Some whole)
-    where
-      r : (runner m.state cpu ≡ Some proc) × (inc ≡ (process m.state proc).current)
-      r = runs proc inc on
-
-      state_is : halted m.state proc ≡ t
-      state_is = sym (ap (λ (o : Option Proc). halted m.state (unwrap_or o (record { 0 = 0 }))) r.0) ∙ sym t_is
-
-      whole : event w m cpu proc (todo.Halt, frames) ≡ (record { cpu = cpu; proc = proc; inc = inc; what = what.Halt; reply = Done }, record { state = t; contexts = slice_set m.contexts proc.0 [] })
-      whole = rw (r.1, ← state_is) refl
+      whole : event w m cpu proc (next_is, frames) ≡ of_turn inc (happened, reply, t, new)
+      whole = ap (of_turn (process m.state proc).current) made_is ∙ ap (λ (i : Inc). of_turn i (happened, reply, t, new)) (sym r.1)
 
 -- ---- the line of a dispatch
 
 -- who was first in the ready list, and the state in which that process has the processor
-pub dispatched_is : (s : State) (cpu : Cpu) (proc : Proc) (t : State) → dispatched s cpu ≡ Some (proc, t) → (rest : List Proc) × (s.ready ≡ proc ∷ rest) × (t ≡ given_to s cpu proc rest)
+pub dispatched_is : (s : State) (cpu : Cpu) (proc : Proc) (t : State) → dispatched s cpu ≡ Some (proc, t)
+    → (rest : List Proc) × (s.ready ≡ proc ∷ rest) × (t ≡ given_to s cpu proc rest)
 dispatched_is s cpu proc t = by s.ready refl
   where
     by : (ready : List Proc) → s.ready ≡ ready → dispatched_from s cpu ready ≡ Some (proc, t) → (rest : List Proc) × (s.ready ≡ proc ∷ rest) × (t ≡ given_to s cpu proc rest)
@@ -193,18 +181,23 @@ dispatched_is s cpu proc t = by s.ready refl
         (rest, e ∙ ap (λ (p : Proc). p ∷ rest) same, sym (ap (λ (f : Proc × State). f.1) pair) ∙ ap (λ (p : Proc). given_to s cpu p rest) same)
 
 -- the line of a dispatch, and the state that it leaves
-pub record Gets (w : Setup) (lines : List Line) (held : List (Option Context)) (cpu : Cpu) (proc : Proc) (line : Line) (t : State) : Type 0 where
+pub record Gets (w : WorldValue) (lines : List Line) (held : List (Option Context)) (cpu : Cpu) (proc : Proc) (line : Line) (t : State) : Type 0 where
   pub steps : AreStepsOf w (lines ++ line ∷ [])
   pub state : t ≡ state_after w (lines ++ line ∷ [])
   pub runs : runner t cpu ≡ Some proc
   pub count : length held ≡ length (machine_after w (lines ++ line ∷ [])).contexts
   pub context : slice_get held proc.0 ≡ Some (Some (context_of (machine_after w (lines ++ line ∷ [])) proc))
-  pub others : (n : ℕ) → rests (process t (record { 0 = n })).run ≡ true → (n ≡ proc.0 → ⊥) × (slice_get held n ≡ Some (Some (context_of (machine_after w (lines ++ line ∷ [])) (record { 0 = n }))))
+  pub others : (n : ℕ) → is_resting (process t (record { 0 = n })).run ≡ true
+      → (n ≡ proc.0 → ⊥) × (slice_get held n ≡ Some (Some (context_of (machine_after w (lines ++ line ∷ [])) (record { 0 = n }))))
 
-module _ (w : Setup) (lines : List Line) (held : List (Option Context)) (world : IsWorld w) (steps : AreStepsOf w lines) (keeps : KeepsContexts (machine_after w lines) held)
+module _ (w : WorldValue) (lines : List Line) (held : List (Option Context)) (world : IsWorld w) (steps : AreStepsOf w lines) (keeps : KeepsContexts (machine_after w lines) held)
     (cpu : Cpu) (low : cpu.0 < 16) (may : may_step (state_after w lines) ≡ true) (idle : runner (state_after w lines) cpu ≡ None) where
   dispatch_is : (proc : Proc) (t : State) → dispatched (state_after w lines) cpu ≡ Some (proc, t)
-      → step w (machine_after w lines) cpu ≡ Some (record { cpu = cpu; proc = proc; inc = (process (state_after w lines) proc).current; what = what.Dispatch; reply = Done }, record (machine_after w lines) { state = t })
+      → step w (machine_after w lines) cpu ≡ Some (
+        record { cpu = cpu; proc = proc; inc = (process (state_after w lines) proc).current; what = what.Dispatch; reply = Done },
+        record
+            (machine_after w lines) { state = t },
+      )
   dispatch_is proc t e =
       let low_is : nat_lt cpu.0 cpu_limit ≡ true = grind (arith, nat_tests, low) in
       step_is w (machine_after w lines) cpu may low_is ∙ (ap (event_of w (machine_after w lines) cpu) idle ∙ ap (dispatch_event (machine_after w lines) cpu) e)
@@ -216,9 +209,9 @@ module _ (w : Setup) (lines : List Line) (held : List (Option Context)) (world :
     state = ap (λ (k : Machine). k.state) longer.is;
     runs = subst (λ (k : State). runner k cpu ≡ Some proc) (sym found.2) (dispatch_runs (state_after w lines) cpu proc found.0 ready idle (placed_after w lines world).apart);
     count = keeps.count ∙ ap (λ (k : Machine). length k.contexts) longer.is;
-    context = keeps.each proc.0 (ap rests ready) ∙ ap (λ (k : Machine). Some (Some (context_of k proc))) longer.is;
+    context = keeps.each proc.0 (ap is_resting ready) ∙ ap (λ (k : Machine). Some (Some (context_of k proc))) longer.is;
     others = λ n g.
-        let back = dispatch_rests (state_after w lines) cpu proc found.0 n ready (subst (λ (k : State). rests (process k (proc_at n)).run ≡ true) found.2 g) in
+        let back = dispatch_rests (state_after w lines) cpu proc found.0 n ready (subst (λ (k : State). is_resting (process k (proc_at n)).run ≡ true) found.2 g) in
         (back.0, keeps.each n back.1 ∙ ap (λ (k : Machine). Some (Some (context_of k (proc_at n)))) longer.is);
   }
     where

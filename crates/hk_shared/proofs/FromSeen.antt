@@ -5,7 +5,7 @@ use Rattle.hk_model.specs.declared.names.Proc.{Proc}
 use Rattle.hk_model.specs.declared.names.Cpu.{Cpu}
 use Rattle.hk_model.specs.declared.calls.Call.{Call}
 use Rattle.hk_model.specs.declared.frames.Todo.{Todo}
-use Rattle.hk_model.specs.Setup.{Setup}
+use Rattle.hk_model.specs.WorldValue.{WorldValue}
 use Rattle.hk_turn.specs.Rule.{GoesOn}
 use Rattle.hk_procs.specs.declared.notes.Noted.{Noted}
 use Rattle.hk_procs.specs.declared.answers.Asked.{Asked}
@@ -27,7 +27,7 @@ pub goes_further : (number : ℕ) (seen found after : List Noted) → GoesOn own
 goes_further number seen found after h g =
     (h.0 ++ g.0, g.1 ∙ (ap (λ (l : List Noted). l ++ g.0) h.1 ∙ append_assoc seen h.0 g.0), all_append (λ n. owner_of n ≢ number) h.0 g.0 h.2 g.2)
 
-module _ (w : Setup) (cpu : Cpu) (seen found after : List Noted) (goes : GoesOn owner_of cpu.0 seen found) where
+module _ (w : WorldValue) (cpu : Cpu) (seen found after : List Noted) (goes : GoesOn owner_of cpu.0 seen found) where
   adds_from : (note : Noted) → Adds w cpu found after note → Adds w cpu seen after note
   adds_from note h = record { found = h.found; goes_on = goes_further cpu.0 seen found h.found goes h.goes_on; going = h.going; added = h.added; steps = h.steps; below = h.below }
 
@@ -37,7 +37,8 @@ module _ (w : Setup) (cpu : Cpu) (seen found after : List Noted) (goes : GoesOn 
   ask_from asked.Over h = ((goes_further cpu.0 seen found after goes h.0.0, h.0.1), h.1, h.2)
   ask_from asked.Stopped h = ((goes_further cpu.0 seen found after goes h.0.0, h.0.1), h.1)
 
-  pub call_from : (wants : Call → Bool) (proc : Proc) (next : Todo) (answer : Called) → AnswersCall w wants cpu found after proc next answer → AnswersCall w wants cpu seen after proc next answer
+  pub call_from : (wants : Call → Bool) (proc : Proc) (next : Todo) (answer : Called) → AnswersCall w wants cpu found after proc next answer
+      → AnswersCall w wants cpu seen after proc next answer
   call_from wants proc next (called.Goes reply context) h = ((h.0.0, adds_from _ h.0.1), h.1)
   call_from wants proc next (called.Gone reply) h = ((h.0.0, adds_from _ h.0.1), h.1, h.2)
   call_from wants proc next called.Limit h = ((goes_further cpu.0 seen found after goes h.0.0, h.0.1), h.1, h.2)

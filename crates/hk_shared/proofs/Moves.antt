@@ -16,10 +16,10 @@ use Rattle.hk_model.specs.declared.calls.Answer.TheVariants.{Done, Waits}
 use Rattle.hk_model.specs.declared.objects.Process.{Process}
 use Rattle.hk_model.specs.declared.objects.ProcessState.TheVariants.{Ready, Waiting, Ended}
 use Rattle.hk_model.specs.Limits.{token_limit}
-use Rattle.hk_model.specs.Setup.{Setup}
+use Rattle.hk_model.specs.WorldValue.{WorldValue}
 use Rattle.hk_model.specs.State.{State, object, process, put_object, put_process, same_inc}
 use Rattle.hk_model.specs.Refusing.{unless}
-use Rattle.hk_model.specs.Targets.{SEMAPHORE, is_type, MODIFY+A0, MODIFY+A1, target}
+use Rattle.hk_model.specs.Targets.{SEMAPHORE, is_of_type, MODIFY+A0, MODIFY+A1, target}
 use Rattle.hk_model.specs.Rule.{Outcome, outcome, rule, settled, counted, leave_to, token_given, enter_procedure, leave, take_token, give_token}
 use Rattle.hk_model.specs.Keeping.{restricted}
 use Rattle.hk_model.specs.Processors.{is_waiting, is_running, is_ready, halted}
@@ -33,11 +33,13 @@ use Rattle.hk_program.proofs.Regular.{Regular}
 pub data Moves : State → Proc → State → Type 0 where
   Calm : {s : State} {p : Proc} {t : State} → t.processes ≡ s.processes → t.ready ≡ s.ready → Moves s p t
   Same : {s : State} {p : Proc} {t : State} (n : ℕ) (new : Process) → t.processes ≡ slice_set s.processes n new → new.run ≡ run_at s.processes n → t.ready ≡ s.ready → Moves s p t
-  Rests : {s : State} {p : Proc} {t : State} (new : Process) → t.processes ≡ slice_set s.processes p.0 new → is_running new.run ≡ false → is_ready new.run ≡ false → t.ready ≡ s.ready → Moves s p t
+  Rests : {s : State} {p : Proc} {t : State} (new : Process) → t.processes ≡ slice_set s.processes p.0 new → is_running new.run ≡ false → is_ready new.run ≡ false
+      → t.ready ≡ s.ready → Moves s p t
   Yields : {s : State} {p : Proc} {t : State} (new : Process) → t.processes ≡ slice_set s.processes p.0 new → new.run ≡ Ready → t.ready ≡ s.ready ++ p ∷ [] → Moves s p t
-  Wakes : {s : State} {p : Proc} {t : State} (q : Proc) (new : Process) → t.processes ≡ slice_set s.processes q.0 new → new.run ≡ Ready → is_waiting (run_at s.processes q.0) ≡ true → t.ready ≡ s.ready ++ q ∷ [] → Moves s p t
+  Wakes : {s : State} {p : Proc} {t : State} (q : Proc) (new : Process) → t.processes ≡ slice_set s.processes q.0 new → new.run ≡ Ready → is_waiting (run_at s.processes q.0) ≡ true
+      → t.ready ≡ s.ready ++ q ∷ [] → Moves s p t
 
-module _ (w : Setup) (s : State) (reg : Regular w s) where
+module _ (w : WorldValue) (s : State) (reg : Regular w s) where
   enters : (proc : Proc) (inc : Inc) (path args : List ℕ) (into : Slot) → IfOk (enter_procedure s proc inc path args into) (λ f. Moves s proc f.1)
   enters proc inc path args into = by (enter_procedure s proc inc path args into) (enters_by s proc inc path args into)
     where
@@ -45,7 +47,8 @@ module _ (w : Setup) (s : State) (reg : Regular w s) where
       by (Err e) h = tt
       by (Ok f) h = subst (λ t. Moves s proc t) (sym h.after) (Same h.new.proc.0 (record (process s h.new.proc) { current = s.next_inc }) refl refl refl)
 
-  leaves_to : (proc : Proc) (inc : Inc) (caller : Option Inc) (slot : ℕ) (c : Option Cap) → Moves s proc (leave_to (record s { incarnations = remove_entry (same_inc inc) s.incarnations }) proc caller slot c)
+  leaves_to : (proc : Proc) (inc : Inc) (caller : Option Inc) (slot : ℕ) (c : Option Cap)
+      → Moves s proc (leave_to (record s { incarnations = remove_entry (same_inc inc) s.incarnations }) proc caller slot c)
   leaves_to proc inc None slot c = Rests (record (process s proc) { run = Ended }) refl refl refl refl
   leaves_to proc inc (Some k) slot None = Same proc.0 (record (process s proc) { current = k }) refl refl refl
   leaves_to proc inc (Some k) slot (Some c) = Same proc.0 (record (process s proc) { current = k }) refl refl refl
@@ -57,21 +60,30 @@ module _ (w : Setup) (s : State) (reg : Regular w s) where
   takes : (proc : Proc) (inc : Inc) (path : List ℕ) → IfOk (take_token s proc inc path) (λ f. Moves s proc f.1)
   unfolding take_token
   takes proc inc path =
-      then_is (λ f. Moves s proc f.1) (target s inc path (is_type SEMAPHORE) MODIFY+A0) (λ c. Ok (elim (nat_lt 0 (object s c.name).count) [
+      then_is (λ f. Moves s proc f.1) (target s inc path (is_of_type SEMAPHORE) MODIFY+A0) (λ c. Ok (elim (nat_lt 0 (object s c.name).count) [
         | true ↦ (Done, put_object s c.name (record (object s c.name) { count = (object s c.name).count - 1 }))
-        | false ↦ (Waits, put_process (put_object s c.name (record (object s c.name) { waiters = (object s c.name).waiters ++ proc ∷ [] })) proc (record (process s proc) { run = Waiting c.name }))
+        | false ↦ (
+          Waits,
+          put_process (put_object s c.name (record (object s c.name) { waiters = (object s c.name).waiters ++ proc ∷ [] })) proc
+              (record (process s proc) { run = Waiting c.name }),
+        )
       ])) (λ c g. by c (nat_lt 0 (object s c.name).count))
     where
       by : (c : Cap) (b : Bool) → Moves s proc (elim b as (λ x. Answer × State) [
         | true ↦ (Done, put_object s c.name (record (object s c.name) { count = (object s c.name).count - 1 }))
-        | false ↦ (Waits, put_process (put_object s c.name (record (object s c.name) { waiters = (object s c.name).waiters ++ proc ∷ [] })) proc (record (process s proc) { run = Waiting c.name }))
+        | false ↦ (
+          Waits,
+          put_process (put_object s c.name (record (object s c.name) { waiters = (object s c.name).waiters ++ proc ∷ [] })) proc
+              (record (process s proc) { run = Waiting c.name }),
+        )
       ]).1
       by c true = Calm refl refl
       by c false = Rests (record (process s proc) { run = Waiting c.name }) refl refl refl refl
 
   token_moves : (proc : Proc) (name : Name) (waiters : List Proc) → (object s name).waiters ≡ waiters → IfOk (token_given s name (object s name) waiters) (λ f. Moves s proc f.1)
   token_moves proc name [] e =
-      and_is (λ f. Moves s proc f.1) (unless (nat_lt (object s name).count token_limit) (refused.Full full.Tokens)) (Ok (Done, put_object s name (record (object s name) { count = (object s name).count + 1 })))
+      and_is (λ f. Moves s proc f.1) (unless (nat_lt (object s name).count token_limit) (refused.Full full.Tokens))
+      (Ok (Done, put_object s name (record (object s name) { count = (object s name).count + 1 })))
       (λ u g. Calm refl refl)
   token_moves proc name (first ∷ rest) e =
       let queue : IsQueue s.processes (Waiting name) (first ∷ rest) = subst (λ qs. IsQueue s.processes (Waiting name) qs) e (reg.waiting name) in
@@ -79,7 +91,9 @@ module _ (w : Setup) (s : State) (reg : Regular w s) where
 
   gives : (proc : Proc) (inc : Inc) (path : List ℕ) → IfOk (give_token s inc path) (λ f. Moves s proc f.1)
   unfolding give_token
-  gives proc inc path = then_is (λ f. Moves s proc f.1) (target s inc path (is_type SEMAPHORE) MODIFY+A1) (λ c. token_given s c.name (object s c.name) (object s c.name).waiters) (λ c g. token_moves proc c.name (object s c.name).waiters refl)
+  gives proc inc path =
+      then_is (λ f. Moves s proc f.1) (target s inc path (is_of_type SEMAPHORE) MODIFY+A1) (λ c. token_given s c.name (object s c.name) (object s c.name).waiters)
+      (λ c g. token_moves proc c.name (object s c.name).waiters refl)
 
   calm_moves : (proc : Proc) (o : Outcome) → IfOk o (λ f. IsCalm s f.1) → IfOk o (λ f. Moves s proc f.1)
   calm_moves proc (Ok f) h = Calm h.processes h.ready

@@ -4,7 +4,7 @@ use Rattle.std.proofs.Common.{arith, ap, sym, ◌∙◌, subst, length-append}
 use Rattle.hk_model.specs.declared.names.Proc.{Proc}
 use Rattle.hk_model.specs.declared.names.Cpu.{Cpu}
 use Rattle.hk_model.specs.declared.lines.Line.{Line}
-use Rattle.hk_model.specs.Setup.{Setup, IsWorld}
+use Rattle.hk_model.specs.WorldValue.{WorldValue, IsWorld}
 use Rattle.hk_model.specs.Processors.{runner}
 use Rattle.hk_model.specs.Running.{Machine, context_of, moved, opened, after_lines, AreSteps, AreStepsOf}
 use Rattle.hk_program.specs.Machines.{IsSound}
@@ -75,11 +75,11 @@ goes_self number notes = ([], sym (append_nil notes), λ k d l. absurd (omega (a
 
 -- ---- other processors
 
-pub after_append : (w : Setup) (m : Machine) (xs ys : List Line) → after_lines w m (xs ++ ys) ≡ after_lines w (after_lines w m xs) ys
+pub after_append : (w : WorldValue) (m : Machine) (xs ys : List Line) → after_lines w m (xs ++ ys) ≡ after_lines w (after_lines w m xs) ys
 after_append w m [] ys = refl
 after_append w m (x ∷ xs) ys = after_append w (moved w m x.cpu) xs ys
 
-pub steps_first : (w : Setup) (m : Machine) (xs ys : List Line) → AreSteps w m (xs ++ ys) → AreSteps w m xs
+pub steps_first : (w : WorldValue) (m : Machine) (xs ys : List Line) → AreSteps w m (xs ++ ys) → AreSteps w m xs
 steps_first w m [] ys h = tt
 steps_first w m (x ∷ xs) ys h = (h.0, steps_first w (moved w m x.cpu) xs ys h.1)
 
@@ -93,19 +93,20 @@ others_of cpu [] h = tt
 others_of cpu (Event line ∷ rest) h = ((λ e. h 0 (Event line) (omega arith) (sym e)), others_of cpu rest (λ k d l. h (suc k) d (omega (arith, l))))
 others_of cpu (Stop other ∷ rest) h = others_of cpu rest (λ k d l. h (suc k) d (omega (arith, l)))
 
-others_run : (w : Setup) (m : Machine) (cpu : Cpu) (rest : List Line) → IsSound w m → AreOthers cpu rest → runner (after_lines w m rest).state cpu ≡ runner m.state cpu
+others_run : (w : WorldValue) (m : Machine) (cpu : Cpu) (rest : List Line) → IsSound w m → AreOthers cpu rest → runner (after_lines w m rest).state cpu ≡ runner m.state cpu
 others_run w m cpu [] sound h = refl
 others_run w m cpu (line ∷ rest) sound h =
     others_run w (moved w m line.cpu) cpu rest (moved_sound w m line.cpu sound) h.1 ∙ other_runs w m cpu line.cpu sound h.0
 
-others_context : (w : Setup) (m : Machine) (cpu : Cpu) (proc : Proc) (rest : List Line) → IsSound w m → AreOthers cpu rest → runner m.state cpu ≡ Some proc → context_of (after_lines w m rest) proc ≡ context_of m proc
+others_context : (w : WorldValue) (m : Machine) (cpu : Cpu) (proc : Proc) (rest : List Line) → IsSound w m → AreOthers cpu rest → runner m.state cpu ≡ Some proc
+    → context_of (after_lines w m rest) proc ≡ context_of m proc
 others_context w m cpu proc [] sound h r = refl
 others_context w m cpu proc (line ∷ rest) sound h r =
     others_context w (moved w m line.cpu) cpu proc rest (moved_sound w m line.cpu sound) h.1 (other_runs w m cpu line.cpu sound h.0 ∙ r)
     ∙ other_context w m cpu line.cpu proc h.0 r
 
 -- what a list of notes shows of a processor, the lists that go on from it without a note of that processor show too
-module _ (w : Setup) (world : IsWorld w) (cpu : Cpu) (seen found : List Noted) (goes : GoesOn owner_of cpu.0 seen found) (steps : AreStepsOf w (lines_of found)) where
+module _ (w : WorldValue) (world : IsWorld w) (cpu : Cpu) (seen found : List Noted) (goes : GoesOn owner_of cpu.0 seen found) (steps : AreStepsOf w (lines_of found)) where
   rest : List Line
   rest = lines_of goes.0
 
@@ -122,4 +123,5 @@ module _ (w : Setup) (world : IsWorld w) (cpu : Cpu) (seen found : List Noted) (
   runner_same = ap (λ (m : Machine). runner m.state cpu) machine_is ∙ others_run w (machine_shown w seen) cpu (lines_of goes.0) sound (others_of cpu goes.0 goes.2)
 
   pub context_same : (proc : Proc) → runner (state_shown w seen) cpu ≡ Some proc → context_of (machine_shown w found) proc ≡ context_of (machine_shown w seen) proc
-  context_same proc r = ap (λ (m : Machine). context_of m proc) machine_is ∙ others_context w (machine_shown w seen) cpu proc (lines_of goes.0) sound (others_of cpu goes.0 goes.2) r
+  context_same proc r =
+      ap (λ (m : Machine). context_of m proc) machine_is ∙ others_context w (machine_shown w seen) cpu proc (lines_of goes.0) sound (others_of cpu goes.0 goes.2) r

@@ -3,7 +3,7 @@ use Rattle.std.specs.Prelude.{◌≡◌, ℕ, List, [], ◌∷◌, ◌++◌, Opt
 use Rattle.std.proofs.Common.{ap, sym, ◌∙◌}
 use Rattle.hk_model.specs.declared.names.Cpu.{Cpu}
 use Rattle.hk_model.specs.declared.lines.Line.{Line}
-use Rattle.hk_model.specs.Setup.{Setup}
+use Rattle.hk_model.specs.WorldValue.{WorldValue}
 use Rattle.hk_model.specs.State.{State}
 use Rattle.hk_turn.specs.declared.pass.Pass.{Pass}
 use Rattle.hk_turn.specs.Passes.{seen_list}
@@ -23,7 +23,7 @@ one_stop (l ∷ ls) [] cpu None rest e = absurd (cc (e))
 one_stop (l ∷ ls) [] cpu (Some other) rest e = absurd (cc (e))
 one_stop (l ∷ ls) (k ∷ ks) cpu stop rest e = one_stop ls ks cpu stop rest (cc (e))
 
-pub all_show : {K J : Type 0} (state : K → State) (w : Setup) (seats : ℕ) (passes : List (Pass Noted)) (b : Book K J)
+pub all_show : {K J : Type 0} (state : K → State) (w : WorldValue) (seats : ℕ) (passes : List (Pass Noted)) (b : Book K J)
     → StandsForAll (IsBookOf state w) owner_of seats passes b → All (λ (pass : Pass Noted). IsStopped (seen_list pass)) passes
     → All (λ (pass : Pass Noted). (cpu : Cpu) × (b.stop ≡ Some cpu) × IsStoppedBy cpu (seen_list pass)) passes
 all_show state w seats passes b h stopped = λ k d l.

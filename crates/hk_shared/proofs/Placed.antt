@@ -14,7 +14,7 @@ use Rattle.hk_model.specs.State.{State, process}
 use Rattle.hk_model.specs.Processors.{is_on, is_running, is_waiting, is_ready, runner, runner_from, is_over}
 use Rattle.hk_model.proofs.Steps.{given_to}
 use Rattle.hk_program.proofs.Queues.{run_at, run_there, run_here, runs_on}
-use Rattle.hk_shared.specs.Contexts.{rests}
+use Rattle.hk_shared.specs.Contexts.{is_resting}
 use Rattle.hk_shared.proofs.Moves.{Moves, Calm, Same, Rests, Yields, Wakes}
 
 -- ---- one process changed
@@ -122,10 +122,12 @@ nobody s cpu other k idle h g =
 pub dispatch_apart : (s : State) (cpu : Cpu) (first : Proc) (rest : List Proc) → runner s cpu ≡ None → AreApart s.processes → AreApart (given_to s cpu first rest).processes
 dispatch_apart s cpu first rest idle h i j other f g = by (cases i f) (cases j g)
   where
-    cases : (k : ℕ) → is_on other (run_at (given_to s cpu first rest).processes k) ≡ true → ((k ≡ first.0) × (is_on other (Running cpu) ≡ true)) ⊎ (is_on other (run_at s.processes k) ≡ true)
+    cases : (k : ℕ) → is_on other (run_at (given_to s cpu first rest).processes k) ≡ true
+        → ((k ≡ first.0) × (is_on other (Running cpu) ≡ true)) ⊎ (is_on other (run_at s.processes k) ≡ true)
     cases k e = back_or (λ r. is_on other r ≡ true) s.processes first.0 k (record (process s first) { run = Running cpu }) e
 
-    by : (((i ≡ first.0) × (is_on other (Running cpu) ≡ true)) ⊎ (is_on other (run_at s.processes i) ≡ true)) → (((j ≡ first.0) × (is_on other (Running cpu) ≡ true)) ⊎ (is_on other (run_at s.processes j) ≡ true)) → i ≡ j
+    by : (((i ≡ first.0) × (is_on other (Running cpu) ≡ true)) ⊎ (is_on other (run_at s.processes i) ≡ true))
+        → (((j ≡ first.0) × (is_on other (Running cpu) ≡ true)) ⊎ (is_on other (run_at s.processes j) ≡ true)) → i ≡ j
     by (inl a) (inl b) = a.0 ∙ sym b.0
     by (inl a) (inr b) = absurd (nobody s cpu other j idle a.1 b)
     by (inr a) (inl b) = absurd (nobody s cpu other i idle b.1 a)
@@ -168,7 +170,8 @@ moves_listed s p t (Rests new a b c d) h n g = rw d (h n (back (λ r. r ≡ Read
 moves_listed s p t (Yields new a b c) h n g = joined s t p new a c h n g
 moves_listed s p t (Wakes q new a b c d) h n g = joined s t q new a d h n g
 
-pub dispatch_listed : (s : State) (cpu : Cpu) (first : Proc) (rest : List Proc) → s.ready ≡ first ∷ rest → run_at s.processes first.0 ≡ Ready → AreListed s → AreListed (given_to s cpu first rest)
+pub dispatch_listed : (s : State) (cpu : Cpu) (first : Proc) (rest : List Proc) → s.ready ≡ first ∷ rest → run_at s.processes first.0 ≡ Ready → AreListed s
+    → AreListed (given_to s cpu first rest)
 dispatch_listed s cpu first rest e ready h n g =
     by (subst (λ qs. Stands n qs) e (h n (back (λ r. r ≡ Ready) s.processes first.0 n new (λ x. absurd (unready (Running cpu) refl x)) g)))
   where
@@ -197,7 +200,8 @@ on_stands : (cpu : Cpu) (r : ProcessState) → is_on cpu r ≡ true → r ≡ En
 on_stands cpu r h e = true≢false (sym h ∙ ap (λ x. is_on cpu x) e)
 
 -- where it still runs, it runs where it did
-pub own_runs : (cpu : Cpu) (s : State) (p : Proc) (t : State) → Moves s p t → is_on cpu (run_at s.processes p.0) ≡ true → is_running (run_at t.processes p.0) ≡ true → is_on cpu (run_at t.processes p.0) ≡ true
+pub own_runs : (cpu : Cpu) (s : State) (p : Proc) (t : State) → Moves s p t → is_on cpu (run_at s.processes p.0) ≡ true → is_running (run_at t.processes p.0) ≡ true
+    → is_on cpu (run_at t.processes p.0) ≡ true
 own_runs cpu s p t (Calm a b) on h = rw a on
 own_runs cpu s p t (Same k new a b c) on h = rw (a, set_same s.processes k p.0 new b) on
 own_runs cpu s p t (Rests new a b c d) on h =
@@ -210,39 +214,46 @@ own_runs cpu s p t (Wakes q new a b c d) on h =
     rw (a, run_there s.processes q.0 p.0 new (λ e. waiting_off cpu (run_at s.processes q.0) c (rw (← e) on))) on
 
 -- the processor goes on with it, or runs nothing
-pub goes_on : (cpu : Cpu) (s : State) (p : Proc) (t : State) → Moves s p t → AreApart s.processes → runner s cpu ≡ Some p → is_running (run_at t.processes p.0) ≡ true → runner t cpu ≡ Some p
+pub goes_on : (cpu : Cpu) (s : State) (p : Proc) (t : State) → Moves s p t → AreApart s.processes → runner s cpu ≡ Some p → is_running (run_at t.processes p.0) ≡ true
+    → runner t cpu ≡ Some p
 goes_on cpu s p t m apart r h = runner_is t.processes cpu p (moves_apart s p t m apart) (own_runs cpu s p t m (runs_on s.processes cpu p r) h)
 
-pub gives_up : (cpu : Cpu) (s : State) (p : Proc) (t : State) → Moves s p t → AreApart s.processes → runner s cpu ≡ Some p → is_running (run_at t.processes p.0) ≡ false → runner t cpu ≡ None
+pub gives_up : (cpu : Cpu) (s : State) (p : Proc) (t : State) → Moves s p t → AreApart s.processes → runner s cpu ≡ Some p → is_running (run_at t.processes p.0) ≡ false
+    → runner t cpu ≡ None
 gives_up cpu s p t m apart r h = no_runner t.processes cpu (λ i on.
     let same : i ≡ p.0 = apart i p.0 cpu (moves_on cpu s p t i m on) (runs_on s.processes cpu p r) in
     true≢false (sym (on_runs cpu (run_at t.processes p.0) (rw same at on)) ∙ h))
 
 -- ---- who rests, as ready or waiting
 
-waiting_rests : (r : ProcessState) → is_waiting r ≡ true → rests r ≡ true
+waiting_rests : (r : ProcessState) → is_waiting r ≡ true → is_resting r ≡ true
 waiting_rests Ready h = absurd (cc)
 waiting_rests (Running c) h = absurd (cc)
 waiting_rests (Waiting at) h = refl
 waiting_rests Ended h = absurd (cc)
 
 -- any other process that rests afterwards has rested before
-pub rests_back : (s : State) (p : Proc) (t : State) (i : ℕ) → Moves s p t → (i ≡ p.0 → ⊥) → rests (run_at t.processes i) ≡ true → rests (run_at s.processes i) ≡ true
+pub rests_back : (s : State) (p : Proc) (t : State) (i : ℕ) → Moves s p t → (i ≡ p.0 → ⊥) → is_resting (run_at t.processes i) ≡ true → is_resting (run_at s.processes i) ≡ true
 rests_back s p t i (Calm a b) apart g = rw a at g
-rests_back s p t i (Same n new a b c) apart g = back (λ r. rests r ≡ true) s.processes n i new (λ h. ap rests (sym b) ∙ h) (rw a at g)
+rests_back s p t i (Same n new a b c) apart g = back (λ r. is_resting r ≡ true) s.processes n i new (λ h. ap is_resting (sym b) ∙ h) (rw a at g)
 rests_back s p t i (Rests new a b c d) apart g = rw (a, run_there s.processes p.0 i new apart) at g
 rests_back s p t i (Yields new a b c) apart g = rw (a, run_there s.processes p.0 i new apart) at g
-rests_back s p t i (Wakes q new a b c d) apart g = back (λ r. rests r ≡ true) s.processes q.0 i new (λ h. waiting_rests (run_at s.processes q.0) c) (rw a at g)
+rests_back s p t i (Wakes q new a b c d) apart g = back (λ r. is_resting r ≡ true) s.processes q.0 i new (λ h. waiting_rests (run_at s.processes q.0) c) (rw a at g)
 
 -- a dispatch: the first ready process rests no more, and any other that rests has rested before
-pub dispatch_rests : (s : State) (cpu : Cpu) (first : Proc) (rest : List Proc) (i : ℕ) → run_at s.processes first.0 ≡ Ready → rests (run_at (given_to s cpu first rest).processes i) ≡ true → (i ≡ first.0 → ⊥) × (rests (run_at s.processes i) ≡ true)
-dispatch_rests s cpu first rest i ready g =
-    ((λ e. true≢false (sym (rw e at g) ∙ ap rests (run_here s.processes first.0 new (λ z. true≢false (ap is_ready (sym ready ∙ z)))))), back (λ r. rests r ≡ true) s.processes first.0 i new (λ h. absurd (true≢false (sym h))) g)
+pub dispatch_rests : (s : State) (cpu : Cpu) (first : Proc) (rest : List Proc) (i : ℕ) → run_at s.processes first.0 ≡ Ready
+    → is_resting (run_at (given_to s cpu first rest).processes i) ≡ true → (i ≡ first.0 → ⊥) × (is_resting (run_at s.processes i) ≡ true)
+dispatch_rests s cpu first rest i ready g = (
+  (λ e. true≢false (sym (rw e at g) ∙ ap is_resting (run_here s.processes first.0 new (λ z. true≢false (ap is_ready (sym ready ∙ z)))))),
+  back (λ r. is_resting r ≡ true)
+      s.processes first.0 i new (λ h. absurd (true≢false (sym h))) g,
+)
   where
     new : Process
     new = record (process s first) { run = Running cpu }
 
-pub dispatch_runs : (s : State) (cpu : Cpu) (first : Proc) (rest : List Proc) → run_at s.processes first.0 ≡ Ready → runner s cpu ≡ None → AreApart s.processes → runner (given_to s cpu first rest) cpu ≡ Some first
+pub dispatch_runs : (s : State) (cpu : Cpu) (first : Proc) (rest : List Proc) → run_at s.processes first.0 ≡ Ready → runner s cpu ≡ None → AreApart s.processes
+    → runner (given_to s cpu first rest) cpu ≡ Some first
 dispatch_runs s cpu first rest ready idle apart =
     let new : Process = record (process s first) { run = Running cpu } in
     let here : run_at (slice_set s.processes first.0 new) first.0 ≡ Running cpu = run_here s.processes first.0 new (λ z. true≢false (ap is_ready (sym ready ∙ z))) in
@@ -263,16 +274,20 @@ none_ready (p ∷ ps) h = rw (by p.run (h 0), none_ready ps (λ n. h (suc n))) r
     by (Waiting at) g = refl
     by Ended g = refl
 
-one_runs : (ps : List Process) → list_any (λ (p : Process). is_ready p.run || is_running p.run) ps ≡ true → list_any (λ (p : Process). is_ready p.run) ps ≡ false → list_any (λ (p : Process). is_running p.run) ps ≡ true
+one_runs : (ps : List Process) → list_any (λ (p : Process). is_ready p.run || is_running p.run) ps ≡ true → list_any (λ (p : Process). is_ready p.run) ps ≡ false
+    → list_any (λ (p : Process). is_running p.run) ps ≡ true
 one_runs [] h g = h
-one_runs (p ∷ ps) h g = by (is_ready p.run) (is_running p.run) (list_any (λ (p : Process). is_ready p.run) ps) (list_any (λ (p : Process). is_running p.run) ps) (list_any (λ (p : Process). is_ready p.run || is_running p.run) ps) (one_runs ps) h g
+one_runs (p ∷ ps) h g =
+    by (is_ready p.run) (is_running p.run) (list_any (λ (p : Process). is_ready p.run) ps) (list_any (λ (p : Process). is_running p.run) ps)
+    (list_any (λ (p : Process). is_ready p.run || is_running p.run) ps) (one_runs ps) h g
   where
     by : (a b c d e : Bool) → (e ≡ true → c ≡ false → d ≡ true) → ((a || b) || e) ≡ true → (a || c) ≡ false → (b || d) ≡ true
     by true b c d e f h g = absurd (cc)
     by false true c d e f h g = refl
     by false false c d e f h g = f h g
 
-pub idle_shows : (s : State) → AreListed s → s.ready ≡ [] → is_over s ≡ false → (list_any (λ (p : Process). is_ready p.run) s.processes ≡ false) × (list_any (λ (p : Process). is_running p.run) s.processes ≡ true)
+pub idle_shows : (s : State) → AreListed s → s.ready ≡ [] → is_over s ≡ false
+    → (list_any (λ (p : Process). is_ready p.run) s.processes ≡ false) × (list_any (λ (p : Process). is_running p.run) s.processes ≡ true)
 idle_shows s listed e over =
     let none = none_ready s.processes (λ n g. subst (λ qs. Stands n qs) e (listed n g)) in
     (none, one_runs s.processes (by (list_any (λ (p : Process). is_ready p.run || is_running p.run) s.processes) over) none)

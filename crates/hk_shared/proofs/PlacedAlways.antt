@@ -11,7 +11,7 @@ use Rattle.hk_model.specs.declared.frames.Todo.{Todo}
 use Rattle.hk_model.specs.declared.frames.Todo.TheVariants.{Do, Halt}
 use Rattle.hk_model.specs.declared.world.Task.{Task}
 use Rattle.hk_model.specs.Limits.{cpu_limit}
-use Rattle.hk_model.specs.Setup.{Setup, IsWorld}
+use Rattle.hk_model.specs.WorldValue.{WorldValue, IsWorld}
 use Rattle.hk_model.specs.State.{State}
 use Rattle.hk_model.specs.Control.{Context, next}
 use Rattle.hk_model.specs.Opening.{opening, all_ready, proc_numbers}
@@ -30,11 +30,11 @@ pub record IsPlaced (s : State) : Type 0 where
   pub listed : AreListed s
 
 -- who is first in the ready list is ready
-pub first_ready : (w : Setup) (s : State) (first : Proc) (rest : List Proc) → Regular w s → s.ready ≡ first ∷ rest → run_at s.processes first.0 ≡ Ready
+pub first_ready : (w : WorldValue) (s : State) (first : Proc) (rest : List Proc) → Regular w s → s.ready ≡ first ∷ rest → run_at s.processes first.0 ≡ Ready
 first_ready w s first rest reg e =
     let queue : IsQueue s.processes Ready (first ∷ rest) = subst (λ qs. IsQueue s.processes Ready qs) e reg.ready in queue.0.0
 
-module _ (w : Setup) (m : Machine) (cpu : Cpu) (reg : Regular w m.state) (placed : IsPlaced m.state) where
+module _ (w : WorldValue) (m : Machine) (cpu : Cpu) (reg : Regular w m.state) (placed : IsPlaced m.state) where
   abbrev after_step : Option (Line × Machine) → Machine
   after_step found = unwrap_or (option_map (λ f. f.1) found) m
 
@@ -68,7 +68,7 @@ module _ (w : Setup) (m : Machine) (cpu : Cpu) (reg : Regular w m.state) (placed
   unfolding step
   moved_placed = of_tests (may_step m.state) (nat_lt cpu.0 cpu_limit)
 
-from_placed : (w : Setup) (m : Machine) (lines : List Line) → IsSound w m → IsPlaced m.state → IsPlaced (after_lines w m lines).state
+from_placed : (w : WorldValue) (m : Machine) (lines : List Line) → IsSound w m → IsPlaced m.state → IsPlaced (after_lines w m lines).state
 from_placed w m [] sound h = h
 from_placed w m (line ∷ lines) sound h =
     from_placed w (moved w m line.cpu) lines (moved_sound w m line.cpu sound) (moved_placed w m line.cpu (sound_kept w m sound).regular h)
@@ -85,12 +85,12 @@ all_listed n [] i h = absurd (cc)
 all_listed n (t ∷ ts) zero h = inl (omega arith)
 all_listed n (t ∷ ts) (suc i) h = let same : n + 1 + i ≡ n + suc i = omega arith in inr (subst (λ (k : ℕ). Stands k (proc_numbers (n + 1) ts)) same (all_listed (n + 1) ts i h))
 
-opened_placed : (w : Setup) → IsPlaced (opened w).state
+opened_placed : (w : WorldValue) → IsPlaced (opened w).state
 unfolding opened opening
 opened_placed w = record {
   apart = λ i j cpu f g. absurd (none_on 0 w.tasks i cpu f);
   listed = λ n h. let same : 0 + n ≡ n = omega arith in subst (λ (k : ℕ). Stands k (proc_numbers 0 w.tasks)) same (all_listed 0 w.tasks n h);
 }
 
-pub placed_after : (w : Setup) (lines : List Line) → IsWorld w → IsPlaced (state_after w lines)
+pub placed_after : (w : WorldValue) (lines : List Line) → IsWorld w → IsPlaced (state_after w lines)
 placed_after w lines world = from_placed w (opened w) lines (opened_sound w world) (opened_placed w)

@@ -1,5 +1,6 @@
 -- What a turn at a sound book leaves, and what it may answer.
-use Rattle.std.specs.Prelude.{◌≡◌, ◌⊎◌, ℕ, zero, suc, ◌<◌, List, [], ◌∷◌, ◌++◌, length, Bool, true, false, not, ◌||◌, Option, Some, None, slice_get, slice_set, refl, IfSome, option_map, is_some}
+use Rattle.std.specs.Prelude.{◌≡◌, ◌⊎◌, ℕ, zero, suc, ◌<◌, List, [], ◌∷◌, ◌++◌, length, Bool, true, false, not, ◌||◌, Option, Some, None, slice_get, slice_set, refl, IfSome}
+use Rattle.std.specs.Prelude.{option_map, is_some}
 use Rattle.std.specs.List.{list_any}
 use Rattle.std.specs.Vec.{vec_capacity}
 use Rattle.std.proofs.Common.{arith, ap, sym, ◌∙◌, subst, get_or, unwrap_or}
@@ -11,6 +12,7 @@ use Rattle.hk_model.specs.declared.names.Cpu.{Cpu}
 use Rattle.hk_model.specs.declared.calls.Call.{Call}
 use Rattle.hk_model.specs.declared.calls.Reply.{Reply}
 use Rattle.hk_model.specs.declared.calls.Reply.TheVariants.{Done}
+use Rattle.hk_model.specs.declared.lines.What.{What}
 use Rattle.hk_model.specs.declared.lines.What.TheVariants as what
 use Rattle.hk_model.specs.declared.lines.Line.{Line}
 use Rattle.hk_model.specs.declared.objects.Process.{Process}
@@ -18,12 +20,12 @@ use Rattle.hk_model.specs.declared.objects.ProcessState.{ProcessState}
 use Rattle.hk_model.specs.declared.objects.ProcessState.TheVariants.{Ready, Running, Waiting, Ended}
 use Rattle.hk_model.specs.declared.frames.Todo.{Todo}
 use Rattle.hk_model.specs.declared.frames.Todo.TheVariants as todo
-use Rattle.hk_model.specs.Setup.{Setup}
+use Rattle.hk_model.specs.WorldValue.{WorldValue}
 use Rattle.hk_model.specs.State.{State, process}
 use Rattle.hk_model.specs.Control.{Context, next, after}
 use Rattle.hk_model.specs.Rule.{rule}
-use Rattle.hk_model.specs.Processors.{is_ready, is_running, is_over, runner, running_on, may_step, acted_on, entered, entered_on, halted, halted_on, has_left, dispatched, dispatched_from}
-use Rattle.hk_model.specs.Running.{context_of, AreStepsOf, state_after}
+use Rattle.hk_model.specs.Processors.{is_ready, is_running, is_over, process_on, runner, running_on, may_step, acted_on, entered_on, has_left, dispatched, dispatched_from}
+use Rattle.hk_model.specs.Running.{context_of, turn, AreStepsOf, state_after}
 use Rattle.hk_program.specs.Contexts.{AreFrames}
 use Rattle.hk_program.proofs.Queues.{run_at}
 use Rattle.hk_program.proofs.Frames.{next_frames, next_length}
@@ -33,16 +35,16 @@ use Rattle.hk_procs.specs.declared.answers.Asked.TheVariants as asked
 use Rattle.hk_procs.specs.declared.answers.Called.TheVariants as called
 use Rattle.hk_procs.specs.Notes.{lines_of, events}
 use Rattle.hk_procs.specs.Shown.{state_shown, HandsOut, is_idle_of}
-use Rattle.hk_procs.specs.Promises.{IsFound, Adds, AnswersAsk, AnswersCall}
+use Rattle.hk_procs.specs.Promises.{IsFound, Adds, AnswersAsk, AnswersCall, todo_told}
 use Rattle.hk_shared.specs.declared.book.Book.{Book}
-use Rattle.hk_shared.specs.Contexts.{machine_after, rests, KeepsContexts}
+use Rattle.hk_shared.specs.Contexts.{machine_after, is_resting, KeepsContexts}
 use Rattle.hk_shared.specs.Books.{IsSound, IsNext, notes_of_book, added, stops}
 use Rattle.hk_shared.proofs.Notes.{append_nil, lines_book, one_more, stops_now, is_going, is_stopped, goes_self}
 use Rattle.hk_shared.proofs.Placed.{idle_shows}
 use Rattle.hk_shared.proofs.PlacedAlways.{placed_after}
-use Rattle.hk_shared.proofs.Events.{Makes, Gets, call_makes, halt_makes, dispatch_gets, get_there, set_length, get_here, same_or}
+use Rattle.hk_shared.proofs.Events.{Makes, Gets, turn_makes, dispatch_gets, get_there, set_length, get_here, same_or}
 
-module _ {K J : Type 0} (state : K → State) (w : Setup) (cpu : Cpu) (b : Book K J) (h : IsSound state w b) where
+module _ {K J : Type 0} (state : K → State) (w : WorldValue) (cpu : Cpu) (b : Book K J) (h : IsSound state w b) where
   -- what the book's notes show is the kernel's state
   pub shown : state_shown w (notes_of_book b) ≡ state b.kernel
   shown = ap (λ (ls : List Line). state_after w ls) (lines_book b.lines.items b.stop) ∙ sym h.kernel
@@ -90,8 +92,14 @@ module _ {K J : Type 0} (state : K → State) (w : Setup) (cpu : Cpu) (b : Book 
 
   pub ask_idle : (n : ℕ) → b.stop ≡ None → runner (state b.kernel) cpu ≡ None → (not (may_step (state b.kernel)) || is_over (state b.kernel)) ≡ false
       → dispatched (state b.kernel) cpu ≡ None → n ≡ length b.lines.items → AnswersAsk w cpu (notes_of_book b) (notes_of_book b) (asked.Idle n)
-  ask_idle n e idle over none n_is =
-      (found, is_going b.lines.items b.stop e, ap (λ (s : State). runner s cpu) shown ∙ idle, n_is ∙ ap length (sym (lines_book b.lines.items b.stop)), ap is_idle_of shown ∙ rw (goes.0, shows.0, shows.1) refl)
+  ask_idle n e idle over none n_is = (
+    found,
+    is_going b.lines.items b.stop e,
+    ap (λ (s : State). runner s cpu) shown ∙ idle,
+    n_is ∙ ap length (sym (lines_book b.lines.items b.stop)),
+    ap is_idle_of shown
+        ∙ rw (goes.0, shows.0, shows.1) refl,
+  )
     where
       goes : (may_step (state b.kernel) ≡ true) × (is_over (state b.kernel) ≡ false)
       goes = goes_below over
@@ -105,7 +113,8 @@ module _ {K J : Type 0} (state : K → State) (w : Setup) (cpu : Cpu) (b : Book 
       → dispatched (state b.kernel) cpu ≡ Some (proc, t) → inc ≡ (process t proc).current
       → Gets w b.lines.items b.contexts.items cpu proc (record { cpu = cpu; proc = proc; inc = inc; what = what.Dispatch; reply = Done }) t
   gets proc t inc low idle may e inc_is =
-      dispatch_gets w b.lines.items b.contexts.items h.valid h.steps h.contexts cpu low (sym (ap may_step h.kernel) ∙ may) (sym (ap (λ (s : State). runner s cpu) h.kernel) ∙ idle) proc t inc
+      dispatch_gets w b.lines.items b.contexts.items h.valid h.steps h.contexts cpu low (sym (ap may_step h.kernel) ∙ may)
+      (sym (ap (λ (s : State). runner s cpu) h.kernel) ∙ idle) proc t inc
       (sym (ap (λ (s : State). dispatched s cpu) h.kernel) ∙ e) inc_is
 
   -- ---- a call or a halt of the process that the processor runs
@@ -119,24 +128,18 @@ module _ {K J : Type 0} (state : K → State) (w : Setup) (cpu : Cpu) (b : Book 
           let pair : ◌≡◌ {A = Proc × Inc} (p, (process s p).current) (proc, inc) = cc in
           ap (λ (f : Proc × Inc). Some f.0) pair
 
-  pub acts : (proc : Proc) (inc : Inc) (c : Call) (frames : Context) (reply : Reply) (t : State) (code : Option ℕ) (new : Context) → cpu.0 < 16 → may_step (state b.kernel) ≡ true
-      → running_on (state b.kernel) cpu ≡ Some (proc, inc) → (todo.Do c, frames) ≡ next w (context_of (machine_after w b.lines.items) proc) → acted_on (state b.kernel) cpu c ≡ (reply, t)
-      → code ≡ entered_on (state b.kernel) cpu c reply → new ≡ after w frames c reply code
-      → Makes w b.lines.items b.contexts.items cpu proc (record { cpu = cpu; proc = proc; inc = inc; what = what.Call c; reply = reply }) t new
-  acts proc inc c frames reply t code new low may on nx acted code_is new_is =
-      call_makes w b.lines.items b.contexts.items h.valid h.steps h.contexts cpu low (sym (ap may_step h.kernel) ∙ may) proc inc c frames reply t code new
-      (sym (ap (λ (s : State). running_on s cpu) h.kernel) ∙ on) nx (sym (ap (λ (s : State). acted_on s cpu c) h.kernel) ∙ acted)
-      (code_is ∙ ap (λ (s : State). entered_on s cpu c reply) h.kernel) new_is
-
-  pub halts : (proc : Proc) (inc : Inc) (frames : Context) (t : State) → cpu.0 < 16 → may_step (state b.kernel) ≡ true
-      → running_on (state b.kernel) cpu ≡ Some (proc, inc) → (todo.Halt, frames) ≡ next w (context_of (machine_after w b.lines.items) proc) → t ≡ halted_on (state b.kernel) cpu
-      → Makes w b.lines.items b.contexts.items cpu proc (record { cpu = cpu; proc = proc; inc = inc; what = what.Halt; reply = Done }) t []
-  halts proc inc frames t low may on nx t_is =
-      halt_makes w b.lines.items b.contexts.items h.valid h.steps h.contexts cpu low (sym (ap may_step h.kernel) ∙ may) proc inc frames t
-      (sym (ap (λ (s : State). running_on s cpu) h.kernel) ∙ on) nx (t_is ∙ ap (λ (s : State). halted_on s cpu) h.kernel)
+  pub carries : (proc : Proc) (inc : Inc) (next_is : Todo) (frames : Context) (happened : What) (reply : Reply) (t : State) (new : Context) → cpu.0 < 16
+      → may_step (state b.kernel) ≡ true
+      → running_on (state b.kernel) cpu ≡ Some (proc, inc) → (next_is, frames) ≡ next w (context_of (machine_after w b.lines.items) proc)
+      → turn w (state b.kernel) (process_on (state b.kernel) cpu) (next_is, frames) ≡ (happened, reply, t, new)
+      → Makes w b.lines.items b.contexts.items cpu proc (record { cpu = cpu; proc = proc; inc = inc; what = happened; reply = reply }) t new
+  carries proc inc next_is frames happened reply t new low may on nx made =
+      turn_makes w b.lines.items b.contexts.items h.valid h.steps h.contexts cpu low (sym (ap may_step h.kernel) ∙ may) proc inc next_is frames happened reply t new
+      (sym (ap (λ (s : State). running_on s cpu) h.kernel) ∙ on) nx (sym (ap (λ (s : State). turn w s (process_on s cpu) (next_is, frames)) h.kernel) ∙ made)
 
   -- whether the process has left the processor
-  pub left_is : (proc : Proc) (inc : Inc) (t : State) (gone : Bool) → running_on (state b.kernel) cpu ≡ Some (proc, inc) → gone ≡ has_left (state b.kernel) cpu t → gone ≡ not (is_running (process t proc).run)
+  pub left_is : (proc : Proc) (inc : Inc) (t : State) (gone : Bool) → running_on (state b.kernel) cpu ≡ Some (proc, inc) → gone ≡ has_left (state b.kernel) cpu t
+      → gone ≡ not (is_running (process t proc).run)
   left_is proc inc t gone on e = e ∙ ap (λ (o : Option Proc). not (is_running (process t (unwrap_or o (record { 0 = 0 }))).run)) (runner_of (state b.kernel) proc inc on)
 
   -- the context that is next has frames of the world
@@ -145,27 +148,21 @@ module _ {K J : Type 0} (state : K → State) (w : Setup) (cpu : Cpu) (b : Book 
       let m = machine_after w b.lines.items in
       rw (ap (λ (f : Todo × Context). f.1) e) (next_frames w (context_of m proc) h.valid.codes_are (sound_frames w m proc (sound_after w b.lines.items h.steps h.valid)))
 
-  reply_of : (proc : Proc) (inc : Inc) (c : Call) (reply : Reply) (t : State) (code : Option ℕ) → running_on (state b.kernel) cpu ≡ Some (proc, inc) → acted_on (state b.kernel) cpu c ≡ (reply, t)
-      → code ≡ entered_on (state b.kernel) cpu c reply → code ≡ entered (state_after w b.lines.items) (process (state_after w b.lines.items) proc).current c (rule (state_after w b.lines.items) proc c).0
-  reply_of proc inc c reply t code on acted e =
-      let r = runner_of (state b.kernel) proc inc on in
-      let is_reply : (rule (state b.kernel) proc c).0 ≡ reply = sym (ap (λ (o : Option Proc). (rule (state b.kernel) (unwrap_or o (record { 0 = 0 })) c).0) r) ∙ ap (λ (f : Reply × State). f.0) acted in
-      e ∙ (ap (λ (o : Option Proc). entered (state b.kernel) (process (state b.kernel) (unwrap_or o (record { 0 = 0 }))).current c reply) r
-      ∙ (ap (λ (x : Reply). entered (state b.kernel) (process (state b.kernel) proc).current c x) (sym is_reply)
-      ∙ ap (λ (s : State). entered s (process s proc).current c (rule s proc c).0) h.kernel))
-
   -- the code of an entered procedure is one of the world, and there is room for its frame
-  pub code_known : (proc : Proc) (inc : Inc) (c : Call) (reply : Reply) (t : State) (code : Option ℕ) → running_on (state b.kernel) cpu ≡ Some (proc, inc) → acted_on (state b.kernel) cpu c ≡ (reply, t)
-      → code ≡ entered_on (state b.kernel) cpu c reply → IfSome code (λ n. n < length w.codes)
-  code_known proc inc c reply t code on acted e =
-      rw (reply_of proc inc c reply t code on acted e) (sound_code w (machine_after w b.lines.items) proc c (rule (state_after w b.lines.items) proc c).0 (sound_after w b.lines.items h.steps h.valid))
+  pub code_known : (proc : Proc) (inc : Inc) → running_on (state b.kernel) cpu ≡ Some (proc, inc) → (c : Call) (reply : Reply)
+      → IfSome (entered_on (state b.kernel) cpu c reply) (λ n. n < length w.codes)
+  code_known proc inc on c reply =
+      let r = runner_of (state b.kernel) proc inc on in
+      rw (r, h.kernel) (sound_code w (machine_after w b.lines.items) proc c reply (sound_after w b.lines.items h.steps h.valid))
 
-  pub room_known : (proc : Proc) (inc : Inc) (c : Call) (reply : Reply) (t : State) (code : Option ℕ) (frames : Context) → running_on (state b.kernel) cpu ≡ Some (proc, inc) → acted_on (state b.kernel) cpu c ≡ (reply, t)
-      → code ≡ entered_on (state b.kernel) cpu c reply → (todo.Do c, frames) ≡ next w (context_of (machine_after w b.lines.items) proc) → IfSome code (λ n. length frames < 64)
-  room_known proc inc c reply t code frames on acted e nx =
+  pub room_known : (proc : Proc) (inc : Inc) (next_is : Todo) (frames : Context) → running_on (state b.kernel) cpu ≡ Some (proc, inc)
+      → (next_is, frames) ≡ next w (context_of (machine_after w b.lines.items) proc)
+      → (c : Call) → IfSome (entered_on (state b.kernel) cpu c (acted_on (state b.kernel) cpu c).0) (λ n. length frames < 64)
+  room_known proc inc next_is frames on nx c =
       let m = machine_after w b.lines.items in
+      let r = runner_of (state b.kernel) proc inc on in
       let same : length frames ≡ length (context_of m proc) = ap (λ (f : Todo × Context). length f.1) nx ∙ next_length w (context_of m proc) in
-      rw (reply_of proc inc c reply t code on acted e, same) (sound_room w m proc c (sound_after w b.lines.items h.steps h.valid))
+      rw (r, h.kernel, same) (sound_room w m proc c (sound_after w b.lines.items h.steps h.valid))
 
   -- a stop is added, and nothing else
   pub next_stop : (k : K) → b.stop ≡ None → state k ≡ state b.kernel → IsNext state w cpu b (record b { kernel = k; stop = Some cpu }) (Some (Stop cpu))
@@ -185,16 +182,20 @@ module _ {K J : Type 0} (state : K → State) (w : Setup) (cpu : Cpu) (b : Book 
     below = ap (λ (s : State). not (may_step s)) shown ∙ rw may refl;
   }
 
-  pub call_stopped : (other : Cpu) → b.stop ≡ Some other → (wants : Call → Bool) (proc : Proc) (todo : Todo) → AnswersCall w wants cpu (notes_of_book b) (notes_of_book b) proc todo called.Stopped
+  pub call_stopped : (other : Cpu) → b.stop ≡ Some other → (wants : Call → Bool) (proc : Proc) (todo : Todo)
+      → AnswersCall w wants cpu (notes_of_book b) (notes_of_book b) proc todo called.Stopped
   call_stopped other e wants proc todo = (found, is_stopped b.lines.items b.stop other e)
 
-  pub call_limit : b.stop ≡ None → not (may_step (state b.kernel)) ≡ true → (wants : Call → Bool) (proc : Proc) (todo : Todo) → AnswersCall w wants cpu (notes_of_book b) (notes_of_book b) proc todo called.Limit
+  pub call_limit : b.stop ≡ None → not (may_step (state b.kernel)) ≡ true → (wants : Call → Bool) (proc : Proc) (todo : Todo)
+      → AnswersCall w wants cpu (notes_of_book b) (notes_of_book b) proc todo called.Limit
   call_limit e limit wants proc todo = (found, is_going b.lines.items b.stop e, ap (λ (s : State). not (may_step s)) shown ∙ limit)
 
   -- the notes of the book with one line more
   module _ (b' : Book K J) (line : Line) (e : b.stop ≡ None) (stop : b'.stop ≡ b.stop) (lines : b'.lines.items ≡ b.lines.items ++ line ∷ []) where
     pub more_notes : notes_of_book b' ≡ notes_of_book b ++ added (Some (Event line))
-    more_notes = ap (λ (ls : List Line). events ls ++ stops b'.stop) lines ∙ (ap (λ (o : Option Cpu). events (b.lines.items ++ line ∷ []) ++ stops o) stop ∙ one_more b.lines.items line b.stop e)
+    more_notes =
+        ap (λ (ls : List Line). events ls ++ stops b'.stop) lines
+        ∙ (ap (λ (o : Option Cpu). events (b.lines.items ++ line ∷ []) ++ stops o) stop ∙ one_more b.lines.items line b.stop e)
 
     pub shown_lines : lines_of (notes_of_book b') ≡ b.lines.items ++ line ∷ []
     shown_lines = lines_book b'.lines.items b'.stop ∙ lines
@@ -209,7 +210,8 @@ module _ {K J : Type 0} (state : K → State) (w : Setup) (cpu : Cpu) (b : Book 
       below = ap (λ (s : State). not (may_step s)) shown ∙ rw may refl;
     }
 
-    pub hands_out : (t : State) (proc : Proc) (context : Context) → AreStepsOf w (b.lines.items ++ line ∷ []) → t ≡ state_after w (b.lines.items ++ line ∷ []) → runner t cpu ≡ Some proc
+    pub hands_out : (t : State) (proc : Proc) (context : Context) → AreStepsOf w (b.lines.items ++ line ∷ []) → t ≡ state_after w (b.lines.items ++ line ∷ [])
+        → runner t cpu ≡ Some proc
         → context ≡ context_of (machine_after w (b.lines.items ++ line ∷ [])) proc → HandsOut w cpu (notes_of_book b') proc context
     hands_out t proc context steps state_is runs is = (
       (
@@ -224,7 +226,8 @@ module _ {K J : Type 0} (state : K → State) (w : Setup) (cpu : Cpu) (b : Book 
 
     -- the contexts that are kept behind it
     module _ (t : State) (world_is : b'.world ≡ b.world) (kernel_is : state b'.kernel ≡ t) (room_is : vec_capacity b'.lines ≡ vec_capacity b.lines) where
-      pub sound_more : AreStepsOf w (b.lines.items ++ line ∷ []) → t ≡ state_after w (b.lines.items ++ line ∷ []) → KeepsContexts (machine_after w (b.lines.items ++ line ∷ [])) b'.contexts.items → line.cpu.0 ≡ cpu.0
+      pub sound_more : AreStepsOf w (b.lines.items ++ line ∷ []) → t ≡ state_after w (b.lines.items ++ line ∷ [])
+          → KeepsContexts (machine_after w (b.lines.items ++ line ∷ [])) b'.contexts.items → line.cpu.0 ≡ cpu.0
           → IsNext state w cpu b b' (Some (Event line))
       sound_more steps state_is keeps own = record {
         sound = record {
@@ -241,14 +244,14 @@ module _ {K J : Type 0} (state : K → State) (w : Setup) (cpu : Cpu) (b : Book 
 
 -- ---- the contexts that are kept behind an event
 
-running_rests : (r : ProcessState) → is_running r ≡ true → rests r ≡ true → ⊥
+running_rests : (r : ProcessState) → is_running r ≡ true → is_resting r ≡ true → ⊥
 running_rests Ready h g = absurd (cc)
 running_rests (Running c) h g = absurd (cc)
 running_rests (Waiting at) h g = absurd (cc)
 running_rests Ended h g = absurd (cc)
 
 -- the context of the process that got the processor is taken
-pub taken_keeps : (w : Setup) (lines : List Line) (held held' : List (Option Context)) (cpu : Cpu) (proc : Proc) (line : Line) (t : State) → Gets w lines held cpu proc line t
+pub taken_keeps : (w : WorldValue) (lines : List Line) (held held' : List (Option Context)) (cpu : Cpu) (proc : Proc) (line : Line) (t : State) → Gets w lines held cpu proc line t
     → held' ≡ slice_set held proc.0 None → KeepsContexts (machine_after w (lines ++ line ∷ [])) held'
 taken_keeps w lines held held' cpu proc line t g e = rw e (record {
   count = set_length held proc.0 None ∙ g.count;
@@ -258,42 +261,34 @@ taken_keeps w lines held held' cpu proc line t g e = rw e (record {
 })
 
 -- the process goes on, and the processor keeps its context
-pub goes_keeps : (w : Setup) (lines : List Line) (held : List (Option Context)) (cpu : Cpu) (proc : Proc) (line : Line) (t : State) (frames : Context) → Makes w lines held cpu proc line t frames
+pub goes_keeps : (w : WorldValue) (lines : List Line) (held : List (Option Context)) (cpu : Cpu) (proc : Proc) (line : Line) (t : State) (frames : Context)
+    → Makes w lines held cpu proc line t frames
     → is_running (process t proc).run ≡ true → KeepsContexts (machine_after w (lines ++ line ∷ [])) held
 goes_keeps w lines held cpu proc line t frames g runs = record {
   count = g.count;
   each = λ n r. by n (rw g.state r) (same_or n proc.0);
 }
   where
-    by : (n : ℕ) → rests (process t (record { 0 = n })).run ≡ true → ((n ≡ proc.0) ⊎ (n ≡ proc.0 → ⊥)) → slice_get held n ≡ Some (Some (context_of (machine_after w (lines ++ line ∷ [])) (record { 0 = n })))
+    by : (n : ℕ) → is_resting (process t (record { 0 = n })).run ≡ true → ((n ≡ proc.0) ⊎ (n ≡ proc.0 → ⊥))
+        → slice_get held n ≡ Some (Some (context_of (machine_after w (lines ++ line ∷ [])) (record { 0 = n })))
     by n r (inr apart) = g.others n apart r
-    by n r (inl same) = absurd (running_rests (process t proc).run runs (subst (λ (k : ℕ). rests (process t (record { 0 = k })).run ≡ true) same r))
+    by n r (inl same) = absurd (running_rests (process t proc).run runs (subst (λ (k : ℕ). is_resting (process t (record { 0 = k })).run ≡ true) same r))
 
 -- the process has gone, and its context is put back
-pub gone_keeps : (w : Setup) (lines : List Line) (held held' : List (Option Context)) (cpu : Cpu) (proc : Proc) (line : Line) (t : State) (frames : Context) → Makes w lines held cpu proc line t frames
+pub gone_keeps : (w : WorldValue) (lines : List Line) (held held' : List (Option Context)) (cpu : Cpu) (proc : Proc) (line : Line) (t : State) (frames : Context)
+    → Makes w lines held cpu proc line t frames
     → held' ≡ slice_set held proc.0 (Some frames) → KeepsContexts (machine_after w (lines ++ line ∷ [])) held'
 gone_keeps w lines held held' cpu proc line t frames g e = rw e (record {
   count = set_length held proc.0 (Some frames) ∙ g.count;
   each = λ n r. by n (rw g.state r) (same_or n proc.0);
 })
   where
-    by : (n : ℕ) → rests (process t (record { 0 = n })).run ≡ true → ((n ≡ proc.0) ⊎ (n ≡ proc.0 → ⊥)) → slice_get (slice_set held proc.0 (Some frames)) n ≡ Some (Some (context_of (machine_after w (lines ++ line ∷ [])) (record { 0 = n })))
+    by : (n : ℕ) → is_resting (process t (record { 0 = n })).run ≡ true → ((n ≡ proc.0) ⊎ (n ≡ proc.0 → ⊥))
+        → slice_get (slice_set held proc.0 (Some frames)) n ≡ Some (Some (context_of (machine_after w (lines ++ line ∷ [])) (record { 0 = n })))
     by n r (inr apart) = get_there held proc.0 n (Some frames) apart ∙ g.others n apart r
     by n r (inl same) =
         subst (λ (k : ℕ). slice_get (slice_set held proc.0 (Some frames)) k ≡ Some (Some (context_of (machine_after w (lines ++ line ∷ [])) (record { 0 = k })))) (sym same)
         (get_here held proc.0 (Some frames) g.there ∙ ap (λ (c : Context). Some (Some c)) g.context)
-
--- the process has ended, and its context is dropped
-pub ended_keeps : (w : Setup) (lines : List Line) (held : List (Option Context)) (cpu : Cpu) (proc : Proc) (line : Line) (t : State) (frames : Context) → Makes w lines held cpu proc line t frames
-    → rests (process t proc).run ≡ false → KeepsContexts (machine_after w (lines ++ line ∷ [])) held
-ended_keeps w lines held cpu proc line t frames g ends = record {
-  count = g.count;
-  each = λ n r. by n (rw g.state r) (same_or n proc.0);
-}
-  where
-    by : (n : ℕ) → rests (process t (record { 0 = n })).run ≡ true → ((n ≡ proc.0) ⊎ (n ≡ proc.0 → ⊥)) → slice_get held n ≡ Some (Some (context_of (machine_after w (lines ++ line ∷ [])) (record { 0 = n })))
-    by n r (inr apart) = g.others n apart r
-    by n r (inl same) = absurd (true≢false (sym (subst (λ (k : ℕ). rests (process t (record { 0 = k })).run ≡ true) same r) ∙ ends))
 
 -- a processor that runs a process has a current incarnation
 pub no_current : (s : State) (cpu : Cpu) (proc : Proc) (found : Option (Proc × Inc)) → found ≡ None → found ≡ running_on s cpu → runner s cpu ≡ Some proc → ⊥
@@ -301,9 +296,11 @@ no_current s cpu proc found n e r =
     true≢false (sym (ap (λ (o : Option Proc). is_some (option_map {U = Proc × Inc} (λ (p : Proc). (p, (process s p).current)) o)) r) ∙ ap is_some (sym e ∙ n))
 
 -- its current incarnation
-pub current_is : (s : State) (cpu : Cpu) (proc : Proc) (x : Proc) (inc : Inc) → Some (x, inc) ≡ running_on s cpu → runner s cpu ≡ Some proc → (x ≡ proc) × (inc ≡ (process s proc).current)
+pub current_is : (s : State) (cpu : Cpu) (proc : Proc) (x : Proc) (inc : Inc) → Some (x, inc) ≡ running_on s cpu → runner s cpu ≡ Some proc
+    → (x ≡ proc) × (inc ≡ (process s proc).current)
 current_is s cpu proc x inc e r =
-    let both : ◌≡◌ {A = Option (Proc × Inc)} (Some (x, inc)) (Some (proc, (process s proc).current)) = e ∙ ap (λ (o : Option Proc). option_map {U = Proc × Inc} (λ (p : Proc). (p, (process s p).current)) o) r in
+    let both : ◌≡◌ {A = Option (Proc × Inc)} (Some (x, inc)) (Some (proc, (process s proc).current)) = e ∙ ap
+    (λ (o : Option Proc). option_map {U = Proc × Inc} (λ (p : Proc). (p, (process s p).current)) o) r in
     let pair : ◌≡◌ {A = Proc × Inc} (x, inc) (proc, (process s proc).current) = cc in
     (ap (λ (f : Proc × Inc). f.0) pair, ap (λ (f : Proc × Inc). f.1) pair)
 
@@ -320,7 +317,8 @@ get_or_is (y ∷ xs) zero d x h = cc
 get_or_is (y ∷ xs) (suc n) d x h = get_or_is xs n d x h
 
 -- the context that was taken is the one that stood there
-pub taken_is : (held : List (Option Context)) (n : ℕ) (frames : Context) (now d : Option Context) → slice_get held n ≡ Some (Some frames) → now ≡ get_or held n d → now ≡ Some frames
+pub taken_is : (held : List (Option Context)) (n : ℕ) (frames : Context) (now d : Option Context) → slice_get held n ≡ Some (Some frames) → now ≡ get_or held n d
+    → now ≡ Some frames
 taken_is held n frames now d h e = e ∙ get_or_is held n d (Some frames) h
 
 pub not_both : (frames : Context) (found : Option Context) → found ≡ None → found ≡ Some frames → ⊥
@@ -345,19 +343,8 @@ pub not_false : (a b : Bool) → a ≡ false → a ≡ not b → b ≡ true
 not_false a true h e = refl
 not_false a false h e = absurd (true≢false (sym e ∙ h))
 
--- the process of a halt has ended
-pub halted_ends : (s : State) (cpu : Cpu) (proc : Proc) (inc : Inc) (t : State) → running_on s cpu ≡ Some (proc, inc) → t ≡ halted_on s cpu → (process t proc).run ≡ Ended
-halted_ends s cpu proc inc t on e =
-    let r : runner s cpu ≡ Some proc = by (runner s cpu) on in
-    ap (λ (k : State). (process k proc).run) (e ∙ ap (λ (o : Option Proc). halted s (unwrap_or o (record { 0 = 0 }))) r) ∙ there s.processes proc.0 (record (process s proc) { run = Ended }) refl
-  where
-    by : (o : Option Proc) → option_map {U = Proc × Inc} (λ (p : Proc). (p, (process s p).current)) o ≡ Some (proc, inc) → o ≡ Some proc
-    by None e = absurd (cc)
-    by (Some p) e =
-        let pair : ◌≡◌ {A = Proc × Inc} (p, (process s p).current) (proc, inc) = cc in
-        ap (λ (f : Proc × Inc). Some f.0) pair
-
-    there : (ps : List Process) (n : ℕ) (new : Process) → new.run ≡ Ended → run_at (slice_set ps n new) n ≡ Ended
-    there [] n new h = refl
-    there (p ∷ ps) zero new h = h
-    there (p ∷ ps) (suc n) new h = there ps n new h
+-- what a turn tells
+pub told_is : (w : WorldValue) (s : State) (proc : Proc) (next_is : Todo) (frames : Context) (happened : What) (reply : Reply) (t : State) (new : Context)
+    → turn w s proc (next_is, frames) ≡ (happened, reply, t, new) → happened ≡ todo_told next_is
+told_is w s proc (todo.Do c) frames happened reply t new h = sym (ap (λ (x : What × Reply × State × Context). x.0) h)
+told_is w s proc todo.Halt frames happened reply t new h = sym (ap (λ (x : What × Reply × State × Context). x.0) h)

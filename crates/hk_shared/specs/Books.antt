@@ -2,7 +2,7 @@
 use Rattle.std.specs.Prelude.{◌≡◌, ◌≤◌, ℕ, List, [], ◌∷◌, ◌++◌, Option, Some, None}
 use Rattle.std.specs.Vec.{vec_capacity}
 use Rattle.hk_model.specs.declared.names.Cpu.{Cpu}
-use Rattle.hk_model.specs.Setup.{Setup, IsWorld}
+use Rattle.hk_model.specs.WorldValue.{WorldValue, IsWorld}
 use Rattle.hk_model.specs.State.{State}
 use Rattle.hk_model.specs.Running.{AreStepsOf, state_after}
 use Rattle.hk_procs.specs.declared.notes.Noted.{Noted}
@@ -32,7 +32,7 @@ module _ {K J : Type 0} where
   notes_of_book b = events b.lines.items ++ stops b.stop
 
   -- the lines are steps of the world that lead to the kernel's state, and the contexts are kept
-  pub record IsSound (state : K → State) (w : Setup) (b : Book K J) : Type 0 where
+  pub record IsSound (state : K → State) (w : WorldValue) (b : Book K J) : Type 0 where
     pub world : b.world ≡ w
     pub valid : IsWorld w
     pub steps : AreStepsOf w b.lines.items
@@ -42,11 +42,11 @@ module _ {K J : Type 0} where
     pub room : w.limit ≤ vec_capacity b.lines
 
   -- the book stands for the notes
-  abbrev pub IsBookOf : (K → State) → Setup → Book K J → List Noted → Type 0
+  abbrev pub IsBookOf : (K → State) → WorldValue → Book K J → List Noted → Type 0
   IsBookOf state w b notes = (notes_of_book b ≡ notes) × IsSound state w b
 
   -- the book after a turn of the processor, which may add a note of its own
-  pub record IsNext (state : K → State) (w : Setup) (cpu : Cpu) (b next : Book K J) (note : Option Noted) : Type 0 where
+  pub record IsNext (state : K → State) (w : WorldValue) (cpu : Cpu) (b next : Book K J) (note : Option Noted) : Type 0 where
     pub sound : IsSound state w next
     pub notes : notes_of_book next ≡ notes_of_book b ++ added note
     pub own : IsOwnedBy cpu.0 note

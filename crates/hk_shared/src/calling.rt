@@ -1,7 +1,6 @@
 //! What a book does for a processor that runs a process (`docs/TURNS.md`, "The desk").
 
 ghost use Rattle.std.specs.Prelude.{◌≡◌, ◌<◌, None, Some, true};
-ghost use Rattle.hk_model.specs.declared.frames.Todo.TheVariants as todos;
 ghost use Rattle.hk_model.specs.Control as control;
 ghost use Rattle.hk_model.specs.Processors.{runner, may_step, running_on};
 ghost use Rattle.hk_model.specs.Running.{context_of};
@@ -11,9 +10,9 @@ ghost use Rattle.hk_shared.specs.Books.{IsSound, IsNext, notes_of_book};
 
 use crate::book::{Book, noted};
 use crate::naming::Naming;
-use hk_model::{Call, Cpu, Inc, Kernel, Line, Proc, Reply, Todo, What};
+use hk_model::{Cpu, Inc, Kernel, Line, Proc, Todo};
 use hk_procs::{Called, Noted};
-use hk_program::{Context, after};
+use hk_program::{Context, carry_out};
 use std::alloc::Global;
 
 impl<K: Kernel, J: Naming> Book<K, J> {
@@ -42,74 +41,47 @@ impl<K: Kernel, J: Naming> Book<K, J> {
         let Some((_, inc)) = self.kernel.current(cpu) else {
             unreachable!()
         };
-        match todo {
-            Todo::Do(call) => self.act(alloc, cpu, proc, inc, context, &call),
-            Todo::Halt => self.halt(cpu, proc, inc, context),
-        }
+        self.carry(alloc, cpu, proc, inc, context, todo)
     }
 
-    // Makes a call.
-    fn act(
+    // Carries out what is next for the process.
+    fn carry(
         &mut self,
         alloc: Global,
         cpu: Cpu,
         proc: Proc,
         inc: Inc,
         context: Context,
-        call: &Call,
+        todo: Todo,
     ) -> (Option<Noted>, Called)
         requires sound { IsSound K.state J.world self.old }
         requires cpu { cpu.0 < 16 }
         requires going { self.old.stop ≡ None }
         requires below { may_step (K.state self.old.kernel) ≡ true }
         requires runs { running_on (K.state self.old.kernel) cpu ≡ Some (proc, inc) }
-        requires next { (todos.Do call.now, context) ≡ control.next J.world (context_of (machine_after J.world self.old.lines.items) proc) }
+        requires next { (todo, context) ≡ control.next J.world (context_of (machine_after J.world self.old.lines.items) proc) }
         ensures next { IsNext K.state J.world cpu self.old self.new result.0 }
-        ensures answer { AnswersCall J.world K.wants cpu (notes_of_book self.old) (notes_of_book self.new) proc (todos.Do call.now) result.1 }
+        ensures answer { AnswersCall J.world K.wants cpu (notes_of_book self.old) (notes_of_book self.new) proc todo result.1 }
     {
         let mut context = context;
-        let Ok(acted) = self.kernel.act(alloc, cpu, *call) else {
+        let kernel = &mut self.kernel;
+        let Ok(made) = carry_out(alloc, kernel, &mut context, &self.world, cpu, todo) else {
             self.stop = Some(cpu);
             return (Some(Noted::Stop(cpu)), Called::NoMemory);
         };
-        after(&mut context, &self.world, call, &acted);
         let line = Line {
             cpu,
             proc,
             inc,
-            what: What::Call(*call),
-            reply: acted.reply,
+            what: made.what,
+            reply: made.reply,
         };
         let note = noted(&line);
         self.lines.push_reserved(line);
-        if acted.gone {
+        if made.gone {
             self.contexts[proc.0 as usize] = Some(context);
-            return (Some(note), Called::Gone(acted.reply));
+            return (Some(note), Called::Gone(made.reply));
         }
-        (Some(note), Called::Goes(acted.reply, context))
-    }
-
-    // Ends the process.
-    fn halt(&mut self, cpu: Cpu, proc: Proc, inc: Inc, _context: Context) -> (Option<Noted>, Called)
-        requires sound { IsSound K.state J.world self.old }
-        requires cpu { cpu.0 < 16 }
-        requires going { self.old.stop ≡ None }
-        requires below { may_step (K.state self.old.kernel) ≡ true }
-        requires runs { running_on (K.state self.old.kernel) cpu ≡ Some (proc, inc) }
-        requires next { (todos.Halt, _context) ≡ control.next J.world (context_of (machine_after J.world self.old.lines.items) proc) }
-        ensures next { IsNext K.state J.world cpu self.old self.new result.0 }
-        ensures answer { AnswersCall J.world K.wants cpu (notes_of_book self.old) (notes_of_book self.new) proc todos.Halt result.1 }
-    {
-        self.kernel.halt(cpu);
-        let line = Line {
-            cpu,
-            proc,
-            inc,
-            what: What::Halt,
-            reply: Reply::Done,
-        };
-        let note = noted(&line);
-        self.lines.push_reserved(line);
-        (Some(note), Called::Gone(Reply::Done))
+        (Some(note), Called::Goes(made.reply, context))
     }
 }

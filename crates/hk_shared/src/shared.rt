@@ -13,7 +13,7 @@ use crate::book::Book;
 use crate::naming::Naming;
 use hk_model::{Kernel, NoMemory, Task, World};
 use hk_procs::Noted;
-use hk_program::Context;
+use hk_program::{Context, beginnings};
 use hk_turn::{Pass, Turns};
 use std::alloc::Global;
 use std::marker::PhantomData;
@@ -77,7 +77,7 @@ fn opened<K: Kernel, J: Naming>(
     ensures { IfOk result (λ book. IsBookOf K.state J.world book []) }
 {
     let lines = Vec::with_capacity(alloc, world.limit() as usize)?;
-    let contexts = beginnings(alloc, world.tasks())?;
+    let contexts = places(alloc, world.tasks())?;
     let world = world.copy(alloc)?;
     Ok(Book {
         world,
@@ -89,13 +89,13 @@ fn opened<K: Kernel, J: Naming>(
     })
 }
 
-// The context of each process as it begins.
-fn beginnings(alloc: Global, tasks: &[Task]) -> Result<Vec<Option<Context>>, NoMemory>
+// A place for each process, with its context as it begins.
+fn places(alloc: Global, tasks: &[Task]) -> Result<Vec<Option<Context>>, NoMemory>
     ensures { IfOk result (λ contexts. contexts.items ≡ map (λ (t : Task). Some (new_frame t.code ∷ [])) tasks.now) }
 {
-    let mut contexts = Vec::with_capacity(alloc, tasks.len())?;
-    for task in tasks {
-        contexts.push(Some(Context::new(alloc, task.code)?))?;
+    let mut places = Vec::with_capacity(alloc, tasks.len())?;
+    for context in beginnings(alloc, tasks)? {
+        places.push(Some(context))?;
     }
-    Ok(contexts)
+    Ok(places)
 }

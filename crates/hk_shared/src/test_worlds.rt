@@ -4,7 +4,7 @@ ghost use Rattle.std.specs.Prelude.{◌≡◌, ◌≤◌, ◌∷◌, [], codes, 
 ghost use Rattle.hk_model.specs.declared.entries.Entry.TheVariants.{Held};
 ghost use Rattle.hk_model.specs.declared.instructions.Index.TheVariants.{Fixed};
 ghost use Rattle.hk_model.specs.declared.world.Kind.TheVariants as kinds;
-ghost use Rattle.hk_model.specs.Setup.{IsInstr};
+ghost use Rattle.hk_model.specs.WorldValue.{IsInstr};
 ghost use Rattle.hk_rights.specs.Rights.{IsRightsWord};
 
 use hk_model::{

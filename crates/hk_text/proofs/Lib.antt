@@ -1,4 +1,5 @@
 pub mod Numbers
+pub mod NumeralTexts
 pub mod Turns
 pub mod Spans
 pub mod LineCount

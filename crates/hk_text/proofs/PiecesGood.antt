@@ -9,7 +9,8 @@ use Rattle.hk_format.specs.declared.causes.TextCause.{TextCause}
 use Rattle.hk_format.specs.declared.causes.TextCause.TheVariants.{BadToken, NumberTooLarge, NotAscii, LongLine}
 use Rattle.hk_model.specs.declared.instructions.Index.TheVariants.{Fixed, ByReg}
 use Rattle.hk_model.specs.Labels.{between, is_digit, is_lower, is_capital, is_word, is_register, first}
-use Rattle.hk_format.specs.Pieces.{Piece, Word, Upper, Dash, Number, Path, is_upper, is_dash, is_number, value, is_index_text, is_too_large, register_of, index_of, is_path, path_of, number_of, formed, plain_of, piece_of, is_piece, is_index}
+use Rattle.hk_format.specs.Pieces.{Piece, Word, Upper, Dash, Number, Path, is_upper, is_dash, is_number, value, is_index_text, is_too_large, register_of, index_of, is_path}
+use Rattle.hk_format.specs.Pieces.{pointed_of, number_of, formed, plain_of, piece_of, is_piece, is_index}
 use Rattle.hk_format.specs.Texts.{Lines, is_no_text, pieces_of, piece_onto, tokens, text_line, text_lines, text, lines_of, line_onto}
 
 -- the piece is spelled by some text, if there is one
@@ -46,13 +47,19 @@ number_good t = go (list_all is_digit t) (ltb 0xffffffff (value t)) refl
     go true false e = le-leb _ _ (ltb-false _ _ e)
 
 named_good : (t : List ℕ) → GoodPiece (cond (is_capital (first t)) (formed (is_upper t) (Upper t)) (formed (is_dash t) Dash))
-named_good t = chosen (is_capital (first t)) (formed (is_upper t) (Upper t)) (formed (is_dash t) Dash) (formed_good (is_upper t) (Upper t) (λ h. h)) (formed_good (is_dash t) Dash (λ h. refl))
+named_good t =
+    chosen (is_capital (first t)) (formed (is_upper t) (Upper t)) (formed (is_dash t) Dash) (formed_good (is_upper t) (Upper t) (λ h. h)) (formed_good (is_dash t) Dash (λ h. refl))
 
-word_good : (t : List ℕ) → GoodPiece (cond (is_lower (first t)) (formed (is_word t) (Word t)) (cond (is_capital (first t)) (formed (is_upper t) (Upper t)) (formed (is_dash t) Dash)))
-word_good t = chosen (is_lower (first t)) (formed (is_word t) (Word t)) (cond (is_capital (first t)) (formed (is_upper t) (Upper t)) (formed (is_dash t) Dash)) (formed_good (is_word t) (Word t) (λ h. h)) (named_good t)
+word_good : (t : List ℕ)
+    → GoodPiece (cond (is_lower (first t)) (formed (is_word t) (Word t)) (cond (is_capital (first t)) (formed (is_upper t) (Upper t)) (formed (is_dash t) Dash)))
+word_good t =
+    chosen (is_lower (first t)) (formed (is_word t) (Word t)) (cond (is_capital (first t)) (formed (is_upper t) (Upper t)) (formed (is_dash t) Dash))
+    (formed_good (is_word t) (Word t) (λ h. h)) (named_good t)
 
 plain_good : (t : List ℕ) → GoodPiece (plain_of t)
-plain_good t = chosen (is_digit (first t)) (number_of t) (cond (is_lower (first t)) (formed (is_word t) (Word t)) (cond (is_capital (first t)) (formed (is_upper t) (Upper t)) (formed (is_dash t) Dash))) (number_good t) (word_good t)
+plain_good t =
+    chosen (is_digit (first t)) (number_of t) (cond (is_lower (first t)) (formed (is_word t) (Word t))
+    (cond (is_capital (first t)) (formed (is_upper t) (Upper t)) (formed (is_dash t) Dash))) (number_good t) (word_good t)
 
 pub register_below : (t : List ℕ) → is_register t ≡ true → ltb (register_of t) 8 ≡ true
 register_below [] h = absurd (false≢true h)
@@ -63,7 +70,8 @@ register_below (r ∷ d ∷ e ∷ more) h = absurd (false≢true h)
 pub index_good : (t : List ℕ) → is_index_text t ≡ true → is_too_large t ≡ false → is_index (index_of t) ≡ true
 index_good t h k = go (is_register t) (is_number t) (ltb 0xffffffff (value t)) refl refl refl h k
   where
-    go : (reg number large : Bool) → is_register t ≡ reg → is_number t ≡ number → ltb 0xffffffff (value t) ≡ large → (number || reg) ≡ true → (number && large) ≡ false → is_index (cond reg (ByReg (register_of t)) (Fixed (value t))) ≡ true
+    go : (reg number large : Bool) → is_register t ≡ reg → is_number t ≡ number → ltb 0xffffffff (value t) ≡ large → (number || reg) ≡ true → (number && large) ≡ false
+        → is_index (cond reg (ByReg (register_of t)) (Fixed (value t))) ≡ true
     go true number large e f g h k = register_below t e
     go false true true e f g h k = absurd (false≢true (sym k))
     go false true false e f g h k = le-leb _ _ (ltb-false _ _ g)
@@ -77,10 +85,11 @@ indices_good (t ∷ ts) h k =
     let others : list_any is_too_large ts ≡ false = grind arith in
     and_from _ _ (index_good t parts.0 small) (indices_good ts parts.1 others)
 
-path_good : (ts : List (List ℕ)) → GoodPiece (path_of ts)
+path_good : (ts : List (List ℕ)) → GoodPiece (pointed_of ts)
 path_good ts = go (is_path ts) (list_any is_too_large ts) refl refl
   where
-    go : (path large : Bool) → is_path ts ≡ path → list_any is_too_large ts ≡ large → GoodPiece (cond (not path) (Err BadToken) (cond large (Err NumberTooLarge) (Ok (Path (map index_of ts)))))
+    go : (path large : Bool) → is_path ts ≡ path → list_any is_too_large ts ≡ large
+        → GoodPiece (cond (not path) (Err BadToken) (cond large (Err NumberTooLarge) (Ok (Path (map index_of ts)))))
     go false large e f = tt
     go true true e f = tt
     go true false e f =
@@ -89,7 +98,7 @@ path_good ts = go (is_path ts) (list_any is_too_large ts) refl refl
 
 pub piece_good : (t : List ℕ) → GoodPiece (piece_of t)
 unfolding piece_of
-piece_good t = chosen (list_any (λ b. b == 46) t) (path_of (slice_split (λ b. b == 46) t)) (plain_of t) (path_good (slice_split (λ b. b == 46) t)) (plain_good t)
+piece_good t = chosen (list_any (λ b. b == 46) t) (pointed_of (slice_split (λ b. b == 46) t)) (plain_of t) (path_good (slice_split (λ b. b == 46) t)) (plain_good t)
 
 pieces_good : (ts : List (List ℕ)) → GoodPieces (pieces_of ts)
 pieces_good [] = refl

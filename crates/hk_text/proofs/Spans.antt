@@ -24,6 +24,7 @@ ok_before start middle end (Ok ps) h k = lie_before start middle end ps h k
 ok_before start middle end (Err e) h k = tt
 
 -- the pieces of lines, and of one line more
-pub lines_lie : (lines : List TextLine) (line : TextLine) (start middle end : ℕ) → LieBetween 0 start (flat_map line_pieces lines) → LieBetween start middle line.pieces → middle ≤ end → LieBetween 0 end (flat_map line_pieces (lines ++ line ∷ []))
+pub lines_lie : (lines : List TextLine) (line : TextLine) (start middle end : ℕ) → LieBetween 0 start (flat_map line_pieces lines) → LieBetween start middle line.pieces
+    → middle ≤ end → LieBetween 0 end (flat_map line_pieces (lines ++ line ∷ []))
 lines_lie lines line start middle end h k few =
     rw flat_map-append (lie_both 0 start end (flat_map line_pieces lines) (flat_map line_pieces (line ∷ [])) h (lie_both start middle end line.pieces [] k few))

@@ -2,7 +2,7 @@
 use Rattle.std.specs.Prelude.{ℕ, ◌==◌, ◌<◌, ◌≤◌, ◌&&◌, not, List, [], ◌∷◌, Result, Ok, Err, map, length, nat_le, if◌then◌else◌}
 use Rattle.std.specs.List.{slice_range, slice_split, filter}
 use Rattle.hk_format.specs.Pieces as piece
-use Rattle.hk_format.specs.Pieces.{path_of}
+use Rattle.hk_format.specs.Pieces.{pointed_of}
 use Rattle.hk_format.specs.Texts.{is_none, is_blank}
 use Rattle.hk_format.specs.declared.causes.TextCause.{TextCause}
 use Rattle.hk_text.specs.declared.pieces.PieceKind.{PieceKind}
@@ -21,7 +21,7 @@ kind_piece kind.Word t = piece.Word t
 kind_piece kind.Upper t = piece.Upper t
 kind_piece kind.Dash t = piece.Dash
 kind_piece (kind.Number n) t = piece.Number n
-kind_piece kind.Path t = path_read (path_of (slice_split (λ b. b == 46) t))
+kind_piece kind.Path t = path_read (pointed_of (slice_split (λ b. b == 46) t))
 
 -- the text of a piece, or nothing where it is no part of the source
 abbrev pub text_of : List ℕ → Piece → List ℕ

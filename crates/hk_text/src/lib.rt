@@ -5,6 +5,7 @@
 
 mod bytes;
 mod errors;
+mod numerals;
 mod pieces;
 #[cfg(test)]
 mod tests;
@@ -12,5 +13,6 @@ mod text;
 
 pub use crate::bytes::{first_of, is_register};
 pub use crate::errors::TextError;
+pub use crate::numerals::numeral;
 pub use crate::pieces::{Piece, PieceKind, value};
 pub use crate::text::{TextLine, lines};

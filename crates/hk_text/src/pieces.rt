@@ -2,7 +2,7 @@
 
 ghost use Rattle.std.specs.Prelude.{◌≡◌, ◌<◌, ◌==◌, length, IsTrue, Some, None, if◌then◌else◌};
 ghost use Rattle.std.specs.List.{slice_split, list_all, list_any};
-ghost use Rattle.hk_format.specs.Pieces.{is_number, is_upper, is_index_text, is_too_large, value, number_of, plain_of, path_of, piece_of};
+ghost use Rattle.hk_format.specs.Pieces.{is_number, is_upper, is_index_text, is_too_large, value, number_of, plain_of, pointed_of, piece_of};
 ghost use Rattle.hk_text.specs.Views.{kind_piece};
 ghost use Rattle.hk_text.specs.Outcomes.{GivesOrCause};
 
@@ -128,7 +128,7 @@ fn are_names(text: &[u8]) -> bool
 
 /// What a text with a point is.
 fn path(text: &[u8]) -> Result<PieceKind, TextCause>
-    ensures { GivesOrCause (λ kind. kind_piece kind text.now) result (path_of (slice_split (λ b. b == 46) text.now)) }
+    ensures { GivesOrCause (λ kind. kind_piece kind text.now) result (pointed_of (slice_split (λ b. b == 46) text.now)) }
 {
     let count = count_of_indices(text);
     if count < 2 || count > 8 || !are_indices(text) {

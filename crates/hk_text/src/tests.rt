@@ -1,6 +1,6 @@
 ghost use Rattle.std.specs.Prelude.{◌<◌, ◌^◌, ◌-◌, length};
 
-use crate::{Piece, PieceKind, TextError, TextLine, first_of, is_register, lines, value};
+use crate::{Piece, PieceKind, TextError, TextLine, first_of, is_register, lines, numeral, value};
 use hk_format::TextCause;
 use std::alloc::Global;
 use std::test::Fail;
@@ -99,5 +99,19 @@ fn reads_parts_of_a_path(rt: HostRuntime) -> Result<(), Fail> {
     assert_eq!(rt; value(b"012"), Some(12));
     assert_eq!(rt; value(b"4294967295"), Some(4_294_967_295));
     assert_eq!(rt; value(b"4294967296"), None);
+    Ok(())
+}
+
+#[test]
+fn reads_numbers_without_leading_zeros(rt: HostRuntime) -> Result<(), Fail> {
+    assert_eq!(rt; numeral(b"0"), Some(0));
+    assert_eq!(rt;
+        numeral(b"18446744073709551615"),
+        Some(18_446_744_073_709_551_615)
+    );
+    assert_eq!(rt; numeral(b"18446744073709551616"), None);
+    assert_eq!(rt; numeral(b"00"), None);
+    assert_eq!(rt; numeral(b"+1"), None);
+    assert_eq!(rt; numeral(b""), None);
     Ok(())
 }

@@ -4,17 +4,15 @@ ghost use Rattle.std.specs.Prelude.{◌≡◌, ℕ, ◌<◌, ◌≤◌, ◌^◌,
 ghost use Rattle.std.specs.List.{slice_range, flat_map};
 ghost use Rattle.hk_format.specs.Texts.{lines_of, text, text_line, pieces_of};
 ghost use Rattle.hk_text.specs.Views.{seen, line_seen, line_pieces, texts_of, LieBetween};
-ghost use Rattle.hk_text.specs.Outcomes.{GivesLine, IsRefused};
+ghost use Rattle.hk_format.specs.Outcomes.{Gives, IsRefused};
 
 use crate::bytes::{first_blank, first_of, has_no_text};
 use crate::errors::{LineError, TextError};
 use crate::pieces::{Piece, kind_of};
 use hk_format::TextCause;
 use hk_model::Items;
+use hk_model::limits::LINE_BYTES;
 use std::alloc::Global;
-
-/// The most bytes of a line, without its line feed.
-const LINE_BYTES: usize = 1000;
 
 /// A line that has pieces.
 #[derive(Drop)]
@@ -63,7 +61,7 @@ fn pieces_of_line(
 ) -> Result<Items<Piece>, LineError>
     requires order { start ≤ end }
     requires inside { end ≤ length source.now }
-    ensures value { GivesLine (λ v. map (seen source.now) v) result (text_line (slice_range source.now start end)) }
+    ensures value { Gives (λ v. map (seen source.now) v) result (text_line (slice_range source.now start end)) }
     ensures spans { IfOk result (λ v. LieBetween start end v) }
 {
     let line = &source[start..end];
@@ -85,7 +83,7 @@ fn pieces_between(
 ) -> Result<Items<Piece>, LineError>
     requires order { start ≤ end }
     requires inside { end ≤ length source.now }
-    ensures value { GivesLine (λ v. map (seen source.now) v) result (pieces_of (texts_of (slice_range source.now start end))) }
+    ensures value { Gives (λ v. map (seen source.now) v) result (pieces_of (texts_of (slice_range source.now start end))) }
     ensures spans { IfOk result (λ v. LieBetween start end v) }
 {
     let mut pieces = Items::new(alloc);

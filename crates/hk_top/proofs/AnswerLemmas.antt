@@ -1,5 +1,6 @@
 -- How answers come about: a text that is due and said, and a text that is due to an input.
-use Rattle.std.proofs.Common.{◌≡◌, ◌∙◌, ap, ◌≢◌, ◌<◌, ◌≤◌, ◌↔◌, ℕ, List, length, codes, Option, None, option_map, Ok, Err, IfOk, IfErr, IsErrOf, refl, subst, sym, inl, inr, Vec, Global, Result}
+use Rattle.std.proofs.Common.{◌≡◌, ◌∙◌, ap, ◌≢◌, ◌<◌, ◌≤◌, ◌↔◌, ℕ, List, length, codes, Option, None, option_map, Ok, Err, IfOk, IfErr, IsErrOf, refl, subst, sym, inl, inr, Vec}
+use Rattle.std.proofs.Common.{Global, Result}
 use Rattle.hk_io.specs.Streams.{Took}
 use Rattle.hk_io.specs.declared.whole.ReadError.{ReadError}
 use Rattle.std.specs.Fmt.{digits}
@@ -17,7 +18,7 @@ use Rattle.hk_format.specs.Audits.{Audited, audit}
 use Rattle.hk_model.specs.Legal.{IsLegal}
 use Rattle.hk_model.specs.Verdicts.{IsVerdict}
 use Rattle.hk_format.specs.Canonical.{canon}
-use Rattle.hk_model.specs.Setup.{Setup}
+use Rattle.hk_model.specs.WorldValue.{WorldValue}
 use Rattle.hk_format.specs.Worlds.{world}
 use Rattle.hk_model.specs.State.{State}
 use Rattle.hk_top.specs.declared.served.DueText.{DueText}
@@ -28,20 +29,24 @@ use Rattle.hk_top.specs.declared.words.Command.{Command}
 use Rattle.hk_top.specs.declared.words.Command.TheVariants as command
 use Rattle.hk_top.specs.Words.{IsAlone, IsCommand, IsInRange, ReadsScript, ReadsAtMost, words_of, byte_limit}
 use Rattle.hk_top.specs.Served.{IsTooLong, silent_status}
-use Rattle.hk_top.specs.Outputs.{Due, DueTo, Answer, IsRecorded, IsChecked, IsLawful, Stream, IsSaid, status_of, read, record_of, script_of, verdict_of, script_refused, record_refused, legal, illegal, too_long, written, read_fault, no_memory, write_fault, HadFault}
+use Rattle.hk_top.specs.Outputs.{Due, DueTo, Answer, IsRecorded, IsChecked, IsLawful, Stream, IsSaid, status_of, read, record_of, script_of, verdict_of, script_refused}
+use Rattle.hk_top.specs.Outputs.{record_refused, legal, illegal, too_long, written, read_fault, no_memory, write_fault, HadFault}
 
 -- a text that is due and said is an answer
-pub said : {words : List (List ℕ)} {input output : Stream} {status result : ℕ} {text : List ℕ} {made : Option State} → Due words input.before input.after status text made → IsSaid status text output result → Answer words input output result made
+pub said : {words : List (List ℕ)} {input output : Stream} {status result : ℕ} {text : List ℕ} {made : Option State} → Due words input.before input.after status text made
+    → IsSaid status text output result → Answer words input output result made
 said {words} {input} {output} {status} {result} {text} {made} due (inl h) = subst (λ n. Answer words input output n made) (sym h.0) (written _ _ _ due h.1)
 said {words} {input} {output} {status} {result} {text} {made} due (inr h) = subst (λ n. Answer words input output n made) (sym h.0) (write_fault _ _ _ h.2.0 due h.1 h.2.1 h.2.2)
 
 -- what is due to words and a text is due to the same words, status, text and kernel
-pub due_at : {words others : List (List ℕ)} {before after : Option (List ℕ)} {status number : ℕ} {text same : List ℕ} {made : Option State} → words ≡ others → status ≡ number → text ≡ same → Due words before after status text made → Due others before after number same made
+pub due_at : {words others : List (List ℕ)} {before after : Option (List ℕ)} {status number : ℕ} {text same : List ℕ} {made : Option State} → words ≡ others → status ≡ number
+    → text ≡ same → Due words before after status text made → Due others before after number same made
 due_at {words} {others} {before} {after} {status} {number} {text} {same} {made} w n t due =
     subst (λ x. Due x before after number same made) w (subst (λ x. Due words before after x same made) n (subst (λ x. Due words before after status x made) t due))
 
 -- where a read answered that the input is too long, more bytes were taken than the limit
-pub too_long_taken : (limit : ℕ) (before after : Option (List ℕ)) (r : Result (Vec ℕ Global) ReadError) → r ≡ Err ReadError.TooLong → Took before after (λ bytes. IsErrOf r ReadError.TooLong ↔ (limit < length bytes)) → Took before after (λ bytes. limit < length bytes)
+pub too_long_taken : (limit : ℕ) (before after : Option (List ℕ)) (r : Result (Vec ℕ Global) ReadError) → r ≡ Err ReadError.TooLong
+    → Took before after (λ bytes. IsErrOf r ReadError.TooLong ↔ (limit < length bytes)) → Took before after (λ bytes. limit < length bytes)
 too_long_taken limit before after r is took = (took.0, took.1, took.2.0 is)
 
 -- the refusal, letter by letter
@@ -51,12 +56,14 @@ too_long_is = refl
 
 -- what is due to the bytes of a script
 
-pub record_due : {K : Type 0} (state : K → State) (words : List (List ℕ)) (bytes : List ℕ) (w : Setup) (r : Result (Served K) NoMemory) → world bytes ≡ Ok w → IfOk r (λ served. IsRecorded words w served.due.status served.due.text (option_map state served.kernel))
+pub record_due : {K : Type 0} (state : K → State) (words : List (List ℕ)) (bytes : List ℕ) (w : WorldValue) (r : Result (Served K) NoMemory) → world bytes ≡ Ok w
+    → IfOk r (λ served. IsRecorded words w served.due.status served.due.text (option_map state served.kernel))
     → IfOk r (λ served. DueTo words bytes served.due.status served.due.text (option_map state served.kernel))
 record_due state words bytes w (Ok served) is h = record_of w served.due.status served.due.text (option_map state served.kernel) is h
 record_due state words bytes w (Err error) is h = tt
 
-pub script_due : (bytes : List ℕ) (w : Setup) (r : Result DueText NoMemory) → world bytes ≡ Ok w → IfOk r (λ due. (due.status ≡ 0) × (due.text ≡ canon w)) → IfOk r (λ due. DueTo (words_of command.Show) bytes due.status due.text None)
+pub script_due : (bytes : List ℕ) (w : WorldValue) (r : Result DueText NoMemory) → world bytes ≡ Ok w → IfOk r (λ due. (due.status ≡ 0) × (due.text ≡ canon w))
+    → IfOk r (λ due. DueTo (words_of command.Show) bytes due.status due.text None)
 script_due bytes w (Ok due) is h = rw (h.0, h.1) (script_of w refl is)
 script_due bytes w (Err error) is h = tt
 
@@ -67,16 +74,19 @@ script_refused_due c bytes line cause (Err error) reads is h = tt
 
 -- what is due to the bytes of a record
 
-pub verdict_due : (bytes : List ℕ) (a : Audited) (r : Result DueText NoMemory) → audit bytes ≡ Ok a → IfOk r (λ due. IsChecked a due.status due.text) → IfOk r (λ due. DueTo (words_of command.Check) bytes due.status due.text None)
+pub verdict_due : (bytes : List ℕ) (a : Audited) (r : Result DueText NoMemory) → audit bytes ≡ Ok a → IfOk r (λ due. IsChecked a due.status due.text)
+    → IfOk r (λ due. DueTo (words_of command.Check) bytes due.status due.text None)
 verdict_due bytes a (Ok due) is h = verdict_of a due.status due.text refl is h
 verdict_due bytes a (Err error) is h = tt
 
-pub record_refused_due : (bytes : List ℕ) (line : ℕ) (cause : Cause) (r : Result DueText NoMemory) → audit bytes ≡ Err (line, cause) → IfOk r (λ due. (due.status ≡ 3) × (due.text ≡ refusal_text line (cause_name cause)))
+pub record_refused_due : (bytes : List ℕ) (line : ℕ) (cause : Cause) (r : Result DueText NoMemory) → audit bytes ≡ Err (line, cause)
+    → IfOk r (λ due. (due.status ≡ 3) × (due.text ≡ refusal_text line (cause_name cause)))
     → IfOk r (λ due. DueTo (words_of command.Check) bytes due.status due.text None)
 record_refused_due bytes line cause (Ok due) is h = rw (h.0, h.1) (record_refused line cause refl is)
 record_refused_due bytes line cause (Err error) is h = tt
 
-pub legal_due : (a : Audited) (w : Setup) (lines : List Line) (end : End) (v : Verdict) (r : Result DueText NoMemory) → w ≡ a.world → lines ≡ a.lines → end ≡ a.end → IsVerdict w lines end v → v ≡ Legal → IsLawful w lines
+pub legal_due : (a : Audited) (w : WorldValue) (lines : List Line) (end : End) (v : Verdict) (r : Result DueText NoMemory) → w ≡ a.world → lines ≡ a.lines → end ≡ a.end
+    → IsVerdict w lines end v → v ≡ Legal → IsLawful w lines
     → IfOk r (λ due. (due.status ≡ 0) × (due.text ≡ verdict_text v)) → IfOk r (λ due. IsChecked a due.status due.text)
 legal_due a w lines end v (Ok due) w_is lines_are end_is is v_is laws h =
     let holds : IsLegal a.world a.lines a.end = rw (w_is, lines_are, end_is, v_is) at is in
@@ -85,7 +95,8 @@ legal_due a w lines end v (Ok due) w_is lines_are end_is is v_is laws h =
     rw (h.0, told) (legal holds lawful)
 legal_due a w lines end v (Err error) w_is lines_are end_is is v_is laws h = tt
 
-pub illegal_due : (a : Audited) (w : Setup) (lines : List Line) (end : End) (v : Verdict) (n : ℕ) (cause : Misstep) (r : Result DueText NoMemory) → w ≡ a.world → lines ≡ a.lines → end ≡ a.end → IsVerdict w lines end v → v ≡ Illegal n cause
+pub illegal_due : (a : Audited) (w : WorldValue) (lines : List Line) (end : End) (v : Verdict) (n : ℕ) (cause : Misstep) (r : Result DueText NoMemory) → w ≡ a.world
+    → lines ≡ a.lines → end ≡ a.end → IsVerdict w lines end v → v ≡ Illegal n cause
     → IfOk r (λ due. (due.status ≡ 8) × (due.text ≡ verdict_text v)) → IfOk r (λ due. IsChecked a due.status due.text)
 illegal_due a w lines end v n cause (Ok due) w_is lines_are end_is is v_is h =
     let bad : IsVerdict a.world a.lines a.end (Illegal n cause) = rw (w_is, lines_are, end_is, v_is) at is in
@@ -102,12 +113,15 @@ at_most (command.RunOn cpus) range = inl (inr (inl (cpus, (refl, range))), refl)
 at_most command.Show range = inl (inr (inr refl), refl)
 at_most command.Check range = inr (refl, refl)
 
-pub read_due : {before after : Option (List ℕ)} {bytes same text : List ℕ} {status : ℕ} {made : Option State} (c : Command) (limit : ℕ) → IsInRange c → limit ≡ byte_limit c → Consumes before after bytes → IsAtEnd after → length bytes ≤ limit → same ≡ bytes
+pub read_due : {before after : Option (List ℕ)} {bytes same text : List ℕ} {status : ℕ} {made : Option State} (c : Command) (limit : ℕ) → IsInRange c → limit ≡ byte_limit c
+    → Consumes before after bytes → IsAtEnd after → length bytes ≤ limit → same ≡ bytes
     → DueTo (words_of c) same status text made → Due (words_of c) before after status text made
 read_due {before} {after} {bytes} {same} {text} {status} {made} c limit range limit_is taken end few is due =
-    read bytes status text made (record { taken = taken; end = end; limit = limit; at_most = subst (λ n. ReadsAtMost (words_of c) n) (sym limit_is) (at_most c range); few = few }) (subst (λ b. DueTo (words_of c) b status text made) is due)
+    read bytes status text made (record { taken = taken; end = end; limit = limit; at_most = subst (λ n. ReadsAtMost (words_of c) n) (sym limit_is) (at_most c range); few = few })
+    (subst (λ b. DueTo (words_of c) b status text made) is due)
 
-pub too_long_due : {before after : Option (List ℕ)} {status : ℕ} {text : List ℕ} {made : Option State} (c : Command) (limit : ℕ) → IsInRange c → limit ≡ byte_limit c → Took before after (λ bytes. limit < length bytes) → (status ≡ 3) × (text ≡ too_long_text) × (made ≡ None)
+pub too_long_due : {before after : Option (List ℕ)} {status : ℕ} {text : List ℕ} {made : Option State} (c : Command) (limit : ℕ) → IsInRange c → limit ≡ byte_limit c
+    → Took before after (λ bytes. limit < length bytes) → (status ≡ 3) × (text ≡ too_long_text) × (made ≡ None)
     → Due (words_of c) before after status text made
 too_long_due c limit range limit_is took h = rw (h.0, h.1, h.2) (too_long limit (subst (λ n. ReadsAtMost (words_of c) n) (sym limit_is) (at_most c range)) took)
 
@@ -146,12 +160,15 @@ alone_ranges command.Show alone = tt
 alone_ranges command.Check alone = tt
 
 -- what a run of many processors, or of one, came to where the script is refused
-pub refused_served : {K : Type 0} (state : K → State) (c : Command) (bytes : List ℕ) (line : ℕ) (cause : Cause) (due : DueText) (served : Served K) → ReadsScript (words_of c) → world bytes ≡ Err (line, cause)
-    → (due.status ≡ 3) × (due.text ≡ refusal_text line (cause_name cause)) → served.due ≡ due → served.kernel ≡ None → DueTo (words_of c) bytes served.due.status served.due.text (option_map state served.kernel)
+pub refused_served : {K : Type 0} (state : K → State) (c : Command) (bytes : List ℕ) (line : ℕ) (cause : Cause) (due : DueText) (served : Served K) → ReadsScript (words_of c)
+    → world bytes ≡ Err (line, cause)
+    → (due.status ≡ 3) × (due.text ≡ refusal_text line (cause_name cause)) → served.due ≡ due → served.kernel ≡ None
+    → DueTo (words_of c) bytes served.due.status served.due.text (option_map state served.kernel)
 refused_served state c bytes line cause due served reads is told due_is none = rw (due_is, none, told.0, told.1) (script_refused line cause reads is)
 
 -- what is due where the source was not read to its end
-pub unread_due : {K : Type 0} (state : K → State) (c : Command) (limit : ℕ) (before after : Option (List ℕ)) (r : Result (Vec ℕ Global) ReadError) (error : ReadError) (out : Result (Served K) Silence) → IsInRange c → limit ≡ byte_limit c → r ≡ Err error
+pub unread_due : {K : Type 0} (state : K → State) (c : Command) (limit : ℕ) (before after : Option (List ℕ)) (r : Result (Vec ℕ Global) ReadError) (error : ReadError)
+    (out : Result (Served K) Silence) → IsInRange c → limit ≡ byte_limit c → r ≡ Err error
     → Took before after (λ bytes. IsErrOf r ReadError.TooLong ↔ (limit < length bytes)) → IfOk out (λ served. (error ≡ ReadError.TooLong) × IsTooLong served)
     → IfOk out (λ served. Due (words_of c) before after served.due.status served.due.text (option_map state served.kernel))
 unread_due state c limit before after r error (Ok served) range limit_is is took h =
@@ -159,8 +176,10 @@ unread_due state c limit before after r error (Ok served) range limit_is is took
 unread_due state c limit before after r error (Err silence) range limit_is is took h = tt
 
 -- a call whose text is said, or that is silent, with the kernel that it hands back
-pub answered : {K : Type 0} (P : Type 0) (state : K → State) {words : List (List ℕ)} {input output : Stream} (c : Command) (due : Result (Served K) Silence) (out : ℕ × Option K) → IsInRange c → words ≡ words_of c
-    → IfOk due (λ served. Due (words_of c) input.before input.after served.due.status served.due.text (option_map state served.kernel)) → (IsErrOf due Silence.ReadFault → HadFault input)
+pub answered : {K : Type 0} (P : Type 0) (state : K → State) {words : List (List ℕ)} {input output : Stream} (c : Command) (due : Result (Served K) Silence) (out : ℕ × Option K)
+    → IsInRange c → words ≡ words_of c
+    → IfOk due (λ served. Due (words_of c) input.before input.after served.due.status served.due.text (option_map state served.kernel))
+    → (IsErrOf due Silence.ReadFault → HadFault input)
     → IfOk due (λ served. (out.1 ≡ served.kernel) × IsSaid served.due.status served.due.text output out.0) → IfErr due (λ silence. (out ≡ (silent_status silence, None)) × P)
     → Answer words input output out.0 (option_map state out.1)
 answered {K} P state {words} {input} {output} c (Ok served) out range is due fault spoken quiet =

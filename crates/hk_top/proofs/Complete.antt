@@ -38,7 +38,8 @@ one_limit (inl h) (inr g) = absurd (one_input h.0 g.0)
 one_limit (inr h) (inl g) = absurd (one_input g.0 h.0)
 one_limit (inr h) (inr g) = h.1 ∙ sym g.1
 
-module _ {words : List (List ℕ)} {before after : Option (List ℕ)} (bytes : List ℕ) (limit : ℕ) (told : before ≡ Some bytes) (reads : ReadsAtMost words limit) (few : length bytes ≤ limit) where
+module _ {words : List (List ℕ)} {before after : Option (List ℕ)} (bytes : List ℕ) (limit : ℕ) (told : before ≡ Some bytes) (reads : ReadsAtMost words limit)
+    (few : length bytes ≤ limit) where
   due_told : {status : ℕ} {text : List ℕ} {made : Option State} → Due words before after status text made → DueTo words bytes status text made
   due_told {status} {text} {made} (read got _ _ _ was due) = subst (λ (b : List ℕ). DueTo words b status text made) (all_read before after bytes got told was.taken was.end) due
   due_told {status} {text} {made} (usage none same) = absurd (none (of_reading reads))
@@ -48,8 +49,10 @@ module _ {words : List (List ℕ)} {before after : Option (List ℕ)} (bytes : L
       let more = took.2 in
       absurd (omega (arith, less, same, more, few))
 
-pub complete : {words : List (List ℕ)} {input output : Stream} {status : ℕ} {made : Option State} → Answer words input output status made → IsComplete words input output status made
-complete {words} {input} {output} {status} {made} (written _ text _ due said) bytes limit told reads few quiet_in quiet_out = inr (text, due_told bytes limit told reads few due, said)
+pub complete : {words : List (List ℕ)} {input output : Stream} {status : ℕ} {made : Option State} → Answer words input output status made
+    → IsComplete words input output status made
+complete {words} {input} {output} {status} {made} (written _ text _ due said) bytes limit told reads few quiet_in quiet_out =
+    inr (text, due_told bytes limit told reads few due, said)
 complete {words} {input} {output} {status} {made} (read_fault command fault) bytes limit told reads few quiet_in quiet_out = absurd (quiet_in fault)
 complete {words} {input} {output} {status} {made} (no_memory command) bytes limit told reads few quiet_in quiet_out = inl refl
 complete {words} {input} {output} {status} {made} (write_fault _ text _ sent due fault some said) bytes limit told reads few quiet_in quiet_out = absurd (quiet_out fault)

@@ -8,7 +8,7 @@ use Rattle.hk_model.specs.declared.lines.End.TheVariants as end
 use Rattle.hk_model.specs.declared.objects.Process.{Process}
 use Rattle.hk_model.specs.declared.objects.ProcessState.{ProcessState}
 use Rattle.hk_model.specs.declared.objects.ProcessState.TheVariants.{Ready, Running, Waiting, Ended}
-use Rattle.hk_model.specs.Setup.{Setup}
+use Rattle.hk_model.specs.WorldValue.{WorldValue}
 use Rattle.hk_model.specs.State.{State}
 use Rattle.hk_model.specs.Processors.{runner, runner_from, is_ready, is_running, is_waiting, has_ended, may_step, dispatched_from}
 use Rattle.hk_model.specs.Running.{Machine, event_of, dispatch_event, step}
@@ -34,7 +34,8 @@ settled (p ∷ ps) h = by p.run (settled ps) h
     by Ended rest h = rest h
 
 -- a process before processes that are still
-still_before : (n : ℕ) (run : ProcessState) (current : Inc) (ps : List Process) → IsPlaced [] n run → runner_from (record { run = run; current = current } ∷ ps) first_processor n ≡ None
+still_before : (n : ℕ) (run : ProcessState) (current : Inc) (ps : List Process) → IsPlaced [] n run
+    → runner_from (record { run = run; current = current } ∷ ps) first_processor n ≡ None
     → (runner_from ps first_processor (n + 1) ≡ None → AreStill ps) → AreStill (record { run = run; current = current } ∷ ps)
 still_before n Ready current ps h r rest = absurd h
 still_before n (Running cpu) current ps h r rest = let g = rw h at r in absurd (cc)
@@ -51,11 +52,12 @@ data HasNone (s : State) : Type 0 where
   at_limit : may_step s ≡ false → HasNone s
   idle : runner s first_processor ≡ None → s.ready ≡ [] → HasNone s
 
-none_of : (w : Setup) (m : Machine) → step w m first_processor ≡ None → HasNone m.state
+none_of : (w : WorldValue) (m : Machine) → step w m first_processor ≡ None → HasNone m.state
 unfolding step
 none_of w m h = by (may_step m.state) refl h
   where
-    waits : (ready : List Proc) → m.state.ready ≡ ready → runner m.state first_processor ≡ None → dispatch_event m first_processor (dispatched_from m.state first_processor ready) ≡ None → HasNone m.state
+    waits : (ready : List Proc) → m.state.ready ≡ ready → runner m.state first_processor ≡ None
+        → dispatch_event m first_processor (dispatched_from m.state first_processor ready) ≡ None → HasNone m.state
     waits [] e r g = idle r e
     waits (first ∷ rest) e r g = absurd (cc)
 
@@ -68,7 +70,8 @@ none_of w m h = by (may_step m.state) refl h
     by false e g = at_limit e
 
 -- the choice of the end word, by its tests
-word_by : (ended busy waits may : Bool) → ((busy ≡ false) × ((ended ≡ true) ⊎ (waits ≡ true))) ⊎ (may ≡ false) → cond ended (Some end.Done) (cond (not busy && waits) (Some end.Stuck) (cond (not may) (Some end.Limit) None)) ≢ None
+word_by : (ended busy waits may : Bool) → ((busy ≡ false) × ((ended ≡ true) ⊎ (waits ≡ true))) ⊎ (may ≡ false)
+    → cond ended (Some end.Done) (cond (not busy && waits) (Some end.Stuck) (cond (not may) (Some end.Limit) None)) ≢ None
 word_by true busy waits may h e = absurd (cc)
 word_by false busy waits false h e = by busy waits e
   where
@@ -85,11 +88,15 @@ word_by false false false true (inr h) e = absurd (cc)
 
 -- where no process is ready or runs, or the limit is reached, the state has an end word
 pub word_there : (s : State) → AreStill s.processes ⊎ (may_step s ≡ false) → end_word s ≢ None
-word_there s (inl h) = word_by (list_all (λ (p : Process). has_ended p.run) s.processes) (list_any (λ (p : Process). is_ready p.run || is_running p.run) s.processes) (list_any (λ (p : Process). is_waiting p.run) s.processes) (may_step s) (inl (h, settled s.processes h))
-word_there s (inr h) = word_by (list_all (λ (p : Process). has_ended p.run) s.processes) (list_any (λ (p : Process). is_ready p.run || is_running p.run) s.processes) (list_any (λ (p : Process). is_waiting p.run) s.processes) (may_step s) (inr h)
+word_there s (inl h) =
+    word_by (list_all (λ (p : Process). has_ended p.run) s.processes) (list_any (λ (p : Process). is_ready p.run || is_running p.run) s.processes)
+    (list_any (λ (p : Process). is_waiting p.run) s.processes) (may_step s) (inl (h, settled s.processes h))
+word_there s (inr h) =
+    word_by (list_all (λ (p : Process). has_ended p.run) s.processes) (list_any (λ (p : Process). is_ready p.run || is_running p.run) s.processes)
+    (list_any (λ (p : Process). is_waiting p.run) s.processes) (may_step s) (inr h)
 
 -- the end word of a state in whose places processor 0 has no step
-pub ends : (w : Setup) (m : Machine) → Placed m.state → step w m first_processor ≡ None → end_word m.state ≢ None
+pub ends : (w : WorldValue) (m : Machine) → Placed m.state → step w m first_processor ≡ None → end_word m.state ≢ None
 ends w m p h = by (none_of w m h)
   where
     by : HasNone m.state → end_word m.state ≢ None

@@ -7,7 +7,7 @@ use Rattle.hk_format.specs.CauseTexts.{verdict_text}
 use Rattle.hk_format.specs.Audits.{Audited, audit, audited, events}
 use Rattle.hk_model.specs.Legal.{IsLegal}
 use Rattle.hk_format.specs.Records.{record_text}
-use Rattle.hk_model.specs.Setup.{Setup, IsWorld}
+use Rattle.hk_model.specs.WorldValue.{WorldValue, IsWorld}
 use Rattle.hk_model.specs.State.{State}
 use Rattle.hk_audit.proofs.RecordAgain.{record_again}
 use Rattle.hk_audit.proofs.StepsInRange.{steps_in_range}
@@ -17,7 +17,7 @@ use Rattle.hk_top.specs.Words.{words_of, ReadsScript}
 use Rattle.hk_top.specs.Outputs.{DueTo, IsChecked, IsRunOf, record_of, script_of, verdict_of, script_refused, record_refused, legal, illegal, alone, shared}
 
 -- the words `check` read no script and ask for no run
-no_run : {w : Setup} {lines : List Line} {end : End} → IsRunOf (words_of command.Check) w lines end → ⊥
+no_run : {w : WorldValue} {lines : List Line} {end : End} → IsRunOf (words_of command.Check) w lines end → ⊥
 no_run (alone is run) = absurd (cc)
 no_run (shared cpus is run) = let words = is.0 in absurd (cc)
 
@@ -30,7 +30,8 @@ checked_legal : (a : Audited) (status : ℕ) (text : List ℕ) → IsLegal a.wor
 checked_legal a status text h (legal is laws) = (refl, refl)
 checked_legal a status text h (illegal n cause is) = let same = one_verdict a.world a.lines a.end Legal (Illegal n cause) h is in absurd (cc)
 
-pub found_legal : (w : Setup) (lines : List Line) (end : End) → IsWorld w → IsLegal w lines end → (status : ℕ) (text : List ℕ) (made : Option State) → DueTo (words_of command.Check) (record_text w lines end) status text made → (status ≡ 0) × (text ≡ verdict_text Legal)
+pub found_legal : (w : WorldValue) (lines : List Line) (end : End) → IsWorld w → IsLegal w lines end → (status : ℕ) (text : List ℕ) (made : Option State)
+    → DueTo (words_of command.Check) (record_text w lines end) status text made → (status ≡ 0) × (text ≡ verdict_text Legal)
 found_legal w lines end world is status text made due = by due
   where
     again : audit (record_text w lines end) ≡ Ok (audited w (events lines end))

@@ -10,7 +10,7 @@ use Rattle.hk_model.specs.declared.lines.Line.{Line}
 use Rattle.hk_model.specs.declared.lines.End.{End}
 use Rattle.hk_model.specs.declared.frames.Todo.{Todo}
 use Rattle.hk_model.specs.declared.frames.Todo.TheVariants as todo
-use Rattle.hk_model.specs.Setup.{Setup}
+use Rattle.hk_model.specs.WorldValue.{WorldValue}
 use Rattle.hk_model.specs.State.{State}
 use Rattle.hk_model.specs.Legal.{end_word}
 use Rattle.hk_model.specs.Processors.{runner, may_step, dispatched_from}
@@ -27,7 +27,7 @@ record IsStep (m : Machine) (cpu : Cpu) (line : Line) : Type 0 where
   cpu_is : line.cpu ≡ cpu
   may : may_step m.state ≡ true
 
-event_cpu : (w : Setup) (m : Machine) (cpu : Cpu) (proc : Proc) (t : Todo × Context) → (event w m cpu proc t).0.cpu ≡ cpu
+event_cpu : (w : WorldValue) (m : Machine) (cpu : Cpu) (proc : Proc) (t : Todo × Context) → (event w m cpu proc t).0.cpu ≡ cpu
 event_cpu w m cpu proc (todo.Do c, context) = refl
 event_cpu w m cpu proc (todo.Halt, context) = refl
 
@@ -36,7 +36,7 @@ abbrev cpu_in : Cpu → Option (Line × Machine) → Cpu
 cpu_in cpu None = cpu
 cpu_in cpu (Some found) = found.0.cpu
 
-step_is : (w : Setup) (m : Machine) (cpu : Cpu) (line : Line) (after : Machine) → step w m cpu ≡ Some (line, after) → IsStep m cpu line
+step_is : (w : WorldValue) (m : Machine) (cpu : Cpu) (line : Line) (after : Machine) → step w m cpu ≡ Some (line, after) → IsStep m cpu line
 unfolding step
 step_is w m cpu line after h = by (may_step m.state) (nat_lt cpu.0 16) refl h
   where
@@ -55,41 +55,44 @@ step_is w m cpu line after h = by (may_step m.state) (nat_lt cpu.0 16) refl h
 
 -- one line more
 
-after_one : (w : Setup) (m : Machine) (lines : List Line) (line : Line) → after_lines w m (lines ++ line ∷ []) ≡ moved w (after_lines w m lines) line.cpu
+after_one : (w : WorldValue) (m : Machine) (lines : List Line) (line : Line) → after_lines w m (lines ++ line ∷ []) ≡ moved w (after_lines w m lines) line.cpu
 after_one w m [] line = refl
 after_one w m (x ∷ lines) line = after_one w (moved w m x.cpu) lines line
 
-steps_one : (w : Setup) (m : Machine) (lines : List Line) (line : Line) → AreSteps w m lines → line_of w (after_lines w m lines) line.cpu ≡ Some line → AreSteps w m (lines ++ line ∷ [])
+steps_one : (w : WorldValue) (m : Machine) (lines : List Line) (line : Line) → AreSteps w m lines → line_of w (after_lines w m lines) line.cpu ≡ Some line
+    → AreSteps w m (lines ++ line ∷ [])
 steps_one w m [] line h e = (e, tt)
 steps_one w m (x ∷ lines) line h e = (h.0, steps_one w (moved w m x.cpu) lines line h.1 e)
 
 -- the lines of processor 0 alone, and the machine behind them
-pub record IsHistory (w : Setup) (lines : List Line) (m : Machine) : Type 0 where
+pub record IsHistory (w : WorldValue) (lines : List Line) (m : Machine) : Type 0 where
   pub steps : AreStepsOf w lines
   pub machine : after_lines w (opened w) lines ≡ m
   pub alone : All (λ (line : Line). line.cpu ≡ first_processor) lines
   pub placed : Placed m.state
 
-opened_placed : (w : Setup) → Placed (opened w).state
+opened_placed : (w : WorldValue) → Placed (opened w).state
 unfolding opened
 opened_placed w = opening_placed w
 
-pub begins : (w : Setup) (lines : List Line) (m : Machine) → lines ≡ [] → m ≡ opened w → IsHistory w lines m
+pub begins : (w : WorldValue) (lines : List Line) (m : Machine) → lines ≡ [] → m ≡ opened w → IsHistory w lines m
 begins w lines m e f = rw (e, f) (record { steps = tt; machine = refl; alone = All-nil (λ (l : Line). l.cpu ≡ first_processor); placed = opened_placed w })
 
 -- what the step of processor 0 does to a history
-pub record Grows (w : Setup) (lines : List Line) (m : Machine) (line : Line) (after : Machine) : Type 0 where
+pub record Grows (w : WorldValue) (lines : List Line) (m : Machine) (line : Line) (after : Machine) : Type 0 where
   pub history : IsHistory w (lines ++ line ∷ []) after
   pub fewer : after.state.limit - after.state.events < m.state.limit - m.state.events
 
-pub grows : (w : Setup) (lines : List Line) (m : Machine) (line : Line) (after : Machine) → IsHistory w lines m → step w m first_processor ≡ Some (line, after) → Grows w lines m line after
+pub grows : (w : WorldValue) (lines : List Line) (m : Machine) (line : Line) (after : Machine) → IsHistory w lines m → step w m first_processor ≡ Some (line, after)
+    → Grows w lines m line after
 grows w lines m line after h e =
     let i = step_is w m first_processor line after e in
     let there : step w m line.cpu ≡ Some (line, after) = ap (step w m) i.cpu_is ∙ e in
     let tells : line_of w m line.cpu ≡ Some line = ap (λ (found : Option (Line × Machine)). option_map (λ f. f.0) found) there in
     let moves : moved w m line.cpu ≡ after = ap (λ (found : Option (Line × Machine)). unwrap_or (option_map (λ f. f.1) found) m) there in
     let goes : GoesOn m.state line after.state = subst (λ (x : Machine). GoesOn m.state line x.state) moves (moved_holds GoesOn each_goes w m line tells) in
-    let event : after.state.events ≡ m.state.events + 1 = ap (λ (x : Machine). x.state.events) (sym moves) ∙ moved_holds (λ s l t. t.events ≡ s.events + 1) events_each w m line tells in
+    let event : after.state.events ≡ m.state.events + 1 = ap (λ (x : Machine). x.state.events) (sym moves) ∙ moved_holds (λ s l t. t.events ≡ s.events + 1)
+    events_each w m line tells in
     let below : m.state.events < m.state.limit = ltb-true m.state.events m.state.limit i.may in
     record {
       history = record {
@@ -102,16 +105,18 @@ grows w lines m line after h e =
     }
 
 -- the same, of the step that was found
-pub grows_by : (w : Setup) (lines : List Line) (m : Machine) (found : Option Line) (line : Line) (after : Machine) → IsHistory w lines m → IfSome found (λ line. step w m first_processor ≡ Some (line, after)) → found ≡ Some line → Grows w lines m line after
+pub grows_by : (w : WorldValue) (lines : List Line) (m : Machine) (found : Option Line) (line : Line) (after : Machine) → IsHistory w lines m
+    → IfSome found (λ line. step w m first_processor ≡ Some (line, after)) → found ≡ Some line → Grows w lines m line after
 grows_by w lines m found line after h made is = let e = rw is at made in grows w lines m line after h e
 
 -- the end of a history of processor 0
-pub record IsLast (w : Setup) (lines : List Line) (s : State) (word : Option End) : Type 0 where
+pub record IsLast (w : WorldValue) (lines : List Line) (s : State) (word : Option End) : Type 0 where
   pub state : s ≡ state_after w lines
   pub whole : (end : End) → word ≡ Some end → IsWholeRun w lines end
   pub there : word ≢ None
 
-pub last : (w : Setup) (lines : List Line) (m : Machine) (found : Option Line) (after : Machine) (s : State) (word : Option End) → IsHistory w lines m → IfNone found ((step w m first_processor ≡ None) × (after ≡ m)) → found ≡ None
+pub last : (w : WorldValue) (lines : List Line) (m : Machine) (found : Option Line) (after : Machine) (s : State) (word : Option End) → IsHistory w lines m
+    → IfNone found ((step w m first_processor ≡ None) × (after ≡ m)) → found ≡ None
     → s ≡ after.state → word ≡ end_word s → IsLast w lines s word
 last w lines m found after s word h none is at e =
     let n = rw is at none in

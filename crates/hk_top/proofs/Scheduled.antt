@@ -1,6 +1,7 @@
 -- What the lines of processor 0 keep: the limit, that each ready process stands in the list of the ready ones, and that no
 -- process runs on another processor. Each line is one event more.
-use Rattle.std.proofs.Common.{◌≡◌, ◌≢◌, ℕ, zero, suc, ◌+◌, ◌-◌, ◌<◌, List, [], ◌∷◌, ◌++◌, Bool, true, false, Option, Some, None, Ok, Err, refl, sym, ◌∙◌, ap, subst, arith, inl, inr}
+use Rattle.std.proofs.Common.{◌≡◌, ◌≢◌, ℕ, zero, suc, ◌+◌, ◌-◌, ◌<◌, List, [], ◌∷◌, ◌++◌, Bool, true, false, Option, Some, None, Ok, Err, refl, sym, ◌∙◌, ap, subst, arith, inl}
+use Rattle.std.proofs.Common.{inr}
 use Rattle.std.specs.Prelude.{◌⊎◌, IfOk, slice_set, slice_get, nat_lt, not, ◌==◌, length, filter}
 use Rattle.std.specs.Option.{unwrap_or}
 use Rattle.hk_model.specs.declared.names.Inc.{Inc}
@@ -24,13 +25,15 @@ use Rattle.hk_model.specs.declared.objects.ProcessState.{ProcessState}
 use Rattle.hk_model.specs.declared.objects.ProcessState.TheVariants.{Ready, Running, Waiting, Ended}
 use Rattle.hk_model.specs.declared.world.Task.{Task}
 use Rattle.hk_model.specs.Limits.{token_limit}
-use Rattle.hk_model.specs.Setup.{Setup}
+use Rattle.hk_model.specs.WorldValue.{WorldValue}
 use Rattle.hk_model.specs.Opening.{opening, all_ready, proc_numbers}
 use Rattle.hk_model.specs.State.{State, object, process, put_object, put_slot, put_process, add_object}
 use Rattle.hk_model.specs.Refusing.{unless}
-use Rattle.hk_model.specs.Targets.{SEMAPHORE, MODIFY+A0, is_type, target}
+use Rattle.hk_model.specs.Targets.{SEMAPHORE, MODIFY+A0, is_of_type, target}
 use Rattle.hk_model.specs.Keeping.{restricted}
-use Rattle.hk_model.specs.Rule.{Outcome, outcome, settled, counted, enter, give_to, leave_to, leave, enter_procedure, token_given, take_token, give_token, get_word, put_word, add_word, word_count, load_entry, store_entry, append_entry, erase_entry, drop_slot, restrict_slot, look, make_template, create_object, merge_cap, copy_object}
+use Rattle.hk_model.specs.Rule.{Outcome, outcome, settled, counted, enter, give_to, leave_to, leave, enter_procedure, token_given, take_token, give_token, get_word, put_word}
+use Rattle.hk_model.specs.Rule.{add_word, word_count, load_entry, store_entry, append_entry, erase_entry, drop_slot, restrict_slot, look, make_template, create_object, merge_cap}
+use Rattle.hk_model.specs.Rule.{copy_object}
 use Rattle.hk_model.proofs.TestLemmas.{then_is, and_is}
 use Rattle.hk_model.proofs.Steps.{EachStep, given_to}
 
@@ -84,7 +87,8 @@ placed_above t ready after n (p ∷ ps) low f h =
     (placed_more ready after n p.run (f n (λ e. omega (arith, low, e))) h.0, placed_above t ready after (n + 1) ps (omega (arith, low)) f h.1)
 
 -- one process changes
-placed_set : (t : ℕ) (ready after : List Proc) (n : ℕ) (ps : List Process) (k : ℕ) (new : Process) → n + k ≡ t → HasOthers t ready after → IsPlaced after t new.run → ArePlaced ready n ps → ArePlaced after n (slice_set ps k new)
+placed_set : (t : ℕ) (ready after : List Proc) (n : ℕ) (ps : List Process) (k : ℕ) (new : Process) → n + k ≡ t → HasOthers t ready after → IsPlaced after t new.run
+    → ArePlaced ready n ps → ArePlaced after n (slice_set ps k new)
 placed_set t ready after n [] k new e f g h = tt
 placed_set t ready after n (p ∷ ps) zero new e f g h =
     let same : n ≡ t = omega (arith, e) in
@@ -93,7 +97,8 @@ placed_set t ready after n (p ∷ ps) (suc k) new e f g h =
     (placed_more ready after n p.run (f n (λ x. omega (arith, e, x))) h.0, placed_set t ready after (n + 1) ps k new (omega (arith, e)) f g h.1)
 
 -- one process is in another incarnation
-placed_current : (ready : List Proc) (n : ℕ) (ps : List Process) (k : ℕ) (d : Process) (current : Inc) → ArePlaced ready n ps → ArePlaced ready n (slice_set ps k (record (unwrap_or (slice_get ps k) d) { current = current }))
+placed_current : (ready : List Proc) (n : ℕ) (ps : List Process) (k : ℕ) (d : Process) (current : Inc) → ArePlaced ready n ps
+    → ArePlaced ready n (slice_set ps k (record (unwrap_or (slice_get ps k) d) { current = current }))
 placed_current ready n [] k d current h = tt
 placed_current ready n (p ∷ ps) zero d current h = (h.0, h.1)
 placed_current ready n (p ∷ ps) (suc k) d current h = (h.0, placed_current ready (n + 1) ps k d current h.1)
@@ -129,33 +134,49 @@ kept_stops s u proc new stops h = record {
 }
 
 -- a process that becomes ready
-kept_ready : (s u : State) (proc : Proc) (current : Inc) → Kept s u → Kept s (record (put_process u proc (record { run = Ready; current = current })) { ready = u.ready ++ proc ∷ [] })
+kept_ready : (s u : State) (proc : Proc) (current : Inc) → Kept s u
+    → Kept s (record (put_process u proc (record { run = Ready; current = current })) { ready = u.ready ++ proc ∷ [] })
 kept_ready s u proc current h = record {
   limit = h.limit;
-  placed = λ p. placed_set proc.0 u.ready (u.ready ++ proc ∷ []) 0 u.processes proc.0 (record { run = Ready; current = current }) (omega arith) (λ n apart x. has_more u.ready proc n x) (has_push u.ready proc) (h.placed p);
+  placed =
+      λ p. placed_set proc.0 u.ready (u.ready ++ proc ∷ []) 0 u.processes proc.0 (record { run = Ready; current = current }) (omega arith) (λ n apart x. has_more u.ready proc n x)
+      (has_push u.ready proc) (h.placed p);
 }
 
 abbrev IsKept : State → Outcome → Type 0
 IsKept s o = IfOk o (λ f. Kept s f.1)
 
 token_kept : (s : State) (name : Name) (o : Object) (waiters : List Proc) → IsKept s (token_given s name o waiters)
-token_kept s name o [] = and_is (λ f. Kept s f.1) (unless (nat_lt o.count token_limit) (refused.Full full.Tokens)) (Ok (Done, put_object s name (record o { count = o.count + 1 }))) (λ u g. kept_object s s name (record o { count = o.count + 1 }) (kept_self s))
-token_kept s name o (first ∷ rest) = kept_ready s (put_object s name (record o { waiters = rest })) first (process s first).current (kept_object s s name (record o { waiters = rest }) (kept_self s))
+token_kept s name o [] =
+    and_is (λ f. Kept s f.1) (unless (nat_lt o.count token_limit) (refused.Full full.Tokens)) (Ok (Done, put_object s name (record o { count = o.count + 1 })))
+    (λ u g. kept_object s s name (record o { count = o.count + 1 }) (kept_self s))
+token_kept s name o (first ∷ rest) =
+    kept_ready s (put_object s name (record o { waiters = rest })) first (process s first).current (kept_object s s name (record o { waiters = rest }) (kept_self s))
 
 take_kept : (s : State) (proc : Proc) (inc : Inc) (path : List ℕ) → IsKept s (take_token s proc inc path)
 unfolding take_token
 take_kept s proc inc path =
-    then_is (λ f. Kept s f.1) (target s inc path (is_type SEMAPHORE) MODIFY+A0) (λ c. Ok (elim (nat_lt 0 (object s c.name).count) [
+    then_is (λ f. Kept s f.1) (target s inc path (is_of_type SEMAPHORE) MODIFY+A0) (λ c. Ok (elim (nat_lt 0 (object s c.name).count) [
       | true ↦ (Done, put_object s c.name (record (object s c.name) { count = (object s c.name).count - 1 }))
-      | false ↦ (Waits, put_process (put_object s c.name (record (object s c.name) { waiters = (object s c.name).waiters ++ proc ∷ [] })) proc (record (process s proc) { run = Waiting c.name }))
+      | false ↦ (
+        Waits,
+        put_process (put_object s c.name (record (object s c.name) { waiters = (object s c.name).waiters ++ proc ∷ [] })) proc
+            (record (process s proc) { run = Waiting c.name }),
+      )
     ])) (λ c g. by c (nat_lt 0 (object s c.name).count))
   where
     by : (c : Cap) (b : Bool) → Kept s (elim b as (λ x. Answer × State) [
       | true ↦ (Done, put_object s c.name (record (object s c.name) { count = (object s c.name).count - 1 }))
-      | false ↦ (Waits, put_process (put_object s c.name (record (object s c.name) { waiters = (object s c.name).waiters ++ proc ∷ [] })) proc (record (process s proc) { run = Waiting c.name }))
+      | false ↦ (
+        Waits,
+        put_process (put_object s c.name (record (object s c.name) { waiters = (object s c.name).waiters ++ proc ∷ [] })) proc
+            (record (process s proc) { run = Waiting c.name }),
+      )
     ]).1
     by c true = kept_object s s c.name (record (object s c.name) { count = (object s c.name).count - 1 }) (kept_self s)
-    by c false = kept_stops s (put_object s c.name (record (object s c.name) { waiters = (object s c.name).waiters ++ proc ∷ [] })) proc (record (process s proc) { run = Waiting c.name }) (λ ready n. tt) (kept_object s s c.name (record (object s c.name) { waiters = (object s c.name).waiters ++ proc ∷ [] }) (kept_self s))
+    by c false =
+        kept_stops s (put_object s c.name (record (object s c.name) { waiters = (object s c.name).waiters ++ proc ∷ [] })) proc (record (process s proc) { run = Waiting c.name })
+        (λ ready n. tt) (kept_object s s c.name (record (object s c.name) { waiters = (object s c.name).waiters ++ proc ∷ [] }) (kept_self s))
 
 entered_kept : (s : State) (new : Incarnation) → Kept s (enter s new)
 entered_kept s new = record {
@@ -171,8 +192,10 @@ gave_kept : (s u : State) (inc : Inc) (slot : ℕ) (c : Option Cap) → Kept s u
 gave_kept s u inc slot None h = h
 gave_kept s u inc slot (Some c) h = record { limit = h.limit; placed = h.placed }
 
-left_kept : (s : State) (proc : Proc) (incarnations : List (Inc × Incarnation)) (caller : Option Inc) (slot : ℕ) (c : Option Cap) → Kept s (leave_to (record s { incarnations = incarnations }) proc caller slot c)
-left_kept s proc incarnations None slot c = kept_stops s (record s { incarnations = incarnations }) proc (record (process s proc) { run = Ended }) (λ ready n. tt) (kept_incarnations s incarnations)
+left_kept : (s : State) (proc : Proc) (incarnations : List (Inc × Incarnation)) (caller : Option Inc) (slot : ℕ) (c : Option Cap)
+    → Kept s (leave_to (record s { incarnations = incarnations }) proc caller slot c)
+left_kept s proc incarnations None slot c =
+    kept_stops s (record s { incarnations = incarnations }) proc (record (process s proc) { run = Ended }) (λ ready n. tt) (kept_incarnations s incarnations)
 left_kept s proc incarnations (Some k) slot c =
     gave_kept s (put_process (record s { incarnations = incarnations }) proc (record (process s proc) { current = k })) k slot c
     (record { limit = refl; placed = λ p. placed_current s.ready 0 s.processes proc.0 (record { run = Ended; current = record { 0 = 0 } }) k p })
@@ -183,7 +206,8 @@ leave_kept s proc inc give = search (then_is, left_kept)
 
 -- every call
 outcome_kept : (s : State) (proc : Proc) (inc : Inc) (c : Call) → IsKept s (outcome s proc inc c)
-unfolding get_word put_word add_word word_count load_entry store_entry append_entry erase_entry drop_slot restrict_slot look make_template create_object merge_cap copy_object give_token
+unfolding get_word put_word add_word word_count load_entry store_entry append_entry erase_entry drop_slot restrict_slot look make_template create_object
+    merge_cap copy_object give_token
 outcome_kept s proc inc (call.Get of at) = search (then_is, kept_self)
 outcome_kept s proc inc (call.Put of at word) = search (then_is, and_is, kept_self, kept_object)
 outcome_kept s proc inc (call.Add of word) = search (then_is, and_is, kept_self, kept_object)
@@ -224,13 +248,18 @@ call_goes s line (Err r) h = goes_on s line s (kept_self s)
 dispatch_goes : (s : State) (line : Line) (cpu : Cpu) (first : Proc) (rest : List Proc) → line.cpu ≡ cpu → s.ready ≡ first ∷ rest → GoesOn s line (given_to s cpu first rest)
 dispatch_goes s line cpu first rest c r = record {
   limit = refl;
-  placed = λ e p. placed_set first.0 s.ready rest 0 s.processes first.0 (record (process s first) { run = Running cpu }) (omega arith) (λ n apart h. has_rest first rest n apart (subst (λ ready. Has ready n) r h)) (ap (λ (x : Cpu). x.0) (sym c) ∙ e) p;
+  placed =
+      λ e p. placed_set first.0 s.ready rest 0 s.processes first.0 (record (process s first) { run = Running cpu }) (omega arith)
+      (λ n apart h. has_rest first rest n apart (subst (λ ready. Has ready n) r h)) (ap (λ (x : Cpu). x.0) (sym c) ∙ e) p;
 }
 
 pub each_goes : EachStep GoesOn
 each_goes = record {
   calls = λ s cpu proc c r. call_goes s _ (outcome s proc (process s proc).current c) (outcome_kept s proc (process s proc).current c);
-  halts = λ s cpu proc r. goes_restricted s _ (put_process (record s { incarnations = filter (λ e. not (e.1.proc.0 == proc.0)) s.incarnations }) proc (record (process s proc) { run = Ended })) (kept_stops s (record s { incarnations = filter (λ e. not (e.1.proc.0 == proc.0)) s.incarnations }) proc (record (process s proc) { run = Ended }) (λ ready n. tt) (kept_incarnations s (filter (λ e. not (e.1.proc.0 == proc.0)) s.incarnations)));
+  halts =
+      λ s cpu proc r. goes_restricted s _ (put_process (record s { incarnations = filter (λ e. not (e.1.proc.0 == proc.0)) s.incarnations }) proc
+      (record (process s proc) { run = Ended })) (kept_stops s (record s { incarnations = filter (λ e. not (e.1.proc.0 == proc.0)) s.incarnations }) proc
+      (record (process s proc) { run = Ended }) (λ ready n. tt) (kept_incarnations s (filter (λ e. not (e.1.proc.0 == proc.0)) s.incarnations)));
   dispatches = λ s cpu first rest r. dispatch_goes s _ cpu first rest refl r;
 }
 
@@ -244,9 +273,12 @@ all_in n (suc k) (t ∷ ts) h = let e : n + suc k ≡ n + 1 + k = omega arith in
 all_placed : (ready : List Proc) (n : ℕ) (ts : List Task) → ((k : ℕ) → k < length ts → Has ready (n + k)) → ArePlaced ready n (all_ready n ts)
 all_placed ready n [] h = tt
 all_placed ready n (t ∷ ts) h =
-    let here : n + 0 ≡ n = omega arith in
-    (subst (Has ready) here (h 0 (omega arith)), all_placed ready (n + 1) ts (λ k b. let e : n + suc k ≡ n + 1 + k = omega arith in subst (Has ready) e (h (suc k) (omega (arith, b)))))
+    let here : n + 0 ≡ n = omega arith in (
+      subst (Has ready) here (h 0 (omega arith)),
+      all_placed ready (n + 1) ts
+          (λ k b. let e : n + suc k ≡ n + 1 + k = omega arith in subst (Has ready) e (h (suc k) (omega (arith, b)))),
+    )
 
-pub opening_placed : (w : Setup) → Placed (opening w)
+pub opening_placed : (w : WorldValue) → Placed (opening w)
 unfolding opening
 opening_placed w = all_placed (proc_numbers 0 w.tasks) 0 w.tasks (λ k b. all_in 0 k w.tasks b)

@@ -1,8 +1,8 @@
 -- Words that spell a number of processors.
 use Rattle.std.specs.Prelude.{◌≡◌, ℕ, List, Option, Some, None, IfNone}
 use Rattle.std.proofs.Common.{arith, ap, sym, ◌∙◌}
-use Rattle.hk_audit.specs.Seen.{numeral_of}
-use Rattle.hk_audit.proofs.Clear.{numeral_again}
+use Rattle.hk_text.specs.Numerals.{numeral_of}
+use Rattle.hk_text.proofs.NumeralTexts.{numeral_again}
 use Rattle.hk_top.specs.Words.{MayRun, IsNoNumber}
 
 -- what spells no numeral spells no number of processors

@@ -11,7 +11,7 @@ use Rattle.hk_model.specs.declared.lines.Line.{Line}
 use Rattle.hk_model.specs.declared.lines.End.{End}
 use Rattle.hk_model.specs.declared.lines.End.TheVariants as end
 use Rattle.hk_format.specs.CauseTexts.{cause_name, refusal_text, too_long_text, verdict_text}
-use Rattle.hk_model.specs.Setup.{Setup}
+use Rattle.hk_model.specs.WorldValue.{WorldValue}
 use Rattle.hk_model.specs.State.{State}
 use Rattle.hk_model.specs.Running.{opened, step, after_lines, state_after}
 use Rattle.hk_model.specs.Legal.{IsLegal}
@@ -20,6 +20,7 @@ use Rattle.hk_model.specs.Descent.{DescentLaw}
 use Rattle.hk_model.specs.Marks.{EnvironmentLaw}
 use Rattle.hk_model.specs.Confinement.{ConfinementLaw, ClosedCallLaw}
 use Rattle.hk_model.specs.Kept.{KeptLaw}
+use Rattle.hk_bound.specs.Bounds.{BoundLaw}
 use Rattle.hk_format.specs.Worlds.{world}
 use Rattle.hk_format.specs.Canonical.{canon}
 use Rattle.hk_format.specs.Records.{record_text}
@@ -35,28 +36,29 @@ abbrev pub first_processor : Cpu
 first_processor = record { 0 = 0 }
 
 -- a whole run of a world on processor 0: its steps from the opening on, until it has none
-pub record IsWholeRun (w : Setup) (lines : List Line) (end : End) : Type 0 where
+pub record IsWholeRun (w : WorldValue) (lines : List Line) (end : End) : Type 0 where
   pub legal : IsLegal w lines end
   pub alone : All (λ (line : Line). line.cpu ≡ first_processor) lines
   pub last : step w (after_lines w (opened w) lines) first_processor ≡ None
 
 -- a run of a world on so many processors: whichever of them made each line, the history is legal
-pub record IsRunBy (w : Setup) (cpus : ℕ) (lines : List Line) (end : End) : Type 0 where
+pub record IsRunBy (w : WorldValue) (cpus : ℕ) (lines : List Line) (end : End) : Type 0 where
   pub legal : IsLegal w lines end
   pub below : All (λ (line : Line). line.cpu.0 < cpus) lines
 
 -- a run of a world that these words ask for
-pub data IsRunOf (words : List (List ℕ)) (w : Setup) (lines : List Line) (end : End) : Type 0 where
+pub data IsRunOf (words : List (List ℕ)) (w : WorldValue) (lines : List Line) (end : End) : Type 0 where
   alone : IsRun words → IsWholeRun w lines end → IsRunOf words w lines end
   shared : (cpus : ℕ) → IsRunOn words cpus → IsRunBy w cpus lines end → IsRunOf words w lines end
 
--- the laws of protection over these lines, and that of kept objects
-pub record IsLawful (w : Setup) (lines : List Line) : Type 0 where
+-- the laws of protection over these lines, that of kept objects, and that of the static bound
+pub record IsLawful (w : WorldValue) (lines : List Line) : Type 0 where
   pub descent : DescentLaw w lines
   pub environment : EnvironmentLaw w lines
   pub confinement : ConfinementLaw w lines
   pub closed_call : ClosedCallLaw w lines
   pub kept : KeptLaw w lines
+  pub bound : BoundLaw w w lines
 
 -- the status of a run that ended so
 abbrev pub status_of : End → ℕ
@@ -65,13 +67,13 @@ status_of end.Stuck = 1
 status_of end.Limit = 7
 
 -- the record of these lines, of which the laws hold, and its status
-pub record IsRecord (w : Setup) (lines : List Line) (end : End) (status : ℕ) (text : List ℕ) : Type 0 where
+pub record IsRecord (w : WorldValue) (lines : List Line) (end : End) (status : ℕ) (text : List ℕ) : Type 0 where
   pub laws : IsLawful w lines
   pub status_is : status ≡ status_of end
   pub text_is : text ≡ record_text w lines end
 
 -- the record of a run that these words ask for, and the state of the kernel that made it: the lines lead there
-pub record IsRecorded (words : List (List ℕ)) (w : Setup) (status : ℕ) (text : List ℕ) (made : Option State) : Type 0 where
+pub record IsRecorded (words : List (List ℕ)) (w : WorldValue) (status : ℕ) (text : List ℕ) (made : Option State) : Type 0 where
   pub lines : List Line
   pub end : End
   pub run : IsRunOf words w lines end
@@ -89,9 +91,9 @@ pub data IsChecked (a : Audited) : ℕ → List ℕ → Type 0 where
 -- made a record
 pub data DueTo (words : List (List ℕ)) (bytes : List ℕ) : ℕ → List ℕ → Option State → Type 0 where
   -- 0, 1, 7: the bytes are the script of a world, and the text is the record of its run
-  record_of : (w : Setup) (status : ℕ) (text : List ℕ) (made : Option State) → world bytes ≡ Ok w → IsRecorded words w status text made → DueTo words bytes status text made
+  record_of : (w : WorldValue) (status : ℕ) (text : List ℕ) (made : Option State) → world bytes ≡ Ok w → IsRecorded words w status text made → DueTo words bytes status text made
   -- 0: the bytes are the script of a world, and the text is its canonical script
-  script_of : (w : Setup) → IsShow words → world bytes ≡ Ok w → DueTo words bytes 0 (canon w) None
+  script_of : (w : WorldValue) → IsShow words → world bytes ≡ Ok w → DueTo words bytes 0 (canon w) None
   -- 0, 8: the bytes are a record, and the text is the verdict on it
   verdict_of : (a : Audited) (status : ℕ) (text : List ℕ) → IsCheck words → audit bytes ≡ Ok a → IsChecked a status text → DueTo words bytes status text None
   -- 3: the bytes are the script of no world, and the text is the first line that is refused, with its first cause
@@ -110,7 +112,8 @@ pub record WasRead (words : List (List ℕ)) (before after : Option (List ℕ)) 
 -- the same, by what a source had before and after
 pub data Due (words : List (List ℕ)) (before after : Option (List ℕ)) : ℕ → List ℕ → Option State → Type 0 where
   -- 0, 1, 3, 7, 8: the source was read
-  read : (bytes : List ℕ) (status : ℕ) (text : List ℕ) (made : Option State) → WasRead words before after bytes → DueTo words bytes status text made → Due words before after status text made
+  read : (bytes : List ℕ) (status : ℕ) (text : List ℕ) (made : Option State) → WasRead words before after bytes → DueTo words bytes status text made
+      → Due words before after status text made
   -- 2: the words are no command; the source is untouched
   usage : (IsCommand words → ⊥) → after ≡ before → Due words before after 2 usage_text None
   -- 3: more bytes were taken than these words may read
@@ -133,7 +136,8 @@ HadFault s = Rose s.faults_before s.faults_after
 -- the status of a call and the state of the kernel that it hands back, if it does, and why they come
 pub data Answer (words : List (List ℕ)) (input output : Stream) : ℕ → Option State → Type 0 where
   -- 0, 1, 2, 3, 7, 8: the sink took the whole text that is due
-  written : (status : ℕ) (text : List ℕ) (made : Option State) → Due words input.before input.after status text made → Appends output.before output.after text → Answer words input output status made
+  written : (status : ℕ) (text : List ℕ) (made : Option State) → Due words input.before input.after status text made → Appends output.before output.after text
+      → Answer words input output status made
   -- 4: a read failed
   read_fault : IsCommand words → HadFault input → Answer words input output 4 None
   -- 5: want of memory

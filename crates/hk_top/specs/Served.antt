@@ -1,6 +1,6 @@
 -- What a command comes to. docs/FORMATS.md, "Statuses and outputs".
 use Rattle.std.specs.Prelude.{◌≡◌, ℕ, List, Option, None, option_map}
-use Rattle.hk_model.specs.Setup.{Setup}
+use Rattle.hk_model.specs.WorldValue.{WorldValue}
 use Rattle.hk_model.specs.State.{State}
 use Rattle.hk_format.specs.CauseTexts.{too_long_text}
 use Rattle.hk_top.specs.declared.served.Served.{Served}
@@ -18,7 +18,7 @@ module _ {K : Type 0} (state : K → State) where
   IsDue words before after served = Due words before after served.due.status served.due.text (option_map state served.kernel)
 
   -- what is served is the record of a run of this world that these words ask for
-  abbrev pub Records : List (List ℕ) → Setup → Served K → Type 0
+  abbrev pub Records : List (List ℕ) → WorldValue → Served K → Type 0
   Records words w served = IsRecorded words w served.due.status served.due.text (option_map state served.kernel)
 
 -- the refusal of more bytes than may be read

@@ -15,16 +15,11 @@ use crate::served::{Served, Silence};
 use crate::status;
 use crate::words::{Command, read_command};
 use hk_io::{ReadError, Sink, Source, read_all, write_all};
+use hk_model::limits::{RECORD_BYTES, SCRIPT_BYTES};
 use hk_procs::Gate;
 use std::alloc::Global;
 use std::sync::Wait;
 use std::thread::Threads;
-
-/// The largest script, in bytes.
-const SCRIPT_BYTES: usize = 1_048_576;
-
-/// The largest record, in bytes.
-const RECORD_BYTES: usize = 536_870_912;
 
 /// The top call: serves the words of a command. It reads the source, writes one text to the sink, and
 /// gives the status (`docs/FORMATS.md`, "Statuses and outputs"); where the text is the record of a

@@ -3,7 +3,7 @@
 ghost use Rattle.std.specs.Prelude.{◌≤◌, length};
 ghost use Rattle.hk_model.specs.Limits.{script_bytes};
 
-use hk_audit::read_world;
+use hk_load::read_world;
 use hk_model::{
     Call, Cpu, Entry, Inc, Kernel, Making, Name, NoMemory, Refusal, Reply, Seen, Snapshot, What,
     World,

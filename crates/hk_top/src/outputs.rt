@@ -17,9 +17,10 @@ use crate::running::{laws, run_alone};
 use crate::served::{DueText, Served};
 use crate::status;
 use crate::words::Command;
-use hk_audit::{Audit, RecordError, read_record, read_world, record_text, steps_have_texts};
+use hk_audit::{Audit, RecordError, read_record, record_text, steps_have_texts};
 use hk_check::check;
 use hk_format::Cause;
+use hk_load::{WorldError, read_world};
 use hk_model::{End, Kernel, Line, NoMemory, Text, Verdict, World};
 use hk_print::script_text;
 use std::alloc::Global;
@@ -78,10 +79,8 @@ fn run_script<M: Maker>(
             let kernel = kernels.make(alloc, &world)?;
             recorded(alloc, &world, kernel)
         }
-        Err(RecordError::Refused { line, cause }) => {
-            Ok(text_alone(refused(alloc, line, cause)?))
-        }
-        Err(RecordError::NoMemory) => Err(NoMemory),
+        Err(WorldError::Refused { line, cause }) => { Ok(text_alone(refused(alloc, line, cause)?)) }
+        Err(WorldError::NoMemory) => Err(NoMemory),
     }
 }
 
@@ -104,8 +103,8 @@ fn show_script(alloc: Global, bytes: &[u8]) -> Result<DueText, NoMemory>
 {
     match read_world(alloc, bytes) {
         Ok(world) => script(alloc, &world),
-        Err(RecordError::Refused { line, cause }) => refused(alloc, line, cause),
-        Err(RecordError::NoMemory) => Err(NoMemory),
+        Err(WorldError::Refused { line, cause }) => refused(alloc, line, cause),
+        Err(WorldError::NoMemory) => Err(NoMemory),
     }
 }
 

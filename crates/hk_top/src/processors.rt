@@ -12,7 +12,7 @@ use crate::maker::Maker;
 use crate::outputs::{record, refused, text_alone};
 use crate::served::Served;
 use crate::words::Command;
-use hk_audit::{RecordError, read_world};
+use hk_load::{WorldError, read_world};
 use hk_model::{Kernel, NoMemory, World};
 use hk_procs::{Gate, Noted, work};
 use hk_program::end_word;
@@ -42,10 +42,8 @@ pub(crate) fn run_script_on<G: Gate + Sync, M: Maker, R: Threads + Wait + Sync>(
             let kernel = kernels.make(alloc, &world)?;
             run_on(rt, alloc, cpus, &world, gate, kernel)
         }
-        Err(RecordError::Refused { line, cause }) => {
-            Ok(text_alone(refused(alloc, line, cause)?))
-        }
-        Err(RecordError::NoMemory) => Err(NoMemory),
+        Err(WorldError::Refused { line, cause }) => { Ok(text_alone(refused(alloc, line, cause)?)) }
+        Err(WorldError::NoMemory) => Err(NoMemory),
     }
 }
 

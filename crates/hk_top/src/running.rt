@@ -5,6 +5,7 @@ ghost use Rattle.hk_model.specs.Opening.{opening};
 ghost use Rattle.hk_model.specs.Running.{AreStepsOf, state_after};
 ghost use Rattle.hk_top.specs.Outputs.{IsWholeRun, IsLawful};
 
+use hk_bound::bound_law;
 use hk_confine::{closed_call_law, confinement_law};
 use hk_descent::{descent_law, environment_law};
 use hk_model::{Cpu, End, Items, Kernel, Line, NoMemory, World};
@@ -48,8 +49,8 @@ pub(crate) fn run_alone<K: Kernel>(
     })
 }
 
-/// The laws of protection, and that of kept objects, over the lines of a history. The function does nothing: its contract is
-/// what it is for.
+/// The laws of protection, that of kept objects and that of the static bound, over the lines of a history.
+/// The function does nothing: its contract is what it is for.
 pub(crate) fn laws(world: &World, lines: &[Line])
     requires { AreStepsOf world.now lines.now }
     ensures { IsLawful world.now lines.now }
@@ -59,4 +60,5 @@ pub(crate) fn laws(world: &World, lines: &[Line])
     confinement_law(world, lines);
     closed_call_law(world, lines);
     kept_law(world, lines);
+    bound_law(world, world, lines);
 }

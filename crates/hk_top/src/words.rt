@@ -4,7 +4,8 @@ ghost use Rattle.std.specs.Prelude.{◌≡◌, [], ◌∷◌, IfSome, IfNone, ma
 ghost use Rattle.std.specs.Fmt.{decimal};
 ghost use Rattle.hk_top.specs.Words.{Calls, MayRun, IsNoNumber};
 
-use hk_audit::numeral;
+use hk_model::limits::CPU_LIMIT;
+use hk_text::numeral;
 
 /// What the program can do.
 #[derive(Clone, Copy, PartialEq, Eq, Debug)]
@@ -62,7 +63,8 @@ fn processors(word: &str) -> Option<u8>
     ensures none { IfNone result (IsNoNumber word.now) }
 {
     let cpus = numeral(word.as_bytes())?;
-    if cpus < 1 || cpus > 16 {
+    let most = u64::from(CPU_LIMIT);
+    if cpus < 1 || cpus > most {
         return None;
     }
     Some(cpus as u8)

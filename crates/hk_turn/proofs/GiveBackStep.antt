@@ -1,5 +1,6 @@
 -- Finish and back keep the rule.
-use Rattle.std.proofs.Common.{◌≡◌, ◌≢◌, ℕ, ◌+◌, ◌*◌, ◌<◌, true, false, true≢false, List, [], ◌∷◌, ◌++◌, Some, None, Option, length, set, sym, refl, ap, ◌∙◌, subst, arith, length-append}
+use Rattle.std.proofs.Common.{◌≡◌, ◌≢◌, ℕ, ◌+◌, ◌*◌, ◌<◌, true, false, true≢false, List, [], ◌∷◌, ◌++◌, Some, None, Option, length, set, sym, refl, ap, ◌∙◌, subst, arith}
+use Rattle.std.proofs.Common.{length-append}
 use Rattle.std.specs.Prelude.{All}
 use Rattle.std.proofs.lemmas.List.Elements.{All-append}
 use mathlib.Core.List.{IsPrefix}
@@ -18,17 +19,19 @@ module _ {T E : Type 0} (stands : T → List E → Type 0) (owner : E → ℕ) (
   Rule = KeepsRule stands owner seats
 
   -- what a view of the list knows stays so where the list grows by entries of another number
-  fits_longer : (list more : List E) (top number : ℕ) (u : View E) → All (λ e. owner e ≡ number) more → u.number ≢ number → Fits owner list seats top u → Fits owner (list ++ more) seats top u
+  fits_longer : (list more : List E) (top number : ℕ) (u : View E) → All (λ e. owner e ≡ number) more → u.number ≢ number → Fits owner list seats top u
+      → Fits owner (list ++ more) seats top u
   fits_longer list more top number u mine other h = record {
     goes_on = goes_further owner u.number u.seen list more h.goes_on (λ k d l is. other (sym is ∙ mine k d l));
-    told = λ k d l. prefix_longer _ _ more (h.told k d l);
+    lists_told = λ k d l. prefix_longer _ _ more (h.lists_told k d l);
     known = omega (arith, h.known, length-append list more);
     seats_are = h.seats_are;
     below = h.below;
   }
 
   -- finish and back keep the rule: the list grows by entries of the seat's own number, one or none
-  pub give_back_keeps_rule : (noted : List E → Type 0) (slots id : ℕ) (me : AtSeat T E) (x : T) (list more : List E) (new : ℕ) → 0 < me.0.weight → me.0.holds ≡ true → me.1 ≡ (0, Some x) ∷ [] → noted list → stands x list → list ≡ me.0.found ++ more → All (λ e. owner e ≡ me.0.number) more
+  pub give_back_keeps_rule : (noted : List E → Type 0) (slots id : ℕ) (me : AtSeat T E) (x : T) (list more : List E) (new : ℕ) → 0 < me.0.weight → me.0.holds ≡ true
+      → me.1 ≡ (0, Some x) ∷ [] → noted list → stands x list → list ≡ me.0.found ++ more → All (λ e. owner e ≡ me.0.number) more
       → new ≡ 2 * length list → Allows Rule slots id me 0 (λ _. new) (λ _. GivesBack noted (step slots 0 new 0 maybe.none) me new)
   give_back_keeps_rule noted slots id me x list more new some_weight holds out is_noted is_sound grows mine new_is s r _ at _ =
       let v : View E = me.0 in let w : View E = record v { holds = false; found = []; seen = list } in
@@ -40,7 +43,7 @@ module _ {T E : Type 0} (stands : T → List E → Type 0) (owner : E → ℕ) (
         tt,
         record {
           list = list;
-          held = 0;
+          held_count = 0;
           maker = r.maker;
           holder = 0;
           top = r.top;
@@ -57,21 +60,26 @@ module _ {T E : Type 0} (stands : T → List E → Type 0) (owner : E → ℕ) (
           fits = each_set (λ i u. 0 < u.weight → Fits owner list seats r.top u) s.views id w
               (λ _. record {
                 goes_on = goes_nowhere owner v.number list;
-                told = subst (λ l. All (λ t. IsPrefix t l) v.told) (sym grown) (λ i d l. prefix_longer _ _ more (fit.told i d l));
+                lists_told = subst (λ l. All (λ t. IsPrefix t l) v.lists_told) (sym grown) (λ i d l. prefix_longer _ _ more (fit.lists_told i d l));
                 known = (let l = fit.known in let e : length list ≡ length r.list + length more = ap length grown ∙ length-append r.list more in omega arith);
                 seats_are = fit.seats_are;
                 below = fit.below;
               })
-              (λ j u apart e p. subst (λ l. Fits owner l seats r.top u) (sym grown) (fits_longer r.list more r.top v.number u mine (λ is. apart (r.seated.apart j id u v e at p some_weight is)) (r.fits j u e p)));
-          owned = subst (All (λ e. owner e < r.top)) (sym grown) (All-append (λ e. owner e < r.top) r.list more r.owned (λ i d l. let o = mine i d l in let b = fit.below in omega arith));
+              (λ j u apart e p. subst (λ l. Fits owner l seats r.top u) (sym grown)
+              (fits_longer r.list more r.top v.number u mine (λ is. apart (r.seated.apart j id u v e at p some_weight is)) (r.fits j u e p)));
+          owned =
+              subst (All (λ e. owner e < r.top)) (sym grown) (All-append (λ e. owner e < r.top) r.list more r.owned
+              (λ i d l. let o = mine i d l in let b = fit.below in omega arith));
         },
         (list, is_noted, refl, ap rest out),
       )
 
   -- the same for a seat that put the value into its slot before
-  pub give_back_of_holder : (noted : List E → Type 0) (slots id number : ℕ) (was me : AtSeat T E) (x : T) (new : ℕ) → was.1 ≡ (0, None) ∷ [] → IsHolder number was.0 → me ≡ (was.0, (0, Some x) ∷ rest was.1)
+  pub give_back_of_holder : (noted : List E → Type 0) (slots id number : ℕ) (was me : AtSeat T E) (x : T) (new : ℕ) → was.1 ≡ (0, None) ∷ [] → IsHolder number was.0
+      → me ≡ (was.0, (0, Some x) ∷ rest was.1)
       → MayGiveBack stands owner noted number was.0.found x new → Allows Rule slots id me 0 (λ _. new) (λ _. GivesBack noted (step slots 0 new 0 maybe.none) me new)
   give_back_of_holder noted slots id number was me x new out holder is may =
       let grows = may.3 in
       subst (λ (m : AtSeat T E). Allows Rule slots id m 0 (λ _. new) (λ _. GivesBack noted (step slots 0 new 0 maybe.none) m new)) (sym is)
-      (give_back_keeps_rule noted slots id (was.0, (0, Some x) ∷ rest was.1) x may.0 grows.0 new (let w = holder.1 in omega arith) holder.0 (ap (λ (l : List (ℕ × Option T)). (0, Some x) ∷ rest l) out) may.1 may.2 grows.1 (λ k d l. grows.2 k d l ∙ sym holder.2) may.4)
+      (give_back_keeps_rule noted slots id (was.0, (0, Some x) ∷ rest was.1) x may.0 grows.0 new (let w = holder.1 in omega arith) holder.0
+      (ap (λ (l : List (ℕ × Option T)). (0, Some x) ∷ rest l) out) may.1 may.2 grows.1 (λ k d l. grows.2 k d l ∙ sym holder.2) may.4)

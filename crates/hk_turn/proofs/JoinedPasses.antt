@@ -31,14 +31,15 @@ module _ {E : Type 0} where
   still : (v u : View E) (l : List E) → Heard v l → Heard (joined_view v u) l
   still v u l h = ⊎_elim
       (λ (is : l ≡ v.seen). inr (0, omega arith, sym is))
-      (λ (has : Contains v.told l). inr (suc (suc has.0), (let k = has.1 in omega arith), has.2)) h
+      (λ (has : Contains v.lists_told l). inr (suc (suc has.0), (let k = has.1 in omega arith), has.2)) h
 
   -- a pass that was remembered stays so
   remembers_still : (v u : View E) (p : Pass E) → Remembers v p → Remembers (joined_view v u) p
   remembers_still v u p h = (still v u (seen_list p) h.0, (let l = le-max_left v.known u.known in let k = h.1 in omega arith))
 
   -- a pass more is remembered, whose view was taken in
-  pub remembers_more : (v u : View E) (p : Pass E) (ps : List (Pass E)) → seen_list p ≡ u.seen → known_count p ≡ u.known → RemembersAll v ps → RemembersAll (joined_view v u) (p ∷ ps)
+  pub remembers_more : (v u : View E) (p : Pass E) (ps : List (Pass E)) → seen_list p ≡ u.seen → known_count p ≡ u.known → RemembersAll v ps
+      → RemembersAll (joined_view v u) (p ∷ ps)
   remembers_more v u p ps saw knew h =
       All-cons (Remembers (joined_view v u)) p ps (inr (1, omega arith, sym saw), (let l = le-max_right v.known u.known in omega arith))
       (All-weaker (Remembers v) (Remembers (joined_view v u)) (λ q. remembers_still v u q) ps h)
@@ -48,18 +49,19 @@ module _ {E : Type 0} where
   remembers_first v p saw knew = All-cons (Remembers v) p [] (inl saw, omega arith) (All-nil (Remembers v))
 
   -- what was heard is a prefix, if what was seen and told is
-  prefix_of_heard : (v : View E) (all l : List E) → IsPrefix v.seen all → All (λ t. IsPrefix t all) v.told → Heard v l → IsPrefix l all
+  prefix_of_heard : (v : View E) (all l : List E) → IsPrefix v.seen all → All (λ t. IsPrefix t all) v.lists_told → Heard v l → IsPrefix l all
   prefix_of_heard v all l mine theirs h = ⊎_elim
       (λ (is : l ≡ v.seen). subst (λ t. IsPrefix t all) (sym is) mine)
-      (λ (has : Contains v.told l). subst (λ t. IsPrefix t all) has.2 (theirs has.0 l has.1)) h
+      (λ (has : Contains v.lists_told l). subst (λ t. IsPrefix t all) has.2 (theirs has.0 l has.1)) h
 
   -- a list extends the passes that are remembered, if it begins with what was seen and told, and is as long as was known
-  extends_of_remembers : (v : View E) (all : List E) (p : Pass E) → IsPrefix v.seen all → All (λ t. IsPrefix t all) v.told → v.known ≤ length all → Remembers v p → Extends all p
+  extends_of_remembers : (v : View E) (all : List E) (p : Pass E) → IsPrefix v.seen all → All (λ t. IsPrefix t all) v.lists_told → v.known ≤ length all → Remembers v p → Extends all p
   extends_of_remembers v all p mine theirs knew h = (prefix_of_heard v all (seen_list p) mine theirs h.0, (let k = h.1 in omega arith))
 
 module _ {T E : Type 0} (stands : T → List E → Type 0) (owner : E → ℕ) (seats : ℕ) where
   -- the value of the last state stands for a list that extends each pass
-  pub stands_for_all : (id : ℕ) (v : View E) (ws : List ℕ) (xs : List (Option T)) (ps : List (Pass E)) → 0 < seats → v.weight ≡ seats → v.holds ≡ false → RemembersAll v ps → Final (Seen (KeepsRule stands owner seats) id v) ws xs
+  pub stands_for_all : (id : ℕ) (v : View E) (ws : List ℕ) (xs : List (Option T)) (ps : List (Pass E)) → 0 < seats → v.weight ≡ seats → v.holds ≡ false → RemembersAll v ps
+      → Final (Seen (KeepsRule stands owner seats) id v) ws xs
       → (x : T) × (get_elem? xs 0 ≡ some (Some x)) × StandsForAll stands owner seats ps x
   stands_for_all id v ws xs ps some_seats all free remembers f =
       let r = last_state_shows stands owner seats id v ws xs some_seats all free f in

@@ -16,7 +16,8 @@ module _ {T E : Type 0} (t : Turns T E) where
   new_more from (q ∷ ps) p n is each new zero d l = each zero d (omega arith)
   new_more from (q ∷ ps) p n is each new (suc k) d l =
       subst (λ (m : ℕ). IsNewPass t m (get_or (ps ++ p ∷ []) k d)) (let e : suc from + k ≡ from + suc k = omega arith in e)
-      (new_more (suc from) ps p n (omega arith) (λ j e h. subst (λ (m : ℕ). IsNewPass t m (get_or ps j e)) (let e : from + suc j ≡ suc from + j = omega arith in e) (each (suc j) e (omega arith))) new k d (omega arith))
+      (new_more (suc from) ps p n (omega arith) (λ j e h. subst (λ (m : ℕ). IsNewPass t m (get_or ps j e)) (let e : from + suc j ≡ suc from + j = omega arith in e)
+      (each (suc j) e (omega arith))) new k d (omega arith))
 
   -- one pass before them, with the number before theirs
   pub new_first : (from : ℕ) (ps : List (Pass E)) (p : Pass E) → AreNewPasses t (from + 1) ps → IsNewPass t from p → AreNewPasses t from (p ∷ ps)

@@ -19,9 +19,10 @@ module _ {T E : Type 0} (stands : T → List E → Type 0) (owner : E → ℕ) (
   pub opening_keeps_rule : (x : T) → stands x [] → 0 < seats → Rule (opening (0 ∷ []) (Some x ∷ []) (opening_view seats))
   opening_keeps_rule x is_sound some_seats =
       let v : View E = opening_view seats in
-      let only : (P : ℕ → View E → Type 0) → P 0 v → (i : ℕ) (u : View E) → get_elem? (v ∷ []) i ≡ some u → P i u = λ P p i u e. each_set P (v ∷ []) 0 v p (λ j z out f. absurd (let l = within (v ∷ []) j z f in omega arith)) i u e in record {
+      let only : (P : ℕ → View E → Type 0) → P 0 v → (i : ℕ) (u : View E) → get_elem? (v ∷ []) i ≡ some u → P i u = λ P p i u e. each_set P (v ∷ []) 0 v p
+      (λ j z out f. absurd (let l = within (v ∷ []) j z f in omega arith)) i u e in record {
         list = [];
-        held = 0;
+        held_count = 0;
         maker = 0;
         holder = 0;
         top = 1;
@@ -42,7 +43,7 @@ module _ {T E : Type 0} (stands : T → List E → Type 0) (owner : E → ℕ) (
         };
         fits = only (λ i u. 0 < u.weight → Fits owner [] seats 1 u) (λ _. record {
           goes_on = goes_nowhere owner 0 [];
-          told = All-nil (λ t. IsPrefix t []);
+          lists_told = All-nil (λ t. IsPrefix t []);
           known = omega arith;
           seats_are = refl;
           below = omega arith;

@@ -49,6 +49,7 @@ module _ {V : Type 0} where
   at_new (x ∷ vs) w v (suc j) e = ⊎_elim (λ h. inl h) (λ t. inr (ap suc t.0, t.1)) (at_new vs w v j e)
 
   -- what holds of each element, after one was replaced
-  pub each_set : (P : ℕ → V → Type 0) (vs : List V) (i : ℕ) (w : V) → P i w → ((j : ℕ) (u : V) → j ≢ i → get_elem? vs j ≡ some u → P j u) → (j : ℕ) (u : V) → get_elem? (set vs i w) j ≡ some u → P j u
+  pub each_set : (P : ℕ → V → Type 0) (vs : List V) (i : ℕ) (w : V) → P i w → ((j : ℕ) (u : V) → j ≢ i → get_elem? vs j ≡ some u → P j u) → (j : ℕ) (u : V)
+      → get_elem? (set vs i w) j ≡ some u → P j u
   each_set P vs i w mine others j u e = ⊎_elim (λ (x : (j ≡ i) × (w ≡ u)). subst (λ (y : ℕ × V). P y.0 y.1) (λ k. (sym x.0 k, x.1 k)) mine)
       (λ (x : (j ≢ i) × (get_elem? vs j ≡ some u)). others j u x.0 x.1) (at_set vs i j w u e)

@@ -51,6 +51,7 @@ module _ {E : Type 0} (owner : E → ℕ) where
   prefix_of_goes k seen list g = (g.0, sym g.1)
 
   -- the longer of two prefixes leaves nothing of the number behind it, where the first leaves none
-  pub goes_longer_if : (k : ℕ) (seen other list : List E) → GoesOn owner k seen list → IsPrefix other list → (b : Bool) → nat_lt (length seen) (length other) ≡ b → GoesOn owner k (longer_if b seen other) list
+  pub goes_longer_if : (k : ℕ) (seen other list : List E) → GoesOn owner k seen list → IsPrefix other list → (b : Bool) → nat_lt (length seen) (length other) ≡ b
+      → GoesOn owner k (longer_if b seen other) list
   goes_longer_if k seen other list g p true is = goes_longer k seen other list g p (let l : length seen < length other = grind (arith, nat_tests) in omega arith)
   goes_longer_if k seen other list g p false is = g

@@ -27,10 +27,11 @@ module _ {T E : Type 0} (stands : T → List E → Type 0) (owner : E → ℕ) (
       let is : id ≡ r.maker = r.seated.no_other id v at (omega arith) makes in
       let m = r.seated.makes in
       let top_is : v.made ≡ r.top = ap (λ (u : View E). u.made) (one_there s.views id r.maker v m.0 is at m.1) ∙ m.2 in
-      let higher : (u : View E) → Fits owner r.list seats r.top u → Fits owner r.list seats (r.top + 1) u = λ u h. record { goes_on = h.goes_on; told = h.told; known = h.known; seats_are = h.seats_are; below = (let b = h.below in omega arith) } in
+      let higher : (u : View E) → Fits owner r.list seats r.top u → Fits owner r.list seats (r.top + 1) u = λ u h. record
+      { goes_on = h.goes_on; lists_told = h.lists_told; known = h.known; seats_are = h.seats_are; below = (let b = h.below in omega arith) } in
       let mine = r.fits id v at (omega arith) in record {
         list = r.list;
-        held = r.held;
+        held_count = r.held_count;
         maker = r.maker;
         holder = r.holder;
         top = r.top + 1;
@@ -38,24 +39,31 @@ module _ {T E : Type 0} (stands : T → List E → Type 0) (owner : E → ℕ) (
         bit = r.bit;
         home = r.home;
         away = r.away;
-        seated = seated_split seats r.top r.maker s.views id v at makes (let e = fit.seats_are in omega arith) some_weight fit.seats_are (λ i u e p. (r.fits i u e p).below) r.seated;
+        seated =
+            seated_split seats r.top r.maker s.views id v at makes (let e = fit.seats_are in omega arith) some_weight fit.seats_are (λ i u e p. (r.fits i u e p).below) r.seated;
         holding = record {
           each = λ i u e. ⊎_elim
-              (λ (old : get_elem? after i ≡ some u). each_set (λ i u. u.holds ≡ true → HoldsTurn r.list r.held r.holder i u) s.views id (maker_after_split v)
+              (λ (old : get_elem? after i ≡ some u). each_set (λ i u. u.holds ≡ true → HoldsTurn r.list r.held_count r.holder i u) s.views id (maker_after_split v)
               (λ h. let k = r.holding.each id v at h in (k.0, k.1, k.2, omega arith)) (λ j u _ e. r.holding.each j u e) i u old)
               (λ (new : (i ≡ length after) × (split_view v ≡ u)) h. absurd (true≢false (sym h ∙ sym (ap (λ (z : View E). z.holds) new.1))))
               (at_new after (split_view v) u i e);
           someone = λ h. let k = r.holding.someone h in dite (ℕ_discrete r.holder id)
-              (λ is. (maker_after_split v, at_longer after (split_view v ∷ []) r.holder (maker_after_split v) (subst (λ (n : ℕ). get_elem? after n ≡ some (maker_after_split v)) (sym is) (set_here s.views id (maker_after_split v) (within s.views id v at))), ap (λ (u : View E). u.holds) (one_there s.views id r.holder v k.0 (sym is) at k.1) ∙ k.2))
+              (λ is. (
+                maker_after_split v,
+                at_longer after (split_view v ∷ []) r.holder (maker_after_split v)
+                    (subst (λ (n : ℕ). get_elem? after n ≡ some (maker_after_split v)) (sym is) (set_here s.views id (maker_after_split v) (within s.views id v at))),
+                ap
+                    (λ (u : View E). u.holds) (one_there s.views id r.holder v k.0 (sym is) at k.1) ∙ k.2,
+              ))
               (λ apart. (k.0, at_longer after (split_view v ∷ []) r.holder k.0 (set_else s.views id r.holder (maker_after_split v) apart ∙ k.1), k.2));
         };
         fits = λ i u e. ⊎_elim
             (λ (old : get_elem? after i ≡ some u). each_set (λ i u. 0 < u.weight → Fits owner r.list seats (r.top + 1) u) s.views id (maker_after_split v)
-            (λ _. record { goes_on = mine.goes_on; told = mine.told; known = mine.known; seats_are = mine.seats_are; below = (let b = mine.below in omega arith) })
+            (λ _. record { goes_on = mine.goes_on; lists_told = mine.lists_told; known = mine.known; seats_are = mine.seats_are; below = (let b = mine.below in omega arith) })
             (λ j u _ e p. higher u (r.fits j u e p)) i u old)
             (λ (new : (i ≡ length after) × (split_view v ≡ u)) _. subst (Fits owner r.list seats (r.top + 1)) new.1 record {
               goes_on = (r.list, refl, λ k d l own. let o = r.owned k d l in absurd (omega arith));
-              told = All-nil (λ t. IsPrefix t r.list);
+              lists_told = All-nil (λ t. IsPrefix t r.list);
               known = omega arith;
               seats_are = fit.seats_are;
               below = omega arith;
@@ -65,9 +73,13 @@ module _ {T E : Type 0} (stands : T → List E → Type 0) (owner : E → ℕ) (
       }
 
   -- the same for the first seat, which has made n of k passes
-  pub split_of_first_seat : (id n w k : ℕ) (me : AtSeat T E) → me ≡ (blank_view 0 n w k, []) → 0 < n → n < k → 1 < w → Splits Rule id me.0 (maker_after_split me.0) (split_view me.0)
-  split_of_first_seat id n w k me is makes few more = subst (λ (m : AtSeat T E). Splits Rule id m.0 (maker_after_split m.0) (split_view m.0)) (sym is) (split_keeps_rule id (blank_view 0 n w k) makes few more)
+  pub split_of_first_seat : (id n w k : ℕ) (me : AtSeat T E) → me ≡ (blank_view 0 n w k, []) → 0 < n → n < k → 1 < w
+      → Splits Rule id me.0 (maker_after_split me.0) (split_view me.0)
+  split_of_first_seat id n w k me is makes few more =
+      subst (λ (m : AtSeat T E). Splits Rule id m.0 (maker_after_split m.0) (split_view m.0)) (sym is) (split_keeps_rule id (blank_view 0 n w k) makes few more)
 
   -- the first seat, after it made one pass more
-  pub first_seat_after_split : (n k : ℕ) (me after : AtSeat T E) → me ≡ (blank_view 0 n (k + 1 - n) k, []) → n < k → after ≡ (maker_after_split me.0, me.1) → after ≡ (blank_view 0 (n + 1) (k - n) k, [])
-  first_seat_after_split n k me after is few step_is = step_is ∙ (ap (λ (m : AtSeat T E). (maker_after_split m.0, m.1)) is ∙ ap (λ (w : ℕ). (blank_view 0 (n + 1) w k, [])) (let e : k + 1 - n - 1 ≡ k - n = omega arith in e))
+  pub first_seat_after_split : (n k : ℕ) (me after : AtSeat T E) → me ≡ (blank_view 0 n (k + 1 - n) k, []) → n < k → after ≡ (maker_after_split me.0, me.1)
+      → after ≡ (blank_view 0 (n + 1) (k - n) k, [])
+  first_seat_after_split n k me after is few step_is =
+      step_is ∙ (ap (λ (m : AtSeat T E). (maker_after_split m.0, m.1)) is ∙ ap (λ (w : ℕ). (blank_view 0 (n + 1) w k, [])) (let e : k + 1 - n - 1 ≡ k - n = omega arith in e))

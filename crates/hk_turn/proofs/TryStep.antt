@@ -18,16 +18,17 @@ module _ {T E : Type 0} (stands : T → List E → Type 0) (owner : E → ℕ) (
   Rule = KeepsRule stands owner seats
 
   -- a try that was won keeps the rule
-  won_try_keeps_rule : (s : State (Option T) (View E)) (r : Rule s) (id : ℕ) (me : AtSeat T E) (n : ℕ) → get_elem? s.views id ≡ some me.0 → 0 < me.0.weight → get_or s.words 0 0 ≡ n → n % 2 ≡ 0
+  won_try_keeps_rule : (s : State (Option T) (View E)) (r : Rule s) (id : ℕ) (me : AtSeat T E) (n : ℕ) → get_elem? s.views id ≡ some me.0 → 0 < me.0.weight → get_or s.words 0 0 ≡ n
+      → n % 2 ≡ 0
       → (x : T) → s.homes ≡ some (Some x) ∷ [] → let w : View E = record me.0 { holds = true; found = r.list } in
       Rule (stepped s 0 (n + 1) id me.1 w (takes 0 (Some x)))
   won_try_keeps_rule s r id me n at some_weight found even x homes =
       let v : View E = me.0 in let w : View E = record v { holds = true; found = r.list } in let b = r.bit in
-      let n_is : n ≡ 2 * length r.list + r.held = sym found ∙ ap (λ (ws : List ℕ). get_or ws 0 0) r.word in
-      let free : r.held ≡ 0 = omega arith in
+      let n_is : n ≡ 2 * length r.list + r.held_count = sym found ∙ ap (λ (ws : List ℕ). get_or ws 0 0) r.word in
+      let free : r.held_count ≡ 0 = omega arith in
       let fit = r.fits id v at some_weight in record {
         list = r.list;
-        held = 1;
+        held_count = 1;
         maker = r.maker;
         holder = id;
         top = r.top;
@@ -42,19 +43,21 @@ module _ {T E : Type 0} (stands : T → List E → Type 0) (owner : E → ℕ) (
           someone = λ _. (w, set_here s.views id w (within s.views id v at), refl);
         };
         fits = each_set (λ i u. 0 < u.weight → Fits owner r.list seats r.top u) s.views id w
-            (λ _. record { goes_on = fit.goes_on; told = fit.told; known = fit.known; seats_are = fit.seats_are; below = fit.below }) (λ j u _ e. r.fits j u e);
+            (λ _. record { goes_on = fit.goes_on; lists_told = fit.lists_told; known = fit.known; seats_are = fit.seats_are; below = fit.below }) (λ j u _ e. r.fits j u e);
         owned = r.owned;
       }
 
   -- a try keeps the rule, and is won where the even word was the one hoped for
-  pub try_keeps_rule : (slots id : ℕ) (me : AtSeat T E) (old : ℕ) → 0 < me.0.weight → old % 2 ≡ 0 → Allows Rule slots id me 0 (λ n. either (eqb n old) (old + 1) n) (Tries stands owner (step slots 0 old (old + 1) maybe.none) me)
+  pub try_keeps_rule : (slots id : ℕ) (me : AtSeat T E) (old : ℕ) → 0 < me.0.weight → old % 2 ≡ 0
+      → Allows Rule slots id me 0 (λ n. either (eqb n old) (old + 1) n) (Tries stands owner (step slots 0 old (old + 1) maybe.none) me)
   try_keeps_rule slots id me old some_weight even s r _ at _ =
       let v : View E = me.0 in let n : ℕ = get_or s.words 0 0 in let b = r.bit in
-      let n_is : n ≡ 2 * length r.list + r.held = ap (λ (ws : List ℕ). get_or ws 0 0) r.word in
+      let n_is : n ≡ 2 * length r.list + r.held_count = ap (λ (ws : List ℕ). get_or ws 0 0) r.word in
       let fit = r.fits id v at some_weight in
-      exchanged n old (old + 1) (λ m. (w : View E) × (a : _) × Valid s.homes me.1 a × Rule (stepped s 0 m id me.1 w a) × Tries stands owner (step slots 0 old (old + 1) maybe.none) me n (w, carried_after me.1 a))
+      exchanged n old (old + 1) (λ m. (w : View E) × (a : _) × Valid s.homes me.1 a × Rule (stepped s 0 m id me.1 w a) × Tries stands owner (step slots 0 old (old + 1) maybe.none)
+      me n (w, carried_after me.1 a))
       (λ hit.
-      let free : r.held ≡ 0 = omega arith in
+      let free : r.held_count ≡ 0 = omega arith in
       let home = r.home free in
       let x : T = home.0 in
       let w : View E = record v { holds = true; found = r.list } in (

@@ -16,11 +16,12 @@ module _ {T E : Type 0} (stands : T → List E → Type 0) (owner : E → ℕ) (
   Rule = KeepsRule stands owner seats
 
   -- the view of one seat changes, and keeps its number, its weight, its count of passes made, and the turn
-  pub view_change_keeps_rule : (s : State (Option T) (View E)) (r : Rule s) (id : ℕ) (v w : View E) → get_elem? s.views id ≡ some v → w.number ≡ v.number → w.weight ≡ v.weight → w.made ≡ v.made → w.holds ≡ v.holds → w.found ≡ v.found → 0 < v.weight
+  pub view_change_keeps_rule : (s : State (Option T) (View E)) (r : Rule s) (id : ℕ) (v w : View E) → get_elem? s.views id ≡ some v → w.number ≡ v.number → w.weight ≡ v.weight
+      → w.made ≡ v.made → w.holds ≡ v.holds → w.found ≡ v.found → 0 < v.weight
       → Fits owner r.list seats r.top w → Rule record { words = set s.words 0 (get_or s.words 0 0); homes = s.homes; views = set s.views id w }
   view_change_keeps_rule s r id v w at number weighs made holds found some_weight fits = record {
     list = r.list;
-    held = r.held;
+    held_count = r.held_count;
     maker = r.maker;
     holder = r.holder;
     top = r.top;
@@ -30,10 +31,15 @@ module _ {T E : Type 0} (stands : T → List E → Type 0) (owner : E → ℕ) (
     away = r.away;
     seated = seated_set seats r.top r.maker s.views id v w at number weighs made some_weight r.seated;
     holding = record {
-      each = each_set (λ i u. u.holds ≡ true → HoldsTurn r.list r.held r.holder i u) s.views id w
+      each = each_set (λ i u. u.holds ≡ true → HoldsTurn r.list r.held_count r.holder i u) s.views id w
           (λ h. let k = r.holding.each id v at (sym holds ∙ h) in (k.0, k.1, found ∙ k.2, omega arith)) (λ j u _ e. r.holding.each j u e);
       someone = λ h. let k = r.holding.someone h in dite (ℕ_discrete r.holder id)
-          (λ is. (w, subst (λ (n : ℕ). get_elem? (set s.views id w) n ≡ some w) (sym is) (set_here s.views id w (within s.views id v at)), holds ∙ (ap (λ (u : View E). u.holds) (one_there s.views id r.holder v k.0 (sym is) at k.1) ∙ k.2)))
+          (λ is. (
+            w,
+            subst (λ (n : ℕ). get_elem? (set s.views id w) n ≡ some w) (sym is) (set_here s.views id w (within s.views id v at)),
+            holds
+                ∙ (ap (λ (u : View E). u.holds) (one_there s.views id r.holder v k.0 (sym is) at k.1) ∙ k.2),
+          ))
           (λ apart. (k.0, set_else s.views id r.holder w apart ∙ k.1, k.2));
     };
     fits = each_set (λ i u. 0 < u.weight → Fits owner r.list seats r.top u) s.views id w (λ _. fits) (λ j u _ e. r.fits j u e);

@@ -14,7 +14,7 @@ longer first second = longer_if (nat_lt (length first) (length second)) first se
 module _ {E : Type 0} where
   -- a view of that number that has seen nothing and holds nothing; it made so many passes, and stands for so many
   abbrev pub blank_view : ℕ → ℕ → ℕ → ℕ → View E
-  blank_view number made weight seats = record { number = number; made = made; weight = weight; seats = seats; known = 0; seen = []; told = []; holds = false; found = [] }
+  blank_view number made weight seats = record { number = number; made = made; weight = weight; seats = seats; known = 0; seen = []; lists_told = []; holds = false; found = [] }
 
   -- the view of the first seat, which stands for all passes and has made one, itself
   abbrev pub opening_view : ℕ → View E
@@ -39,8 +39,8 @@ module _ {E : Type 0} where
 
   -- a view that took in another: it stands for the passes of both, has seen the longer list, and remembers what each had seen
   abbrev pub joined_view : View E → View E → View E
-  joined_view v w = record v { made = max v.made w.made; weight = v.weight + w.weight; known = max v.known w.known; seen = longer v.seen w.seen; told = v.seen ∷ w.seen ∷ v.told }
+  joined_view v w = record v { made = max v.made w.made; weight = v.weight + w.weight; known = max v.known w.known; seen = longer v.seen w.seen; lists_told = v.seen ∷ w.seen ∷ v.lists_told }
 
   -- the view has seen the list, or took in one that had
   abbrev pub Heard : View E → List E → Type 0
-  Heard v list = (list ≡ v.seen) ⊎ Contains v.told list
+  Heard v list = (list ≡ v.seen) ⊎ Contains v.lists_told list

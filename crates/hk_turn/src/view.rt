@@ -18,7 +18,7 @@ pub struct View<E> {
     /// The list that its pass has seen.
     pub seen: LinkedList<E>,
     /// What the passes that were joined into it had seen.
-    pub told: LinkedList<LinkedList<E>>,
+    pub lists_told: LinkedList<LinkedList<E>>,
     /// Whether it holds the turn.
     pub holds: bool,
     /// The list that it found when it took the turn; empty where it holds none.

@@ -26,10 +26,12 @@ apart_shown : (slots : List (Option (Name × Body))) → AreApart slots → AreA
 apart_shown slots apart = λ i j n a b. apart i j n (sym (name_at-shown slots i) ∙ a) (sym (name_at-shown slots j) ∙ b)
 
 -- of a name that is found, the list in its slot
-pub found_entries : (slots : List (Option (Name × Body))) (s : ℕ) (name : Name) (es : List Entry) → name_at slots s ≡ Some name → AreApart slots → IfSome (place slots s) (λ e. es ≡ e.1.entries) → (object (seen slots) name).entries ≡ es
+pub found_entries : (slots : List (Option (Name × Body))) (s : ℕ) (name : Name) (es : List Entry) → name_at slots s ≡ Some name → AreApart slots
+    → IfSome (place slots s) (λ e. es ≡ e.1.entries) → (object (seen slots) name).entries ≡ es
 found_entries slots s name es named apart there = at (place slots s) refl named there
   where
-    at : (p : Option (Name × Body)) → place slots s ≡ p → option_map (λ (e : Name × Body). e.0) p ≡ Some name → IfSome p (λ e. es ≡ e.1.entries) → (object (seen slots) name).entries ≡ es
+    at : (p : Option (Name × Body)) → place slots s ≡ p → option_map (λ (e : Name × Body). e.0) p ≡ Some name → IfSome p (λ e. es ≡ e.1.entries)
+        → (object (seen slots) name).entries ≡ es
     at None h n t = absurd (cc)
     at (Some e) h n t =
         let same : e.0 ≡ name = cc in

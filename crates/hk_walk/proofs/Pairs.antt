@@ -1,5 +1,6 @@
 -- Remembered pairs.
-use Rattle.std.proofs.Common.{◌≡◌, ◌⊎◌, ℕ, ◌-◌, ◌&&◌, ◌==◌, Bool, true, false, List, [], ◌∷◌, length, take, Contains, Option, Some, None, is_some, Result, Ok, Err, OnOk, OnErr, refl, sym, ap, subst, ◌∙◌, inl, inr, nat_eq}
+use Rattle.std.proofs.Common.{◌≡◌, ◌⊎◌, ℕ, ◌-◌, ◌&&◌, ◌==◌, Bool, true, false, List, [], ◌∷◌, length, take, Contains, Option, Some, None, is_some, Result, Ok, Err, OnOk, OnErr}
+use Rattle.std.proofs.Common.{refl, sym, ap, subst, ◌∙◌, inl, inr, nat_eq}
 use Rattle.std.proofs.lemmas.Bool.Decides.{Decides-eqb}
 use Rattle.std.proofs.lemmas.List.{take_at}
 use Rattle.std.proofs.lemmas.Option.{none-some, same_Some}
@@ -95,7 +96,8 @@ pub found_entry : (key : Trail) (es : List (Trail × Entry)) (v : Entry) → loo
 found_entry key [] v h = absurd (none-some v h)
 found_entry key (e ∷ es) v h = at (λ k. found_entry key es v k) ((eq-value).it key e.0) refl
   where
-    at : (lookup ((eq-value).it key) es ≡ Some v → lookup_entry ((eq-value).it key) es ≡ Some (key, v)) → (b : Bool) → (eq-value).it key e.0 ≡ b → lookup_entry ((eq-value).it key) (e ∷ es) ≡ Some (key, v)
+    at : (lookup ((eq-value).it key) es ≡ Some v → lookup_entry ((eq-value).it key) es ≡ Some (key, v)) → (b : Bool) → (eq-value).it key e.0 ≡ b
+        → lookup_entry ((eq-value).it key) (e ∷ es) ≡ Some (key, v)
     at rest true t = let same : e.0 ≡ key = sym (same_trail key e.0 t) in let value : e.1 ≡ v = same_Some e.1 v (rw t at h) in rw t (λ i. Some (same i, value i))
     at rest false t = rw t (rest (rw t at h))
 
@@ -107,7 +109,8 @@ apart_from : (test : Trail → Bool) (es : List (Trail × Entry)) (f e : Trail �
 apart_from test [] f e h c = absurd (Contains-nil e c)
 apart_from test (g ∷ es) f e h c = at (λ k d. apart_from test es f e k d) (test g.0) refl
   where
-    at : (lookup_entry test es ≡ Some f → Contains es e → (f ≡ e) ⊎ Contains (remove_entry test es) e) → (b : Bool) → test g.0 ≡ b → (f ≡ e) ⊎ Contains (remove_entry test (g ∷ es)) e
+    at : (lookup_entry test es ≡ Some f → Contains es e → (f ≡ e) ⊎ Contains (remove_entry test es) e) → (b : Bool) → test g.0 ≡ b
+        → (f ≡ e) ⊎ Contains (remove_entry test (g ∷ es)) e
     at rest true t = let first : g ≡ f = same_Some g f (rw t at h) in rw t (elim (Contains-cons g es e c) [
       | inl same ↦ inl (sym first ∙ same)
       | inr later ↦ inr later
@@ -179,16 +182,19 @@ module _ (old : LruCache Trail Entry) (key : Trail) (v : Entry) where
     tried-joins (Ok t) ok err = λ e c. put-joins e (subst (λ n. Contains n.entries e) ok c)
     tried-joins (Err t) ok err = λ e c. inl (subst (λ n. Contains n.entries e) err c)
 
-    pub tried-first : (r : Result T E) → OnOk r (new ≡ lru_cache (put_entries (eq-value).it old key v) old.cap) → OnErr r (new ≡ old) → (slice_get new.entries 0 ≡ Some (key, v)) ⊎ (held_in new ≡ held_in old)
+    pub tried-first : (r : Result T E) → OnOk r (new ≡ lru_cache (put_entries (eq-value).it old key v) old.cap) → OnErr r (new ≡ old)
+        → (slice_get new.entries 0 ≡ Some (key, v)) ⊎ (held_in new ≡ held_in old)
     tried-first (Ok t) ok err = inl (ap (λ n. slice_get n.entries 0) ok ∙ put-first)
     tried-first (Err t) ok err = inr (ap held_in err)
 
-    pub tried-pushes : (r : Result T E) → OnOk r (new ≡ lru_cache (put_entries (eq-value).it old key v) old.cap) → OnErr r (new ≡ old) → lookup ((eq-value).it key) old.entries ≡ None → (new.entries ≡ (key, v) ∷ take (old.cap - 1) old.entries) ⊎ (held_in new ≡ held_in old)
+    pub tried-pushes : (r : Result T E) → OnOk r (new ≡ lru_cache (put_entries (eq-value).it old key v) old.cap) → OnErr r (new ≡ old)
+        → lookup ((eq-value).it key) old.entries ≡ None → (new.entries ≡ (key, v) ∷ take (old.cap - 1) old.entries) ⊎ (held_in new ≡ held_in old)
     tried-pushes (Ok t) ok err none = inl (ap (λ n. n.entries) ok ∙ put-pushes none)
     tried-pushes (Err t) ok err none = inr (ap held_in err)
 
 -- what joins is right, so all stays right
-pub joined-right : (s : State) (from : Cap) (rest : List ℕ) (v : Entry) (old new : List (Trail × Entry)) → JoinsAtMost (trail from rest, v) old new → walk_on s (Held from) rest 0 ≡ Ok v → AreRight s old → AreRight s new
+pub joined-right : (s : State) (from : Cap) (rest : List ℕ) (v : Entry) (old new : List (Trail × Entry)) → JoinsAtMost (trail from rest, v) old new
+    → walk_on s (Held from) rest 0 ≡ Ok v → AreRight s old → AreRight s new
 joined-right s from rest v old new joins value right = λ a p w there. elim (joins (trail a p, w) there) [
   | inl was ↦ right a p w was
   | inr same ↦
@@ -257,7 +263,8 @@ module _ (k : Trail) (from : Cap) (rest : List ℕ) (key : k ≡ trail from rest
         miss-first (inl h) = inl (h ∙ (λ i. Some (key i, v)))
         miss-first (inr h) = inr (h ∙ miss-same none)
 
-        pub miss-pushes : (lookup ((eq-value).it k) new.pairs ≡ None → (last.pairs ≡ (k, v) ∷ take (new.capacity - 1) new.pairs) ⊎ (last ≡ new)) → (last.pairs ≡ (trail from rest, v) ∷ take (old.capacity - 1) old.pairs) ⊎ (last ≡ old)
+        pub miss-pushes : (lookup ((eq-value).it k) new.pairs ≡ None → (last.pairs ≡ (k, v) ∷ take (new.capacity - 1) new.pairs) ⊎ (last ≡ new))
+            → (last.pairs ≡ (trail from rest, v) ∷ take (old.capacity - 1) old.pairs) ⊎ (last ≡ old)
         miss-pushes pushes = elim (pushes (ap (λ (n : Remembered). lookup ((eq-value).it k) n.pairs) (miss-same none) ∙ sym none)) [
           | inl h ↦ inl (h ∙ (λ i. (key i, v) ∷ take ((miss-same none i).capacity - 1) (miss-same none i).pairs))
           | inr h ↦ inr (h ∙ miss-same none)

@@ -4,7 +4,7 @@ ghost use Rattle.std.specs.Prelude.{◌≡◌, ◌<◌, ◌≤◌, ◌+◌, leng
 ghost use Rattle.hk_model.specs.declared.entries.Entry.TheVariants.{Held};
 ghost use Rattle.hk_model.specs.State.{object};
 ghost use Rattle.hk_model.specs.Refusing.{item_at};
-ghost use Rattle.hk_model.specs.Walking.{hop, walk_on, obtained, reduced_rights, local_rights};
+ghost use Rattle.hk_model.specs.Walking.{hop_on, walk_on, obtained, reduced_rights, local_rights};
 ghost use Rattle.hk_walk.specs.Walks.{seen};
 
 use hk_merge::{allowed, confined_rights, held};
@@ -91,7 +91,7 @@ fn hop<L: Ledger>(
     steps: &mut Steps<L>,
 ) -> Result<Entry, Refusal>
     requires { step < 255 }
-    ensures value { result ≡ hop (seen objects.now.slots) entry at step }
+    ensures value { result ≡ hop_on (seen objects.now.slots) entry at step }
     ensures cost { steps.new ≤ steps.old + 1 }
 {
     let cap = held(entry, step)?;

@@ -5,13 +5,11 @@
 mod run;
 
 use crate::run::refused_steps;
-use hk_audit::read_world;
+use hk_load::read_world;
 use hk_io::{StdIn, StdOut, read_all, write_all};
+use hk_model::limits::SCRIPT_BYTES;
 use hk_plain::Plain;
 use std::process::ExitCode;
-
-/// The largest script, in bytes.
-const SCRIPT_BYTES: usize = 1_048_576;
 
 /// How many steps are made at most.
 const STEPS: u32 = 1000;

@@ -2,7 +2,7 @@ use Rattle.std.proofs.Common.{◌≡◌, ◌≤◌, ◌++◌, ◌==◌, length, 
 use Rattle.std.specs.List.{list_all, slice_split}
 use Rattle.hk_format.specs.Pieces.{value}
 use Rattle.hk_audit.specs.Left.{texts}
-use Rattle.hk_audit.specs.Seen.{is_index_numeral}
+use Rattle.hk_audit.specs.TextPieces.{is_index_numeral}
 use Rattle.hk_audit.proofs.paths.path_in.Given as goal
 
 abbrev pub invariant-loop-part : goal.invariant-loop-part

@@ -8,10 +8,14 @@ use Rattle.hk_check.proofs.Replays.{few_lines, few_in_all, whole_replay, line_is
 use Rattle.hk_check.proofs.checking.check.Goals as goal
 
 pub overflow_cast-result : goal.overflow_cast-result
-overflow_cast-result c = let few = few_lines c.args.world.now c.args.lines.now c.loop-before.before c.loop-before.machine c.loop-before.invariant (omega (arith, c.loop-before-test.true)) in omega (arith, few)
+overflow_cast-result c =
+    let few = few_lines c.args.world.now c.args.lines.now c.loop-before.before c.loop-before.machine c.loop-before.invariant
+    (omega (arith, c.loop-before-test.true)) in omega (arith, few)
 
 pub overflow_add-result : goal.overflow_add-result
-overflow_add-result c = let few = few_lines c.args.world.now c.args.lines.now c.loop-before.before c.loop-before.machine c.loop-before.invariant (omega (arith, c.loop-before-test.true)) in omega (arith, few)
+overflow_add-result c =
+    let few = few_lines c.args.world.now c.args.lines.now c.loop-before.before c.loop-before.machine c.loop-before.invariant
+    (omega (arith, c.loop-before-test.true)) in omega (arith, few)
 
 pub returns-in-Some : goal.returns-in-Some
 returns-in-Some c =
@@ -34,12 +38,14 @@ returns-then-holds c =
 
 pub overflow_cast-result-2 : goal.overflow_cast-result-2
 overflow_cast-result-2 c =
-    let few = few_in_all c.args.world.now c.args.lines.now c.loop-before.machine (whole_replay c.args.world.now c.args.lines.now c.loop-before.before c.loop-before.machine c.loop-before.invariant c.loop-before-test.false) in
+    let few = few_in_all c.args.world.now c.args.lines.now c.loop-before.machine
+    (whole_replay c.args.world.now c.args.lines.now c.loop-before.before c.loop-before.machine c.loop-before.invariant c.loop-before-test.false) in
     omega (arith, few)
 
 pub overflow_add-result-2 : goal.overflow_add-result-2
 overflow_add-result-2 c =
-    let few = few_in_all c.args.world.now c.args.lines.now c.loop-before.machine (whole_replay c.args.world.now c.args.lines.now c.loop-before.before c.loop-before.machine c.loop-before.invariant c.loop-before-test.false) in
+    let few = few_in_all c.args.world.now c.args.lines.now c.loop-before.machine
+    (whole_replay c.args.world.now c.args.lines.now c.loop-before.before c.loop-before.machine c.loop-before.invariant c.loop-before-test.false) in
     omega (arith, few)
 
 pub returns : goal.returns

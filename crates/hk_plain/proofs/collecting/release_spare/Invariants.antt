@@ -8,4 +8,5 @@ use Rattle.hk_plain.proofs.collecting.release_spare.Given as goal
 
 -- what the rest lets go and what went before is what all let go
 abbrev pub invariant-loop-other : goal.invariant-loop-other
-invariant-loop-other l = (final : Tally) → Moved l.counts final [] (inner_names (filter (λ (e : Name × Object). goes l.name l.spare.keys e.0) l.other-iterator)) → Moved l.fn.counts final [] (inner_names (filter (λ (e : Name × Object). goes l.name l.spare.keys e.0) l.objects.entries))
+invariant-loop-other l =
+    (final : Tally) → Moved l.counts final [] (inner_names (filter (λ (e : Name × Object). goes l.name l.spare.keys e.0) l.other-iterator)) → Moved l.fn.counts final [] (inner_names (filter (λ (e : Name × Object). goes l.name l.spare.keys e.0) l.objects.entries))

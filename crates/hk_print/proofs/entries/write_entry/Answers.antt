@@ -1,15 +1,15 @@
-use Rattle.std.proofs.Common.{◌≡◌, ◌++◌, ◌∷◌, [], ◌∙◌, sym, ap, List, ℕ, string_bytes, rules}
+use Rattle.std.proofs.Common.{◌≡◌, ◌++◌, ◌∷◌, ◌∙◌, sym, ap, List, ℕ, string_bytes, rules}
 use Rattle.std.specs.Prelude.{codes}
-use Rattle.hk_format.specs.Canonical.{spoken, object_text}
 use Rattle.hk_format.specs.RightsTexts.{rights_text}
-use Rattle.hk_print.specs.ItemTexts.{entry_text}
-use Rattle.hk_print.proofs.Pieces.{cap_spelled}
+use Rattle.hk_format.specs.EntryTexts.{entry_text}
+use Rattle.hk_print.proofs.Pieces.{cap_text}
 use Rattle.hk_print.proofs.entries.write_entry.Goals as goal
 
 pub returns-in_ok-write-in-Held : goal.returns-in_ok-write-in-Held
-returns-in_ok-write-in-Held c =
+returns-in_ok-write-in-Held g c =
     let cap = c.in-Held.cap in
-    let object = object_text (spoken c.args.world.now) cap.name in
-    let wrote : string_bytes c.write.new.self ≡ string_bytes c.args.out.now ++ (codes "cap " ++ (object ++ 32 ∷ (rights_text cap.rights ++ 10 ∷ []))) = search rules in
-    let line : entry_text (spoken c.args.world.now) c.args.entry ≡ codes "cap " ++ (object ++ 32 ∷ (rights_text cap.rights ++ 10 ∷ [])) = rw c.in-Held.is (cap_spelled object (rights_text cap.rights)) in
-    wrote ∙ ap (λ (t : List ℕ). string_bytes c.args.out.now ++ t) (sym line)
+    let object = g.S.Speller.name_text c.args.speller.now cap.name in
+    let wrote : string_bytes c.write.new.self ≡ string_bytes c.args.out.now ++ (codes "cap " ++ (object ++ 32 ∷ rights_text cap.rights)) = search rules in
+    let text : entry_text (g.S.Speller.name_text c.args.speller.now) c.args.entry ≡ codes "cap " ++ (object ++ 32 ∷ rights_text cap.rights) =
+        rw c.in-Held.is (cap_text object (rights_text cap.rights)) in
+    wrote ∙ ap (λ (t : List ℕ). string_bytes c.args.out.now ++ t) (sym text)

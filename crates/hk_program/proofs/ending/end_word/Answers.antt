@@ -8,4 +8,15 @@ pub returns : goal.returns
 returns g c =
     let runs = ap (λ (s : Snapshot). s.processes) c.in_ok-snapshot.ensures in
     let processes = (g.K.Kernel.state c.args.kernel.now).processes in
-    rw (c.first_word.ensures, c.all_ended-done.ensures, c.over.ensures, c.one_waits-waits.ensures, c.limit_reached-full.ensures, c.as_slice-processes.ensures, runs, all_runs has_ended processes, any_run is_waiting processes) refl
+    rw (
+      c.first_word.ensures,
+      c.all_ended-done.ensures,
+      c.over.ensures,
+      c.one_waits-waits.ensures,
+      c.limit_reached-full.ensures,
+      c.as_slice-processes.ensures,
+      runs,
+      all_runs
+          has_ended processes,
+      any_run is_waiting processes,
+    ) refl

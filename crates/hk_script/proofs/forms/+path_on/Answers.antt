@@ -16,7 +16,8 @@ returns-in_err-index t c =
     rw (p.1, p.2) (route_bad c.args.text.now c.args.at c.args.bound c.first_of-len.result _ c.first_of-len.ensures.place c.in_err-index.ensures)
 
 pub returns-then-len-text : goal.returns-then-len-text
-returns-then-len-text t c = rw c.in_ok-push.ensures.ok (route_last c.args.text.now c.args.at c.args.bound c.first_of-len.result c.in_ok-index.field-0 c.first_of-len.ensures.place c.if-len-text.true c.in_ok-index.ensures)
+returns-then-len-text t c =
+    rw c.in_ok-push.ensures.ok (route_last c.args.text.now c.args.at c.args.bound c.first_of-len.result c.in_ok-index.field-0 c.first_of-len.ensures.place c.if-len-text.true c.in_ok-index.ensures)
 
 pub path_on-requires : goal.path_on-requires
 path_on-requires t c =

@@ -10,8 +10,11 @@ new-requires c = rw c.as_slice.ensures (first_good c.args.source.now c.args.line
 pub loop-line-init : goal.loop-line-init
 loop-line-init c = record {
   good = (first_good c.args.source.now c.args.lines.now c.in-Some.first.now c.in-Some.others.now c.in-Some.ensures.cases.0 c.requires).1;
-  read = begins c.args.source.now c.args.lines.now c.in-Some.first.now c.in-Some.others.now _ _ _ _ c.in-Some.ensures.cases.0 c.in_default-header.ensures c.new.ensures c.as_slice.ensures c.new-reading.ensures;
+  read =
+      begins c.args.source.now c.args.lines.now c.in-Some.first.now c.in-Some.others.now _ _ _ _ c.in-Some.ensures.cases.0 c.in_default-header.ensures c.new.ensures c.as_slice.ensures c.new-reading.ensures;
 }
 
 pub invariant_of-result : goal.invariant_of-result
-invariant_of-result c = read_good c.args.source.now c.args.lines.now c.in-Some.others.now c.loop-line.line-index (read_of c.loop-line.reading) c.in_ok-items.items c.requires c.loop-line.invariant.read (omega (arith, c.loop-line-test.false)) c.in_ok-items.ensures
+invariant_of-result c =
+    read_good c.args.source.now c.args.lines.now c.in-Some.others.now c.loop-line.line-index (read_of c.loop-line.reading) c.in_ok-items.items c.requires c.loop-line.invariant.read
+    (omega (arith, c.loop-line-test.false)) c.in_ok-items.ensures

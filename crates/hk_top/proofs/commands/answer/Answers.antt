@@ -9,7 +9,8 @@ returns-in_default-clause-answer g c = said (usage c.in_default.ensures refl) c.
 
 pub returns-clause-answer : goal.returns-clause-answer
 returns-clause-answer g c =
-    answered _ g.M.Made.Kernel.state c.in-Some.command c.due-due.result c.say_due.result c.in-Some.ensures.1 c.in-Some.ensures.0 c.due-due.ensures.due c.due-due.ensures.fault c.say_due.ensures.said c.say_due.ensures.silent
+    answered _ g.M.Made.Kernel.state c.in-Some.command c.due-due.result c.say_due.result c.in-Some.ensures.1 c.in-Some.ensures.0 c.due-due.ensures.due c.due-due.ensures.fault
+    c.say_due.ensures.said c.say_due.ensures.silent
 
 pub returns-in_default-clause-complete : goal.returns-in_default-clause-complete
 returns-in_default-clause-complete g c = complete (returns-in_default-clause-answer g c)

@@ -13,5 +13,7 @@ returns-in_ok-kernel-in-Ok g c = record_due g.M.Made.Kernel.state (words_of comm
 
 pub returns-in_ok-refused-in-Err-Refused : goal.returns-in_ok-refused-in-Err-Refused
 returns-in_ok-refused-in-Err-Refused g c =
-    refused_served g.M.Made.Kernel.state command.Run c.args.bytes.now c.in-Err-Refused.line c.in-Err-Refused.cause c.in_ok-refused-in-Err-Refused.field-0 c.text_alone.result (inl refl)
-    (c.read_world.ensures.refused c.in-Err-Refused.line c.in-Err-Refused.cause (c.in-Err-Refused.is ∙ ap (λ e. Err e) c.in-Err-Refused.field-0-is)) c.in_ok-refused-in-Err-Refused.ensures c.text_alone.ensures.due c.text_alone.ensures.kernel
+    refused_served g.M.Made.Kernel.state command.Run c.args.bytes.now c.in-Err-Refused.line c.in-Err-Refused.cause c.in_ok-refused-in-Err-Refused.field-0
+    c.text_alone.result (inl refl)
+    (c.read_world.ensures.refused c.in-Err-Refused.line c.in-Err-Refused.cause (c.in-Err-Refused.is ∙ ap (λ e. Err e) c.in-Err-Refused.field-0-is))
+    c.in_ok-refused-in-Err-Refused.ensures c.text_alone.ensures.due c.text_alone.ensures.kernel

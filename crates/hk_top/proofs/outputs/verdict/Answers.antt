@@ -8,5 +8,6 @@ returns-in-Legal c =
 
 pub returns-in-Illegal : goal.returns-in-Illegal
 returns-in-Illegal c =
-    illegal_due c.args.audit.now c.world-world.result.now c.lines-lines.result.now c.end.result c.in_ok-verdict.verdict c.in-Illegal.line c.in-Illegal.cause c.told-in-Illegal.result
+    illegal_due c.args.audit.now c.world-world.result.now c.lines-lines.result.now c.end.result c.in_ok-verdict.verdict c.in-Illegal.line
+    c.in-Illegal.cause c.told-in-Illegal.result
     c.world-world.ensures c.lines-lines.ensures c.end.ensures c.in_ok-verdict.ensures c.in-Illegal.is c.told-in-Illegal.ensures

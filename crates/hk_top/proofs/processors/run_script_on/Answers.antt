@@ -9,9 +9,12 @@ pub read_world-requires : goal.read_world-requires
 read_world-requires g c = omega (arith, lines_few c.args.bytes.now, c.requires.few)
 
 pub returns-in_ok-kernel-in-Ok : goal.returns-in_ok-kernel-in-Ok
-returns-in_ok-kernel-in-Ok g c = record_due g.M.Made.Kernel.state (words_of (command.RunOn c.args.cpus)) c.args.bytes.now c.in-Ok.world c.run_on.result c.in-Ok.ensures.ok c.run_on.ensures
+returns-in_ok-kernel-in-Ok g c =
+    record_due g.M.Made.Kernel.state (words_of (command.RunOn c.args.cpus)) c.args.bytes.now c.in-Ok.world c.run_on.result c.in-Ok.ensures.ok c.run_on.ensures
 
 pub returns-in_ok-refused-in-Err-Refused : goal.returns-in_ok-refused-in-Err-Refused
 returns-in_ok-refused-in-Err-Refused g c =
-    refused_served g.M.Made.Kernel.state (command.RunOn c.args.cpus) c.args.bytes.now c.in-Err-Refused.line c.in-Err-Refused.cause c.in_ok-refused-in-Err-Refused.field-0 c.text_alone.result (inr (inl (c.args.cpus, (refl, c.requires.cpus))))
-    (c.read_world.ensures.refused c.in-Err-Refused.line c.in-Err-Refused.cause (c.in-Err-Refused.is ∙ ap (λ e. Err e) c.in-Err-Refused.field-0-is)) c.in_ok-refused-in-Err-Refused.ensures c.text_alone.ensures.due c.text_alone.ensures.kernel
+    refused_served g.M.Made.Kernel.state (command.RunOn c.args.cpus) c.args.bytes.now c.in-Err-Refused.line c.in-Err-Refused.cause c.in_ok-refused-in-Err-Refused.field-0
+    c.text_alone.result (inr (inl (c.args.cpus, (refl, c.requires.cpus))))
+    (c.read_world.ensures.refused c.in-Err-Refused.line c.in-Err-Refused.cause (c.in-Err-Refused.is ∙ ap (λ e. Err e) c.in-Err-Refused.field-0-is))
+    c.in_ok-refused-in-Err-Refused.ensures c.text_alone.ensures.due c.text_alone.ensures.kernel

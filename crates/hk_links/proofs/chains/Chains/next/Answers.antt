@@ -7,10 +7,12 @@ pub returns-then-behind-self-clause-next : goal.returns-then-behind-self-clause-
 returns-then-behind-self-clause-next c =
     let low : c.args.cell < c.self.inside.cells = subst (λ (v : Chained). c.args.cell < v.cells) (sym c.self.view_is) c.requires in
     let within : c.args.cell < length c.self.inside.next.items = omega (arith, c.self.invariant.nexts) in
-    rw (← c.self.view_is) (λ l k inside here. leads_in _ _ _ _ _ within c.index-behind.ensures c.if-behind-self.true (next_is _ _ _ _ _ c.self.invariant l k c.args.cell inside here))
+    rw (← c.self.view_is) (λ l k inside here. leads_in _ _ _ _ _ within c.index-behind.ensures c.if-behind-self.true
+    (next_is _ _ _ _ _ c.self.invariant l k c.args.cell inside here))
 
 pub returns-else-behind-self-clause-next : goal.returns-else-behind-self-clause-next
 returns-else-behind-self-clause-next c =
     let low : c.args.cell < c.self.inside.cells = subst (λ (v : Chained). c.args.cell < v.cells) (sym c.self.view_is) c.requires in
     let within : c.args.cell < length c.self.inside.next.items = omega (arith, c.self.invariant.nexts) in
-    rw (← c.self.view_is) (λ l k inside here. leads_out _ _ _ _ _ within c.index-behind.ensures c.if-behind-self.false (next_is _ _ _ _ _ c.self.invariant l k c.args.cell inside here))
+    rw (← c.self.view_is) (λ l k inside here. leads_out _ _ _ _ _ within c.index-behind.ensures c.if-behind-self.false
+    (next_is _ _ _ _ _ c.self.invariant l k c.args.cell inside here))

@@ -15,7 +15,8 @@ returns-then-left-gt0 c =
 
 pub returns-else-is_err : goal.returns-else-is_err
 returns-else-is_err c =
-    let list : c.push.new.self.items ≡ c.self.inside.lost.items ++ c.args.name ∷ [] = push_ok c.push.result c.self.inside.lost.items c.push.new.self.items c.args.name (sym c.if-is_err.ensures.value) c.push.ensures.items in
+    let list : c.push.new.self.items ≡ c.self.inside.lost.items ++ c.args.name ∷ [] =
+    push_ok c.push.result c.self.inside.lost.items c.push.new.self.items c.args.name (sym c.if-is_err.ensures.value) c.push.ensures.items in
     let there : c.args.name.0 - c.self.inside.first_new.0 < length c.self.inside.numbers.items = omega (arith, c.if-at-len.false, c.len.ensures, c.self.inside.numbers.ok.0) in
     let read = λ (x : ℕ). get_or_default_zero c.self.inside.numbers.items (c.args.name.0 - c.self.inside.first_new.0) x there in
     let same : c.index-2.result.now ≡ c.index.result.now = c.index-2.ensures ∙ read c.index-2.result.now ∙ sym (read c.index.result.now) ∙ sym c.index.ensures in

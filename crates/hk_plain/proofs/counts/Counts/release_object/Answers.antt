@@ -9,5 +9,6 @@ use Rattle.hk_plain.proofs.counts.Counts.release_object.Goals as goal
 
 pub returns : goal.returns
 returns c =
-    let entries = subst (λ (es : List Entry). Moved c.release.new.self c.release_entries.new.self [] (flat_map entry_names es)) c.as_slice.ensures.value c.release_entries.ensures in
+    let entries =
+    subst (λ (es : List Entry). Moved c.release.new.self c.release_entries.new.self [] (flat_map entry_names es)) c.as_slice.ensures.value c.release_entries.ensures in
     both c.args.self.now c.release.new.self c.release_entries.new.self [] (c.args.object.now.of ∷ []) [] (flat_map entry_names c.args.object.now.entries) c.release.ensures entries

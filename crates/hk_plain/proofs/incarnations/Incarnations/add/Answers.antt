@@ -19,5 +19,6 @@ invariant_of-self-then-is_err c =
 
 pub invariant_of-self-2 : goal.invariant_of-self-2
 invariant_of-self-2 c =
-    let more : c.insert.new.live.entries ≡ insert_entry inc_cmp c.self.inside.live.entries c.self.inside.next c.args.new = on_ok c.insert.result _ (sym c.if-is_err.ensures.value) c.insert.ensures.ok in
+    let more : c.insert.new.live.entries ≡ insert_entry inc_cmp c.self.inside.live.entries c.self.inside.next c.args.new =
+    on_ok c.insert.result _ (sym c.if-is_err.ensures.value) c.insert.ensures.ok in
     rw more (stacked_added c.self.inside.live.entries c.self.inside.stacks c.push.new.self c.self.inside.next c.args.new c.self.invariant c.in_ok-push.ensures.ok)

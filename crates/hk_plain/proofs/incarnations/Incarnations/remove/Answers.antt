@@ -22,7 +22,9 @@ invariant_of-self-2 c =
 
 pub returns-clause-counted : goal.returns-clause-counted
 returns-clause-counted c =
-    let released = by_slots (λ went. Moved c.args.counts.now c.release_entries.new.self [] went) c.as_slice.result.now c.in-Some.gone.slots c.as_slice.ensures.value c.release_entries.ensures in
-    let moved = removed_moved named_slots c.args.counts.now c.release_entries.new.self (same_inc c.args.inc) c.self.inside.live.entries c.in-Some.gone (sym c.in-Some.ensures.value) released in
+    let released =
+    by_slots (λ went. Moved c.args.counts.now c.release_entries.new.self [] went) c.as_slice.result.now c.in-Some.gone.slots c.as_slice.ensures.value c.release_entries.ensures in
+    let moved =
+    removed_moved named_slots c.args.counts.now c.release_entries.new.self (same_inc c.args.inc) c.self.inside.live.entries c.in-Some.gone (sym c.in-Some.ensures.value) released in
     subst (λ (es : List (Inc × Incarnation)). Moved c.args.counts.now c.release_entries.new.self (slot_names es) (slot_names c.args.self.now.live)) (sym c.in-Some.ensures.entries)
     (subst (λ (ones : LiveOnes). Moved c.args.counts.now c.release_entries.new.self (slot_names (remove_entry (same_inc c.args.inc) c.self.inside.live.entries)) (slot_names ones.live)) c.self.view_is moved)

@@ -19,12 +19,14 @@ returns-in_default-clause-value c =
 
 pub invariant_of-self-2 : goal.invariant_of-self-2
 invariant_of-self-2 c =
-    let gone : c.remove_all.new.live.entries ≡ others c.args.proc c.self.inside.live.entries = taken_gone c.self.inside.live.entries c.remove_all.new.live.entries c.self.inside.stacks c.self.inside.next c.args.proc c.as_slice.result.now c.self.invariant (c.as_slice.ensures ∙ c.in-Some.ensures.taken) c.remove_all.ensures.live in
+    let gone : c.remove_all.new.live.entries ≡ others c.args.proc c.self.inside.live.entries =
+    taken_gone c.self.inside.live.entries c.remove_all.new.live.entries c.self.inside.stacks c.self.inside.next c.args.proc c.as_slice.result.now c.self.invariant (c.as_slice.ensures ∙ c.in-Some.ensures.taken) c.remove_all.ensures.live in
     rw gone (stacked_gone c.self.inside.live.entries c.self.inside.stacks c.take.new.self c.self.inside.next c.args.proc c.self.invariant c.take.ensures.others)
 
 pub returns-clause-value : goal.returns-clause-value
 returns-clause-value c =
-    let gone : c.remove_all.new.live.entries ≡ others c.args.proc c.self.inside.live.entries = taken_gone c.self.inside.live.entries c.remove_all.new.live.entries c.self.inside.stacks c.self.inside.next c.args.proc c.as_slice.result.now c.self.invariant (c.as_slice.ensures ∙ c.in-Some.ensures.taken) c.remove_all.ensures.live in
+    let gone : c.remove_all.new.live.entries ≡ others c.args.proc c.self.inside.live.entries =
+    taken_gone c.self.inside.live.entries c.remove_all.new.live.entries c.self.inside.stacks c.self.inside.next c.args.proc c.as_slice.result.now c.self.invariant (c.as_slice.ensures ∙ c.in-Some.ensures.taken) c.remove_all.ensures.live in
     ap (λ (live : List (Inc × Incarnation)). ones_of live c.self.inside.next) gone
     ∙ ap (λ (ones : LiveOnes). ones_of (others c.args.proc ones.live) ones.next) c.self.view_is
 

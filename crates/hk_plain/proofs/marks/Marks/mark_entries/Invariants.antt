@@ -6,4 +6,5 @@ use Rattle.hk_plain.proofs.marks.Marks.mark_entries.Given as goal
 
 -- marks on what the rest names are the marks on what all name
 abbrev pub invariant-loop-entry : goal.invariant-loop-entry
-invariant-loop-entry l = (final : Marking) → AreMarked (flat_map entry_names (drop l.entry-index l.entries)) l.self final → AreMarked (flat_map entry_names l.entries) l.initial.self final
+invariant-loop-entry l =
+    (final : Marking) → AreMarked (flat_map entry_names (drop l.entry-index l.entries)) l.self final → AreMarked (flat_map entry_names l.entries) l.initial.self final

@@ -13,5 +13,6 @@ returns-clause-lost c =
 pub returns-clause-none : goal.returns-clause-none
 returns-clause-none c =
     let h = subst (λ (s : State). AreCounted s.incarnations s.processes s.objects c.self.inside.counts) c.self.view_is c.self.invariant in
-    let found = subst (λ (s : State). (k : ℕ) → has_made c.self.inside.counts k s.objects ≡ true → IsFound c.self.inside.counts k → IsFound c.last_unnamed.new.counts k) c.self.view_is c.last_unnamed.ensures.found in
+    let found =
+    subst (λ (s : State). (k : ℕ) → has_made c.self.inside.counts k s.objects ≡ true → IsFound c.self.inside.counts k → IsFound c.last_unnamed.new.counts k) c.self.view_is c.last_unnamed.ensures.found in
     none_lost c.args.self.now c.self.inside.counts h (sym (ap (λ (s : State). s.first_new) c.self.view_is)) (sym c.if-not-is_exact.ensures) c.last_unnamed.result c.last_unnamed.new.counts c.last_unnamed.ensures.same found c.last_unnamed.ensures.none

@@ -5,11 +5,11 @@ use Rattle.hk_model.specs.declared.objects.Object.{Object}
 use Rattle.hk_plain.specs.Counts.{AreCounted}
 use Rattle.hk_plain.proofs.CountedParts.{counted_written}
 use Rattle.hk_plain.proofs.tables.Tables.push_word.Goals as goal
-use Rattle.hk_plain.proofs.tables.Tables.push_word.Goals.{in-Some+else-len-ge4096+in_ok-push, in_default}
+use Rattle.hk_plain.proofs.tables.Tables.push_word.Goals.{in-Some+else-len-ge-WORD_LIMIT+in_ok-push, in_default}
 
 pub invariant_of-self-2 : goal.invariant_of-self-2
 invariant_of-self-2 c = elim c.match-get_mut.branch [
-  | in-Some+else-len-ge4096+in_ok-push w ↦ rw w.self-inside-is (
+  | in-Some+else-len-ge-WORD_LIMIT+in_ok-push w ↦ rw w.self-inside-is (
       let new : Object = record w.in-Some.object.now { words = w.push.new.self } in
       subst (λ (es : List (Name × Object)). AreCounted c.self.inside.incarnations.live c.self.inside.processes es c.self.inside.counts) (sym (c.get_mut.follows.holds new).0)
       (counted_written c.self.inside.incarnations.live c.self.inside.processes c.self.inside.objects.entries c.self.inside.counts c.args.name w.in-Some.object.now new c.self.invariant (sym w.in-Some.ensures.value) refl))

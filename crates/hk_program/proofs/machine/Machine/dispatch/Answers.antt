@@ -13,7 +13,8 @@ use Rattle.hk_program.proofs.machine.Machine.dispatch.Goals as goal
 pub unreachable-requires : goal.unreachable-requires
 unreachable-requires g c =
     let given = subst (λ (m : Machine). dispatched m.state c.args.cpu ≡ Some (c.in_ok-proc.proc, g.K.Kernel.state c.dispatch.new.self)) c.self.view_is c.in_ok-proc.ensures.given in
-    none-some _ (sym c.in-None.is ∙ (c.current.ensures ∙ dispatched_runs c.args.world.now c.args.self.now c.args.cpu c.in_ok-proc.proc (g.K.Kernel.state c.dispatch.new.self) c.requires.sound c.requires.idle given))
+    none-some _ (sym c.in-None.is ∙ (c.current.ensures ∙ dispatched_runs c.args.world.now c.args.self.now c.args.cpu c.in_ok-proc.proc (g.K.Kernel.state c.dispatch.new.self)
+    c.requires.sound c.requires.idle given))
 
 pub returns-clause-given : goal.returns-clause-given
 returns-clause-given g c =

@@ -28,7 +28,8 @@ turn-requires-clause-code g c =
 
 pub turn-requires-clause-room : goal.turn-requires-clause-room
 turn-requires-clause-room g c =
-    subst (λ (m : Machine). (call : Call) → IfSome (entered_on m.state c.args.cpu call (acted_on m.state c.args.cpu call).0) (λ code. length c.index_mut-context.result.now < 64)) (sym c.self.view_is)
+    subst (λ (m : Machine). (call : Call) → IfSome (entered_on m.state c.args.cpu call (acted_on m.state c.args.cpu call).0) (λ code. length c.index_mut-context.result.now < 64))
+    (sym c.self.view_is)
     (read_room c.args.world.now c.args.self.now c.args.cpu c.args.proc c.args.inc c.requires.sound c.requires.runs c.index_mut-context.result.now
     (subst (λ (m : Machine). c.index_mut-context.result.now ≡ get_or m.contexts c.args.proc.0 c.index_mut-context.result.now) c.self.view_is c.index_mut-context.ensures.value))
 
@@ -37,8 +38,10 @@ returns-clause-made g c =
     let line : Line = record { cpu = c.args.cpu; proc = c.args.proc; inc = c.args.inc; what = c.in_ok-what.what; reply = c.in_ok-what.reply } in
     let state : State = g.K.Kernel.state c.turn.new.kernel in
     let frames : Context = c.turn.new.context in
-    turn_steps c.args.world.now c.args.self.now c.args.cpu c.args.proc c.args.inc c.requires.sound c.requires.runs c.index_mut-context.result.now (c.in_ok-what.what, c.in_ok-what.reply, state, frames)
+    turn_steps c.args.world.now c.args.self.now c.args.cpu c.args.proc c.args.inc c.requires.sound c.requires.runs c.index_mut-context.result.now
+    (c.in_ok-what.what, c.in_ok-what.reply, state, frames)
     (subst (λ (m : Machine). c.index_mut-context.result.now ≡ get_or m.contexts c.args.proc.0 c.index_mut-context.result.now) c.self.view_is c.index_mut-context.ensures.value)
     c.requires.cpu c.requires.below
-    (subst (λ (m : Machine). turn c.args.world.now m.state (process_on m.state c.args.cpu) (next c.args.world.now c.index_mut-context.result.now) ≡ (c.in_ok-what.what, c.in_ok-what.reply, state, frames)) c.self.view_is c.in_ok-what.ensures.made)
+    (subst (λ (m : Machine). turn c.args.world.now m.state (process_on m.state c.args.cpu) (next c.args.world.now c.index_mut-context.result.now)
+    ≡ (c.in_ok-what.what, c.in_ok-what.reply, state, frames)) c.self.view_is c.in_ok-what.ensures.made)
     ∙ ap (λ (m : Machine). let made : Line × Machine = (line, record { state = state; contexts = slice_set m.contexts c.args.proc.0 frames }) in Some made) (sym c.self.view_is)

@@ -16,7 +16,9 @@ returns-then-limit_reached-clause-none g c =
     (no_step c.args.world.now c.args.self.now c.args.cpu (subst (λ (m : Machine). may_step m.state ≡ false) c.self.view_is may), refl)
 
 pub returns-in_ok-line-in-Some-clause-sound : goal.returns-in_ok-line-in-Some-clause-sound
-returns-in_ok-line-in-Some-clause-sound g c = step_sound c.args.world.now c.args.self.now c.args.cpu c.in_ok-line-in-Some.line c.event.new.self c.requires c.in_ok-line-in-Some.ensures.made
+returns-in_ok-line-in-Some-clause-sound g c =
+    step_sound c.args.world.now c.args.self.now c.args.cpu c.in_ok-line-in-Some.line c.event.new.self c.requires c.in_ok-line-in-Some.ensures.made
 
 pub returns-in-None-clause-sound : goal.returns-in-None-clause-sound
-returns-in-None-clause-sound g c = dispatch_sound c.args.world.now c.args.self.now c.dispatch.new.self c.args.cpu c.dispatch.result c.requires c.dispatch.ensures.given c.dispatch.ensures.none
+returns-in-None-clause-sound g c =
+    dispatch_sound c.args.world.now c.args.self.now c.dispatch.new.self c.args.cpu c.dispatch.result c.requires c.dispatch.ensures.given c.dispatch.ensures.none

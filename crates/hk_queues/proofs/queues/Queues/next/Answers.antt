@@ -8,4 +8,5 @@ returns-clause-ready c =
 
 pub returns-clause-waiting : goal.returns-clause-waiting
 returns-clause-waiting c =
-    rw (← c.self.view_is) (λ s k inside here. c.proc_at.ensures ∙ behind_waiter c.self.inside.chains c.self.inside.processes s k c.args.proc _ c.self.invariant c.next.ensures.next inside here)
+    rw (← c.self.view_is) (λ s k inside here. c.proc_at.ensures ∙ behind_waiter c.self.inside.chains c.self.inside.processes s k c.args.proc _ c.self.invariant
+    c.next.ensures.next inside here)

@@ -9,4 +9,5 @@ returns-then-is_some-clause-answer g c =
 
 pub returns-then-is_over-clause-answer : goal.returns-then-is_over-clause-answer
 returns-then-is_over-clause-answer g c =
-    ask_over g.K.Kernel.state g.J.Naming.world c.args.cpu c.args.self.now c.requires.sound (none_of c.args.self.now.stop c.is_some.result c.if-is_some.false c.is_some.ensures) (sym c.is_over.ensures ∙ c.if-is_over.true)
+    ask_over g.K.Kernel.state g.J.Naming.world c.args.cpu c.args.self.now c.requires.sound (none_of c.args.self.now.stop c.is_some.result c.if-is_some.false c.is_some.ensures)
+    (sym c.is_over.ensures ∙ c.if-is_over.true)

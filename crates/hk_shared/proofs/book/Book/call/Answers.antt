@@ -9,7 +9,8 @@ returns-then-is_some-clause-answer g c =
 
 pub returns-then-limit_reached-clause-answer : goal.returns-then-limit_reached-clause-answer
 returns-then-limit_reached-clause-answer g c =
-    call_limit g.K.Kernel.state g.J.Naming.world c.args.cpu c.args.self.now c.requires.sound (none_of c.args.self.now.stop c.is_some.result c.if-is_some.false c.is_some.ensures) (sym c.limit_reached.ensures ∙ c.if-limit_reached.true) g.K.Kernel.wants c.args.proc c.args.todo
+    call_limit g.K.Kernel.state g.J.Naming.world c.args.cpu c.args.self.now c.requires.sound (none_of c.args.self.now.stop c.is_some.result c.if-is_some.false c.is_some.ensures)
+    (sym c.limit_reached.ensures ∙ c.if-limit_reached.true) g.K.Kernel.wants c.args.proc c.args.todo
 
 pub returns-in-Halt-clause-answer : goal.returns-in-Halt-clause-answer
 returns-in-Halt-clause-answer g c = rw c.in-Halt.is c.halt.ensures.answer

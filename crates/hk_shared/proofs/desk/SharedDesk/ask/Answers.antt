@@ -11,7 +11,8 @@ pub ask-note-requires-clause-idle : goal.ask-note-requires-clause-idle
 ask-note-requires-clause-idle g c =
     let t = c.take-turn.result in
     rw (c.value.ensures.value, c.number.ensures)
-    (still_idle g.K.Kernel.state g.J.Naming.world (cpu_of c.args.pass) (turn_value t) (seen_list c.args.pass) (found_list t) c.take-turn.ensures.stands c.take-turn.ensures.goes_on c.requires.idle)
+    (still_idle g.K.Kernel.state g.J.Naming.world (cpu_of c.args.pass) (turn_value t) (seen_list c.args.pass) (found_list t) c.take-turn.ensures.stands
+    c.take-turn.ensures.goes_on c.requires.idle)
 
 pub give_back-requires-clause-room : goal.give_back-requires-clause-room
 give_back-requires-clause-room g c =
@@ -21,6 +22,9 @@ give_back-requires-clause-room g c =
 pub returns-clause-answer : goal.returns-clause-answer
 returns-clause-answer g c =
     let t = c.take-turn.result in
-    let answer = subst (λ (n : ℕ). AnswersAsk g.J.Naming.world (record { 0 = n }) (notes_of_book c.value.result.now) (notes_of_book c.ask-note.new.self) c.ask-note.result.1) c.number.ensures c.ask-note.ensures.answer in
-    ask_answers g.J.Naming.world (cpu_of c.args.pass) (seen_list c.args.pass) (found_list t) (notes_of_book c.value.result.now) (notes_of_book c.ask-note.new.self) (seen_list c.give_back.result) c.ask-note.result.0
-    c.take-turn.ensures.goes_on (ap notes_of_book c.value.ensures.value ∙ c.take-turn.ensures.stands.0) c.ask-note.ensures.next.notes c.give_back.ensures.seen c.ask-note.result.1 answer
+    let answer = subst (λ (n : ℕ). AnswersAsk g.J.Naming.world (record { 0 = n }) (notes_of_book c.value.result.now) (notes_of_book c.ask-note.new.self) c.ask-note.result.1)
+    c.number.ensures c.ask-note.ensures.answer in
+    ask_answers g.J.Naming.world (cpu_of c.args.pass) (seen_list c.args.pass) (found_list t) (notes_of_book c.value.result.now) (notes_of_book c.ask-note.new.self)
+    (seen_list c.give_back.result) c.ask-note.result.0
+    c.take-turn.ensures.goes_on (ap notes_of_book c.value.ensures.value ∙ c.take-turn.ensures.stands.0) c.ask-note.ensures.next.notes c.give_back.ensures.seen
+    c.ask-note.result.1 answer

@@ -12,7 +12,8 @@ join_seat-requires g c =
     let inv = c.loop-pass.invariant in
     let one = weight_is _ _ c.into_seat-other.ensures.2 c.in-Some.pass.one in (
       inv.0,
-      c.into_seat-other.ensures.0 ∙ all_last (IsPassOf c.args.self.now) c.args.passes.items c.loop-pass.passes.items c.pop-in-loop-pass.new.self.items inv.5.0 c.in-Some.pass c.requires.own inv.5.1 c.in-Some.ensures.items,
+      c.into_seat-other.ensures.0 ∙ all_last (IsPassOf c.args.self.now) c.args.passes.items c.loop-pass.passes.items c.pop-in-loop-pass.new.self.items inv.5.0 c.in-Some.pass
+          c.requires.own inv.5.1 c.in-Some.ensures.items,
       search rules,
       search rules,
       join_keeps_rule _ _ _ _ _ _ _ inv.4 (omega arith) inv.2 (free_is _ _ c.into_seat-other.ensures.2 c.in-Some.pass.free),
@@ -33,6 +34,8 @@ loop-pass-preserved g c =
         c.in-Some.pass ∷ inv.5.0,
         moved c.args.passes.items c.loop-pass.passes.items c.pop-in-loop-pass.new.self.items inv.5.0 c.in-Some.pass inv.5.1 c.in-Some.ensures.items,
         subst (λ (m : AtSeat g.row.T.Denot g.row.T-Entry.Denot). RemembersAll m.0 (c.in-Some.pass ∷ inv.5.0)) (sym now)
-            (remembers_more c.loop-pass.seat.me.0 c.into_seat-other.result.me.0 c.in-Some.pass inv.5.0 (seen_list_is c.in-Some.pass c.into_seat-other.result.me.0 c.into_seat-other.ensures.2) (known_count_is c.in-Some.pass c.into_seat-other.result.me.0 c.into_seat-other.ensures.2) inv.5.2),
+            (remembers_more c.loop-pass.seat.me.0 c.into_seat-other.result.me.0 c.in-Some.pass inv.5.0
+            (seen_list_is c.in-Some.pass c.into_seat-other.result.me.0 c.into_seat-other.ensures.2)
+            (known_count_is c.in-Some.pass c.into_seat-other.result.me.0 c.into_seat-other.ensures.2) inv.5.2),
       ),
     )

@@ -9,5 +9,6 @@ loop-number-preserved g c =
       search rules,
       search rules,
       search rules,
-      subst (AreNewPasses c.in_ok-turns.turns 1) (sym e) (new_more c.in_ok-turns.turns 1 c.loop-number.passes.items c.make_pass.result c.loop-number.number (omega arith) c.loop-number.invariant.3 c.make_pass.ensures.new),
+      subst (AreNewPasses c.in_ok-turns.turns 1) (sym e) (new_more c.in_ok-turns.turns 1 c.loop-number.passes.items c.make_pass.result c.loop-number.number (omega arith)
+          c.loop-number.invariant.3 c.make_pass.ensures.new),
     )

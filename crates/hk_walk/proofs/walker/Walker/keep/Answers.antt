@@ -18,5 +18,6 @@ returns-clause-first c =
 
 pub returns-clause-pushes : goal.returns-clause-pushes
 returns-clause-pushes c =
-    subst (λ (old : Remembered). lookup ((eq-value).it c.args.key) old.pairs ≡ None → (c.put.new.self.entries ≡ (c.args.key, c.args.entry.now) ∷ take (old.capacity - 1) old.pairs) ⊎ (held_in c.put.new.self ≡ old)) c.self.view_is
+    subst (λ (old : Remembered). lookup ((eq-value).it c.args.key) old.pairs ≡ None → (c.put.new.self.entries ≡ (c.args.key, c.args.entry.now) ∷ take (old.capacity - 1) old.pairs)
+    ⊎ (held_in c.put.new.self ≡ old)) c.self.view_is
     (tried-pushes c.self.inside.cache c.args.key c.args.entry.now c.put.new.self c.put.result c.put.ensures.entries c.put.ensures.err)

@@ -1,0 +1,72 @@
+//! What gives names their texts (`docs/FORMATS.md`, "Names").
+
+ghost use Rattle.std.specs.Prelude.{◌≡◌, IfOk, string_bytes};
+ghost use Rattle.hk_model.specs.WorldValue.{IsTypeOrAny};
+ghost use Rattle.hk_format.specs.EntryTexts.{kind_spelled, IsSpelledOrAny};
+
+use crate::labels::object_label;
+use hk_model::{Name, NoMemory, World};
+use std::alloc::Global;
+
+/// Gives names their texts: the labels of a world, or numbers.
+pub trait Speller {
+    ghost use Rattle.std.specs.Prelude.{ℕ, List};
+    ghost use Rattle.hk_model.specs.declared.names.Name.{Name};
+
+    /// The names that have a text.
+    ghost spells: { Self → Name → Type 0 };
+
+    /// The text of each.
+    ghost name_text: { Self → Name → List ℕ };
+
+    /// The text of a name. The only error is want of memory.
+    fn spell(&self, alloc: Global, name: Name) -> Result<String, NoMemory>
+        requires { spells self.now name }
+        ensures { IfOk result (λ t. string_bytes t ≡ name_text self.now name) };
+}
+
+/// The labels of its objects.
+impl Speller for World {
+    ghost use Rattle.hk_model.specs.WorldValue.{IsObject};
+    ghost use Rattle.hk_format.specs.Names.{spoken, object_text};
+
+    ghost spells = { IsObject };
+
+    ghost name_text = { λ w name. object_text (spoken w) name };
+
+    fn spell(&self, alloc: Global, name: Name) -> Result<String, NoMemory> {
+        Ok(String::from_str(alloc, object_label(self, name))?)
+    }
+}
+
+/// Names as the numbers that they are.
+#[derive(Clone, Copy, PartialEq, Eq, Debug)]
+pub struct ByNumber;
+
+impl Speller for ByNumber {
+    ghost use Rattle.std.specs.Fmt.{decimal};
+
+    ghost spells = { λ _ _. Unit {0} };
+
+    ghost name_text = { λ _ name. decimal name.0 };
+
+    fn spell(&self, alloc: Global, name: Name) -> Result<String, NoMemory> {
+        let number = name.0;
+        Ok(format!(in alloc; "{number}")?)
+    }
+}
+
+/// The text of a type, or `any`. The only error is want of memory.
+pub(crate) fn kind_text<S: Speller>(
+    alloc: Global,
+    speller: &S,
+    of: Option<Name>,
+) -> Result<String, NoMemory>
+    requires { IsSpelledOrAny (S.spells speller.now) of }
+    ensures { IfOk result (λ t. string_bytes t ≡ kind_spelled (S.name_text speller.now) of) }
+{
+    match of {
+        Some(name) => speller.spell(alloc, name),
+        None => Ok(String::from_str(alloc, "any")?),
+    }
+}

@@ -1,0 +1,68 @@
+//! What a kernel and a context do of what is next for a process.
+
+ghost use Rattle.std.specs.Prelude.{◌≡◌, ◌<◌, length, IfOk, OnErr, IfSome, IsSome, IsTrue};
+ghost use Rattle.hk_model.specs.declared.calls.Call.{Call};
+ghost use Rattle.hk_model.specs.declared.calls.Reply.{Reply};
+ghost use Rattle.hk_model.specs.Processors.{runner, may_step, process_on, acted_on, entered_on, has_left};
+ghost use Rattle.hk_model.specs.Running.{turn};
+ghost use Rattle.hk_program.specs.Carrying.{may_want};
+ghost use Rattle.hk_program.specs.Contexts.{AreFrames};
+
+use crate::answering::after;
+use crate::context::Context;
+use hk_model::{Cpu, Kernel, NoMemory, Reply, Todo, What, World};
+use std::alloc::Global;
+
+/// What was done for a process.
+#[derive(Clone, Copy, PartialEq, Eq, Debug)]
+pub struct Carried {
+    pub what: What,
+    pub reply: Reply,
+    /// Whether the process now waits, has yielded or has ended.
+    pub gone: bool,
+}
+
+/// Carries out what is next for the process that the processor runs: makes its call and brings its
+/// context behind the reply, or ends it and leaves no frame (`docs/RULES.md`, "Steps of
+/// processors").
+///
+/// NoMemory is want of memory for the call, if the kernel's type names it; then nothing changes.
+pub fn carry_out<K: Kernel>(
+    alloc: Global,
+    kernel: &mut K,
+    context: &mut Context,
+    world: &World,
+    cpu: Cpu,
+    todo: Todo,
+) -> Result<Carried, NoMemory>
+    requires frames { AreFrames world.now context.old }
+    requires runs { IsSome (runner (K.state kernel.old) cpu) }
+    requires below { IsTrue (may_step (K.state kernel.old)) }
+    requires code { (call : Call) → (reply : Reply) → IfSome (entered_on (K.state kernel.old) cpu call reply) (λ code. code < length world.now.codes) }
+    requires room { (call : Call) → IfSome (entered_on (K.state kernel.old) cpu call (acted_on (K.state kernel.old) cpu call).0) (λ _. length context.old < 64) }
+    ensures made { IfOk result (λ made. turn world.now (K.state kernel.old) (process_on (K.state kernel.old) cpu) (todo, context.old) ≡ (made.what, made.reply, K.state kernel.new, context.new)) }
+    ensures gone { IfOk result (λ made. made.gone ≡ has_left (K.state kernel.old) cpu (K.state kernel.new)) }
+    ensures memory { OnErr result (IsTrue (may_want K.wants todo)) }
+    ensures err { OnErr result ((K.state kernel.new ≡ K.state kernel.old) × (context.new ≡ context.old)) }
+{
+    match todo {
+        Todo::Do(call) => {
+            let acted = kernel.act(alloc, cpu, call)?;
+            after(context, world, &call, &acted);
+            Ok(Carried {
+                what: What::Call(call),
+                reply: acted.reply,
+                gone: acted.gone,
+            })
+        }
+        Todo::Halt => {
+            kernel.halt(cpu);
+            context.clear();
+            Ok(Carried {
+                what: What::Halt,
+                reply: Reply::Done,
+                gone: true,
+            })
+        }
+    }
+}
