@@ -92,11 +92,7 @@ opening_base : (w : WorldValue) (i : Inc) (x : Activation) → look_up i (activa
 unfolding opening
 opening_base w i x h = let r = base_found 0 w.tasks i x h in (r.0, omega (arith, r.2))
 
-<<<<<<< HEAD
 pub opening_next : (w : WorldValue) → (opening w).next_name.0 ≡ kernel_types + length w.objects
-=======
-opening_next : (w : WorldValue) → (opening w).next_name.0 ≡ kernel_types + length w.objects
->>>>>>> main
 unfolding opening
 opening_next w = refl
 
