@@ -46,7 +46,7 @@ use Rattle.hk_model.specs.Effects.{IsSameKind}
 -- ---- rights
 
 -- two masks that share no right
-lacks : (a b n : ℕ) → bit_and a b ≡ 0 → has a n ≡ true → has b n ≡ false
+pub lacks : (a b n : ℕ) → bit_and a b ≡ 0 → has a n ≡ true → has b n ≡ false
 lacks a b n e h = by (has b n) refl
   where
     by : (x : Bool) → has b n ≡ x → x ≡ false
@@ -57,10 +57,10 @@ apart : {A : Type 0} (a b n : ℕ) → bit_and a b ≡ 0 → has a n ≡ true �
 apart a b n e h g = absurd (true≢false (sym g ∙ lacks a b n e h))
 
 -- what is obtained through a capability: MODIFY and UNCONF through UNCONF, ENV through ENV
-reduced_unconf : (by a n : ℕ) → has (reduced_rights by a) n ≡ true → has confined_away n ≡ true → has by unconf_right ≡ true
+pub reduced_unconf : (by a n : ℕ) → has (reduced_rights by a) n ≡ true → has confined_away n ≡ true → has by unconf_right ≡ true
 reduced_unconf by a n h c = reduced_needs_unconf by a n (lacks confined_away (all_but confined_away) n refl c) h
 
-reduced_env : (by a n : ℕ) → has (reduced_rights by a) n ≡ true → has ENV n ≡ true → has by env_right ≡ true
+pub reduced_env : (by a n : ℕ) → has (reduced_rights by a) n ≡ true → has ENV n ≡ true → has by env_right ≡ true
 reduced_env by a n h c = by_env (has by env_right) h
   where
     kept : ℕ

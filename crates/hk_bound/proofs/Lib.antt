@@ -4,3 +4,15 @@ mod Bounded
 mod Kept
 mod Opened
 mod Law
+mod OpeningObjects
+mod EachLemmas
+mod Passing
+mod Reductions
+mod Sources
+mod FindsLemmas
+mod Complete
+mod TaskSlots
+mod Through
+mod Growth
+mod Filling
+mod Exact

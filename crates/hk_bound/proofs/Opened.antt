@@ -92,7 +92,7 @@ opening_base : (w : WorldValue) (i : Inc) (x : Activation) → look_up i (activa
 unfolding opening
 opening_base w i x h = let r = base_found 0 w.tasks i x h in (r.0, omega (arith, r.2))
 
-opening_next : (w : WorldValue) → (opening w).next_name.0 ≡ kernel_types + length w.objects
+pub opening_next : (w : WorldValue) → (opening w).next_name.0 ≡ kernel_types + length w.objects
 unfolding opening
 opening_next w = refl
 

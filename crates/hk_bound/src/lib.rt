@@ -2,12 +2,18 @@
 //! programs are (`docs/RULES.md`, "The static bound").
 #![tactic(auto)]
 
+mod bounding;
+mod forms;
+mod gaps;
+mod opening;
+mod rows;
 #[cfg(test)]
 mod tests;
 
 ghost use Rattle.hk_model.specs.Running.{AreStepsOf};
 ghost use Rattle.hk_bound.specs.Bounds.{DiffersInCodes, BoundLaw};
 
+pub use bounding::bound;
 use hk_model::{Line, World};
 
 /// The law of the bound (`docs/RULES.md`, "The static bound"): for every world that differs from this

@@ -1,0 +1,9 @@
+use Rattle.std.proofs.Common.{◌<◌, ℕ}
+use Rattle.hk_bound.specs.Columns.{Finds}
+use Rattle.hk_bound.specs.Rules.{MergeRule}
+use Rattle.hk_bound.proofs.gaps.Table.merge_all.Given as goal
+
+abbrev pub invariant-loop-place : goal.invariant-loop-place
+invariant-loop-place l =
+    Finds l.self.world.now l.self.forms.now l.self.rows.now
+    ((k : ℕ) → k < l.place → MergeRule l.self.world.now l.self.forms.now l.self.rows.now l.process l.name l.by k) l.fn.gaps.items l.gaps.items

@@ -1,0 +1,9 @@
+use Rattle.hk_bound.specs.Columns.{Finds}
+use Rattle.hk_bound.specs.Each.{EachBelow}
+use Rattle.hk_bound.specs.Rules.{EntryRule}
+use Rattle.hk_bound.proofs.gaps.Table.take_entries.Given as goal
+
+abbrev pub invariant-loop-entry : goal.invariant-loop-entry
+invariant-loop-entry l =
+    Finds l.self.world.now l.self.forms.now l.self.rows.now
+    (EachBelow l.entry-index (EntryRule l.self.world.now l.self.forms.now l.self.rows.now l.process l.name l.taking) l.entry-items) l.fn.gaps.items l.gaps.items
