@@ -37,7 +37,9 @@ use Rattle.hk_model.specs.Under.{is_live}
 use Rattle.hk_model.proofs.Turns.{walks_live}
 use Rattle.hk_bound.specs.Bounds.{word_changes, list_changes, count_changes, HasOneOf, HasChanging, IsInBound}
 use Rattle.hk_rights.proofs.Sets.{has-bit_and, has-bit_or, has-zero, has-bit_and_left, has-bit_and_right}
-use Rattle.hk_bound.specs.Taking.{Thing, Old, MadeBy, Holder, Slots, ListOf, Has, Right, Amplifies, type_of, has_words, has_list, confined_away, STORE+APPEND, Follows, made_has, made_gives, load_has, load_gives, load_form, store_has, store_gives, store_form, copy_has, copy_gives, copy_form, enter_has, enter_gives, enter_form, enter_param, merge_gives, make_form}
+use Rattle.hk_bound.specs.Taking.{Thing, Old, MadeBy, Holder, Slots, ListOf, Has, Right, Amplifies, type_of, has_words, has_list, confined_away, STORE+APPEND, Follows, made_has}
+use Rattle.hk_bound.specs.Taking.{made_gives, load_has, load_gives, load_form, store_has, store_gives, store_form, copy_has, copy_gives, copy_form, enter_has, enter_gives}
+use Rattle.hk_bound.specs.Taking.{enter_form, enter_param, merge_gives, make_form}
 use Rattle.hk_bound.proofs.WayShown.{ShowsChange, IsEntered, IsWalkedForm, IsParamForm, ShownBy}
 use Rattle.hk_model.proofs.Standing.{on_cond}
 use Rattle.hk_model.specs.declared.calls.Refusal.{Refusal}
@@ -94,7 +96,8 @@ pub record IsKnown (w : WorldValue) (h : Holder) (type : Name) (check give : ℕ
   pub asked : (n : ℕ) → IsTrue (has all_rights n) → IsTrue (has asks n) → IsTrue (has check n)
   pub given : (n : ℕ) → IsTrue (has all_rights n) → IsTrue (has give n) → IsTrue (has gives n)
 
-known_up : (w : WorldValue) (h g : Holder) (type : Name) (check give : ℕ) → ((asks gives : ℕ) → Follows w (Amplifies h type asks gives) → Follows w (Amplifies g type asks gives)) → IsKnown w h type check give → IsKnown w g type check give
+known_up : (w : WorldValue) (h g : Holder) (type : Name) (check give : ℕ) → ((asks gives : ℕ) → Follows w (Amplifies h type asks gives) → Follows w (Amplifies g type asks gives))
+    → IsKnown w h type check give → IsKnown w g type check give
 known_up w h g type check give f k = record { asks = k.asks; gives = k.gives; follows = f k.asks k.gives k.follows; asked = k.asked; given = k.given }
 
 module _ (w : WorldValue) (own : Name → Proc) where
@@ -111,7 +114,9 @@ module _ (w : WorldValue) (own : Name → Proc) where
   pub thing_is : (name : Name) → ((IsObject w name) × (thing name ≡ Old name)) ⊎ ((kernel_types + length w.objects ≤ name.0) × (thing name ≡ MadeBy (own name)))
   thing_is name = by (nat_lt name.0 (kernel_types + length w.objects)) refl
     where
-      by : (b : Bool) → nat_lt name.0 (kernel_types + length w.objects) ≡ b → ((IsObject w name) × (cond b (Old name) (MadeBy (own name)) ≡ Old name)) ⊎ ((kernel_types + length w.objects ≤ name.0) × (cond b (Old name) (MadeBy (own name)) ≡ MadeBy (own name)))
+      by : (b : Bool) → nat_lt name.0 (kernel_types + length w.objects) ≡ b
+          → ((IsObject w name) × (cond b (Old name) (MadeBy (own name)) ≡ Old name)) ⊎
+          ((kernel_types + length w.objects ≤ name.0) × (cond b (Old name) (MadeBy (own name)) ≡ MadeBy (own name)))
       by true e = inl (grind (arith, nat_tests), refl)
       by false e = inr (grind (arith, nat_tests), refl)
 
@@ -126,7 +131,8 @@ module _ (w : WorldValue) (own : Name → Proc) where
   Bounds h (Form (template.Amplify (Some type) check give)) = IsObject w type → IsKnown w h type check give
   Bounds h (Form (template.Create of give)) = Unit {0}
 
-  form_up : (h g : Holder) → ((type : Name) (asks gives : ℕ) → Follows w (Amplifies h type asks gives) → Follows w (Amplifies g type asks gives)) → (form : Template) → Bounds h (Form form) → Bounds g (Form form)
+  form_up : (h g : Holder) → ((type : Name) (asks gives : ℕ) → Follows w (Amplifies h type asks gives) → Follows w (Amplifies g type asks gives)) → (form : Template)
+      → Bounds h (Form form) → Bounds g (Form form)
   form_up h g f (template.Amplify None check give) b = tt
   form_up h g f (template.Amplify (Some type) check give) b = λ old. known_up w h g type check give (f type) (b old)
   form_up h g f (template.Create of give) b = tt
@@ -141,11 +147,13 @@ module _ (w : WorldValue) (own : Name → Proc) where
       (kinds : (name : Name) → IsObject w name → IsSameKind (object (opening w) name) (object s name))
       (plain : (name : Name) → kernel_types + length w.objects ≤ name.0 → is_of_type PROCEDURE (object s name).of ≡ false)
       (typed : (name : Name) → IsObject w (type_of w name)) where
-    right_of : (cap : Cap) (rights n : ℕ) → BoundsCap (Slots p) cap.name cap.rights → Within rights cap.rights → IsTrue (has all_rights n) → IsTrue (has rights n) → Follows w (Right (Slots p) (thing cap.name) n)
+    right_of : (cap : Cap) (rights n : ℕ) → BoundsCap (Slots p) cap.name cap.rights → Within rights cap.rights → IsTrue (has all_rights n) → IsTrue (has rights n)
+        → Follows w (Right (Slots p) (thing cap.name) n)
     right_of cap rights n b h is there = b.1 n is (Within-has rights cap.rights n h is there)
 
     -- one hop of a walk
-    obtain_bounds : (cap : Cap) (e : Entry) (step : ℕ) → BoundsCap (Slots p) cap.name cap.rights → Within LOAD cap.rights → Bounds (ListOf (thing cap.name)) e → IfOk (obtained cap.rights e step) (Bounds (Slots p))
+    obtain_bounds : (cap : Cap) (e : Entry) (step : ℕ) → BoundsCap (Slots p) cap.name cap.rights → Within LOAD cap.rights → Bounds (ListOf (thing cap.name)) e
+        → IfOk (obtained cap.rights e step) (Bounds (Slots p))
     obtain_bounds cap Empty step b load l = tt
     obtain_bounds cap (Held c) step b load l = (
       load_has p (thing cap.name) (thing c.name) (right_of cap LOAD load_right b load refl refl) l.0,
@@ -155,7 +163,8 @@ module _ (w : WorldValue) (own : Name → Proc) where
     )
     obtain_bounds cap (Form form) step b load l =
         and_is (Bounds (Slots p)) (allowed cap.rights ENV step) (Ok (Form form)) (λ u h.
-        form_up (ListOf (thing cap.name)) (Slots p) (λ type asks gives g. load_form p (thing cap.name) type asks gives (right_of cap LOAD load_right b load refl refl) (right_of cap ENV env_right b (allowed_is cap.rights ENV step u h) refl refl) g) form l)
+        form_up (ListOf (thing cap.name)) (Slots p) (λ type asks gives g. load_form p (thing cap.name) type asks gives (right_of cap LOAD load_right b load refl refl)
+        (right_of cap ENV env_right b (allowed_is cap.rights ENV step u h) refl refl) g) form l)
 
     hop_bounds : (cap : Cap) (at step : ℕ) → BoundsCap (Slots p) cap.name cap.rights → IfOk (hop_on s (Held cap) at step) (Bounds (Slots p))
     hop_bounds cap at step b =
@@ -210,23 +219,30 @@ module _ (w : WorldValue) (own : Name → Proc) where
     same_target path a b h g = let e : ◌≡◌ {A = Result Entry Refusal} (Ok (Held a)) (Ok (Held b)) = sym h ∙ g in cc
 
     -- ---- a Store or an Append
-    put_bounds : (cap : Cap) (how : ℕ) → BoundsCap (Slots p) cap.name cap.rights → IsTrue (has_list w (thing cap.name)) → has cap.rights modify_right ≡ true → has all_rights how ≡ true → has STORE+APPEND how ≡ true → has cap.rights how ≡ true
+    put_bounds : (cap : Cap) (how : ℕ) → BoundsCap (Slots p) cap.name cap.rights → IsTrue (has_list w (thing cap.name)) → has cap.rights modify_right ≡ true
+        → has all_rights how ≡ true → has STORE+APPEND how ≡ true → has cap.rights how ≡ true
         → (e : Entry) → HasEnv e → Bounds (Slots p) e → Bounds (ListOf (thing cap.name)) e
     put_bounds cap how b listed modify is puts holds Empty env y = absurd env
     put_bounds cap how b listed modify is puts holds (Held c) env y =
         let e = y.1 env_right refl (Within-has ENV c.rights env_right env refl refl) in
         let m = b.1 modify_right refl modify in
-        let r = b.1 how is holds in
-        (store_has p (thing cap.name) (thing c.name) how listed m puts r e, λ n right there. store_gives p (thing cap.name) (thing c.name) how n listed m puts r e (y.1 n right there))
+        let r = b.1 how is holds in (
+          store_has p (thing cap.name) (thing c.name) how listed m puts r e,
+          λ n right there. store_gives p (thing cap.name) (thing c.name) how n listed m
+              puts r e (y.1 n right there),
+        )
     put_bounds cap how b listed modify is puts holds (Form form) env y =
-        form_up (Slots p) (ListOf (thing cap.name)) (λ type asks gives g. store_form p (thing cap.name) how type asks gives listed (b.1 modify_right refl modify) puts (b.1 how is holds) g) form y
+        form_up (Slots p) (ListOf (thing cap.name)) (λ type asks gives g. store_form p (thing cap.name) how type asks gives listed (b.1 modify_right refl modify) puts
+        (b.1 how is holds) g) form y
 
     -- ---- a Copy
-    copied_bounds : (cap : Cap) → BoundsCap (Slots p) cap.name cap.rights → Within COPY cap.rights → IsTrue (has_words w (thing cap.name)) → (e : Entry) → Bounds (ListOf (thing cap.name)) e → Bounds (ListOf (MadeBy p)) (copied cap.rights e)
+    copied_bounds : (cap : Cap) → BoundsCap (Slots p) cap.name cap.rights → Within COPY cap.rights → IsTrue (has_words w (thing cap.name)) → (e : Entry)
+        → Bounds (ListOf (thing cap.name)) e → Bounds (ListOf (MadeBy p)) (copied cap.rights e)
     copied_bounds cap b copies worded Empty l = tt
     copied_bounds cap b copies worded (Form form) l =
         on_cond (Bounds (ListOf (MadeBy p))) (has cap.rights env_right) (Form form) Empty
-        (λ env. form_up (ListOf (thing cap.name)) (ListOf (MadeBy p)) (λ type asks gives g. copy_form p (thing cap.name) type asks gives worded (right_of cap COPY copy_right b copies refl refl) (b.1 env_right refl env) g) form l)
+        (λ env. form_up (ListOf (thing cap.name)) (ListOf (MadeBy p))
+        (λ type asks gives g. copy_form p (thing cap.name) type asks gives worded (right_of cap COPY copy_right b copies refl refl) (b.1 env_right refl env) g) form l)
         (λ none. tt)
     copied_bounds cap b copies worded (Held c) l =
         on_cond (Bounds (ListOf (MadeBy p))) (has (reduced_rights cap.rights c.rights) env_right) (Held (record c { rights = reduced_rights cap.rights c.rights })) Empty
@@ -235,14 +251,20 @@ module _ (w : WorldValue) (own : Name → Proc) where
         let by = b.1 env_right refl (reduced_env cap.rights c.rights env_right env refl) in
         let old = l.1 env_right refl (HasAll-reduced cap.rights c.rights env_right env) in (
           copy_has p (thing cap.name) (thing c.name) worded copy by l.0 old,
-          λ n is there. copy_gives p (thing cap.name) (thing c.name) n worded copy by old (l.1 n is (HasAll-reduced cap.rights c.rights n there)) (λ k. b.1 unconf_right refl (reduced_unconf cap.rights c.rights n there k)),
+          λ n is there. copy_gives p (thing cap.name) (thing c.name) n worded copy by old (l.1 n is (HasAll-reduced cap.rights c.rights n there))
+              (λ k. b.1 unconf_right refl (reduced_unconf cap.rights c.rights n there k)),
         ))
         (λ none. tt)
 
     -- ---- an Enter
-    inherited_bounds : (q : Name) → (type_of w q).0 ≡ PROCEDURE → Follows w (Right (Slots p) (Old q) a0_right) → (confined : Bool) → (confined ≡ false → Follows w (Right (Slots p) (Old q) unconf_right)) → (e : Entry) → Bounds (ListOf (Old q)) e → Bounds (Slots p) (inherited confined e)
+    inherited_bounds : (q : Name) → (type_of w q).0 ≡ PROCEDURE → Follows w (Right (Slots p) (Old q) a0_right) → (confined : Bool)
+        → (confined ≡ false → Follows w (Right (Slots p) (Old q) unconf_right)) → (e : Entry) → Bounds (ListOf (Old q)) e → Bounds (Slots p) (inherited confined e)
     inherited_bounds q t a true u Empty l = tt
-    inherited_bounds q t a true u (Held c) l = (enter_has p q (thing c.name) t a l.0, λ n is there. enter_gives p q (thing c.name) n t a (l.1 n is (has-bit_and_left c.rights (all_but confined_away) n there)) (λ k. confined_lacks c.rights n there k))
+    inherited_bounds q t a true u (Held c) l = (
+      enter_has p q (thing c.name) t a l.0,
+      λ n is there. enter_gives p q (thing c.name) n t a (l.1 n is (has-bit_and_left c.rights (all_but confined_away) n there))
+          (λ k. confined_lacks c.rights n there k),
+    )
     inherited_bounds q t a true u (Form form) l = form_up (ListOf (Old q)) (Slots p) (λ type asks gives g. enter_form p q type asks gives t a g) form l
     inherited_bounds q t a false u Empty l = tt
     inherited_bounds q t a false u (Held c) l = (enter_has p q (thing c.name) t a l.0, λ n is there. enter_gives p q (thing c.name) n t a (l.1 n is there) (λ k. u refl))
@@ -270,20 +292,31 @@ module _ (w : WorldValue) (own : Name → Proc) where
     entered_bounds : (q : Name) (index : ℕ) (confined : Bool) → IsEntered s inc q confined → Bounds (Slots p) (inherited confined (standing s (EntryOf q index)))
     entered_bounds q index confined e =
         let c = called q confined e in
-        inherited_bounds q c.type c.call confined c.unconf (standing s (EntryOf q index)) (subst (λ (t : Thing). Bounds (ListOf t) (standing s (EntryOf q index))) (thing_old q c.old) (lists q index))
+        inherited_bounds q c.type c.call confined c.unconf (standing s (EntryOf q index))
+        (subst (λ (t : Thing). Bounds (ListOf t) (standing s (EntryOf q index))) (thing_old q c.old) (lists q index))
 
     -- ---- a merge
 
     -- what is known of its template
-    form_known : (form : Param) (wanted : Name) → form.of ≡ Some wanted → IsObject w wanted → IsWalkedForm s inc form ⊎ IsParamForm s inc form → IsKnown w (Slots p) wanted form.check form.give
+    form_known : (form : Param) (wanted : Name) → form.of ≡ Some wanted → IsObject w wanted → IsWalkedForm s inc form ⊎ IsParamForm s inc form
+        → IsKnown w (Slots p) wanted form.check form.give
     form_known form wanted e old (inl f) =
-        (subst (λ (o : Option Name). Bounds (Slots p) (Form (template.Amplify o form.check form.give))) e (walk_bounds f.path (Form (template.Amplify form.of form.check form.give)) f.leads)) old
+        (subst (λ (o : Option Name). Bounds (Slots p) (Form (template.Amplify o form.check form.give))) e
+        (walk_bounds f.path (Form (template.Amplify form.of form.check form.give)) f.leads)) old
     form_known form wanted e old (inr f) =
         let c = called f.procedure f.confined f.entered in
-        let is : slice_get (object (opening w) f.procedure).params f.index ≡ Some form = ap (λ (ps : List Param). slice_get ps f.index) (sym (kinds f.procedure c.old).params) ∙ f.is in
-        record { asks = form.check; gives = form.give; follows = enter_param p f.procedure wanted f.index form c.type c.call is e; asked = λ n right there. there; given = λ n right there. there }
+        let is : slice_get (object (opening w) f.procedure).params f.index ≡ Some form = ap (λ (ps : List Param). slice_get ps f.index)
+        (sym (kinds f.procedure c.old).params) ∙ f.is in
+        record {
+          asks = form.check;
+          gives = form.give;
+          follows = enter_param p f.procedure wanted f.index form c.type c.call is e;
+          asked = λ n right there. there;
+          given = λ n right there. there;
+        }
 
-    typed_right : (cap : Cap) (form : Param) (wanted : Name) (new : ℕ) → IsObject w cap.name → BoundsCap (Slots p) cap.name cap.rights → IsKnown w (Slots p) wanted form.check form.give → wanted ≡ type_of w cap.name
+    typed_right : (cap : Cap) (form : Param) (wanted : Name) (new : ℕ) → IsObject w cap.name → BoundsCap (Slots p) cap.name cap.rights
+        → IsKnown w (Slots p) wanted form.check form.give → wanted ≡ type_of w cap.name
         → Within form.check cap.rights → Within (bit_and new special_rights) cap.rights → bit_and new other_rights ≡ bit_and form.give other_rights
         → (n : ℕ) → IsTrue (has all_rights n) → IsTrue (has new n) → Follows w (Right (Slots p) (thing cap.name) n)
     typed_right cap form wanted new old b known type checked special others n is there = by (has special_rights n) refl
@@ -301,14 +334,17 @@ module _ (w : WorldValue) (own : Name → Proc) where
             (λ m right asked. old_right cap m old (b.1 m right (Within-has form.check cap.rights m checked right (known.asked m right asked))))
             is (known.given n is give) (λ k. absurd (true≢false (sym k ∙ e))))
 
-    merged_right : (cap : Cap) (form : Param) (new : Cap) → BoundsCap (Slots p) cap.name cap.rights → Amplified cap form (object s cap.name).of new → IsWalkedForm s inc form ⊎ IsParamForm s inc form
+    merged_right : (cap : Cap) (form : Param) (new : Cap) → BoundsCap (Slots p) cap.name cap.rights → Amplified cap form (object s cap.name).of new
+        → IsWalkedForm s inc form ⊎ IsParamForm s inc form
         → (n : ℕ) → IsTrue (has all_rights n) → IsTrue (has new.rights n) → Follows w (Right (Slots p) (thing cap.name) n)
     merged_right cap form new b a shown n is there = elim (thing_is cap.name) [
       | inl old ↦ by old.0 form.of refl a.others
-      | inr made ↦ subst (λ (t : Thing). Follows w (Right (Slots p) t n)) (sym made.1) (made_gives (Slots p) (own cap.name) n (subst (λ (t : Thing). Follows w (Has (Slots p) t)) made.1 b.0) is)
+      | inr made ↦ subst (λ (t : Thing). Follows w (Right (Slots p) t n)) (sym made.1)
+          (made_gives (Slots p) (own cap.name) n (subst (λ (t : Thing). Follows w (Has (Slots p) t)) made.1 b.0) is)
     ]
       where
-        by : IsObject w cap.name → (o : Option Name) → form.of ≡ o → Others o (object s cap.name).of cap.rights form.give new.rights → Follows w (Right (Slots p) (thing cap.name) n)
+        by : IsObject w cap.name → (o : Option Name) → form.of ≡ o → Others o (object s cap.name).of cap.rights form.give new.rights
+            → Follows w (Right (Slots p) (thing cap.name) n)
         by old None e others = b.1 n is (Within-has new.rights cap.rights n others is there)
         by old (Some wanted) e others =
             let type : wanted ≡ type_of w cap.name = others.0 ∙ (kinds cap.name old).of in
@@ -323,12 +359,15 @@ module _ (w : WorldValue) (own : Name → Proc) where
         subst (Bounds (Slots p)) (sym h.is) (subst (λ (q : Name). BoundsCap (Slots p) q h.new.rights) (sym a.same) here)
 
     -- ---- a MakeTemplate
-    formed_bounds : (cap : Cap) (kind : Making) → BoundsCap (Slots p) cap.name cap.rights → is_of_type TYPE (object s cap.name).of ≡ true → Within ENV+A0 cap.rights → Bounds (Slots p) (Form (made_form kind cap.name))
+    formed_bounds : (cap : Cap) (kind : Making) → BoundsCap (Slots p) cap.name cap.rights → is_of_type TYPE (object s cap.name).of ≡ true → Within ENV+A0 cap.rights
+        → Bounds (Slots p) (Form (made_form kind cap.name))
     formed_bounds cap (making.Create give) b type allows = tt
     formed_bounds cap (making.Amplify check give) b type allows = λ old. record {
       asks = 0;
       gives = all_rights;
-      follows = make_form p cap.name old (type_is cap.name TYPE old type) (old_right cap env_right old (right_of cap ENV+A0 env_right b allows refl refl)) (old_right cap a0_right old (right_of cap ENV+A0 a0_right b allows refl refl));
+      follows =
+          make_form p cap.name old (type_is cap.name TYPE old type) (old_right cap env_right old (right_of cap ENV+A0 env_right b allows refl refl))
+          (old_right cap a0_right old (right_of cap ENV+A0 a0_right b allows refl refl));
       asked = λ n is there. absurd (false≢true (sym (has-zero n) ∙ there));
       given = λ n is there. is;
     }
@@ -339,19 +378,22 @@ module _ (w : WorldValue) (own : Name → Proc) where
       new_bounds : makes_object c ≡ true → IsTrue (is_live s inc) → (rights : ℕ) → BoundsCap (Slots p) s.next_name rights
       new_bounds made lives rights =
           let has_it = made_has p (runs lives) in
-          subst (λ (t : Thing). Follows w (Has (Slots p) t) × ((n : ℕ) → IsTrue (has all_rights n) → IsTrue (has rights n) → Follows w (Right (Slots p) t n))) (sym (fresh made)) (has_it, λ n is there. made_gives (Slots p) p n has_it is)
+          subst (λ (t : Thing). Follows w (Has (Slots p) t) × ((n : ℕ) → IsTrue (has all_rights n) → IsTrue (has rights n) → Follows w (Right (Slots p) t n))) (sym (fresh made))
+          (has_it, λ n is there. made_gives (Slots p) p n has_it is)
 
       -- into a slot
       pub slot_bounds : (i : Inc) (m : ℕ) (v : Way) (x : Entry) → GoesTo s inc c v (SlotOf i m) → ShownBy s inc v (SlotOf i m) → Writes s inc v x → Bounds (Slots p) x
       slot_bounds i m (Walked path) x goes shown h = walk_bounds path x h
       slot_bounds i m (Stored slot) x goes shown h = subst (Bounds (Slots p)) (sym h.0) (slots slot)
       slot_bounds i m (Lessened slot keep) x goes shown h =
-          subst (Bounds (Slots p)) (sym h.is) (less_bounds (Slots p) h.cap.name h.cap.rights (bit_and h.cap.rights keep) (λ n there. has-bit_and_left h.cap.rights keep n there) (subst (Bounds (Slots p)) h.held (slots slot)))
+          subst (Bounds (Slots p)) (sym h.is) (less_bounds (Slots p) h.cap.name h.cap.rights (bit_and h.cap.rights keep) (λ n there. has-bit_and_left h.cap.rights keep n there)
+          (subst (Bounds (Slots p)) h.held (slots slot)))
       slot_bounds i m (Merged slot form) x goes shown h = merged_bounds slot form x shown h
       slot_bounds i m (Inherited procedure index confined) x goes shown h = subst (Bounds (Slots p)) (sym h) (entered_bounds procedure index confined shown)
       slot_bounds i m (Copied path index) x goes shown h = absurd goes.1
       slot_bounds i m (CopyOf path) x goes shown h = subst (Bounds (Slots p)) (sym h.is) (new_bounds goes.0 (walks_live s inc path (Held h.cap) h.leads) h.cap.rights)
-      slot_bounds i m (Created path) x goes shown h = subst (Bounds (Slots p)) (sym h.is) (new_bounds goes.0 (walks_live s inc path (Form (template.Create h.of h.give)) h.leads) h.give)
+      slot_bounds i m (Created path) x goes shown h =
+          subst (Bounds (Slots p)) (sym h.is) (new_bounds goes.0 (walks_live s inc path (Form (template.Create h.of h.give)) h.leads) h.give)
       slot_bounds i m (Formed path kind) x goes shown h =
           let same : shown.cap ≡ h.cap = same_target path shown.cap h.cap shown.is.leads h.leads in
           let type : is_of_type TYPE (object s h.cap.name).of ≡ true = subst (λ (a : Cap). is_of_type TYPE (object s a.name).of ≡ true) same shown.is.typed in
@@ -359,12 +401,14 @@ module _ (w : WorldValue) (own : Name → Proc) where
       slot_bounds i m Emptied x goes shown h = subst (Bounds (Slots p)) (sym h) tt
 
       -- into a list
-      pub list_bounds : (name : Name) (m : ℕ) (v : Way) (x : Entry) → GoesTo s inc c v (EntryOf name m) → ShownBy s inc v (EntryOf name m) → Writes s inc v x → Bounds (ListOf (thing name)) x
+      pub list_bounds : (name : Name) (m : ℕ) (v : Way) (x : Entry) → GoesTo s inc c v (EntryOf name m) → ShownBy s inc v (EntryOf name m) → Writes s inc v x
+          → Bounds (ListOf (thing name)) x
       list_bounds name m (Walked path) x goes shown h = absurd goes
       list_bounds name m (Stored slot) x goes shown h =
           let b : BoundsCap (Slots p) shown.cap.name shown.cap.rights = walk_bounds shown.path (Held shown.cap) shown.leads in
           subst (λ (q : Name). Bounds (ListOf (thing q)) x) (sym shown.same)
-          (put_bounds shown.cap shown.how b (listed_thing shown.cap.name shown.typed) shown.modify shown.right shown.puts shown.held x h.1 (subst (Bounds (Slots p)) (sym h.0) (slots slot)))
+          (put_bounds shown.cap shown.how b (listed_thing shown.cap.name shown.typed) shown.modify shown.right shown.puts shown.held x h.1
+          (subst (Bounds (Slots p)) (sym h.0) (slots slot)))
       list_bounds name m (Lessened slot keep) x goes shown h = absurd goes
       list_bounds name m (Merged slot form) x (inl goes) shown h = absurd goes
       list_bounds name m (Merged slot form) x (inr goes) shown h = absurd goes.1
@@ -373,7 +417,8 @@ module _ (w : WorldValue) (own : Name → Proc) where
           let same : shown.cap ≡ h.cap = same_target path shown.cap h.cap shown.is.leads h.leads in
           let type : is_general (object s h.cap.name).of ≡ true = subst (λ (a : Cap). is_general (object s a.name).of ≡ true) same shown.is.typed in
           let copies : Within COPY h.cap.rights = subst (λ (a : Cap). Within COPY a.rights) same shown.is.allowed in
-          let there = copied_bounds h.cap (walk_bounds path (Held h.cap) h.leads) copies (worded_thing h.cap.name type) (standing s (EntryOf h.cap.name index)) (lists h.cap.name index) in
+          let there = copied_bounds h.cap (walk_bounds path (Held h.cap) h.leads) copies (worded_thing h.cap.name type) (standing s (EntryOf h.cap.name index))
+          (lists h.cap.name index) in
           let new : thing name ≡ MadeBy p = ap thing goes.1 ∙ fresh goes.0 in
           subst (Bounds (ListOf (thing name))) (sym h.is) (subst (λ (t : Thing). Bounds (ListOf t) (copied h.cap.rights (standing s (EntryOf h.cap.name index)))) (sym new) there)
       list_bounds name m (CopyOf path) x goes shown h = absurd goes.1
@@ -383,19 +428,33 @@ module _ (w : WorldValue) (own : Name → Proc) where
 
     -- ---- what is changed
 
-    one_of : (cap : Cap) (set how : ℕ) → IsObject w cap.name → BoundsCap (Slots p) cap.name cap.rights → has all_rights how ≡ true → has set how ≡ true → has cap.rights how ≡ true → HasOneOf w p cap.name set
+    one_of : (cap : Cap) (set how : ℕ) → IsObject w cap.name → BoundsCap (Slots p) cap.name cap.rights → has all_rights how ≡ true → has set how ≡ true → has cap.rights how ≡ true
+        → HasOneOf w p cap.name set
     one_of cap set how old b is of there = record { right = how; of = of; follows = old_right cap how old (b.1 how is there) }
 
-    changing : (cap : Cap) → IsObject w cap.name → BoundsCap (Slots p) cap.name cap.rights → (path : List ℕ) → LeadsTo s inc path cap → ShowsChange s inc path → HasChanging w p cap.name
+    changing : (cap : Cap) → IsObject w cap.name → BoundsCap (Slots p) cap.name cap.rights → (path : List ℕ) → LeadsTo s inc path cap → ShowsChange s inc path
+        → HasChanging w p cap.name
     changing cap old b path leads (inl g) =
         let same : g.cap ≡ cap = same_target path g.cap cap g.leads leads in
-        inl (sym (ap is_general (kinds cap.name old).of) ∙ subst (λ (a : Cap). is_general (object s a.name).of ≡ true) same g.typed, one_of cap word_changes g.how old b g.right g.changes (subst (λ (a : Cap). has a.rights g.how ≡ true) same g.held))
+        inl (
+          sym (ap is_general (kinds cap.name old).of) ∙ subst (λ (a : Cap). is_general (object s a.name).of ≡ true) same g.typed,
+          one_of cap word_changes g.how old b g.right
+              g.changes (subst (λ (a : Cap). has a.rights g.how ≡ true) same g.held),
+        )
     changing cap old b path leads (inr (inl g)) =
         let same : g.cap ≡ cap = same_target path g.cap cap g.leads leads in
-        inr (inl (sym (ap is_listed (kinds cap.name old).of) ∙ subst (λ (a : Cap). is_listed (object s a.name).of ≡ true) same g.typed, one_of cap list_changes g.how old b g.right g.changes (subst (λ (a : Cap). has a.rights g.how ≡ true) same g.held)))
+        inr (inl (
+          sym (ap is_listed (kinds cap.name old).of) ∙ subst (λ (a : Cap). is_listed (object s a.name).of ≡ true) same g.typed,
+          one_of cap list_changes g.how old b g.right
+              g.changes (subst (λ (a : Cap). has a.rights g.how ≡ true) same g.held),
+        ))
     changing cap old b path leads (inr (inr g)) =
         let same : g.cap ≡ cap = same_target path g.cap cap g.leads leads in
-        inr (inr (type_is cap.name SEMAPHORE old (subst (λ (a : Cap). is_of_type SEMAPHORE (object s a.name).of ≡ true) same g.typed), one_of cap count_changes g.how old b g.right g.changes (subst (λ (a : Cap). has a.rights g.how ≡ true) same g.held)))
+        inr (inr (
+          type_is cap.name SEMAPHORE old (subst (λ (a : Cap). is_of_type SEMAPHORE (object s a.name).of ≡ true) same g.typed),
+          one_of cap count_changes g.how old b g.right
+              g.changes (subst (λ (a : Cap). has a.rights g.how ≡ true) same g.held),
+        ))
 
     pub in_bound : (path : List ℕ) (cap : Cap) → LeadsTo s inc path cap → IsObject w cap.name → Within MODIFY cap.rights → ShowsChange s inc path → IsInBound w p cap.name
     in_bound path cap leads old modify shown =

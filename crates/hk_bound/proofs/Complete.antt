@@ -1,5 +1,6 @@
 -- Rows that keep the rules of every process tell all that follows from the opening.
-use Rattle.std.proofs.Common.{◌≡◌, ℕ, zero, suc, ◌+◌, ◌-◌, ◌<◌, ◌≤◌, List, [], ◌∷◌, length, Bool, true, false, Option, Some, None, refl, sym, ◌∙◌, ap, subst, arith, bit_and, bit_or, cond}
+use Rattle.std.proofs.Common.{◌≡◌, ℕ, zero, suc, ◌+◌, ◌-◌, ◌<◌, ◌≤◌, List, [], ◌∷◌, length, Bool, true, false, Option, Some, None, refl, sym, ◌∙◌, ap, subst, arith, bit_and}
+use Rattle.std.proofs.Common.{bit_or, cond}
 use Rattle.std.specs.Prelude.{IsTrue, IsSome, slice_get, slice_index_or, ◌⊎◌, ◌||◌, ◌&&◌, ◌==◌, is_some, option_map, IfSome}
 use mathlib.Core.Logic.{inl, inr}
 use Rattle.std.proofs.lemmas.Bool.{true≢false, false≢true}
@@ -13,7 +14,8 @@ use Rattle.hk_model.specs.declared.entries.Entry.{Entry}
 use Rattle.hk_model.specs.declared.entries.Entry.TheVariants.{Empty, Held, Form as Templated}
 use Rattle.hk_model.specs.declared.entries.Template.TheVariants as template
 use Rattle.hk_model.specs.declared.world.Task.{Task}
-use Rattle.hk_rights.specs.Rights.{has, all_rights, special_rights, HasAll, STORE, APPEND, ENV, load_right, copy_right, modify_right, env_right, unconf_right, a0_right, store_right, append_right}
+use Rattle.hk_rights.specs.Rights.{has, all_rights, special_rights, HasAll, STORE, APPEND, ENV, load_right, copy_right, modify_right, env_right, unconf_right, a0_right}
+use Rattle.hk_rights.specs.Rights.{store_right, append_right}
 use Rattle.hk_rights.proofs.Sets.{has-bit_or, has-bit_or_cases, has-zero, or_right, HasAll-from_bit_and, has-pow}
 use Rattle.hk_model.specs.WorldValue.{WorldValue, IsWorld}
 use Rattle.hk_model.specs.Walking.{reduced_rights}
@@ -23,7 +25,9 @@ use Rattle.hk_model.proofs.NamesGiven.{IsBelow}
 use Rattle.hk_model.specs.Targets.{TYPE, PROCEDURE, is_general, is_listed}
 use Rattle.hk_bound.specs.declared.forms.Form.{Form}
 use Rattle.hk_bound.specs.declared.gaps.Taking.{Taking}
-use Rattle.hk_bound.specs.Taking.{Thing, Old, MadeBy, Holder, Slots, ListOf, Fact, Has, Right, Amplifies, type_of, has_words, has_list, STORE+APPEND, confined_away, Follows, at_opening, open_has, open_gives, open_form, made_has, made_gives, load_has, load_gives, load_form, store_has, store_gives, store_form, copy_has, copy_gives, copy_form, enter_has, enter_gives, enter_form, enter_param, merge_gives, make_form}
+use Rattle.hk_bound.specs.Taking.{Thing, Old, MadeBy, Holder, Slots, ListOf, Fact, Has, Right, Amplifies, type_of, has_words, has_list, STORE+APPEND, confined_away, Follows}
+use Rattle.hk_bound.specs.Taking.{at_opening, open_has, open_gives, open_form, made_has, made_gives, load_has, load_gives, load_form, store_has, store_gives, store_form, copy_has}
+use Rattle.hk_bound.specs.Taking.{copy_gives, copy_form, enter_has, enter_gives, enter_form, enter_param, merge_gives, make_form}
 use Rattle.hk_bound.specs.Each.{Each}
 use Rattle.hk_bound.specs.Forms.{AreForms, Holds, IsFirst, entry_form, param_form, made_form}
 use Rattle.hk_bound.specs.Columns.{name_at, proc_at, opening_entries, opening_params, object_count, thing_count, width_of, cell, covers}
@@ -199,7 +203,8 @@ module _ (w : WorldValue) (forms : List Form) (rows : List (List (Option ℕ))) 
   -- what the list of an object has for a thing: by an opening entry, or by what a process may store
   pub data InList (x : Name) (y : Thing) (P : ℕ → Type 0) : Type 0 where
     ByOpening : (index : ℕ) (cap : Cap) → slice_get (opening_entries w x.0) index ≡ Some (Held cap) → y ≡ Old cap.name → IsThing w y → P cap.rights → InList x y P
-    ByStore : (q : Proc) (r : ℕ) → q.0 < length w.tasks → IsThing w y → stores_in (type_of w x) (at q (Old x)) ≡ true → at q y ≡ Some r → has r env_right ≡ true → P r → InList x y P
+    ByStore : (q : Proc) (r : ℕ) → q.0 < length w.tasks → IsThing w y → stores_in (type_of w x) (at q (Old x)) ≡ true → at q y ≡ Some r → has r env_right ≡ true → P r
+        → InList x y P
 
   pub record HasForm (p : Proc) (f : Form) : Type 0 where
     pub runs : p.0 < length w.tasks
@@ -238,12 +243,14 @@ module _ (w : WorldValue) (forms : List Form) (rows : List (List (Option ℕ))) 
     bits_of : (by b : ℕ) → HasAll by b → Bits by b
     bits_of by b h = (h unconf_right, h env_right)
 
-    shared : (p q : Proc) (column r b : ℕ) → p.0 < length w.tasks → q.0 < length w.tasks → column < width_of w forms → share_made w rows p.0 q.0 ≡ true → cell rows q.0 column ≡ Some r → has r env_right ≡ true → Taken p.0 column r b
+    shared : (p q : Proc) (column r b : ℕ) → p.0 < length w.tasks → q.0 < length w.tasks → column < width_of w forms → share_made w rows p.0 q.0 ≡ true
+        → cell rows q.0 column ≡ Some r → has r env_right ≡ true → Taken p.0 column r b
     shared p q column r b p_runs q_runs within share e env =
         record { by = all_rights; more = (λ h. refl, λ h. refl); offered = ((rules p.0 p_runs).others q.0 q_runs).made share column within r e env }
 
     stored : (p q : Proc) (x : Name) (t : Taking) (column r b : ℕ) → p.0 < length w.tasks → q.0 < length w.tasks → x.0 < object_count w → column < width_of w forms
-        → stores_in (type_of w x) (cell rows q.0 x.0) ≡ true → taking_of (type_of w x) (cell rows p.0 x.0) ≡ Some t → HasAll t.by b → cell rows q.0 column ≡ Some r → has r env_right ≡ true → Taken p.0 column r b
+        → stores_in (type_of w x) (cell rows q.0 x.0) ≡ true → taking_of (type_of w x) (cell rows p.0 x.0) ≡ Some t → HasAll t.by b → cell rows q.0 column ≡ Some r
+        → has r env_right ≡ true → Taken p.0 column r b
     stored p q x t column r b p_runs q_runs low within stores takes more e env = by (share_made w rows p.0 q.0) refl
       where
         through : through_in (type_of w x) (cell rows p.0 x.0) (cell rows q.0 x.0) ≡ Some t.by
@@ -265,7 +272,8 @@ module _ (w : WorldValue) (forms : List Form) (rows : List (List (Option ℕ))) 
       told : P rights
       taken : Taken p (column_of w y) rights b
 
-    found : (p : Proc) (x : Name) (y : Thing) (t : Taking) (b : ℕ) (P : ℕ → Type 0) → p.0 < length w.tasks → x.0 < object_count w → taking_of (type_of w x) (cell rows p.0 x.0) ≡ Some t → HasAll t.by b
+    found : (p : Proc) (x : Name) (y : Thing) (t : Taking) (b : ℕ) (P : ℕ → Type 0) → p.0 < length w.tasks → x.0 < object_count w
+        → taking_of (type_of w x) (cell rows p.0 x.0) ≡ Some t → HasAll t.by b
         → (t.copied ≡ false) ⊎ ListedWithEnv w forms rows x.0 (column_of w y) → InList x y P → Found p.0 y b P
     found p x y t b P runs low takes more passes (ByOpening index cap is same thing told) = record {
       rights = cap.rights;
@@ -288,14 +296,17 @@ module _ (w : WorldValue) (forms : List Form) (rows : List (List (Option ℕ))) 
 
     -- a list that has ENV for a thing
     listed : (x : Name) (y : Thing) → InList x y (λ r. has r env_right ≡ true) → ListedWithEnv w forms rows x.0 (column_of w y)
-    listed x y (ByOpening index cap is same thing told) = inl (record { index = index; item = Held cap; rights = cap.rights; at = is; held = (ap (column_of w) same, refl); env = told })
+    listed x y (ByOpening index cap is same thing told) =
+        inl (record { index = index; item = Held cap; rights = cap.rights; at = is; held = (ap (column_of w) same, refl); env = told })
     listed x y (ByStore q r q_runs thing stores e env told) = inr (record { process = q.0; runs = q_runs; stores = stores; env = rw e env })
 
     taken_some : (p column r b : ℕ) → Taken p column r b → IsSome (cell rows p column)
     taken_some p column r b t = offered_some (cell rows p column) (reduced_rights t.by r) t.offered
 
-    taken_has : (p column r b n : ℕ) → Taken p column r b → has all_rights n ≡ true → has r n ≡ true → (has confined_away n ≡ true → has b unconf_right ≡ true) → (has ENV n ≡ true → has b env_right ≡ true) → HasIn (cell rows p column) n
-    taken_has p column r b n t is there u e = offered_has (cell rows p column) (reduced_rights t.by r) n t.offered (reduced_keeps t.by r n is there (λ k. t.more.0 (u k)) (λ k. t.more.1 (e k)))
+    taken_has : (p column r b n : ℕ) → Taken p column r b → has all_rights n ≡ true → has r n ≡ true → (has confined_away n ≡ true → has b unconf_right ≡ true)
+        → (has ENV n ≡ true → has b env_right ≡ true) → HasIn (cell rows p column) n
+    taken_has p column r b n t is there u e =
+        offered_has (cell rows p column) (reduced_rights t.by r) n t.offered (reduced_keeps t.by r n is there (λ k. t.more.0 (u k)) (λ k. t.more.1 (e k)))
 
     -- of what a process makes, by who has it
     share : (p r : Proc) → IsSome (cell rows p.0 (object_count w + r.0)) → share_made w rows p.0 r.0 ≡ true
@@ -315,29 +326,57 @@ module _ (w : WorldValue) (forms : List Form) (rows : List (List (Option ℕ))) 
     -- ---- templates
 
     form_rule : (p : Proc) (f : Form) → p.0 < length w.tasks → FormRule w forms rows p.0 f → HasForm p f
-    form_rule p f runs h = record { runs = runs; place = h.0; is = h.1; there = env_is (cell rows p.0 (thing_count w + h.0)) (offered_has (cell rows p.0 (thing_count w + h.0)) ENV env_right h.2 refl) }
+    form_rule p f runs h =
+        record {
+          runs = runs;
+          place = h.0;
+          is = h.1;
+          there = env_is (cell rows p.0 (thing_count w + h.0))
+              (offered_has (cell rows p.0 (thing_count w + h.0)) ENV env_right h.2 refl);
+        }
 
     shared_form : (p q : Proc) (f : Form) → p.0 < length w.tasks → share_made w rows p.0 q.0 ≡ true → HasForm q f → HasForm p f
     shared_form p q f runs share h =
         let b = env_cell (cell rows q.0 (thing_count w + h.place)) h.there in
         let low = slice_get_within forms h.place f h.is in
         let t = shared p q (thing_count w + h.place) b.rights all_rights runs h.runs (omega (arith, low)) share b.is b.env in
-        record { runs = runs; place = h.place; is = h.is; there = env_is (cell rows p.0 (thing_count w + h.place)) (taken_has p.0 (thing_count w + h.place) b.rights all_rights env_right t refl b.env (λ k. refl) (λ k. refl)) }
+        record {
+          runs = runs;
+          place = h.place;
+          is = h.is;
+          there = env_is (cell rows p.0 (thing_count w + h.place))
+              (taken_has p.0 (thing_count w + h.place) b.rights all_rights env_right t refl b.env (λ k. refl) (λ k. refl));
+        }
 
-    found_form : (p : Proc) (x : Name) (t : Taking) (b : ℕ) (f : Form) → p.0 < length w.tasks → x.0 < object_count w → taking_of (type_of w x) (cell rows p.0 x.0) ≡ Some t → HasAll t.by b → has b env_right ≡ true
+    found_form : (p : Proc) (x : Name) (t : Taking) (b : ℕ) (f : Form) → p.0 < length w.tasks → x.0 < object_count w → taking_of (type_of w x) (cell rows p.0 x.0) ≡ Some t
+        → HasAll t.by b → has b env_right ≡ true
         → (t.copied ≡ false) ⊎ Unit {0} → InListForm x f → HasForm p f
     found_form p x t b f runs low takes more env passes (ByEntry index is) =
         let held = (are.objects x.0 low).entries index (Templated (template.Amplify (Some f.of) f.check f.give)) is in
         let first = first_of forms f held.place held.is in
-        let listed : ListedWithEnv w forms rows x.0 (thing_count w + first.0) = inl (record { index = index; item = Templated (template.Amplify (Some f.of) f.check f.give); rights = ENV; at = is; held = ((first.0, first.1, refl), refl); env = refl }) in
-        let offered = ((rules p.0 runs).objects x.0 low).entries t takes index (Templated (template.Amplify (Some f.of) f.check f.give)) is (thing_count w + first.0) ENV ((first.0, first.1, refl), refl) (inr listed) in
+        let listed : ListedWithEnv w forms rows x.0 (thing_count w + first.0) = inl
+        (record { index = index; item = Templated (template.Amplify (Some f.of) f.check f.give); rights = ENV; at = is; held = ((first.0, first.1, refl), refl); env = refl }) in
+        let offered = ((rules p.0 runs).objects x.0 low).entries t takes index (Templated (template.Amplify (Some f.of) f.check f.give)) is (thing_count w + first.0) ENV
+        ((first.0, first.1, refl), refl) (inr listed) in
         let taken : Taken p.0 (thing_count w + first.0) ENV b = record { by = t.by; more = bits_of t.by b more; offered = offered } in
-        record { runs = runs; place = first.0; is = first.1.is; there = env_is (cell rows p.0 (thing_count w + first.0)) (taken_has p.0 (thing_count w + first.0) ENV b env_right taken refl refl (λ k. absurd (false≢true k)) (λ k. env)) }
+        record {
+          runs = runs;
+          place = first.0;
+          is = first.1.is;
+          there = env_is (cell rows p.0 (thing_count w + first.0))
+              (taken_has p.0 (thing_count w + first.0) ENV b env_right taken refl refl (λ k. absurd (false≢true k)) (λ k. env));
+        }
     found_form p x t b f runs low takes more env passes (ByStored q stores h) =
         let c = env_cell (cell rows q.0 (thing_count w + h.place)) h.there in
         let within = slice_get_within forms h.place f h.is in
         let taken = stored p q x t (thing_count w + h.place) c.rights b runs h.runs low (omega (arith, within)) stores takes more c.is c.env in
-        record { runs = runs; place = h.place; is = h.is; there = env_is (cell rows p.0 (thing_count w + h.place)) (taken_has p.0 (thing_count w + h.place) c.rights b env_right taken refl c.env (λ k. absurd (false≢true k)) (λ k. env)) }
+        record {
+          runs = runs;
+          place = h.place;
+          is = h.is;
+          there = env_is (cell rows p.0 (thing_count w + h.place))
+              (taken_has p.0 (thing_count w + h.place) c.rights b env_right taken refl c.env (λ k. absurd (false≢true k)) (λ k. env));
+        }
 
     -- ---- the opening
 
@@ -359,7 +398,8 @@ module _ (w : WorldValue) (forms : List Form) (rows : List (List (Option ℕ))) 
     cap_thing (ListOf (MadeBy q)) index cap e = absurd (cc)
 
     -- what one process makes, where another has it
-    made_all : (q p : Proc) (n : ℕ) → q.0 < length w.tasks → p.0 < length w.tasks → IsSome (cell rows q.0 (object_count w + p.0)) → has all_rights n ≡ true → HasIn (cell rows q.0 (object_count w + p.0)) n
+    made_all : (q p : Proc) (n : ℕ) → q.0 < length w.tasks → p.0 < length w.tasks → IsSome (cell rows q.0 (object_count w + p.0)) → has all_rights n ≡ true
+        → HasIn (cell rows q.0 (object_count w + p.0)) n
     made_all q p n q_runs runs some is = offered_has (cell rows q.0 (object_count w + p.0)) all_rights n (((rules q.0 q_runs).made p.0 runs).had some) is
 
     right_is : {h : Holder} {y : Thing} {n : ℕ} → Follows w (Right h y n) → has all_rights n ≡ true
@@ -373,14 +413,18 @@ module _ (w : WorldValue) (forms : List Form) (rows : List (List (Option ℕ))) 
 
     -- every rule
     pub complete : {f : Fact} → Follows w f → Says f
-    complete (open_has (Slots p) index cap e) = let o = slot_offered p index cap e in record { runs = o.0; thing = cap_thing (Slots p) index cap e; there = offered_some (cell rows p.0 cap.name.0) cap.rights o.1 }
-    complete (open_has (ListOf (Old x)) index cap e) = ByOpening index cap (entry_at (opening_entries w x.0) index (Held cap) e refl) refl (cap_thing (ListOf (Old x)) index cap e) tt
+    complete (open_has (Slots p) index cap e) =
+        let o = slot_offered p index cap e in record { runs = o.0; thing = cap_thing (Slots p) index cap e; there = offered_some (cell rows p.0 cap.name.0) cap.rights o.1 }
+    complete (open_has (ListOf (Old x)) index cap e) =
+        ByOpening index cap (entry_at (opening_entries w x.0) index (Held cap) e refl) refl (cap_thing (ListOf (Old x)) index cap e) tt
     complete (open_has (ListOf (MadeBy r)) index cap e) = absurd (cc)
     complete (open_gives (Slots p) index cap n e is there) =
         let o = slot_offered p index cap e in record { runs = o.0; thing = cap_thing (Slots p) index cap e; there = offered_has (cell rows p.0 cap.name.0) cap.rights n o.1 there }
-    complete (open_gives (ListOf (Old x)) index cap n e is there) = ByOpening index cap (entry_at (opening_entries w x.0) index (Held cap) e refl) refl (cap_thing (ListOf (Old x)) index cap e) there
+    complete (open_gives (ListOf (Old x)) index cap n e is there) =
+        ByOpening index cap (entry_at (opening_entries w x.0) index (Held cap) e refl) refl (cap_thing (ListOf (Old x)) index cap e) there
     complete (open_gives (ListOf (MadeBy r)) index cap n e is there) = absurd (cc)
-    complete (made_has p runs) = record { runs = runs; thing = runs; there = offered_some (cell rows p.0 (object_count w + p.0)) all_rights (((rules p.0 runs).made p.0 runs).own refl) }
+    complete (made_has p runs) =
+        record { runs = runs; thing = runs; there = offered_some (cell rows p.0 (object_count w + p.0)) all_rights (((rules p.0 runs).made p.0 runs).own refl) }
     complete (made_gives (Slots q) p n a is) = let h = complete a in record { runs = h.runs; thing = h.thing; there = made_all q p n h.runs h.thing h.there is }
     complete (load_has p (Old x) y a h) =
         let c = complete a in
@@ -401,14 +445,24 @@ module _ (w : WorldValue) (forms : List Form) (rows : List (List (Option ℕ))) 
         let t = load_takes (type_of w x) b.rights b.there in
         let l = complete h in
         let f = found p x y t.taking b.rights (λ r. has r n ≡ true) c.runs c.thing (takes_at (type_of w x) (at p (Old x)) b.rights t.taking b.is t.is) t.more (inl t.all) l in
-        record { runs = c.runs; thing = list_thing x y (λ r. has r n ≡ true) l; there = taken_has p.0 (column_of w y) f.rights b.rights n f.taken (right_is h) f.told
-            (λ k. right_of_cell (at p (Old x)) b.rights unconf_right b.is (complete (u k)).there) (λ k. right_of_cell (at p (Old x)) b.rights env_right b.is (complete (e k)).there) }
+        record {
+          runs = c.runs;
+          thing = list_thing x y (λ r. has r n ≡ true) l;
+          there = taken_has p.0 (column_of w y) f.rights b.rights n f.taken (right_is h) f.told
+              (λ k. right_of_cell (at p (Old x)) b.rights unconf_right b.is (complete (u k)).there)
+              (λ k. right_of_cell (at p (Old x)) b.rights env_right b.is (complete (e k)).there);
+        }
     complete (load_gives p (MadeBy r) y n a h u e) =
         let c = complete a in
         let l = complete h in
         let b = env_cell (at r y) (env_is (at r y) l.there.0) in
         let t = shared p r (column_of w y) b.rights all_rights c.runs l.runs (thing_within y l.thing) (share p r (has_some (at p (MadeBy r)) load_right c.there)) b.is b.env in
-        record { runs = c.runs; thing = l.thing; there = taken_has p.0 (column_of w y) b.rights all_rights n t (right_is h) (right_of_cell (at r y) b.rights n b.is l.there.1) (λ k. refl) (λ k. refl) }
+        record {
+          runs = c.runs;
+          thing = l.thing;
+          there = taken_has p.0 (column_of w y) b.rights all_rights n t (right_is h) (right_of_cell (at r y) b.rights n b.is l.there.1)
+              (λ k. refl) (λ k. refl);
+        }
     complete (store_has p (Old x) y n l m s a e) =
         let c = complete m in
         let k = complete e in
@@ -418,36 +472,50 @@ module _ (w : WorldValue) (forms : List Form) (rows : List (List (Option ℕ))) 
         let c = complete m in
         let k = complete e in
         let b = env_cell (at p y) (env_is (at p y) k.there) in
-        let t = shared r p (column_of w y) b.rights all_rights c.thing c.runs (thing_within y k.thing) (share_other r p (has_some (at p (MadeBy r)) modify_right c.there)) b.is b.env in
+        let t = shared r p (column_of w y) b.rights all_rights c.thing c.runs (thing_within y k.thing)
+        (share_other r p (has_some (at p (MadeBy r)) modify_right c.there)) b.is b.env in
         record { runs = c.thing; thing = k.thing; there = taken_has r.0 (column_of w y) b.rights all_rights env_right t refl b.env (λ k. refl) (λ k. refl) }
     complete (store_gives p (Old x) y n v l m s a e h) =
         let c = complete m in
         let k = complete e in
         let b = env_cell (at p y) (env_is (at p y) k.there) in
-        ByStore p b.rights c.runs k.thing (stores_is (type_of w x) (at p (Old x)) n l c.there s (complete a).there) b.is b.env (right_of_cell (at p y) b.rights v b.is (complete h).there)
+        ByStore p b.rights c.runs k.thing (stores_is (type_of w x) (at p (Old x)) n l c.there s (complete a).there) b.is b.env
+        (right_of_cell (at p y) b.rights v b.is (complete h).there)
     complete (store_gives p (MadeBy r) y n v l m s a e h) =
         let c = complete m in
         let k = complete e in
         let b = env_cell (at p y) (env_is (at p y) k.there) in
-        let t = shared r p (column_of w y) b.rights all_rights c.thing c.runs (thing_within y k.thing) (share_other r p (has_some (at p (MadeBy r)) modify_right c.there)) b.is b.env in
-        record { runs = c.thing; thing = k.thing; there = (
-          taken_has r.0 (column_of w y) b.rights all_rights env_right t refl b.env (λ k. refl) (λ k. refl),
-          taken_has r.0 (column_of w y) b.rights all_rights v t (right_is h) (right_of_cell (at p y) b.rights v b.is (complete h).there) (λ k. refl) (λ k. refl),
-        ) }
+        let t = shared r p (column_of w y) b.rights all_rights c.thing c.runs (thing_within y k.thing)
+        (share_other r p (has_some (at p (MadeBy r)) modify_right c.there)) b.is b.env in
+        record {
+          runs = c.thing;
+          thing = k.thing;
+          there = (
+            taken_has r.0 (column_of w y) b.rights all_rights env_right t refl b.env (λ k. refl) (λ k. refl),
+            taken_has r.0 (column_of w y) b.rights all_rights v t (right_is h) (right_of_cell (at p y) b.rights v b.is (complete h).there) (λ k. refl) (λ k. refl),
+          );
+        }
     complete (made_gives (ListOf (Old x)) p n a is) = by (complete a)
       where
         by : InList x (MadeBy p) (λ r. Unit {0}) → InList x (MadeBy p) (λ r. has r n ≡ true)
         by (ByOpening index c e same thing told) = absurd (cc)
         by (ByStore q r q_runs thing stores e env told) = ByStore q r q_runs thing stores e env (right_of_cell (at q (MadeBy p)) r n e (made_all q p n q_runs thing (rw e refl) is))
-    complete (made_gives (ListOf (MadeBy r)) p n a is) = let h = complete a in record { runs = h.runs; thing = h.thing; there = (h.there, made_all r p n h.runs h.thing (has_some (at r (MadeBy p)) env_right h.there) is) }
+    complete (made_gives (ListOf (MadeBy r)) p n a is) =
+        let h = complete a in record { runs = h.runs; thing = h.thing; there = (h.there, made_all r p n h.runs h.thing (has_some (at r (MadeBy p)) env_right h.there) is) }
     complete (copy_has p (Old x) y v a e h k) =
         let c = complete a in
         let b = right_cell (at p (Old x)) copy_right c.there in
         let env = right_of_cell (at p (Old x)) b.rights env_right b.is (complete e).there in
         let t = copy_takes (type_of w x) b.rights v b.there env in
         let l = complete k in
-        let f = found p x y t.taking b.rights (λ r. has r env_right ≡ true) c.runs c.thing (takes_at (type_of w x) (at p (Old x)) b.rights t.taking b.is t.is) t.more (inr (listed x y l)) l in
-        record { runs = c.runs; thing = list_thing x y (λ r. has r env_right ≡ true) l; there = taken_has p.0 (column_of w y) f.rights b.rights env_right f.taken refl f.told (λ k. absurd (false≢true k)) (λ k. env) }
+        let f = found p x y t.taking b.rights (λ r. has r env_right ≡ true) c.runs c.thing (takes_at (type_of w x) (at p (Old x)) b.rights t.taking b.is t.is) t.more
+        (inr (listed x y l)) l in
+        record {
+          runs = c.runs;
+          thing = list_thing x y (λ r. has r env_right ≡ true) l;
+          there = taken_has p.0 (column_of w y) f.rights b.rights env_right f.taken refl f.told
+              (λ k. absurd (false≢true k)) (λ k. env);
+        }
     complete (copy_has p (MadeBy r) y v a e h k) =
         let c = complete a in
         let l = complete k in
@@ -465,61 +533,92 @@ module _ (w : WorldValue) (forms : List Form) (rows : List (List (Option ℕ))) 
         let takes = takes_at (type_of w x) (at p (Old x)) b.rights t.taking b.is t.is in
         let f = found p x y t.taking b.rights (λ r. has r env_right ≡ true) c.runs c.thing takes t.more (inr passes) l in
         let g = found p x y t.taking b.rights (λ r. has r n ≡ true) c.runs c.thing takes t.more (inr passes) m in
-        record { runs = c.runs; thing = list_thing x y (λ r. has r env_right ≡ true) l; there = (
-          taken_has p.0 (column_of w y) f.rights b.rights env_right f.taken refl f.told (λ k. absurd (false≢true k)) (λ k. env),
-          taken_has p.0 (column_of w y) g.rights b.rights n g.taken (right_is h) g.told (λ k. right_of_cell (at p (Old x)) b.rights unconf_right b.is (complete (u k)).there) (λ k. env),
-        ) }
+        record {
+          runs = c.runs;
+          thing = list_thing x y (λ r. has r env_right ≡ true) l;
+          there = (
+            taken_has p.0 (column_of w y) f.rights b.rights env_right f.taken refl f.told (λ k. absurd (false≢true k)) (λ k. env),
+            taken_has p.0 (column_of w y) g.rights b.rights n g.taken (right_is h) g.told
+                (λ k. right_of_cell (at p (Old x)) b.rights unconf_right b.is (complete (u k)).there) (λ k. env),
+          );
+        }
     complete (copy_gives p (MadeBy r) y n v a e k h u) =
         let c = complete a in
         let l = complete k in
         let m = complete h in
         let b = env_cell (at r y) (env_is (at r y) l.there.0) in
         let t = shared p r (column_of w y) b.rights all_rights c.runs l.runs (thing_within y l.thing) (share p r (has_some (at p (MadeBy r)) copy_right c.there)) b.is b.env in
-        record { runs = c.runs; thing = l.thing; there = (
-          taken_has p.0 (column_of w y) b.rights all_rights env_right t refl b.env (λ k. refl) (λ k. refl),
-          taken_has p.0 (column_of w y) b.rights all_rights n t (right_is h) (right_of_cell (at r y) b.rights n b.is m.there.1) (λ k. refl) (λ k. refl),
-        ) }
+        record {
+          runs = c.runs;
+          thing = l.thing;
+          there = (
+            taken_has p.0 (column_of w y) b.rights all_rights env_right t refl b.env (λ k. refl) (λ k. refl),
+            taken_has p.0 (column_of w y) b.rights all_rights n t (right_is h) (right_of_cell (at r y) b.rights n b.is m.there.1) (λ k. refl) (λ k. refl),
+          );
+        }
     complete (enter_has p q y t a h) =
         let c = complete a in
         let b = right_cell (at p (Old q)) a0_right c.there in
         let k = call_takes (type_of w q) b.rights t b.there in
         let l = complete h in
-        let f = found p q y k.0.taking k.0.taking.by (λ r. Unit {0}) c.runs c.thing (takes_at (type_of w q) (at p (Old q)) b.rights k.0.taking b.is k.0.is) (self_has k.0.taking.by) (inl k.0.all) l in
+        let f = found p q y k.0.taking k.0.taking.by (λ r. Unit {0}) c.runs c.thing (takes_at (type_of w q) (at p (Old q)) b.rights k.0.taking b.is k.0.is)
+        (self_has k.0.taking.by) (inl k.0.all) l in
         record { runs = c.runs; thing = list_thing q y (λ r. Unit {0}) l; there = taken_some p.0 (column_of w y) f.rights k.0.taking.by f.taken }
     complete (enter_gives p q y n t a h u) =
         let c = complete a in
         let b = right_cell (at p (Old q)) a0_right c.there in
         let k = call_takes (type_of w q) b.rights t b.there in
         let l = complete h in
-        let f = found p q y k.0.taking k.0.taking.by (λ r. has r n ≡ true) c.runs c.thing (takes_at (type_of w q) (at p (Old q)) b.rights k.0.taking b.is k.0.is) (self_has k.0.taking.by) (inl k.0.all) l in
-        record { runs = c.runs; thing = list_thing q y (λ r. has r n ≡ true) l; there = taken_has p.0 (column_of w y) f.rights k.0.taking.by n f.taken (right_is h) f.told
-            (λ j. k.0.more unconf_right (right_of_cell (at p (Old q)) b.rights unconf_right b.is (complete (u j)).there)) (λ j. k.1) }
+        let f = found p q y k.0.taking k.0.taking.by (λ r. has r n ≡ true) c.runs c.thing (takes_at (type_of w q) (at p (Old q)) b.rights k.0.taking b.is k.0.is)
+        (self_has k.0.taking.by) (inl k.0.all) l in
+        record {
+          runs = c.runs;
+          thing = list_thing q y (λ r. has r n ≡ true) l;
+          there = taken_has p.0 (column_of w y) f.rights k.0.taking.by n f.taken (right_is h) f.told
+              (λ j. k.0.more unconf_right (right_of_cell (at p (Old q)) b.rights unconf_right b.is (complete (u j)).there)) (λ j. k.1);
+        }
     complete (merge_gives p x check give n low f h all is g s) =
         let c = complete h in
         let t = complete f in
         let b = some_cell (at p (Old x)) c.there in
-        let rule = ((rules p.0 c.runs).objects x.0 low).merges b.0 b.1 t.place (slice_get_within forms t.place (form_at (type_of w x) check give) t.is) (form_at (type_of w x) check give) t.is refl
-            (λ m right asked. right_of_cell (at p (Old x)) b.0 m b.1 (complete (all m right asked)).there) t.there in
-        record { runs = c.runs; thing = c.thing; there = offered_has (at p (Old x)) (merged_rights b.0 (Some (type_of w x)) give) n rule
-            (merged_keeps b.0 give n (type_of w x) is g (λ k. right_of_cell (at p (Old x)) b.0 n b.1 (complete (s k)).there)) }
+        let rule = ((rules p.0 c.runs).objects x.0 low).merges b.0 b.1 t.place (slice_get_within forms t.place (form_at (type_of w x) check give) t.is)
+        (form_at (type_of w x) check give) t.is refl
+        (λ m right asked. right_of_cell (at p (Old x)) b.0 m b.1 (complete (all m right asked)).there) t.there in
+        record {
+          runs = c.runs;
+          thing = c.thing;
+          there = offered_has (at p (Old x)) (merged_rights b.0 (Some (type_of w x)) give) n rule
+              (merged_keeps b.0 give n (type_of w x) is g (λ k. right_of_cell (at p (Old x)) b.0 n b.1 (complete (s k)).there));
+        }
     complete (open_form (Slots p) index type check give e) =
         let o = opens_to w p.0 index (Templated (template.Amplify (Some type) check give)) e refl in
         let runs = slice_get_within w.tasks p.0 o.task o.is in
         let held = are.slots p.0 o.task o.is o.index (Templated (template.Amplify (Some type) check give)) o.slot in
         let first = first_of forms (form_at type check give) held.place held.is in
-        let offered = (rules p.0 runs).slots o.task o.is o.index (Templated (template.Amplify (Some type) check give)) o.slot (thing_count w + first.0) ENV ((first.0, first.1, refl), refl) in
-        record { runs = runs; place = first.0; is = first.1.is; there = env_is (cell rows p.0 (thing_count w + first.0)) (offered_has (cell rows p.0 (thing_count w + first.0)) ENV env_right offered refl) }
-    complete (open_form (ListOf (Old x)) index type check give e) = ByEntry index (entry_at (opening_entries w x.0) index (Templated (template.Amplify (Some type) check give)) e refl)
+        let offered = (rules p.0 runs).slots o.task o.is o.index (Templated (template.Amplify (Some type) check give)) o.slot (thing_count w + first.0) ENV
+        ((first.0, first.1, refl), refl) in
+        record {
+          runs = runs;
+          place = first.0;
+          is = first.1.is;
+          there = env_is (cell rows p.0 (thing_count w + first.0))
+              (offered_has (cell rows p.0 (thing_count w + first.0)) ENV env_right offered refl);
+        }
+    complete (open_form (ListOf (Old x)) index type check give e) =
+        ByEntry index (entry_at (opening_entries w x.0) index (Templated (template.Amplify (Some type) check give)) e refl)
     complete (open_form (ListOf (MadeBy r)) index type check give e) = absurd (cc)
     complete (load_form p (Old x) type check give a e f) =
         let c = complete a in
         let b = right_cell (at p (Old x)) load_right c.there in
         let env = right_of_cell (at p (Old x)) b.rights env_right b.is (complete e).there in
         let t = load_takes (type_of w x) b.rights b.there in
-        found_form p x t.taking b.rights (form_at type check give) c.runs c.thing (takes_at (type_of w x) (at p (Old x)) b.rights t.taking b.is t.is) t.more env (inl t.all) (complete f)
-    complete (load_form p (MadeBy r) type check give a e f) = let c = complete a in shared_form p r (form_at type check give) c.runs (share p r (has_some (at p (MadeBy r)) load_right c.there)) (complete f)
+        found_form p x t.taking b.rights (form_at type check give) c.runs c.thing (takes_at (type_of w x) (at p (Old x)) b.rights t.taking b.is t.is) t.more
+        env (inl t.all) (complete f)
+    complete (load_form p (MadeBy r) type check give a e f) =
+        let c = complete a in shared_form p r (form_at type check give) c.runs (share p r (has_some (at p (MadeBy r)) load_right c.there)) (complete f)
     complete (store_form p (Old x) n type check give l m s a f) = ByStored p (stores_is (type_of w x) (at p (Old x)) n l (complete m).there s (complete a).there) (complete f)
-    complete (store_form p (MadeBy r) n type check give l m s a f) = let c = complete m in shared_form r p (form_at type check give) c.thing (share_other r p (has_some (at p (MadeBy r)) modify_right c.there)) (complete f)
+    complete (store_form p (MadeBy r) n type check give l m s a f) =
+        let c = complete m in shared_form r p (form_at type check give) c.thing (share_other r p (has_some (at p (MadeBy r)) modify_right c.there)) (complete f)
     complete (copy_form p (Old x) type check give v a e f) =
         let c = complete a in
         let b = right_cell (at p (Old x)) copy_right c.there in
@@ -527,12 +626,14 @@ module _ (w : WorldValue) (forms : List Form) (rows : List (List (Option ℕ))) 
         let t = copy_takes (type_of w x) b.rights v b.there env in
         let l = complete f in
         found_form p x t.taking b.rights (form_at type check give) c.runs c.thing (takes_at (type_of w x) (at p (Old x)) b.rights t.taking b.is t.is) t.more env (inr tt) l
-    complete (copy_form p (MadeBy r) type check give v a e f) = let c = complete a in shared_form p r (form_at type check give) c.runs (share p r (has_some (at p (MadeBy r)) copy_right c.there)) (complete f)
+    complete (copy_form p (MadeBy r) type check give v a e f) =
+        let c = complete a in shared_form p r (form_at type check give) c.runs (share p r (has_some (at p (MadeBy r)) copy_right c.there)) (complete f)
     complete (enter_form p q type check give t a f) =
         let c = complete a in
         let b = right_cell (at p (Old q)) a0_right c.there in
         let k = call_takes (type_of w q) b.rights t b.there in
-        found_form p q k.0.taking k.0.taking.by (form_at type check give) c.runs c.thing (takes_at (type_of w q) (at p (Old q)) b.rights k.0.taking b.is k.0.is) (self_has k.0.taking.by) k.1 (inl k.0.all) (complete f)
+        found_form p q k.0.taking k.0.taking.by (form_at type check give) c.runs c.thing (takes_at (type_of w q) (at p (Old q)) b.rights k.0.taking b.is k.0.is)
+        (self_has k.0.taking.by) k.1 (inl k.0.all) (complete f)
     complete (enter_param p q type index param t a is e) =
         let c = complete a in
         let b = right_cell (at p (Old q)) a0_right c.there in
@@ -542,9 +643,11 @@ module _ (w : WorldValue) (forms : List Form) (rows : List (List (Option ℕ))) 
     complete (make_form p t low type e a) =
         let c = complete a in
         let b = right_cell (at p (Old t)) a0_right c.there in
-        form_rule p (form_at t 0 all_rights) c.runs (((rules p.0 c.runs).objects t.0 low).types b.rights b.is b.there (right_of_cell (at p (Old t)) b.rights env_right b.is (complete e).there) type)
+        form_rule p (form_at t 0 all_rights) c.runs (((rules p.0 c.runs).objects t.0 low).types b.rights b.is b.there
+        (right_of_cell (at p (Old t)) b.rights env_right b.is (complete e).there) type)
 
 -- so they tell each right of a process for an object of the opening
-pub all_rights_told : (w : WorldValue) (forms : List Form) (rows : List (List (Option ℕ))) → ((p : ℕ) → p < length w.tasks → ProcessRule w forms rows p) → AreForms w forms → IsWorld w → (p : Proc) (x : Name) (n : ℕ)
+pub all_rights_told : (w : WorldValue) (forms : List Form) (rows : List (List (Option ℕ))) → ((p : ℕ) → p < length w.tasks → ProcessRule w forms rows p) → AreForms w forms
+    → IsWorld w → (p : Proc) (x : Name) (n : ℕ)
     → Follows w (Right (Slots p) (Old x) n) → HasIn (cell rows p.0 x.0) n
 all_rights_told w forms rows rules are world p x n h = (complete w forms rows rules are world h).there

@@ -66,7 +66,8 @@ object_forms_stay w old new name keeps h = record {
   made = λ e. keeps (made_form (name_at name)) (h.made e);
 }
 
-pub objects_more : (w : WorldValue) (old new : List Form) (n : ℕ) → KeepsForms old new → ((name : ℕ) → name < n → HaveObjectForms w old name) → HaveObjectForms w new n → (name : ℕ) → name < n + 1 → HaveObjectForms w new name
+pub objects_more : (w : WorldValue) (old new : List Form) (n : ℕ) → KeepsForms old new → ((name : ℕ) → name < n → HaveObjectForms w old name) → HaveObjectForms w new n → (name : ℕ)
+    → name < n + 1 → HaveObjectForms w new name
 objects_more w old new n keeps below here name h = by (below_or_last name n h)
   where
     by : (name < n) ⊎ (name ≡ n) → HaveObjectForms w new name

@@ -23,7 +23,8 @@ module _ (w : WorldValue) (forms : List Form) where
       none (suc k) x h = absurd (cc)
 
   -- the gap at a place among those that were found
-  pub gap_at : (rows : List (List (Option ℕ))) (Rule : Type 0) (before after items : List Gap) (n : ℕ) (gap : Gap) → Finds w forms rows Rule before after → before ≡ [] → items ≡ after → n < length items → gap ≡ get_or items n gap → IsGap w forms rows gap
+  pub gap_at : (rows : List (List (Option ℕ))) (Rule : Type 0) (before after items : List Gap) (n : ℕ) (gap : Gap) → Finds w forms rows Rule before after → before ≡ []
+      → items ≡ after → n < length items → gap ≡ get_or items n gap → IsGap w forms rows gap
   gap_at rows Rule before after items n gap f none same within read =
       f.gaps (no_gaps rows before none) n gap (subst (λ (gs : List Gap). slice_get gs n ≡ Some gap) same (slice_get_read items (length items) n gap refl within read))
 
@@ -34,7 +35,8 @@ module _ (w : WorldValue) (forms : List Form) where
     pub start_is : n ≡ 0 → now ≡ start
     pub more : 0 < n → rows_weight start < rows_weight now
 
-  pub filled_more : (start now new : List (List (Option ℕ))) (n : ℕ) (gap : Gap) → Filled start now n → IsGap w forms start gap → IfSome (joined (cell now gap.process gap.column) gap.rights) (λ x. IsRightsWord x)
+  pub filled_more : (start now new : List (List (Option ℕ))) (n : ℕ) (gap : Gap) → Filled start now n → IsGap w forms start gap
+      → IfSome (joined (cell now gap.process gap.column) gap.rights) (λ x. IsRightsWord x)
       → new ≡ joined_rows now gap.process gap.column gap.rights → Filled start new (n + 1)
   filled_more start now new n gap h g word e = subst (λ (rows : List (List (Option ℕ))). Filled start rows (n + 1)) (sym e) (record {
     follow = joined_follow w forms now gap.process gap.column gap.rights h.follow g.follows;
@@ -56,11 +58,14 @@ module _ (w : WorldValue) (forms : List Form) where
       by : (n ≡ 0) ⊎ (0 < n) → rows_weight start < rows_weight (joined_rows now gap.process gap.column gap.rights)
       by (inl k) =
           let same = h.start_is k in
-          let lacks : covers (cell now gap.process gap.column) gap.rights ≡ false = subst (λ (rows : List (List (Option ℕ))). covers (cell rows gap.process gap.column) gap.rights ≡ false) (sym same) g.lacking in
-          subst (λ (rows : List (List (Option ℕ))). rows_weight rows < rows_weight (joined_rows now gap.process gap.column gap.rights)) same (joined_more now gap.process gap.column gap.rights low within word lacks)
+          let lacks : covers (cell now gap.process gap.column) gap.rights ≡ false = subst
+          (λ (rows : List (List (Option ℕ))). covers (cell rows gap.process gap.column) gap.rights ≡ false) (sym same) g.lacking in
+          subst (λ (rows : List (List (Option ℕ))). rows_weight rows < rows_weight (joined_rows now gap.process gap.column gap.rights)) same
+          (joined_more now gap.process gap.column gap.rights low within word lacks)
       by (inr k) = let a = h.more k in let b = joined_no_less now gap.process gap.column gap.rights low within in omega (arith, a, b)
 
-  pub settled : (p : ℕ) (start now : List (List (Option ℕ))) (before after : List Gap) (n : ℕ) (grown : Bool) → Finds w forms start (ProcessRule w forms start p) before after → before ≡ [] → Filled start now n → n ≡ length after
+  pub settled : (p : ℕ) (start now : List (List (Option ℕ))) (before after : List Gap) (n : ℕ) (grown : Bool) → Finds w forms start (ProcessRule w forms start p) before after
+      → before ≡ [] → Filled start now n → n ≡ length after
       → (grown ≡ false → length after ≡ 0) → (grown ≡ true → 0 < length after) → Settles w forms p start now grown
   settled p start now before after n grown f none h end empty full = record {
     follow = h.follow;
@@ -81,7 +86,8 @@ module _ (w : WorldValue) (forms : List Form) where
     pub same : grown ≡ false → now ≡ start
     pub more : grown ≡ true → rows_weight start < rows_weight now
 
-  pub rounding_more : (start now new : List (List (Option ℕ))) (n : ℕ) (grown more : Bool) → Rounding start now n grown → Settles w forms n now new more → Rounding start new (n + 1) (grown || more)
+  pub rounding_more : (start now new : List (List (Option ℕ))) (n : ℕ) (grown more : Bool) → Rounding start now n grown → Settles w forms n now new more
+      → Rounding start new (n + 1) (grown || more)
   rounding_more start now new n false false h s = record {
     follow = s.follow;
     are = s.are;
@@ -122,5 +128,6 @@ module _ (w : WorldValue) (forms : List Form) where
   pub weighs_most : (rows : List (List (Option ℕ))) → AreRows w forms rows → rows_weight rows ≤ most_weight w forms
   weighs_most rows are = let a = rows_most rows (width_of w forms) are.width in subst (λ (n : ℕ). rows_weight rows ≤ n * (20 * width_of w forms)) are.count a
 
-  pub smaller : (old new : List (List (Option ℕ))) → AreRows w forms new → rows_weight old < rows_weight new → most_weight w forms - rows_weight new < most_weight w forms - rows_weight old
+  pub smaller : (old new : List (List (Option ℕ))) → AreRows w forms new → rows_weight old < rows_weight new
+      → most_weight w forms - rows_weight new < most_weight w forms - rows_weight old
   smaller old new are more = let a = weighs_most new are in omega (arith, a, more)

@@ -38,13 +38,16 @@ module _ (w : WorldValue) (forms : List Form) (rows : List (List (Option ℕ))) 
   finds_more P Q xs ys f h = record { more = h.more; gaps = h.gaps; none = λ e. f (h.none e) }
 
   -- one item of a list more
-  pub finds_item : {A : Type 0} (P : A → Type 0) (items : List A) (n : ℕ) (x : A) (xs ys zs : List Gap) → slice_get items n ≡ Some x → Finds w forms rows (EachBelow n P items) xs ys → Finds w forms rows (P x) ys zs → Finds w forms rows (EachBelow (n + 1) P items) xs zs
-  finds_item {A} P items n x xs ys zs at f g = finds_more (EachBelow n P items × P x) (EachBelow (n + 1) P items) xs zs (λ h. each_more P items n x h.0 at h.1) (finds_then (EachBelow n P items) (P x) xs ys zs f g)
+  pub finds_item : {A : Type 0} (P : A → Type 0) (items : List A) (n : ℕ) (x : A) (xs ys zs : List Gap) → slice_get items n ≡ Some x
+      → Finds w forms rows (EachBelow n P items) xs ys → Finds w forms rows (P x) ys zs → Finds w forms rows (EachBelow (n + 1) P items) xs zs
+  finds_item {A} P items n x xs ys zs at f g =
+      finds_more (EachBelow n P items × P x) (EachBelow (n + 1) P items) xs zs (λ h. each_more P items n x h.0 at h.1) (finds_then (EachBelow n P items) (P x) xs ys zs f g)
 
   pub finds_start : {A : Type 0} (P : A → Type 0) (items : List A) (xs : List Gap) → Finds w forms rows (EachBelow 0 P items) xs xs
   finds_start P items xs = finds_none (EachBelow 0 P items) xs (each_none P items)
 
-  pub finds_end : {A : Type 0} (P : A → Type 0) (items : List A) (n : ℕ) (xs ys : List Gap) → length items ≤ n → Finds w forms rows (EachBelow n P items) xs ys → Finds w forms rows (Each P items) xs ys
+  pub finds_end : {A : Type 0} (P : A → Type 0) (items : List A) (n : ℕ) (xs ys : List Gap) → length items ≤ n → Finds w forms rows (EachBelow n P items) xs ys
+      → Finds w forms rows (Each P items) xs ys
   finds_end P items n xs ys end f = finds_more (EachBelow n P items) (Each P items) xs ys (λ h. each_all P items n h end) f
 
   -- one number more
@@ -61,11 +64,13 @@ module _ (w : WorldValue) (forms : List Form) (rows : List (List (Option ℕ))) 
       by (inl less) = below k less
       by (inr same) = subst P (sym same) here
 
-  pub finds_number : (P : ℕ → Type 0) (n : ℕ) (xs ys zs : List Gap) → Finds w forms rows (Below n P) xs ys → Finds w forms rows (P n) ys zs → Finds w forms rows (Below (n + 1) P) xs zs
+  pub finds_number : (P : ℕ → Type 0) (n : ℕ) (xs ys zs : List Gap) → Finds w forms rows (Below n P) xs ys → Finds w forms rows (P n) ys zs
+      → Finds w forms rows (Below (n + 1) P) xs zs
   finds_number P n xs ys zs f g = finds_more (Below n P × P n) (Below (n + 1) P) xs zs (λ h. below_more P n h.0 h.1) (finds_then (Below n P) (P n) xs ys zs f g)
 
   pub finds_from : (P : ℕ → Type 0) (xs : List Gap) → Finds w forms rows (Below 0 P) xs xs
   finds_from P xs = finds_none (Below 0 P) xs (λ k h. absurd (omega (arith, h)))
 
-  pub finds_four : (P Q R S : Type 0) (a b c d e : List Gap) → Finds w forms rows P a b → Finds w forms rows Q b c → Finds w forms rows R c d → Finds w forms rows S d e → Finds w forms rows ((P × Q) × (R × S)) a e
+  pub finds_four : (P Q R S : Type 0) (a b c d e : List Gap) → Finds w forms rows P a b → Finds w forms rows Q b c → Finds w forms rows R c d → Finds w forms rows S d e
+      → Finds w forms rows ((P × Q) × (R × S)) a e
   finds_four P Q R S a b c d e f g h i = finds_then (P × Q) (R × S) a c e (finds_then P Q a b c f g) (finds_then R S c d e h i)

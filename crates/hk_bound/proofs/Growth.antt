@@ -1,5 +1,6 @@
 -- Rows grow: how much they weigh, and what a cell with more rights tells.
-use Rattle.std.proofs.Common.{◌≡◌, ℕ, zero, suc, ◌+◌, ◌*◌, ◌-◌, ◌<◌, ◌≤◌, List, [], ◌∷◌, length, Bool, true, false, Option, Some, None, refl, sym, ◌∙◌, ap, subst, arith, cond, bit_and, bit_or, replicate}
+use Rattle.std.proofs.Common.{◌≡◌, ℕ, zero, suc, ◌+◌, ◌*◌, ◌-◌, ◌<◌, ◌≤◌, List, [], ◌∷◌, length, Bool, true, false, Option, Some, None, refl, sym, ◌∙◌, ap, subst, arith, cond}
+use Rattle.std.proofs.Common.{bit_and, bit_or, replicate}
 use mathlib.Core.Logic.{inl, inr}
 use Rattle.std.specs.Prelude.{IfSome, slice_set, slice_get, slice_index_or, ◌||◌, ◌&&◌, ◌==◌, ◌⊎◌, not, find, IsTrue}
 use Rattle.std.specs.Option.{unwrap_or}
@@ -30,7 +31,8 @@ count_same : (f g : ℕ → Bool) (ns : List ℕ) → ((n : ℕ) → f n ≡ tru
 count_same f g [] h e = refl
 count_same f g (n ∷ ns) h e = by (f n) (g n) (h n) e (count_more f g ns h) (count_same f g ns h)
   where
-    by : (x y : Bool) → (x ≡ true → y ≡ true) → bit y + count g ns ≤ bit x + count f ns → count f ns ≤ count g ns → (count g ns ≤ count f ns → find (λ n. g n && not (f n)) ns ≡ None) → cond (y && not x) (Some n) (find (λ n. g n && not (f n)) ns) ≡ None
+    by : (x y : Bool) → (x ≡ true → y ≡ true) → bit y + count g ns ≤ bit x + count f ns → count f ns ≤ count g ns
+        → (count g ns ≤ count f ns → find (λ n. g n && not (f n)) ns ≡ None) → cond (y && not x) (Some n) (find (λ n. g n && not (f n)) ns) ≡ None
     by true true k l m r = r (omega (arith, l))
     by true false k l m r = absurd (false≢true (k refl))
     by false true k l m r = absurd (omega (arith, l, m))
@@ -60,11 +62,14 @@ first_none x y e = e
 cell_still : (cell : Option ℕ) (rights : ℕ) → IsRightsWord (unwrap_or (joined cell rights) 0) → cell_weight (joined cell rights) ≤ cell_weight cell → joined cell rights ≡ cell
 cell_still None rights word h = absurd (omega (arith, h))
 cell_still (Some a) rights word h =
-    let none : first_missing a (bit_or a rights) ≡ None = first_none a (bit_or a rights) (count_same (has a) (has (bit_or a rights)) right_numbers (more_rights a rights) (omega (arith, h))) in
-    ap (λ (r : ℕ). Some r) (same_rights (bit_or a rights) a (λ n. both_ways (has (bit_or a rights) n) (has a n) (HasAll-from_first_missing a (bit_or a rights) word none n) (more_rights a rights n)))
+    let none : first_missing a (bit_or a rights) ≡ None = first_none a (bit_or a rights)
+    (count_same (has a) (has (bit_or a rights)) right_numbers (more_rights a rights) (omega (arith, h))) in
+    ap (λ (r : ℕ). Some r) (same_rights (bit_or a rights) a
+    (λ n. both_ways (has (bit_or a rights) n) (has a n) (HasAll-from_first_missing a (bit_or a rights) word none n) (more_rights a rights n)))
 
 -- a row with another cell
-pub set_weighs : (row : List (Option ℕ)) (at : ℕ) (cell low : Option ℕ) → at < length row → row_weight (slice_set row at cell) + cell_weight (slice_index_or row at low) ≡ row_weight row + cell_weight cell
+pub set_weighs : (row : List (Option ℕ)) (at : ℕ) (cell low : Option ℕ) → at < length row
+    → row_weight (slice_set row at cell) + cell_weight (slice_index_or row at low) ≡ row_weight row + cell_weight cell
 set_weighs [] at cell low h = absurd (omega (arith, h))
 set_weighs (old ∷ row) zero cell low h = omega arith
 set_weighs (old ∷ row) (suc at) cell low h = let r = set_weighs row at cell low (omega (arith, h)) in omega (arith, r)
@@ -86,7 +91,6 @@ cell_most (Some r) = let m = count_most (has r) right_numbers in omega (arith, m
 pub row_most : (row : List (Option ℕ)) → row_weight row ≤ 20 * length row
 row_most [] = omega arith
 row_most (cell ∷ row) = let a = cell_most cell in let b = row_most row in omega (arith, a, b)
-
 
 -- ---- rows
 
@@ -123,7 +127,8 @@ rows_length [] (suc k) x = refl
 rows_length (y ∷ rows) zero x = refl
 rows_length (y ∷ rows) (suc k) x = ap suc (rows_length rows k x)
 
-set_rows : (rows : List (List (Option ℕ))) (p : ℕ) (row : List (Option ℕ)) → p < length rows → rows_weight (slice_set rows p row) + row_weight (slice_index_or rows p []) ≡ rows_weight rows + row_weight row
+set_rows : (rows : List (List (Option ℕ))) (p : ℕ) (row : List (Option ℕ)) → p < length rows
+    → rows_weight (slice_set rows p row) + row_weight (slice_index_or rows p []) ≡ rows_weight rows + row_weight row
 set_rows [] p row h = absurd (omega (arith, h))
 set_rows (old ∷ rows) zero row h = omega arith
 set_rows (old ∷ rows) (suc p) row h = let r = set_rows rows p row (omega (arith, h)) in omega (arith, r)
@@ -138,12 +143,14 @@ joined_weighs rows p c r h g =
 pub joined_no_less : (rows : List (List (Option ℕ))) (p c r : ℕ) → p < length rows → c < length (slice_index_or rows p []) → rows_weight rows ≤ rows_weight (joined_rows rows p c r)
 joined_no_less rows p c r h g = let a = joined_weighs rows p c r h g in let b = cell_grows (cell rows p c) r in omega (arith, a, b)
 
-pub joined_more : (rows : List (List (Option ℕ))) (p c r : ℕ) → p < length rows → c < length (slice_index_or rows p []) → IfSome (joined (cell rows p c) r) (λ x. IsRightsWord x) → covers (cell rows p c) r ≡ false
+pub joined_more : (rows : List (List (Option ℕ))) (p c r : ℕ) → p < length rows → c < length (slice_index_or rows p []) → IfSome (joined (cell rows p c) r) (λ x. IsRightsWord x)
+    → covers (cell rows p c) r ≡ false
     → rows_weight rows < rows_weight (joined_rows rows p c r)
 joined_more rows p c r h g word lacks = let a = joined_weighs rows p c r h g in let b = cell_heavier (cell rows p c) r word lacks in omega (arith, a, b)
 
 -- rows of so many cells weigh no more than this
-pub rows_most : (rows : List (List (Option ℕ))) (width : ℕ) → ((p : ℕ) → p < length rows → length (slice_index_or rows p []) ≡ width) → rows_weight rows ≤ length rows * (20 * width)
+pub rows_most : (rows : List (List (Option ℕ))) (width : ℕ) → ((p : ℕ) → p < length rows → length (slice_index_or rows p []) ≡ width)
+    → rows_weight rows ≤ length rows * (20 * width)
 rows_most [] width h = omega arith
 rows_most (row ∷ rows) width h =
     let a = row_most row in
@@ -162,19 +169,22 @@ set_at (y ∷ xs) zero (suc j) x d = inr refl
 set_at (y ∷ xs) (suc k) zero x d = inr refl
 set_at (y ∷ xs) (suc k) (suc j) x d = elim (set_at xs k j x d) [ inl h ↦ inl (ap suc h.0, h.1) | inr h ↦ inr h ]
 
-joined_at : (rows : List (List (Option ℕ))) (p c r q j : ℕ) → ((p ≡ q) × (c ≡ j) × (cell (joined_rows rows p c r) q j ≡ joined (cell rows p c) r)) ⊎ (cell (joined_rows rows p c r) q j ≡ cell rows q j)
+joined_at : (rows : List (List (Option ℕ))) (p c r q j : ℕ)
+    → ((p ≡ q) × (c ≡ j) × (cell (joined_rows rows p c r) q j ≡ joined (cell rows p c) r)) ⊎ (cell (joined_rows rows p c r) q j ≡ cell rows q j)
 joined_at rows p c r q j = by (set_at rows p q (slice_set (slice_index_or rows p []) c (joined (cell rows p c) r)) [])
   where
     new : List (Option ℕ)
     new = slice_set (slice_index_or rows p []) c (joined (cell rows p c) r)
 
     in_row : (p ≡ q) → (row : List (Option ℕ)) → row ≡ slice_set (slice_index_or rows p []) c (joined (cell rows p c) r)
-        → ((c ≡ j) × (slice_index_or (slice_set (slice_index_or rows p []) c (joined (cell rows p c) r)) j None ≡ joined (cell rows p c) r)) ⊎ (slice_index_or (slice_set (slice_index_or rows p []) c (joined (cell rows p c) r)) j None ≡ slice_index_or (slice_index_or rows p []) j None)
+        → ((c ≡ j) × (slice_index_or (slice_set (slice_index_or rows p []) c (joined (cell rows p c) r)) j None ≡ joined (cell rows p c) r)) ⊎
+        (slice_index_or (slice_set (slice_index_or rows p []) c (joined (cell rows p c) r)) j None ≡ slice_index_or (slice_index_or rows p []) j None)
         → ((p ≡ q) × (c ≡ j) × (slice_index_or row j None ≡ joined (cell rows p c) r)) ⊎ (slice_index_or row j None ≡ cell rows q j)
     in_row same row is (inl g) = inl (same, g.0, ap (λ (l : List (Option ℕ)). slice_index_or l j None) is ∙ g.1)
     in_row same row is (inr g) = inr (ap (λ (l : List (Option ℕ)). slice_index_or l j None) is ∙ (g ∙ ap (λ (n : ℕ). cell rows n j) same))
 
-    by : ((p ≡ q) × (slice_index_or (joined_rows rows p c r) q [] ≡ slice_set (slice_index_or rows p []) c (joined (cell rows p c) r))) ⊎ (slice_index_or (joined_rows rows p c r) q [] ≡ slice_index_or rows q [])
+    by : ((p ≡ q) × (slice_index_or (joined_rows rows p c r) q [] ≡ slice_set (slice_index_or rows p []) c (joined (cell rows p c) r))) ⊎
+        (slice_index_or (joined_rows rows p c r) q [] ≡ slice_index_or rows q [])
         → ((p ≡ q) × (c ≡ j) × (cell (joined_rows rows p c r) q j ≡ joined (cell rows p c) r)) ⊎ (cell (joined_rows rows p c r) q j ≡ cell rows q j)
     by (inl h) = in_row h.0 (slice_index_or (joined_rows rows p c r) q []) h.1 (set_at (slice_index_or rows p []) c j (joined (cell rows p c) r) None)
     by (inr h) = inr (ap (λ (l : List (Option ℕ)). slice_index_or l j None) h)
@@ -183,10 +193,14 @@ module _ (w : WorldValue) (forms : List Form) where
   pub joined_rows_are : (rows : List (List (Option ℕ))) (p c r : ℕ) → AreRows w forms rows → AreRows w forms (joined_rows rows p c r)
   joined_rows_are rows p c r are = record {
     count = rows_length rows p (slice_set (slice_index_or rows p []) c (joined (cell rows p c) r)) ∙ are.count;
-    width = λ q h. by q (let e = rows_length rows p (slice_set (slice_index_or rows p []) c (joined (cell rows p c) r)) in omega (arith, h, e)) (set_at rows p q (slice_set (slice_index_or rows p []) c (joined (cell rows p c) r)) []);
+    width =
+        λ q h. by q (let e = rows_length rows p (slice_set (slice_index_or rows p []) c (joined (cell rows p c) r)) in omega (arith, h, e))
+        (set_at rows p q (slice_set (slice_index_or rows p []) c (joined (cell rows p c) r)) []);
   }
     where
-      by : (q : ℕ) → q < length rows → ((p ≡ q) × (slice_index_or (joined_rows rows p c r) q [] ≡ slice_set (slice_index_or rows p []) c (joined (cell rows p c) r))) ⊎ (slice_index_or (joined_rows rows p c r) q [] ≡ slice_index_or rows q [])
+      by : (q : ℕ) → q < length rows
+          → ((p ≡ q) × (slice_index_or (joined_rows rows p c r) q [] ≡ slice_set (slice_index_or rows p []) c (joined (cell rows p c) r))) ⊎
+          (slice_index_or (joined_rows rows p c r) q [] ≡ slice_index_or rows q [])
           → length (slice_index_or (joined_rows rows p c r) q []) ≡ width_of w forms
       by q low (inl g) = ap length g.1 ∙ (row_length (slice_index_or rows p []) c (joined (cell rows p c) r) ∙ are.width p (subst (λ (n : ℕ). n < length rows) (sym g.0) low))
       by q low (inr g) = ap length g ∙ are.width q low
@@ -201,15 +215,19 @@ module _ (w : WorldValue) (forms : List Form) where
       both : (t : Thing) → ThingFollows w h t a → ThingFollows w h t b → ThingFollows w h t (bit_or a b)
       both t u v = record { had = u.had; given = λ n is there. elim (has-bit_or_cases a b n there) [ inl k ↦ u.given n is k | inr k ↦ v.given n is k ] }
 
-  pub joined_follow : (rows : List (List (Option ℕ))) (p c r : ℕ) → RowsFollow w forms rows → CellFollows w forms (Slots (proc_at p)) c r → RowsFollow w forms (joined_rows rows p c r)
+  pub joined_follow : (rows : List (List (Option ℕ))) (p c r : ℕ) → RowsFollow w forms rows → CellFollows w forms (Slots (proc_at p)) c r
+      → RowsFollow w forms (joined_rows rows p c r)
   joined_follow rows p c r follow gap q j s e = by (joined_at rows p c r q j)
     where
       here : (o : Option ℕ) → cell rows p c ≡ o → joined o r ≡ Some s → CellFollows w forms (Slots (proc_at p)) c s
       here None f g = let same : r ≡ s = cc in subst (CellFollows w forms (Slots (proc_at p)) c) same gap
       here (Some a) f g = let same : bit_or a r ≡ s = cc in subst (CellFollows w forms (Slots (proc_at p)) c) same (cell_or (Slots (proc_at p)) c a r (follow p c a f) gap)
 
-      by : ((p ≡ q) × (c ≡ j) × (cell (joined_rows rows p c r) q j ≡ joined (cell rows p c) r)) ⊎ (cell (joined_rows rows p c r) q j ≡ cell rows q j) → CellFollows w forms (Slots (proc_at q)) j s
-      by (inl g) = subst (λ (n : ℕ). CellFollows w forms (Slots (proc_at n)) j s) g.0 (subst (λ (n : ℕ). CellFollows w forms (Slots (proc_at p)) n s) g.1 (here (cell rows p c) refl (sym g.2 ∙ e)))
+      by : ((p ≡ q) × (c ≡ j) × (cell (joined_rows rows p c r) q j ≡ joined (cell rows p c) r)) ⊎ (cell (joined_rows rows p c r) q j ≡ cell rows q j)
+          → CellFollows w forms (Slots (proc_at q)) j s
+      by (inl g) =
+          subst (λ (n : ℕ). CellFollows w forms (Slots (proc_at n)) j s) g.0
+          (subst (λ (n : ℕ). CellFollows w forms (Slots (proc_at p)) n s) g.1 (here (cell rows p c) refl (sym g.2 ∙ e)))
       by (inr g) = follow q j s (sym g ∙ e)
 
 -- ---- the first rows

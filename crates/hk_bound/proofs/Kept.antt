@@ -86,12 +86,14 @@ module _ (w : WorldValue) (s : State) (p : Proc) (own : Name → Proc) where
     first = kept.first;
   }
     where
-      full : (name : Name) (n : ℕ) → is_empty (standing s (EntryOf name n)) ≡ false → Bounds w (next_own s p own) (ListOf (thing w (next_own s p own) name)) (standing s (EntryOf name n))
+      full : (name : Name) (n : ℕ) → is_empty (standing s (EntryOf name n)) ≡ false
+          → Bounds w (next_own s p own) (ListOf (thing w (next_own s p own) name)) (standing s (EntryOf name n))
       full name n f =
           subst (λ (t : Thing). Bounds w (next_own s p own) (ListOf t) (standing s (EntryOf name n))) (sym (same_thing name (given.lists name n f)))
           (same_bounds (ListOf (thing w own name)) (standing s (EntryOf name n)) (given.entries (EntryOf name n)) (kept.lists name n))
 
-      by : (name : Name) (n : ℕ) (e : Entry) → standing s (EntryOf name n) ≡ e → Bounds w (next_own s p own) (ListOf (thing w (next_own s p own) name)) (standing s (EntryOf name n))
+      by : (name : Name) (n : ℕ) (e : Entry) → standing s (EntryOf name n) ≡ e
+          → Bounds w (next_own s p own) (ListOf (thing w (next_own s p own) name)) (standing s (EntryOf name n))
       by name n Empty e = subst (Bounds w (next_own s p own) (ListOf (thing w (next_own s p own) name))) (sym e) tt
       by name n (Held cap) e = full name n (ap is_empty e)
       by name n (Form form) e = full name n (ap is_empty e)
@@ -99,13 +101,18 @@ module _ (w : WorldValue) (s : State) (p : Proc) (own : Name → Proc) where
 -- ---- who lives after a line
 
 abbrev pub WasThere : State → Line → Inc → Activation → Type 0
-WasThere s line i x = (look_up i (activations_in s.incarnations) ≡ Some x) ⊎ ((i ≡ s.next_inc) × (x.proc ≡ line.proc) × IsTrue (is_live s line.inc) × (slice_get (currents s) line.proc.0 ≡ Some line.inc))
+WasThere s line i x =
+    (look_up i (activations_in s.incarnations) ≡ Some x) ⊎
+    ((i ≡ s.next_inc) × (x.proc ≡ line.proc) × IsTrue (is_live s line.inc) × (slice_get (currents s) line.proc.0 ≡ Some line.inc))
 
-lived_before : (s : State) (line : Line) (t : State) → NumbersRise s → Turn s line t → (i : Inc) (x : Activation) → look_up i (activations_in t.incarnations) ≡ Some x → WasThere s line i x
+lived_before : (s : State) (line : Line) (t : State) → NumbersRise s → Turn s line t → (i : Inc) (x : Activation) → look_up i (activations_in t.incarnations) ≡ Some x
+    → WasThere s line i x
 lived_before s line t n (Still q e) i x h = inl (subst (λ fs. look_up i fs ≡ Some x) q.activations h)
 lived_before s line t n (Leave e) i x h = inl (remove_fewer s line.inc n i x (subst (λ fs. look_up i fs ≡ Some x) e.activations h))
-lived_before s line t n (Halt e) i x h = inl (halted_found (activations_in s.incarnations) line.proc.0 i x (activations_apart s n) (subst (λ fs. look_up i fs ≡ Some x) e.activations h)).0
-lived_before s line t n (Enter e) i x h = by (found_last (activations_in s.incarnations) s.next_inc i (record { proc = line.proc; caller = Some line.inc }) x (subst (λ fs. look_up i fs ≡ Some x) e.activations h))
+lived_before s line t n (Halt e) i x h =
+    inl (halted_found (activations_in s.incarnations) line.proc.0 i x (activations_apart s n) (subst (λ fs. look_up i fs ≡ Some x) e.activations h)).0
+lived_before s line t n (Enter e) i x h =
+    by (found_last (activations_in s.incarnations) s.next_inc i (record { proc = line.proc; caller = Some line.inc }) x (subst (λ fs. look_up i fs ≡ Some x) e.activations h))
   where
     by : (look_up i (activations_in s.incarnations) ≡ Some x) ⊎ ((i ≡ s.next_inc) × (record { proc = line.proc; caller = Some line.inc } ≡ x)) → WasThere s line i x
     by (inl a) = inl a
@@ -119,7 +126,8 @@ some_same e = cc
 
 -- ---- one line
 
-module _ (w : WorldValue) (own : Name → Proc) (s : State) (line : Line) (t : State) (kept : Kept w own s) (sound : Sound s) (typed : (name : Name) → IsObject w (type_of w name)) (shown : ShownIf s line.inc (done_call line)) where
+module _ (w : WorldValue) (own : Name → Proc) (s : State) (line : Line) (t : State) (kept : Kept w own s) (sound : Sound s)
+    (typed : (name : Name) → IsObject w (type_of w name)) (shown : ShownIf s line.inc (done_call line)) where
   -- the slots of an incarnation that is of this process where it lives
   slots_of : (i : Inc) (n : ℕ) (q : Proc) → ((x : Activation) → look_up i (activations_in s.incarnations) ≡ Some x → x.proc ≡ q) → Bounds w own (Slots q) (standing s (SlotOf i n))
   slots_of i n q h = by (lookup (same_inc i) s.incarnations) refl
@@ -146,17 +154,20 @@ module _ (w : WorldValue) (own : Name → Proc) (s : State) (line : Line) (t : S
     writer_proc : (i : Inc) (n : ℕ) (x : Activation) → IsWritable s line.inc (done_call line) (SlotOf i n) → WasThere s line i x → x.proc ≡ line.proc
     writer_proc i n x place (inr b) = b.1
     writer_proc i n x (inl e) (inl a) = own_proc x (subst (λ (j : Inc). look_up j (activations_in s.incarnations) ≡ Some x) e a)
-    writer_proc i n x (inr (inl e)) (inl a) = let below = sound.stacked.below i x a in let same : i.0 ≡ s.next_inc.0 = ap (λ (j : Inc). j.0) e.1 in absurd (omega (arith, below, same))
+    writer_proc i n x (inr (inl e)) (inl a) =
+        let below = sound.stacked.below i x a in let same : i.0 ≡ s.next_inc.0 = ap (λ (j : Inc). j.0) e.1 in absurd (omega (arith, below, same))
     writer_proc i n x (inr (inr e)) (inl a) =
         let there = caller_found s line.inc i e.1 in
-        same_proc x.proc line.proc (sound.stacked.kin line.inc i (activation (incarnation s line.inc)) x there e.1 a ∙ ap (λ (q : Proc). q.0) (own_proc (activation (incarnation s line.inc)) there))
+        same_proc x.proc line.proc (sound.stacked.kin line.inc i (activation (incarnation s line.inc)) x there e.1 a ∙ ap (λ (q : Proc). q.0)
+        (own_proc (activation (incarnation s line.inc)) there))
 
     -- what it changes is in the bound of its process
     pub change_in_bound : (known : LineKnown s line t) (name : Name) → IsObject w name → changed s line ≡ Some name → IsInBound w line.proc name
     change_in_bound known name old e =
         let m : IsModified s line.inc (done_call line) name = changed_modifies s line t name known.writes e in
         subst (λ (x : Name). IsInBound w line.proc x) (sym m.same)
-        (in_bound w own s line.inc line.proc own_slots kept.lists kept.kinds kept.plain typed m.path m.cap m.leads (subst (IsObject w) m.same old) m.allowed (by (done_call line) shown m.path m.changes))
+        (in_bound w own s line.inc line.proc own_slots kept.lists kept.kinds kept.plain typed m.path m.cap m.leads (subst (IsObject w) m.same old) m.allowed
+        (by (done_call line) shown m.path m.changes))
       where
         by : (o : Option Call) → ShownIf s line.inc o → (path : List ℕ) → changes_path o ≡ Some path → ShowsChange s line.inc path
         by None h path f = absurd (cc)
@@ -182,12 +193,14 @@ module _ (w : WorldValue) (own : Name → Proc) (s : State) (line : Line) (t : S
 
     was_bounds : (i : Inc) (n : ℕ) (x : Activation) → WasThere s line i x → Bounds w own (Slots x.proc) (standing s (SlotOf i n))
     was_bounds i n x (inl a) = kept.slots i n x a
-    was_bounds i n x (inr b) = slots_of i n x.proc (λ y g. let below = sound.stacked.below i y g in let same : i.0 ≡ s.next_inc.0 = ap (λ (j : Inc). j.0) b.0 in absurd (omega (arith, below, same)))
+    was_bounds i n x (inr b) =
+        slots_of i n x.proc (λ y g. let below = sound.stacked.below i y g in let same : i.0 ≡ s.next_inc.0 = ap (λ (j : Inc). j.0) b.0 in absurd (omega (arith, below, same)))
 
     line_slots : (i : Inc) (n : ℕ) (x : Activation) → look_up i (activations_in t.incarnations) ≡ Some x → Bounds w own (Slots x.proc) (standing t (SlotOf i n))
     line_slots i n x h = by (line_way s line (SlotOf i n)) refl (known.writes.entries (SlotOf i n))
       where
-        by : (o : Option Way) → line_way s line (SlotOf i n) ≡ o → Wrote s line.inc (standing s (SlotOf i n)) o (standing t (SlotOf i n)) → Bounds w own (Slots x.proc) (standing t (SlotOf i n))
+        by : (o : Option Way) → line_way s line (SlotOf i n) ≡ o → Wrote s line.inc (standing s (SlotOf i n)) o (standing t (SlotOf i n))
+            → Bounds w own (Slots x.proc) (standing t (SlotOf i n))
         by None e (inl none) = subst (Bounds w own (Slots x.proc)) (sym none) tt
         by None e (inr same) = subst (Bounds w own (Slots x.proc)) (sym same) (was_bounds i n x (was i x h))
         by (Some v) e (inl none) = subst (Bounds w own (Slots x.proc)) (sym none) tt
@@ -195,18 +208,21 @@ module _ (w : WorldValue) (own : Name → Proc) (s : State) (line : Line) (t : S
             let now = is_own (is_done (SlotOf i n) v e) in
             let mine = writer_proc now i n x (known.writes.places (SlotOf i n) (ap is_some e)) (was i x h) in
             subst (λ (q : Proc). Bounds w own (Slots q) (standing t (SlotOf i n))) (sym mine)
-            (slot_bounds w own s line.inc line.proc (own_slots now) kept.lists kept.kinds kept.plain typed (done_call line) (runs now) (λ m. maker) i n v (standing t (SlotOf i n)) (known.writes.goes (SlotOf i n) v e) (shown_by (SlotOf i n) v e) wrote)
+            (slot_bounds w own s line.inc line.proc (own_slots now) kept.lists kept.kinds kept.plain typed (done_call line) (runs now) (λ m. maker) i n v (standing t (SlotOf i n))
+            (known.writes.goes (SlotOf i n) v e) (shown_by (SlotOf i n) v e) wrote)
 
     line_lists : (name : Name) (n : ℕ) → Bounds w own (ListOf (thing w own name)) (standing t (EntryOf name n))
     line_lists name n = by (line_way s line (EntryOf name n)) refl (known.writes.entries (EntryOf name n))
       where
-        by : (o : Option Way) → line_way s line (EntryOf name n) ≡ o → Wrote s line.inc (standing s (EntryOf name n)) o (standing t (EntryOf name n)) → Bounds w own (ListOf (thing w own name)) (standing t (EntryOf name n))
+        by : (o : Option Way) → line_way s line (EntryOf name n) ≡ o → Wrote s line.inc (standing s (EntryOf name n)) o (standing t (EntryOf name n))
+            → Bounds w own (ListOf (thing w own name)) (standing t (EntryOf name n))
         by None e (inl none) = subst (Bounds w own (ListOf (thing w own name))) (sym none) tt
         by None e (inr same) = subst (Bounds w own (ListOf (thing w own name))) (sym same) (kept.lists name n)
         by (Some v) e (inl none) = subst (Bounds w own (ListOf (thing w own name))) (sym none) tt
         by (Some v) e (inr wrote) =
             let now = is_own (is_done (EntryOf name n) v e) in
-            list_bounds w own s line.inc line.proc (own_slots now) kept.lists kept.kinds kept.plain typed (done_call line) (runs now) (λ m. maker) name n v (standing t (EntryOf name n)) (known.writes.goes (EntryOf name n) v e) (shown_by (EntryOf name n) v e) wrote
+            list_bounds w own s line.inc line.proc (own_slots now) kept.lists kept.kinds kept.plain typed (done_call line) (runs now) (λ m. maker) name n v
+            (standing t (EntryOf name n)) (known.writes.goes (EntryOf name n) v e) (shown_by (EntryOf name n) v e) wrote
 
     line_procs : (i : Inc) (x : Activation) → WasThere s line i x → x.proc.0 < length w.tasks
     line_procs i x (inl a) = kept.procs i x a
@@ -214,7 +230,8 @@ module _ (w : WorldValue) (own : Name → Proc) (s : State) (line : Line) (t : S
 
     line_kinds : (name : Name) → IsObject w name → KeepsKind s name (object t name) → IsSameKind (object (opening w) name) (object t name)
     line_kinds name old (inl k) = let was = kept.kinds name old in record { of = k.of ∙ was.of; code = k.code ∙ was.code; params = k.params ∙ was.params }
-    line_kinds name old (inr (inl k)) = let same : name.0 ≡ s.next_name.0 = ap (λ (x : Name). x.0) (name_same name s.next_name k.0) in let low = kept.low in absurd (omega (arith, old, same, low))
+    line_kinds name old (inr (inl k)) =
+        let same : name.0 ≡ s.next_name.0 = ap (λ (x : Name). x.0) (name_same name s.next_name k.0) in let low = kept.low in absurd (omega (arith, old, same, low))
     line_kinds name old (inr (inr gone)) =
         let opens : is_opening s name ≡ true = let first = kept.first in grind (arith, nat_tests) in
         absurd (true≢false (sym opens ∙ gone.0))

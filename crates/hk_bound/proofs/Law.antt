@@ -44,16 +44,26 @@ module _ (w : WorldValue) (world : IsWorld w) where
       let next = next_own s line.proc own in (
         known.after,
         given_line s line t known.writes known.next given,
-        (next_own s line.proc own, line_kept w (next_own s line.proc own) s line t (next_kept w s line.proc own given kept) sound (types_old w world) laws.0.1 known laws.1.0 laws.1.1 (next_thing w s line.proc own kept.low)),
+        (
+          next_own s line.proc own,
+          line_kept w (next_own s line.proc own) s line t (next_kept w s line.proc own given kept) sound (types_old w world) laws.0.1 known laws.1.0
+              laws.1.1 (next_thing w s line.proc own kept.low),
+        ),
       )
 
   opening_keeps : (other : WorldValue) → DiffersInCodes w other → AllKept w (opening other)
-  opening_keeps other d = subst (AllKept w) (sym (same_opening w other d)) (record { rises = opening_rises w; stacked = opening_stacked w }, opening_given w world, ((λ name. record { 0 = 0 }), opening_kept w (λ name. record { 0 = 0 }) world))
+  opening_keeps other d =
+      subst (AllKept w) (sym (same_opening w other d)) (
+        record { rises = opening_rises w; stacked = opening_stacked w },
+        opening_given w world,
+        ((λ name. record { 0 = 0 }), opening_kept w (λ name. record { 0 = 0 }) world),
+      )
 
   all_kept : (other : WorldValue) (lines : List Line) (moment : ℕ) → DiffersInCodes w other → AreStepsOf other lines → AllKept w (state_at other lines moment)
   unfolding opened
   all_kept other lines moment d h =
-      state_kept (AllKept w) (each_more Laws (λ s line t. AllKept w s → AllKept w t) line_keeps laws_each) other (opened other) (take moment lines) (first_steps other (opened other) lines moment h) (opening_keeps other d)
+      state_kept (AllKept w) (each_more Laws (λ s line t. AllKept w s → AllKept w t) line_keeps laws_each) other (opened other) (take moment lines)
+      (first_steps other (opened other) lines moment h) (opening_keeps other d)
 
   changed_done : (s : State) (line : Line) (name : Name) → changed s line ≡ Some name → IsSome (done_call line)
   changed_done s line name e = by (done_call line) e
@@ -77,7 +87,8 @@ module _ (w : WorldValue) (world : IsWorld w) where
 
       by : AllKept w (state_at other lines moment) → IsInBound w line.proc name
       by (sound, given, (own, kept)) =
-          change_in_bound w own (state_at other lines moment) line (moved other (machine_at other lines moment) line.cpu).state kept sound (types_old w world) laws.0.1 (laws.1.0 (changed_done (state_at other lines moment) line name change)) (laws.0.0 sound) name old change
+          change_in_bound w own (state_at other lines moment) line (moved other (machine_at other lines moment) line.cpu).state kept sound (types_old w world) laws.0.1
+          (laws.1.0 (changed_done (state_at other lines moment) line name change)) (laws.0.0 sound) name old change
 
 pub law : (w other : WorldValue) (lines : List Line) → IsWorld w → DiffersInCodes w other → AreStepsOf other lines → BoundLaw w other lines
 law w other lines world d h = bound w world other lines d h

@@ -34,11 +34,13 @@ use Rattle.hk_bound.proofs.Kept.{Kept}
 
 -- ---- the types of objects are objects of the world
 
-numbered_holds : (P : Object → Type 0) → P no_object → (n : ℕ) (os : List Object) → AllByRecursion P os → (name : Name) → P (unwrap_or (lookup (same_name name) (numbered {A = Object} {B = Name} (λ k. record { 0 = k }) n os)) no_object)
+numbered_holds : (P : Object → Type 0) → P no_object → (n : ℕ) (os : List Object) → AllByRecursion P os → (name : Name)
+    → P (unwrap_or (lookup (same_name name) (numbered {A = Object} {B = Name} (λ k. record { 0 = k }) n os)) no_object)
 numbered_holds P none n [] h name = none
 numbered_holds P none n (o ∷ os) h name = by (same_name name (record { 0 = n })) (numbered_holds P none (n + 1) os h.1 name)
   where
-    by : (b : Bool) → P (unwrap_or (lookup (same_name name) (numbered {A = Object} {B = Name} (λ k. record { 0 = k }) (n + 1) os)) no_object) → P (unwrap_or (cond b (Some o) (lookup (same_name name) (numbered {A = Object} {B = Name} (λ k. record { 0 = k }) (n + 1) os))) no_object)
+    by : (b : Bool) → P (unwrap_or (lookup (same_name name) (numbered {A = Object} {B = Name} (λ k. record { 0 = k }) (n + 1) os)) no_object)
+        → P (unwrap_or (cond b (Some o) (lookup (same_name name) (numbered {A = Object} {B = Name} (λ k. record { 0 = k }) (n + 1) os))) no_object)
     by true later = h.0
     by false later = later
 
@@ -69,22 +71,28 @@ types_typed w (suc n) os h = (none_typed w, types_typed w n os h)
 
 pub types_old : (w : WorldValue) → IsWorld w → (name : Name) → IsObject w (type_of w name)
 unfolding opening
-types_old w world name = numbered_holds (IsTyped w) (none_typed w) 0 (replicate kernel_types no_object ++ map (λ (b : Born). object_of b.kind) w.objects) (types_typed w kernel_types (map (λ (b : Born). object_of b.kind) w.objects) (kinds_typed w w.objects world.kinds)) name
+types_old w world name =
+    numbered_holds (IsTyped w) (none_typed w) 0 (replicate kernel_types no_object ++ map (λ (b : Born). object_of b.kind) w.objects)
+    (types_typed w kernel_types (map (λ (b : Born). object_of b.kind) w.objects) (kinds_typed w w.objects world.kinds)) name
 
 -- ---- no object has a later name
 
-numbered_none : (n : ℕ) (os : List Object) (name : Name) → n + length os ≤ name.0 → is_of_type PROCEDURE (unwrap_or (lookup (same_name name) (numbered {A = Object} {B = Name} (λ k. record { 0 = k }) n os)) no_object).of ≡ false
+numbered_none : (n : ℕ) (os : List Object) (name : Name) → n + length os ≤ name.0
+    → is_of_type PROCEDURE (unwrap_or (lookup (same_name name) (numbered {A = Object} {B = Name} (λ k. record { 0 = k }) n os)) no_object).of ≡ false
 numbered_none n [] name h = refl
 numbered_none n (o ∷ os) name h = by (same_name name (record { 0 = n })) refl (λ g. numbered_none (n + 1) os name g)
   where
-    by : (b : Bool) → same_name name (record { 0 = n }) ≡ b → (n + 1 + length os ≤ name.0 → is_of_type PROCEDURE (unwrap_or (lookup (same_name name) (numbered {A = Object} {B = Name} (λ k. record { 0 = k }) (n + 1) os)) no_object).of ≡ false)
+    by : (b : Bool) → same_name name (record { 0 = n }) ≡ b
+        → (n + 1 + length os ≤ name.0 → is_of_type PROCEDURE
+        (unwrap_or (lookup (same_name name) (numbered {A = Object} {B = Name} (λ k. record { 0 = k }) (n + 1) os)) no_object).of ≡ false)
         → is_of_type PROCEDURE (unwrap_or (cond b (Some o) (lookup (same_name name) (numbered {A = Object} {B = Name} (λ k. record { 0 = k }) (n + 1) os))) no_object).of ≡ false
     by true e later = let same : name.0 ≡ n = ap (λ (x : Name). x.0) (name_same name (record { 0 = n }) e) in absurd (omega (arith, h, same))
     by false e later = later (omega (arith, h))
 
 opening_plain : (w : WorldValue) (name : Name) → kernel_types + length w.objects ≤ name.0 → is_of_type PROCEDURE (object (opening w) name).of ≡ false
 unfolding opening
-opening_plain w name h = let e = born_count w.objects in numbered_none 0 (replicate kernel_types no_object ++ map (λ (b : Born). object_of b.kind) w.objects) name (omega (arith, h, e))
+opening_plain w name h =
+    let e = born_count w.objects in numbered_none 0 (replicate kernel_types no_object ++ map (λ (b : Born). object_of b.kind) w.objects) name (omega (arith, h, e))
 
 -- ---- base incarnations
 
@@ -108,7 +116,8 @@ opened_bounds w own h n (Held cap) is below =
     subst (λ (t : Thing). Follows w (Has h t) × ((m : ℕ) → IsTrue (has all_rights m) → IsTrue (has cap.rights m) → Follows w (Right h t m))) (sym (thing_old w own cap.name below))
     (open_has h n cap is, λ m right there. open_gives h n cap m is right there)
 opened_bounds w own h n (Form (template.Amplify None check give)) is below = tt
-opened_bounds w own h n (Form (template.Amplify (Some type) check give)) is below = λ old. record { asks = check; gives = give; follows = open_form h n type check give is; asked = λ m right there. there; given = λ m right there. there }
+opened_bounds w own h n (Form (template.Amplify (Some type) check give)) is below =
+    λ old. record { asks = check; gives = give; follows = open_form h n type check give is; asked = λ m right there. there; given = λ m right there. there }
 opened_bounds w own h n (Form (template.Create of give)) is below = tt
 
 pub opening_kept : (w : WorldValue) (own : Name → Proc) → IsWorld w → Kept w own (opening w)

@@ -1,5 +1,6 @@
 -- What stands at the opening, by the places of the script.
-use Rattle.std.proofs.Common.{◌≡◌, ℕ, zero, suc, ◌+◌, ◌-◌, ◌<◌, ◌≤◌, List, [], ◌∷◌, ◌++◌, length, Bool, true, false, Option, Some, None, refl, sym, ◌∙◌, ap, arith, cond, map, replicate, get_or}
+use Rattle.std.proofs.Common.{◌≡◌, ℕ, zero, suc, ◌+◌, ◌-◌, ◌<◌, ◌≤◌, List, [], ◌∷◌, ◌++◌, length, Bool, true, false, Option, Some, None, refl, sym, ◌∙◌, ap, arith, cond, map}
+use Rattle.std.proofs.Common.{replicate, get_or}
 use Rattle.std.specs.Prelude.{slice_get, option_map}
 use Rattle.std.specs.Option.{unwrap_or}
 use Rattle.std.specs.Map.{lookup}
@@ -91,9 +92,11 @@ slice_end [] (suc j) h = refl
 slice_end (x ∷ bs) zero h = absurd (omega (arith, h))
 slice_end (x ∷ bs) (suc j) h = slice_end bs j (omega (arith, h))
 
-pub born_there : (w : WorldValue) (n : ℕ) (b : Born) → kernel_types ≤ n → n - kernel_types < length w.objects → b ≡ get_or w.objects (n - kernel_types) b → opening_object w n ≡ object_of b.kind
+pub born_there : (w : WorldValue) (n : ℕ) (b : Born) → kernel_types ≤ n → n - kernel_types < length w.objects → b ≡ get_or w.objects (n - kernel_types) b
+    → opening_object w n ≡ object_of b.kind
 born_there w n b h within e =
     script_object w n h ∙ ap (λ (o : Option Born). unwrap_or (option_map (λ (b : Born). object_of b.kind) o) no_object) (slice_at w.objects (n - kernel_types) b within e)
 
 pub born_gone : (w : WorldValue) (n : ℕ) → kernel_types ≤ n → length w.objects ≤ n - kernel_types → opening_object w n ≡ no_object
-born_gone w n h end = script_object w n h ∙ ap (λ (o : Option Born). unwrap_or (option_map (λ (b : Born). object_of b.kind) o) no_object) (slice_end w.objects (n - kernel_types) end)
+born_gone w n h end =
+    script_object w n h ∙ ap (λ (o : Option Born). unwrap_or (option_map (λ (b : Born). object_of b.kind) o) no_object) (slice_end w.objects (n - kernel_types) end)

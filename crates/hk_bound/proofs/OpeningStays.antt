@@ -30,7 +30,9 @@ use Rattle.hk_model.specs.Effects.{IsSameKind}
 use Rattle.hk_model.specs.Refusing.{unless}
 use Rattle.hk_model.specs.Walking.{walk}
 use Rattle.hk_model.specs.Targets.{slot_at, create_form, last_step, SEMAPHORE, PROCEDURE, PROCESS, LNS, is_of_type, is_general, MODIFY+A0, target}
-use Rattle.hk_model.specs.Rule.{Outcome, outcome, counted, leave_to, token_given, plain_object, can_be_created, room_made, add_beside, get_word, put_word, add_word, word_count, load_entry, store_entry, append_entry, erase_entry, drop_slot, restrict_slot, look, make_template, create_object, merge_cap, copy_object, enter_procedure, leave, take_token, give_token}
+use Rattle.hk_model.specs.Rule.{Outcome, outcome, counted, leave_to, token_given, plain_object, can_be_created, room_made, add_beside, get_word, put_word, add_word, word_count}
+use Rattle.hk_model.specs.Rule.{load_entry, store_entry, append_entry, erase_entry, drop_slot, restrict_slot, look, make_template, create_object, merge_cap, copy_object}
+use Rattle.hk_model.specs.Rule.{enter_procedure, leave, take_token, give_token}
 use Rattle.hk_model.specs.Processors.{ended}
 use Rattle.hk_model.proofs.Standing.{name_laws, on_cond, insert_holds}
 use Rattle.hk_model.proofs.Keeping.{Vanish, IsLost, kept_vanish, stays_or_lost}
@@ -67,12 +69,14 @@ set_kind k q (e ∷ os) o h =
     (λ g. here (same_name q e.0) (rw g at h))
     (λ g. there (same_name q e.0) (set_kind k q os o (rw g at h)))
   where
-    here : (b : Bool) → IsSameKind e.1 o → IsSameKind (unwrap_or (cond b (Some e.1) (lookup (same_name q) os)) no_object) (unwrap_or (cond b (Some o) (lookup (same_name q) os)) no_object)
+    here : (b : Bool) → IsSameKind e.1 o
+        → IsSameKind (unwrap_or (cond b (Some e.1) (lookup (same_name q) os)) no_object) (unwrap_or (cond b (Some o) (lookup (same_name q) os)) no_object)
     here true g = g
     here false g = kind_self (found_in q os)
 
     there : (b : Bool) → IsSameKind (found_in q os) (found_in q (set_value (same_name k) os o))
-        → IsSameKind (unwrap_or (cond b (Some e.1) (lookup (same_name q) os)) no_object) (unwrap_or (cond b (Some e.1) (lookup (same_name q) (set_value (same_name k) os o))) no_object)
+        → IsSameKind (unwrap_or (cond b (Some e.1) (lookup (same_name q) os)) no_object)
+        (unwrap_or (cond b (Some e.1) (lookup (same_name q) (set_value (same_name k) os o))) no_object)
     there true g = kind_self e.1
     there false g = g
 
@@ -141,30 +145,36 @@ general_kind of h = grind (arith, nat_tests)
 slotted : (s t : State) (inc : Inc) (slot : ℕ) (e : Entry) → Steady s t → Steady s (put_slot t inc slot e)
 slotted s t inc slot e h = record { first = h.first; kinds = h.kinds }
 
-created_steady : (s : State) (inc : Inc) (slot : ℕ) (form : Name × ℕ) (r : Refusal) (u : Unit {0}) (room : List (Name × Object)) → unless (can_be_created form.0) r ≡ Ok u → room_made s ≡ Ok room
+created_steady : (s : State) (inc : Inc) (slot : ℕ) (form : Name × ℕ) (r : Refusal) (u : Unit {0}) (room : List (Name × Object)) → unless (can_be_created form.0) r ≡ Ok u
+    → room_made s ≡ Ok room
     → Steady s (put_slot (add_beside s room (plain_object form.0 [] [])) inc slot (Held (record { name = s.next_name; rights = form.1 })))
 created_steady s inc slot form r u room h g =
     slotted s (add_beside s room (plain_object form.0 [] [])) inc slot (Held (record { name = s.next_name; rights = form.1 }))
     (add_steady s room (plain_object form.0 [] []) (room_vanish s room g) (created_kind form.0 r u h))
 
-copied_steady : (s : State) (inc : Inc) (path : List ℕ) (slot : ℕ) (cap : Cap) (room : List (Name × Object)) (words : List ℕ) (es : List Entry) (e : Entry) → target s inc path is_general COPY ≡ Ok cap → room_made s ≡ Ok room
+copied_steady : (s : State) (inc : Inc) (path : List ℕ) (slot : ℕ) (cap : Cap) (room : List (Name × Object)) (words : List ℕ) (es : List Entry) (e : Entry)
+    → target s inc path is_general COPY ≡ Ok cap → room_made s ≡ Ok room
     → Steady s (put_slot (add_beside s room (plain_object (object s cap.name).of words es)) inc slot e)
 copied_steady s inc path slot cap room words es e h g =
     slotted s (add_beside s room (plain_object (object s cap.name).of words es)) inc slot e
-    (add_steady s room (plain_object (object s cap.name).of words es) (room_vanish s room g) (general_kind (object s cap.name).of (target_is s inc path is_general COPY cap h).typed))
+    (add_steady s room (plain_object (object s cap.name).of words es) (room_vanish s room g)
+    (general_kind (object s cap.name).of (target_is s inc path is_general COPY cap h).typed))
 
-leave_steady : (s : State) (proc : Proc) (inc : Inc) (caller : Option Inc) (slot : ℕ) (c : Option Cap) → Steady s (leave_to (record s { incarnations = remove_entry (same_inc inc) s.incarnations }) proc caller slot c)
+leave_steady : (s : State) (proc : Proc) (inc : Inc) (caller : Option Inc) (slot : ℕ) (c : Option Cap)
+    → Steady s (leave_to (record s { incarnations = remove_entry (same_inc inc) s.incarnations }) proc caller slot c)
 leave_steady s proc inc None slot c = record { first = refl; kinds = λ q. inl (kind_self (object s q)) }
 leave_steady s proc inc (Some x) slot None = record { first = refl; kinds = λ q. inl (kind_self (object s q)) }
 leave_steady s proc inc (Some x) slot (Some c) = record { first = refl; kinds = λ q. inl (kind_self (object s q)) }
 
 -- the same with other processes
-process_steady : (s : State) (name : Name) (o : Object) (proc : Proc) (n : Name) → IsSameKind (object s name) o → Steady s (put_process (put_object s name o) proc (record (process s proc) { run = Waiting n }))
+process_steady : (s : State) (name : Name) (o : Object) (proc : Proc) (n : Name) → IsSameKind (object s name) o
+    → Steady s (put_process (put_object s name o) proc (record (process s proc) { run = Waiting n }))
 process_steady s name o proc n h = let k = put_steady s name o h in record { first = k.first; kinds = k.kinds }
 
 token_steady : (s : State) (name : Name) (waiters : List Proc) → StaysSteady s (token_given s name (object s name) waiters)
 token_steady s name [] =
-    and_is (λ f. Steady s f.1) (unless (nat_lt (object s name).count token_limit) (refused.Full full.Tokens)) (Ok (Done, put_object s name (record (object s name) { count = (object s name).count + 1 })))
+    and_is (λ f. Steady s f.1) (unless (nat_lt (object s name).count token_limit) (refused.Full full.Tokens))
+    (Ok (Done, put_object s name (record (object s name) { count = (object s name).count + 1 })))
     (λ u g. count_steady s name ((object s name).count + 1))
 token_steady s name (first ∷ rest) = let k = waiters_steady s name rest in record { first = k.first; kinds = k.kinds }
 
@@ -173,15 +183,24 @@ unfolding take_token
 take_steady s proc inc path =
     then_is (λ f. Steady s f.1) (target s inc path (is_of_type SEMAPHORE) MODIFY+A0) (λ c. Ok (elim (nat_lt 0 (object s c.name).count) [
       | true ↦ (Done, put_object s c.name (record (object s c.name) { count = (object s c.name).count - 1 }))
-      | false ↦ (Waits, put_process (put_object s c.name (record (object s c.name) { waiters = (object s c.name).waiters ++ proc ∷ [] })) proc (record (process s proc) { run = Waiting c.name }))
+      | false ↦ (
+        Waits,
+        put_process (put_object s c.name (record (object s c.name) { waiters = (object s c.name).waiters ++ proc ∷ [] })) proc
+            (record (process s proc) { run = Waiting c.name }),
+      )
     ])) (λ c g. by c (nat_lt 0 (object s c.name).count))
   where
     by : (c : Cap) (b : Bool) → Steady s (elim b as (λ x. Answer × State) [
       | true ↦ (Done, put_object s c.name (record (object s c.name) { count = (object s c.name).count - 1 }))
-      | false ↦ (Waits, put_process (put_object s c.name (record (object s c.name) { waiters = (object s c.name).waiters ++ proc ∷ [] })) proc (record (process s proc) { run = Waiting c.name }))
+      | false ↦ (
+        Waits,
+        put_process (put_object s c.name (record (object s c.name) { waiters = (object s c.name).waiters ++ proc ∷ [] })) proc
+            (record (process s proc) { run = Waiting c.name }),
+      )
     ]).1
     by c true = count_steady s c.name ((object s c.name).count - 1)
-    by c false = process_steady s c.name (record (object s c.name) { waiters = (object s c.name).waiters ++ proc ∷ [] }) proc c.name (record { of = refl; code = refl; params = refl })
+    by c false =
+        process_steady s c.name (record (object s c.name) { waiters = (object s c.name).waiters ++ proc ∷ [] }) proc c.name (record { of = refl; code = refl; params = refl })
 
 here_steady : (s : State) → Steady s s
 here_steady s = record { first = refl; kinds = λ q. inl (kind_self (object s q)) }
@@ -199,7 +218,8 @@ create_steady s inc path into =
     then_is (λ f. Steady s f.1) (room_made s) _ (λ room r. created_steady s inc slot form (refused.WrongType (last_step path)) u room d r)))))
 
 outcome_steady : (s : State) (proc : Proc) (inc : Inc) (c : Call) → StaysSteady s (outcome s proc inc c)
-unfolding get_word put_word add_word word_count load_entry store_entry append_entry erase_entry drop_slot restrict_slot look make_template create_object merge_cap copy_object enter_procedure leave give_token
+unfolding get_word put_word add_word word_count load_entry store_entry append_entry erase_entry drop_slot restrict_slot look make_template create_object merge_cap copy_object
+    enter_procedure leave give_token
 outcome_steady s proc inc (call.Get of at) = search (then_is, here_steady)
 outcome_steady s proc inc (call.Put of at word) = search (then_is, and_is, words_steady)
 outcome_steady s proc inc (call.Add of word) = search (then_is, and_is, words_steady)
@@ -225,7 +245,8 @@ outcome_steady s proc inc call.Yield = still_steady s _ refl refl
 vanish_steady : (s t : State) (n : ℕ) → Steady s t → Steady s (counted n (restricted t))
 vanish_steady s t n h = record { first = h.first; kinds = λ q. by q (h.kinds q) (left_kind t (kept_objects t) (kept_vanish t) q) }
   where
-    by : (q : Name) → KeepsKind s q (object t q) → (found_in q (kept_objects t) ≡ object t q) ⊎ IsGone t q (found_in q (kept_objects t)) → KeepsKind s q (found_in q (kept_objects t))
+    by : (q : Name) → KeepsKind s q (object t q) → (found_in q (kept_objects t) ≡ object t q) ⊎ IsGone t q (found_in q (kept_objects t))
+        → KeepsKind s q (found_in q (kept_objects t))
     by q a (inl e) = subst (KeepsKind s q) (sym e) a
     by q a (inr b) = inr (inr (ap (λ (n : Name). nat_lt q.0 n.0) (sym h.first) ∙ b.0, b.1))
 
@@ -236,7 +257,9 @@ vanishes s (Err e) h = tt
 -- every line
 pub steady_each : EachStep (λ s line t. Steady s t)
 steady_each = record {
-  calls = λ s cpu proc c r. settled_keeps (λ t. Steady s t) s (outcome s proc (process s proc).current c) (still_steady s (counted (s.events + 1) s) refl refl) (vanishes s (outcome s proc (process s proc).current c) (outcome_steady s proc (process s proc).current c));
+  calls =
+      λ s cpu proc c r. settled_keeps (λ t. Steady s t) s (outcome s proc (process s proc).current c) (still_steady s (counted (s.events + 1) s) refl refl)
+      (vanishes s (outcome s proc (process s proc).current c) (outcome_steady s proc (process s proc).current c));
   halts = λ s cpu proc r. vanish_steady s (ended s proc) (s.events + 1) (still_steady s (ended s proc) refl refl);
   dispatches = λ s cpu first rest r. still_steady s _ refl refl;
 }

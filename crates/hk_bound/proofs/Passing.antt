@@ -4,14 +4,17 @@ use Rattle.std.specs.Prelude.{IsTrue, slice_get, ◌⊎◌, ◌||◌}
 use mathlib.Core.Logic.{inl, inr}
 use Rattle.std.proofs.lemmas.Bool.{true≢false, false≢true}
 use Rattle.hk_model.specs.declared.names.Proc.{Proc}
-use Rattle.hk_rights.specs.Rights.{has, all_rights, all_but, ENV, MODIFY, UNCONF, load_right, copy_right, modify_right, env_right, unconf_right, a0_right, store_right, append_right}
+use Rattle.hk_rights.specs.Rights.{has, all_rights, all_but, ENV, MODIFY, UNCONF, load_right, copy_right, modify_right, env_right, unconf_right, a0_right, store_right}
+use Rattle.hk_rights.specs.Rights.{append_right}
 use Rattle.hk_rights.proofs.Sets.{has-bit_and, has-bit_or, has-bit_or_cases, has-bit_and_left, has-bit_and_right}
 use Rattle.hk_model.specs.WorldValue.{WorldValue}
 use Rattle.hk_model.specs.Walking.{reduced_rights, confined_rights, local_rights}
 use Rattle.hk_model.specs.Targets.{PROCEDURE, is_general, is_listed}
 use Rattle.hk_model.proofs.RightsWithin.{HasAll-reduced}
 use Rattle.hk_bound.specs.declared.forms.Form.{Form}
-use Rattle.hk_bound.specs.Taking.{Thing, Old, MadeBy, Holder, Slots, ListOf, Has, Right, Amplifies, Follows, type_of, has_words, has_list, confined_away, STORE+APPEND, made_has, made_gives, load_has, load_gives, load_form, store_has, store_gives, store_form, copy_has, copy_gives, copy_form, enter_has, enter_gives, enter_form}
+use Rattle.hk_bound.specs.Taking.{Thing, Old, MadeBy, Holder, Slots, ListOf, Has, Right, Amplifies, Follows, type_of, has_words, has_list, confined_away, STORE+APPEND, made_has}
+use Rattle.hk_bound.specs.Taking.{made_gives, load_has, load_gives, load_form, store_has, store_gives, store_form, copy_has, copy_gives, copy_form, enter_has, enter_gives}
+use Rattle.hk_bound.specs.Taking.{enter_form}
 use Rattle.hk_bound.specs.Columns.{name_at, proc_at, object_count, ThingFollows, CellFollows}
 use Rattle.hk_bound.specs.Rules.{Passes}
 use Rattle.hk_bound.proofs.Bounded.{reduced_unconf, reduced_env}
@@ -20,7 +23,8 @@ use Rattle.hk_bound.proofs.Reductions.{reduced_or_cases}
 module _ (w : WorldValue) (forms : List Form) where
   -- by things and templates alike
   passed : (from to : Holder) (column r s : ℕ) → ((x : Thing) → ThingFollows w from x r → ThingFollows w to x s)
-      → (IsTrue (has s env_right) → IsTrue (has r env_right)) → ((f : Form) → IsTrue (has s env_right) → Follows w (Amplifies from f.of f.check f.give) → Follows w (Amplifies to f.of f.check f.give))
+      → (IsTrue (has s env_right) → IsTrue (has r env_right))
+      → ((f : Form) → IsTrue (has s env_right) → Follows w (Amplifies from f.of f.check f.give) → Follows w (Amplifies to f.of f.check f.give))
       → CellFollows w forms from column r → CellFollows w forms to column s
   passed from to column r s things env templates h = record {
     old = λ low. things (Old (name_at column)) (h.old low);
@@ -29,12 +33,16 @@ module _ (w : WorldValue) (forms : List Form) where
   }
 
   -- a Load
-  pub load_follows : (p : ℕ) (x : Thing) (by column r : ℕ) → Follows w (Right (Slots (proc_at p)) x load_right) → (IsTrue (has by unconf_right) → Follows w (Right (Slots (proc_at p)) x unconf_right))
-      → (IsTrue (has by env_right) → Follows w (Right (Slots (proc_at p)) x env_right)) → CellFollows w forms (ListOf x) column r → CellFollows w forms (Slots (proc_at p)) column (reduced_rights by r)
+  pub load_follows : (p : ℕ) (x : Thing) (by column r : ℕ) → Follows w (Right (Slots (proc_at p)) x load_right)
+      → (IsTrue (has by unconf_right) → Follows w (Right (Slots (proc_at p)) x unconf_right))
+      → (IsTrue (has by env_right) → Follows w (Right (Slots (proc_at p)) x env_right)) → CellFollows w forms (ListOf x) column r
+      → CellFollows w forms (Slots (proc_at p)) column (reduced_rights by r)
   load_follows p x by column r load u e h = passed (ListOf x) (Slots (proc_at p)) column r (reduced_rights by r)
       (λ y g. record {
         had = load_has (proc_at p) x y load g.had;
-        given = λ n is there. load_gives (proc_at p) x y n load (g.given n is (HasAll-reduced by r n there)) (λ k. u (reduced_unconf by r n there k)) (λ k. e (reduced_env by r n there k));
+        given =
+            λ n is there. load_gives (proc_at p) x y n load (g.given n is (HasAll-reduced by r n there)) (λ k. u (reduced_unconf by r n there k))
+            (λ k. e (reduced_env by r n there k));
       })
       (λ there. HasAll-reduced by r env_right there)
       (λ f there g. load_form (proc_at p) x f.of f.check f.give load (e (reduced_env by r env_right there refl)) g)
@@ -42,7 +50,8 @@ module _ (w : WorldValue) (forms : List Form) where
 
   -- a call
   pub enter_follows : (p q : ℕ) (by column r : ℕ) → (type_of w (name_at q)).0 ≡ PROCEDURE → Follows w (Right (Slots (proc_at p)) (Old (name_at q)) a0_right)
-      → (IsTrue (has by unconf_right) → Follows w (Right (Slots (proc_at p)) (Old (name_at q)) unconf_right)) → CellFollows w forms (ListOf (Old (name_at q))) column r → CellFollows w forms (Slots (proc_at p)) column (reduced_rights by r)
+      → (IsTrue (has by unconf_right) → Follows w (Right (Slots (proc_at p)) (Old (name_at q)) unconf_right)) → CellFollows w forms (ListOf (Old (name_at q))) column r
+      → CellFollows w forms (Slots (proc_at p)) column (reduced_rights by r)
   enter_follows p q by column r t a u h = passed (ListOf (Old (name_at q))) (Slots (proc_at p)) column r (reduced_rights by r)
       (λ y g. record {
         had = enter_has (proc_at p) (name_at q) y t a g.had;
@@ -56,11 +65,14 @@ module _ (w : WorldValue) (forms : List Form) where
   made_right : (p r n : ℕ) → Follows w (Has (Slots (proc_at p)) (MadeBy (proc_at r))) → IsTrue (has all_rights n) → Follows w (Right (Slots (proc_at p)) (MadeBy (proc_at r)) n)
   made_right p r n h is = made_gives (Slots (proc_at p)) (proc_at r) n h is
 
-  pub load_made : (p r by column rights : ℕ) → Follows w (Has (Slots (proc_at p)) (MadeBy (proc_at r))) → CellFollows w forms (ListOf (MadeBy (proc_at r))) column rights → CellFollows w forms (Slots (proc_at p)) column (reduced_rights by rights)
-  load_made p r by column rights m h = load_follows p (MadeBy (proc_at r)) by column rights (made_right p r load_right m refl) (λ u. made_right p r unconf_right m refl) (λ e. made_right p r env_right m refl) h
+  pub load_made : (p r by column rights : ℕ) → Follows w (Has (Slots (proc_at p)) (MadeBy (proc_at r))) → CellFollows w forms (ListOf (MadeBy (proc_at r))) column rights
+      → CellFollows w forms (Slots (proc_at p)) column (reduced_rights by rights)
+  load_made p r by column rights m h =
+      load_follows p (MadeBy (proc_at r)) by column rights (made_right p r load_right m refl) (λ u. made_right p r unconf_right m refl) (λ e. made_right p r env_right m refl) h
 
   -- a Store or an Append
-  pub store_follows : (q : ℕ) (x : Thing) (how column r : ℕ) → IsTrue (has_list w x) → Follows w (Right (Slots (proc_at q)) x modify_right) → IsTrue (has STORE+APPEND how) → Follows w (Right (Slots (proc_at q)) x how)
+  pub store_follows : (q : ℕ) (x : Thing) (how column r : ℕ) → IsTrue (has_list w x) → Follows w (Right (Slots (proc_at q)) x modify_right) → IsTrue (has STORE+APPEND how)
+      → Follows w (Right (Slots (proc_at q)) x how)
       → IsTrue (has r env_right) → CellFollows w forms (Slots (proc_at q)) column r → CellFollows w forms (ListOf x) column r
   store_follows q x how column r l m s b env h = passed (Slots (proc_at q)) (ListOf x) column r r
       (λ y g. record {
@@ -72,9 +84,11 @@ module _ (w : WorldValue) (forms : List Form) where
       h
 
   -- a Copy, where the list has ENV for the column, and a Load from the copy
-  pub copy_follows : (p : ℕ) (x : Thing) (by column r s : ℕ) → p < length w.tasks → IsTrue (has_words w x) → Follows w (Right (Slots (proc_at p)) x copy_right) → Follows w (Right (Slots (proc_at p)) x env_right)
+  pub copy_follows : (p : ℕ) (x : Thing) (by column r s : ℕ) → p < length w.tasks → IsTrue (has_words w x) → Follows w (Right (Slots (proc_at p)) x copy_right)
+      → Follows w (Right (Slots (proc_at p)) x env_right)
       → (IsTrue (has by unconf_right) → Follows w (Right (Slots (proc_at p)) x unconf_right))
-      → IsTrue (has s env_right) → CellFollows w forms (ListOf x) column s → CellFollows w forms (ListOf x) column r → CellFollows w forms (Slots (proc_at p)) column (reduced_rights by r)
+      → IsTrue (has s env_right) → CellFollows w forms (ListOf x) column s → CellFollows w forms (ListOf x) column r
+      → CellFollows w forms (Slots (proc_at p)) column (reduced_rights by r)
   copy_follows p x by column r s runs v c e u env k h = record {
     old = λ low. copied (Old (name_at column)) (k.old low) (h.old low);
     made = λ maker low same. copied (MadeBy (proc_at maker)) (k.made maker low same) (h.made maker low same);
@@ -105,7 +119,8 @@ module _ (w : WorldValue) (forms : List Form) where
         form = λ place form at e there. elim (reduced_or_cases a b r env_right refl there) [ inl k ↦ x.form place form at e k | inr k ↦ y.form place form at e k ];
       }
     where
-      both : (t : Thing) → ThingFollows w (Slots (proc_at p)) t (reduced_rights a r) → ThingFollows w (Slots (proc_at p)) t (reduced_rights b r) → ThingFollows w (Slots (proc_at p)) t (reduced_rights (bit_or a b) r)
+      both : (t : Thing) → ThingFollows w (Slots (proc_at p)) t (reduced_rights a r) → ThingFollows w (Slots (proc_at p)) t (reduced_rights b r)
+          → ThingFollows w (Slots (proc_at p)) t (reduced_rights (bit_or a b) r)
       both t u v = record {
         had = u.had;
         given = λ n is there. elim (reduced_or_cases a b r n is there) [ inl k ↦ u.given n is k | inr k ↦ v.given n is k ];

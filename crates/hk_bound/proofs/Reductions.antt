@@ -37,13 +37,17 @@ kept_if true x a b n f h g = h
 kept_if false true a b n f h g = absurd (false≢true (f refl))
 kept_if false false a b n f h g = g refl
 
-pub reduced_keeps : (by a n : ℕ) → has all_rights n ≡ true → has a n ≡ true → (has confined_away n ≡ true → has by unconf_right ≡ true) → (has ENV n ≡ true → has by env_right ≡ true) → has (reduced_rights by a) n ≡ true
+pub reduced_keeps : (by a n : ℕ) → has all_rights n ≡ true → has a n ≡ true → (has confined_away n ≡ true → has by unconf_right ≡ true)
+    → (has ENV n ≡ true → has by env_right ≡ true) → has (reduced_rights by a) n ≡ true
 reduced_keeps by a n is h u e =
     let kept : ℕ = cond (has by unconf_right) a (confined_rights a) in
-    let first : has (cond (has by unconf_right) a (confined_rights a)) n ≡ true = kept_if (has by unconf_right) (has confined_away n) a (confined_rights a) n u h (confined_keeps a n is h) in
-    kept_if (has by env_right) (has ENV n) (cond (has by unconf_right) a (confined_rights a)) (local_rights (cond (has by unconf_right) a (confined_rights a))) n e first (local_keeps (cond (has by unconf_right) a (confined_rights a)) n is first)
+    let first : has (cond (has by unconf_right) a (confined_rights a)) n ≡ true = kept_if (has by unconf_right) (has confined_away n) a (confined_rights a) n u h
+    (confined_keeps a n is h) in
+    kept_if (has by env_right) (has ENV n) (cond (has by unconf_right) a (confined_rights a)) (local_rights (cond (has by unconf_right) a (confined_rights a))) n e first
+    (local_keeps (cond (has by unconf_right) a (confined_rights a)) n is first)
 
-pub merged_keeps : (rights give n : ℕ) (wanted : Name) → has all_rights n ≡ true → has give n ≡ true → (has special_rights n ≡ true → has rights n ≡ true) → has (merged_rights rights (Some wanted) give) n ≡ true
+pub merged_keeps : (rights give n : ℕ) (wanted : Name) → has all_rights n ≡ true → has give n ≡ true → (has special_rights n ≡ true → has rights n ≡ true)
+    → has (merged_rights rights (Some wanted) give) n ≡ true
 merged_keeps rights give n wanted is g s = rw (has-bit_or (bit_and give (all_but special_rights)) (bit_and (bit_and give special_rights) rights) n) (by (has special_rights n) refl)
   where
     or_left : (x y : Bool) → x ≡ true → (x || y) ≡ true
@@ -55,12 +59,16 @@ merged_keeps rights give n wanted is g s = rw (has-bit_or (bit_and give (all_but
     or_right false y h = h
 
     by : (x : Bool) → has special_rights n ≡ x → (has (bit_and give (all_but special_rights)) n || has (bit_and (bit_and give special_rights) rights) n) ≡ true
-    by true e = or_right (has (bit_and give (all_but special_rights)) n) (has (bit_and (bit_and give special_rights) rights) n) (masked (bit_and give special_rights) rights n (masked give special_rights n g e) (s e))
-    by false e = or_left (has (bit_and give (all_but special_rights)) n) (has (bit_and (bit_and give special_rights) rights) n) (masked give (all_but special_rights) n g (rest_right special_rights (all_but special_rights) n refl is e))
-
+    by true e =
+        or_right (has (bit_and give (all_but special_rights)) n) (has (bit_and (bit_and give special_rights) rights) n)
+        (masked (bit_and give special_rights) rights n (masked give special_rights n g e) (s e))
+    by false e =
+        or_left (has (bit_and give (all_but special_rights)) n) (has (bit_and (bit_and give special_rights) rights) n)
+        (masked give (all_but special_rights) n g (rest_right special_rights (all_but special_rights) n refl is e))
 
 -- through the rights of two what is left is left through one of them
-pub reduced_or_cases : (a b r n : ℕ) → has all_rights n ≡ true → has (reduced_rights (bit_or a b) r) n ≡ true → (has (reduced_rights a r) n ≡ true) ⊎ (has (reduced_rights b r) n ≡ true)
+pub reduced_or_cases : (a b r n : ℕ) → has all_rights n ≡ true → has (reduced_rights (bit_or a b) r) n ≡ true
+    → (has (reduced_rights a r) n ≡ true) ⊎ (has (reduced_rights b r) n ≡ true)
 reduced_or_cases a b r n is h = by (has confined_away n) (has ENV n) refl refl
   where
     there : has r n ≡ true
@@ -79,4 +87,5 @@ reduced_or_cases a b r n is h = by (has confined_away n) (has ENV n) refl refl
 
 -- through more rights no less is left
 pub reduced_more : (all by r n : ℕ) → HasAll all by → has all_rights n ≡ true → has (reduced_rights by r) n ≡ true → has (reduced_rights all r) n ≡ true
-reduced_more all by r n more is h = reduced_keeps all r n is (HasAll-reduced by r n h) (λ k. more unconf_right (reduced_unconf by r n h k)) (λ k. more env_right (reduced_env by r n h k))
+reduced_more all by r n more is h =
+    reduced_keeps all r n is (HasAll-reduced by r n h) (λ k. more unconf_right (reduced_unconf by r n h k)) (λ k. more env_right (reduced_env by r n h k))

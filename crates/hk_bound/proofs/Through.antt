@@ -25,7 +25,8 @@ module _ (w : WorldValue) (forms : List Form) (rows : List (List (Option ℕ))) 
   passes_joined None (Some b) f g = g
   passes_joined (Some a) (Some b) f g = passes_or w forms p q a b f g
 
-  pub through_passes : RowsFollow w forms rows → p < length w.tasks → (name : ℕ) → name < object_count w → IfSome (through_in (type_of w (name_at name)) (cell rows p name) (cell rows q name)) (Passes w forms p q)
+  pub through_passes : RowsFollow w forms rows → p < length w.tasks → (name : ℕ) → name < object_count w
+      → IfSome (through_in (type_of w (name_at name)) (cell rows p name) (cell rows q name)) (Passes w forms p q)
   through_passes follow runs name low = by (stores_in (type_of w (name_at name)) (cell rows q name)) (taking_of (type_of w (name_at name)) (cell rows p name)) refl refl
     where
       by : (s : Bool) (t : Option Taking) → stores_in (type_of w (name_at name)) (cell rows q name) ≡ s → taking_of (type_of w (name_at name)) (cell rows p name) ≡ t
@@ -34,7 +35,8 @@ module _ (w : WorldValue) (forms : List Form) (rows : List (List (Option ℕ))) 
       by true None e f = rw (e, f) tt
       by true (Some t) e f = rw (e, f) (taking_passes w forms rows follow p q name t runs low e f)
 
-  pub takings_more : (n : ℕ) (by : Option ℕ) → HasTakings w rows p q n by → HasTakings w rows p q (n + 1) (joined_cells by (through_in (type_of w (name_at n)) (cell rows p n) (cell rows q n)))
+  pub takings_more : (n : ℕ) (by : Option ℕ) → HasTakings w rows p q n by
+      → HasTakings w rows p q (n + 1) (joined_cells by (through_in (type_of w (name_at n)) (cell rows p n) (cell rows q n)))
   takings_more n by h name more low e = cases (or_last name n low)
     where
       or_last : (k n : ℕ) → k < n + 1 → (k < n) ⊎ (k ≡ n)
@@ -52,10 +54,12 @@ module _ (w : WorldValue) (forms : List Form) (rows : List (List (Option ℕ))) 
       cases : (name < n) ⊎ (name ≡ n) → (all : ℕ) × (joined_cells by (through_in (type_of w (name_at n)) (cell rows p n) (cell rows q n)) ≡ Some all) × HasAll all more
       cases (inl less) = grow by (through_in (type_of w (name_at n)) (cell rows p n) (cell rows q n)) (h name more less e)
       cases (inr same) =
-          let here : through_in (type_of w (name_at n)) (cell rows p n) (cell rows q n) ≡ Some more = subst (λ (k : ℕ). through_in (type_of w (name_at k)) (cell rows p k) (cell rows q k) ≡ Some more) same e in
+          let here : through_in (type_of w (name_at n)) (cell rows p n) (cell rows q n) ≡ Some more = subst
+          (λ (k : ℕ). through_in (type_of w (name_at k)) (cell rows p k) (cell rows q k) ≡ Some more) same e in
           rw here (newest by)
 
-  pub stored_rule : (o : Option ℕ) (by : ℕ) → o ≡ Some by → (share_made w rows p q ≡ true → o ≡ Some all_rights) → (share_made w rows p q ≡ false → HasTakings w rows p q (object_count w) o) → PassedRule w forms rows p q by → StoredRule w forms rows p q
+  pub stored_rule : (o : Option ℕ) (by : ℕ) → o ≡ Some by → (share_made w rows p q ≡ true → o ≡ Some all_rights)
+      → (share_made w rows p q ≡ false → HasTakings w rows p q (object_count w) o) → PassedRule w forms rows p q by → StoredRule w forms rows p q
   stored_rule o by e made all h = record {
     made = λ share. subst (λ (x : ℕ). PassedRule w forms rows p q x) (same_some (sym e ∙ made share)) h;
     stored = λ apart name more low through.

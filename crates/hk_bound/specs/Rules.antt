@@ -1,5 +1,6 @@
 -- The rules of taking over rows of cells: what a process gets where the rows have the cells of a rule.
-use Rattle.std.specs.Prelude.{◌≡◌, ◌==◌, ◌&&◌, ◌||◌, ◌⊎◌, ℕ, ◌+◌, ◌-◌, ◌<◌, Bool, true, false, List, length, Option, Some, None, IsTrue, IsSome, is_some, IfSome, MatchOption, slice_get, if◌then◌else◌, bit_or, nat_lt, option_map}
+use Rattle.std.specs.Prelude.{◌≡◌, ◌==◌, ◌&&◌, ◌||◌, ◌⊎◌, ℕ, ◌+◌, ◌-◌, ◌<◌, Bool, true, false, List, length, Option, Some, None, IsTrue, IsSome, is_some, IfSome, MatchOption}
+use Rattle.std.specs.Prelude.{slice_get, if◌then◌else◌, bit_or, nat_lt, option_map}
 use Rattle.hk_model.specs.declared.names.Name.{Name}
 use Rattle.hk_model.specs.declared.entries.Entry.{Entry}
 use Rattle.hk_model.specs.declared.entries.Entry.TheVariants as entry

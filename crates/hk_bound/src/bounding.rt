@@ -8,7 +8,7 @@ ghost use Rattle.hk_bound.specs.Rounds.{Settles, Rounds};
 ghost use Rattle.hk_bound.specs.Listed.{IsBoundOf, Listing, AreExact, changes_in};
 ghost use Rattle.hk_bound.specs.Bounds.{IsInBound};
 
-use crate::forms::{all_forms, Form};
+use crate::forms::{Form, all_forms};
 use crate::gaps::Table;
 use crate::opening::{is_general, is_listed, object_count, type_of};
 use crate::rows::Rows;
@@ -17,7 +17,14 @@ use hk_rights::{Right, Rights};
 use std::alloc::Global;
 
 // Gives a process what the rules give it by what the rows have; whether that was anything.
-fn settle(alloc: Global, world: &World, forms: &[Form], rows: &mut Rows, process: usize, task: &Task) -> Result<bool, NoMemory>
+fn settle(
+    alloc: Global,
+    world: &World,
+    forms: &[Form],
+    rows: &mut Rows,
+    process: usize,
+    task: &Task,
+) -> Result<bool, NoMemory>
     requires world { IsWorld world.now }
     requires forms { AreForms world.now forms.now }
     requires follow { RowsFollow world.now forms.now rows.old }
@@ -27,7 +34,11 @@ fn settle(alloc: Global, world: &World, forms: &[Form], rows: &mut Rows, process
     ensures { IfOk result (λ grown. Settles world.now forms.now process rows.old rows.new grown) }
 {
     let mut gaps = Vec::new(alloc);
-    let table = Table { world, forms, rows: &*rows };
+    let table = Table {
+        world,
+        forms,
+        rows: &*rows,
+    };
     table.process_gaps(process, task, &mut gaps)?;
     for gap in &gaps {
         rows.join(gap.process, gap.column, gap.rights);
@@ -72,7 +83,10 @@ fn changes(of: Name, rights: Rights) -> bool
 {
     rights.has(Right::MODIFY)
         && ((is_general(of) && (rights.has(Right::PUTDATA) || rights.has(Right::ADDDATA)))
-            || (is_listed(of) && (rights.has(Right::STORE) || rights.has(Right::APPEND) || rights.has(Right::KILL)))
+            || (is_listed(of)
+                && (rights.has(Right::STORE)
+                    || rights.has(Right::APPEND)
+                    || rights.has(Right::KILL)))
             || (of.0 == 3 && (rights.has(Right::A0) || rights.has(Right::A1))))
 }
 
@@ -89,7 +103,13 @@ fn may_change(world: &World, rows: &Rows, process: usize, name: usize) -> bool
 }
 
 // Adds an object to the list of those that a process may ever change, if it is one.
-fn list(world: &World, rows: &Rows, process: usize, name: usize, names: &mut Vec<Name>) -> Result<(), NoMemory>
+fn list(
+    world: &World,
+    rows: &Rows,
+    process: usize,
+    name: usize,
+    names: &mut Vec<Name>,
+) -> Result<(), NoMemory>
     requires exact { AreExact world.now rows.now }
     requires name { name < object_count world.now }
     requires listing { Listing world.now (proc_at process) name names.old.items }
@@ -103,7 +123,12 @@ fn list(world: &World, rows: &Rows, process: usize, name: usize, names: &mut Vec
 }
 
 // The objects that a process may ever change, names rising.
-fn bound_of(alloc: Global, world: &World, rows: &Rows, process: usize) -> Result<Vec<Name>, NoMemory>
+fn bound_of(
+    alloc: Global,
+    world: &World,
+    rows: &Rows,
+    process: usize,
+) -> Result<Vec<Name>, NoMemory>
     requires { AreExact world.now rows.now }
     ensures { IfOk result (λ names. IsBoundOf world.now (proc_at process) names.items) }
 {

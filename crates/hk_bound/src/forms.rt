@@ -32,11 +32,13 @@ pub(crate) fn entry_form(entry: &Entry) -> Option<Form>
     ensures { result ≡ entry_form entry.now }
 {
     match entry {
-        Entry::Form(Template::Amplify {
-            of: Some(of),
-            check,
-            give,
-        }) => Some(Form {
+        Entry::Form(
+            Template::Amplify {
+                of: Some(of),
+                check,
+                give,
+            },
+        ) => Some(Form {
             of: *of,
             check: *check,
             give: *give,

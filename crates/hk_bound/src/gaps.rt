@@ -12,9 +12,9 @@ ghost use Rattle.hk_bound.specs.Columns.{name_at, proc_at, opening_entries, open
 ghost use Rattle.hk_bound.specs.Forms.{entry_form, Holds, IsFirst};
 ghost use Rattle.hk_bound.specs.Rules.{IsKnown, IsHeldAs, env_in, stores_in, taking_of, OpensWithEnv, StoredWithEnv, ListedWithEnv, Offered, EntryRule, EntriesRule, FormRule, ParamRule, ParamsRule, TypeRule, MergeRule, MergesRule, ObjectRule, Passes, share_made, HasTakings, through_in, joined_cells, CellRule, PassedRule, StoredRule, OpensWith, SlotRule, MadeRule, ProcessRule};
 
-use crate::forms::{entry_form, made_form, param_form, place_of, Form};
+use crate::forms::{Form, entry_form, made_form, param_form, place_of};
 use crate::opening::{entries_of, is_general, is_listed, object_count, params_of, type_of};
-use crate::rows::{covers, joined, Rows};
+use crate::rows::{Rows, covers, joined};
 use hk_model::{Entry, Name, NoMemory, Param, Task, World};
 use hk_rights::{Right, Rights};
 
@@ -165,7 +165,10 @@ impl<'a> Table<'a> {
             None => None,
             Some(by) => {
                 if of.0 == 4 && by.has(Right::A0) {
-                    Some(Taking { by: by.union(Rights::ENV), copied: false })
+                    Some(Taking {
+                        by: by.union(Rights::ENV),
+                        copied: false,
+                    })
                 } else if by.has(Right::LOAD) {
                     Some(Taking { by, copied: false })
                 } else if is_general(of) && by.has(Right::COPY) && by.has(Right::ENV) {
@@ -228,7 +231,14 @@ impl<'a> Table<'a> {
     }
 
     // What a process takes of one entry in the list of an object.
-    fn take_entry(&self, process: usize, name: usize, taking: &Taking, entry: &Entry, gaps: &mut Vec<Gap>) -> Result<(), NoMemory>
+    fn take_entry(
+        &self,
+        process: usize,
+        name: usize,
+        taking: &Taking,
+        entry: &Entry,
+        gaps: &mut Vec<Gap>,
+    ) -> Result<(), NoMemory>
         requires known { IsKnown self.now.world.now self.now.forms.now self.now.rows.now }
         requires process { process < length self.now.world.now.tasks }
         requires name { name < object_count self.now.world.now }
@@ -241,7 +251,14 @@ impl<'a> Table<'a> {
         };
         if self.takes(taking, name, held.0) {
             let rights = reduced_rights(taking.by, held.1);
-            self.offer(Gap { process, column: held.0, rights }, gaps)?;
+            self.offer(
+                Gap {
+                    process,
+                    column: held.0,
+                    rights,
+                },
+                gaps,
+            )?;
         }
         Ok(())
     }
@@ -270,13 +287,26 @@ impl<'a> Table<'a> {
         ensures { OnOk result (Finds self.now.world.now self.now.forms.now self.now.rows.now (FormRule self.now.world.now self.now.forms.now self.now.rows.now process form.now) gaps.old.items gaps.new.items) }
     {
         if let Some(column) = self.form_column(form) {
-            self.offer(Gap { process, column, rights: Rights::ENV }, gaps)?;
+            self.offer(
+                Gap {
+                    process,
+                    column,
+                    rights: Rights::ENV,
+                },
+                gaps,
+            )?;
         }
         Ok(())
     }
 
     // The template that a process has of a parameter of a procedure that it may call.
-    fn take_param(&self, process: usize, name: usize, param: &Param, gaps: &mut Vec<Gap>) -> Result<(), NoMemory>
+    fn take_param(
+        &self,
+        process: usize,
+        name: usize,
+        param: &Param,
+        gaps: &mut Vec<Gap>,
+    ) -> Result<(), NoMemory>
         requires known { IsKnown self.now.world.now self.now.forms.now self.now.rows.now }
         requires process { process < length self.now.world.now.tasks }
         requires name { name < object_count self.now.world.now }
@@ -292,7 +322,13 @@ impl<'a> Table<'a> {
     }
 
     // The templates that a process has of the parameters of a procedure that it may call.
-    fn take_params(&self, process: usize, name: usize, by: Rights, gaps: &mut Vec<Gap>) -> Result<(), NoMemory>
+    fn take_params(
+        &self,
+        process: usize,
+        name: usize,
+        by: Rights,
+        gaps: &mut Vec<Gap>,
+    ) -> Result<(), NoMemory>
         requires known { IsKnown self.now.world.now self.now.forms.now self.now.rows.now }
         requires process { process < length self.now.world.now.tasks }
         requires name { name < object_count self.now.world.now }
@@ -312,7 +348,13 @@ impl<'a> Table<'a> {
     }
 
     // The template that a process can make of a type.
-    fn make_form(&self, process: usize, name: usize, by: Rights, gaps: &mut Vec<Gap>) -> Result<(), NoMemory>
+    fn make_form(
+        &self,
+        process: usize,
+        name: usize,
+        by: Rights,
+        gaps: &mut Vec<Gap>,
+    ) -> Result<(), NoMemory>
         requires known { IsKnown self.now.world.now self.now.forms.now self.now.rows.now }
         requires process { process < length self.now.world.now.tasks }
         requires name { name < object_count self.now.world.now }
@@ -326,7 +368,14 @@ impl<'a> Table<'a> {
     }
 
     // What a merge with one template gives to a process for an object.
-    fn merge(&self, process: usize, name: usize, by: Rights, place: usize, gaps: &mut Vec<Gap>) -> Result<(), NoMemory>
+    fn merge(
+        &self,
+        process: usize,
+        name: usize,
+        by: Rights,
+        place: usize,
+        gaps: &mut Vec<Gap>,
+    ) -> Result<(), NoMemory>
         requires known { IsKnown self.now.world.now self.now.forms.now self.now.rows.now }
         requires process { process < length self.now.world.now.tasks }
         requires name { name < object_count self.now.world.now }
@@ -345,12 +394,25 @@ impl<'a> Table<'a> {
             return Ok(());
         }
         let rights = merged_rights(by, form.give);
-        self.offer(Gap { process, column: name, rights }, gaps)?;
+        self.offer(
+            Gap {
+                process,
+                column: name,
+                rights,
+            },
+            gaps,
+        )?;
         Ok(())
     }
 
     // What merges give to a process for an object.
-    fn merge_all(&self, process: usize, name: usize, by: Rights, gaps: &mut Vec<Gap>) -> Result<(), NoMemory>
+    fn merge_all(
+        &self,
+        process: usize,
+        name: usize,
+        by: Rights,
+        gaps: &mut Vec<Gap>,
+    ) -> Result<(), NoMemory>
         requires known { IsKnown self.now.world.now self.now.forms.now self.now.rows.now }
         requires process { process < length self.now.world.now.tasks }
         requires name { name < object_count self.now.world.now }
@@ -387,7 +449,8 @@ impl<'a> Table<'a> {
         ensures { result ≡ share_made self.now.world.now self.now.rows.now process other }
     {
         let count = object_count(self.world);
-        self.rows.get(process, count + other).is_some() || self.rows.get(other, count + process).is_some()
+        self.rows.get(process, count + other).is_some()
+            || self.rows.get(other, count + process).is_some()
     }
 
     // The rights through which a process takes from an object into which another stores.
@@ -435,7 +498,14 @@ impl<'a> Table<'a> {
     }
 
     // What a process takes of one thing that another stores.
-    fn take_cell(&self, process: usize, other: usize, by: Rights, column: usize, gaps: &mut Vec<Gap>) -> Result<(), NoMemory>
+    fn take_cell(
+        &self,
+        process: usize,
+        other: usize,
+        by: Rights,
+        column: usize,
+        gaps: &mut Vec<Gap>,
+    ) -> Result<(), NoMemory>
         requires known { IsKnown self.now.world.now self.now.forms.now self.now.rows.now }
         requires process { process < length self.now.world.now.tasks }
         requires passes { Passes self.now.world.now self.now.forms.now process other by }
@@ -445,14 +515,27 @@ impl<'a> Table<'a> {
         if let Some(rights) = self.rows.get(other, column) {
             if rights.has(Right::ENV) {
                 let reduced = reduced_rights(by, rights);
-                self.offer(Gap { process, column, rights: reduced }, gaps)?;
+                self.offer(
+                    Gap {
+                        process,
+                        column,
+                        rights: reduced,
+                    },
+                    gaps,
+                )?;
             }
         }
         Ok(())
     }
 
     // What a process takes of all that another stores, through these rights.
-    fn take_row(&self, process: usize, other: usize, by: Rights, gaps: &mut Vec<Gap>) -> Result<(), NoMemory>
+    fn take_row(
+        &self,
+        process: usize,
+        other: usize,
+        by: Rights,
+        gaps: &mut Vec<Gap>,
+    ) -> Result<(), NoMemory>
         requires known { IsKnown self.now.world.now self.now.forms.now self.now.rows.now }
         requires process { process < length self.now.world.now.tasks }
         requires passes { Passes self.now.world.now self.now.forms.now process other by }
@@ -486,7 +569,14 @@ impl<'a> Table<'a> {
         ensures { OnOk result (Finds self.now.world.now self.now.forms.now self.now.rows.now (SlotRule self.now.world.now self.now.forms.now self.now.rows.now process entry.now) gaps.old.items gaps.new.items) }
     {
         if let Some(held) = self.held(entry) {
-            self.offer(Gap { process, column: held.0, rights: held.1 }, gaps)?;
+            self.offer(
+                Gap {
+                    process,
+                    column: held.0,
+                    rights: held.1,
+                },
+                gaps,
+            )?;
         }
         Ok(())
     }
@@ -531,7 +621,14 @@ impl<'a> Table<'a> {
     {
         if self.has_made(process, maker) {
             let column = object_count(self.world) + maker;
-            self.offer(Gap { process, column, rights: Rights::all() }, gaps)?;
+            self.offer(
+                Gap {
+                    process,
+                    column,
+                    rights: Rights::all(),
+                },
+                gaps,
+            )?;
         }
         Ok(())
     }
@@ -573,7 +670,12 @@ impl<'a> Table<'a> {
     }
 
     /// All gaps of a process.
-    pub(crate) fn process_gaps(&self, process: usize, task: &Task, gaps: &mut Vec<Gap>) -> Result<(), NoMemory>
+    pub(crate) fn process_gaps(
+        &self,
+        process: usize,
+        task: &Task,
+        gaps: &mut Vec<Gap>,
+    ) -> Result<(), NoMemory>
         requires known { IsKnown self.now.world.now self.now.forms.now self.now.rows.now }
         requires process { process < length self.now.world.now.tasks }
         requires task { slice_get self.now.world.now.tasks process ≡ Some task.now }

@@ -8,7 +8,8 @@ use Rattle.hk_bound.proofs.bounding.list.Goals as goal
 
 pub returns-then-not-may_change : goal.returns-then-not-may_change
 returns-then-not-may_change c =
-    listing_skip c.args.world.now (proc_at c.args.process) c.args.name c.args.names.now.items (λ b. true≢false (sym (c.may_change.ensures.1 b) ∙ c.if-not-may_change.true)) c.requires.listing
+    listing_skip c.args.world.now (proc_at c.args.process) c.args.name c.args.names.now.items
+    (λ b. true≢false (sym (c.may_change.ensures.1 b) ∙ c.if-not-may_change.true)) c.requires.listing
 
 pub returns : goal.returns
 returns c =

@@ -12,8 +12,9 @@ loop-gap-init c = record { follow = c.requires.follow; are = c.requires.are; sta
 pub join-requires : goal.join-requires
 join-requires c =
     let w = c.args.world.now in
-    let g = gap_at w c.args.forms.now c.args.rows.now (ProcessRule w c.args.forms.now c.args.rows.now c.args.process) c.new-gaps.result.items c.process_gaps.new.gaps.items c.deref-gap-items.result.now c.loop-gap.gap-index c.gap-item.result (c.in_ok-process_gaps.ensures {u = tt})
-        c.new-gaps.ensures.items c.deref-gap-items.ensures.value c.loop-gap-test.true c.gap-item.is in
+    let g = gap_at w c.args.forms.now c.args.rows.now (ProcessRule w c.args.forms.now c.args.rows.now c.args.process) c.new-gaps.result.items c.process_gaps.new.gaps.items
+    c.deref-gap-items.result.now c.loop-gap.gap-index c.gap-item.result (c.in_ok-process_gaps.ensures {u = tt})
+    c.new-gaps.ensures.items c.deref-gap-items.ensures.value c.loop-gap-test.true c.gap-item.is in
     let a = g.process in
     let b = c.loop-gap.invariant.are.count in
     omega (arith, a, b)
@@ -22,7 +23,8 @@ pub loop-gap-preserved : goal.loop-gap-preserved
 loop-gap-preserved c =
     let w = c.args.world.now in
     filled_more w c.args.forms.now c.args.rows.now c.loop-gap.rows c.join.new.self c.loop-gap.gap-index c.gap-item.result c.loop-gap.invariant
-    (gap_at w c.args.forms.now c.args.rows.now (ProcessRule w c.args.forms.now c.args.rows.now c.args.process) c.new-gaps.result.items c.process_gaps.new.gaps.items c.deref-gap-items.result.now c.loop-gap.gap-index c.gap-item.result (c.in_ok-process_gaps.ensures {u = tt})
+    (gap_at w c.args.forms.now c.args.rows.now (ProcessRule w c.args.forms.now c.args.rows.now c.args.process) c.new-gaps.result.items c.process_gaps.new.gaps.items
+    c.deref-gap-items.result.now c.loop-gap.gap-index c.gap-item.result (c.in_ok-process_gaps.ensures {u = tt})
     c.new-gaps.ensures.items c.deref-gap-items.ensures.value c.loop-gap-test.true c.gap-item.is)
     c.join.ensures.word c.join.ensures.value
 
@@ -33,5 +35,6 @@ returns c =
     let same = ap length c.deref-gap-items.ensures.value in
     let past = c.loop-gap-test.false in
     let end = c.loop-gap.auto.gap-index-end in
-    settled w c.args.forms.now c.args.process c.args.rows.now c.loop-gap.rows c.new-gaps.result.items c.process_gaps.new.gaps.items c.loop-gap.gap-index (not c.is_empty.result) (c.in_ok-process_gaps.ensures {u = tt}) c.new-gaps.ensures.items c.loop-gap.invariant
+    settled w c.args.forms.now c.args.process c.args.rows.now c.loop-gap.rows c.new-gaps.result.items c.process_gaps.new.gaps.items c.loop-gap.gap-index (not c.is_empty.result)
+    (c.in_ok-process_gaps.ensures {u = tt}) c.new-gaps.ensures.items c.loop-gap.invariant
     (omega (arith, same, past, end)) (λ g. grind (arith, nat_tests, e, g)) (λ g. grind (arith, nat_tests, e, g))

@@ -17,11 +17,14 @@ loop-entry-preserved c =
       keeps = keeps_then c.args.forms.now.items c.loop-entry.forms.items c.add.new.forms.items i.keeps e.keeps;
       holds =
           each_read (λ (x : Entry). IfSome (entry_form x) (Holds c.add.new.forms.items)) c.args.entries.now c.loop-entry.entry-index c.entry-item.result
-          (each_weaker (λ (x : Entry). IfSome (entry_form x) (Holds c.loop-entry.forms.items)) (λ (x : Entry). IfSome (entry_form x) (Holds c.add.new.forms.items)) c.args.entries.now c.loop-entry.entry-index
+          (each_weaker (λ (x : Entry). IfSome (entry_form x) (Holds c.loop-entry.forms.items)) (λ (x : Entry). IfSome (entry_form x) (Holds c.add.new.forms.items))
+          c.args.entries.now c.loop-entry.entry-index
           (λ x h. forms_stay c.loop-entry.forms.items c.add.new.forms.items (entry_form x) e.keeps h) i.holds)
           c.loop-entry-test.true c.entry-item.is
           (subst (λ (o : Option Form). IfSome o (Holds c.add.new.forms.items)) c.entry_form.ensures e.holds);
     }
 
 pub returns-clause-holds : goal.returns-clause-holds
-returns-clause-holds c = each_all (λ (x : Entry). IfSome (entry_form x) (Holds c.loop-entry.forms.items)) c.args.entries.now c.loop-entry.entry-index c.loop-entry.invariant.holds c.loop-entry-test.false
+returns-clause-holds c =
+    each_all (λ (x : Entry). IfSome (entry_form x) (Holds c.loop-entry.forms.items)) c.args.entries.now c.loop-entry.entry-index
+    c.loop-entry.invariant.holds c.loop-entry-test.false

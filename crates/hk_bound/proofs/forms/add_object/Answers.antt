@@ -17,7 +17,9 @@ returns-in_ok-add-clause-holds c =
     let a : HaveEntryForms c.add_entries.new.forms.items (opening_entries w c.args.name) = subst (HaveEntryForms c.add_entries.new.forms.items) c.entries_of.ensures first.holds in
     let b : HaveParamForms c.add_params.new.forms.items (opening_params w c.args.name) = subst (HaveParamForms c.add_params.new.forms.items) c.params_of.ensures second.holds in
     record {
-      entries = entry_forms_stay c.add_params.new.forms.items c.add.new.forms.items (opening_entries w c.args.name) third.keeps (entry_forms_stay c.add_entries.new.forms.items c.add_params.new.forms.items (opening_entries w c.args.name) second.keeps a);
+      entries =
+          entry_forms_stay c.add_params.new.forms.items c.add.new.forms.items (opening_entries w c.args.name) third.keeps
+          (entry_forms_stay c.add_entries.new.forms.items c.add_params.new.forms.items (opening_entries w c.args.name) second.keeps a);
       params = param_forms_stay c.add_params.new.forms.items c.add.new.forms.items (opening_params w c.args.name) third.keeps b;
       made = λ e. subst (λ (f : Form). Holds c.add.new.forms.items f) c.made_form.ensures third.holds;
     }

@@ -17,11 +17,13 @@ loop-param-preserved c =
       keeps = keeps_then c.args.forms.now.items c.loop-param.forms.items c.add.new.forms.items i.keeps e.keeps;
       holds =
           each_read (λ (x : Param). IfSome (param_form x) (Holds c.add.new.forms.items)) c.args.params.now c.loop-param.param-index c.param-item.result
-          (each_weaker (λ (x : Param). IfSome (param_form x) (Holds c.loop-param.forms.items)) (λ (x : Param). IfSome (param_form x) (Holds c.add.new.forms.items)) c.args.params.now c.loop-param.param-index
+          (each_weaker (λ (x : Param). IfSome (param_form x) (Holds c.loop-param.forms.items)) (λ (x : Param). IfSome (param_form x) (Holds c.add.new.forms.items))
+          c.args.params.now c.loop-param.param-index
           (λ x h. forms_stay c.loop-param.forms.items c.add.new.forms.items (param_form x) e.keeps h) i.holds)
           c.loop-param-test.true c.param-item.is
           (subst (λ (o : Option Form). IfSome o (Holds c.add.new.forms.items)) c.param_form.ensures e.holds);
     }
 
 pub returns-clause-holds : goal.returns-clause-holds
-returns-clause-holds c = each_all (λ (x : Param). IfSome (param_form x) (Holds c.loop-param.forms.items)) c.args.params.now c.loop-param.param-index c.loop-param.invariant.holds c.loop-param-test.false
+returns-clause-holds c =
+    each_all (λ (x : Param). IfSome (param_form x) (Holds c.loop-param.forms.items)) c.args.params.now c.loop-param.param-index c.loop-param.invariant.holds c.loop-param-test.false

@@ -21,7 +21,8 @@ loop-task-preserved c =
       objects = λ name h. object_forms_stay c.args.world.now c.loop-task.forms.items c.add_entries.new.forms.items name e.keeps (i.objects name h);
       slots =
           each_read (λ (task : Task). HaveEntryForms c.add_entries.new.forms.items task.slots) c.tasks-task-items.result.now c.loop-task.task-index c.task-item.result
-          (each_weaker (λ (task : Task). HaveEntryForms c.loop-task.forms.items task.slots) (λ (task : Task). HaveEntryForms c.add_entries.new.forms.items task.slots) c.tasks-task-items.result.now c.loop-task.task-index
+          (each_weaker (λ (task : Task). HaveEntryForms c.loop-task.forms.items task.slots) (λ (task : Task). HaveEntryForms c.add_entries.new.forms.items task.slots)
+          c.tasks-task-items.result.now c.loop-task.task-index
           (λ task h. entry_forms_stay c.loop-task.forms.items c.add_entries.new.forms.items task.slots e.keeps h) i.slots)
           c.loop-task-test.true c.task-item.is
           (subst (HaveEntryForms c.add_entries.new.forms.items) c.as_slice.ensures.value e.holds);
@@ -31,5 +32,6 @@ pub returns : goal.returns
 returns c = record {
   objects = c.loop-task.invariant.objects;
   slots = subst (λ (ts : List Task). (k : ℕ) (task : Task) → slice_get ts k ≡ Some task → HaveEntryForms c.loop-task.forms.items task.slots) c.tasks-task-items.ensures.value
-      (each_all (λ (task : Task). HaveEntryForms c.loop-task.forms.items task.slots) c.tasks-task-items.result.now c.loop-task.task-index c.loop-task.invariant.slots c.loop-task-test.false);
+      (each_all (λ (task : Task). HaveEntryForms c.loop-task.forms.items task.slots) c.tasks-task-items.result.now c.loop-task.task-index
+      c.loop-task.invariant.slots c.loop-task-test.false);
 }

@@ -17,7 +17,8 @@ returns-else-name-lt-KERNEL_TYPES c =
     let o = c.objects.ensures.value in
     by c.args.world.now c.args.name c.if-name-lt-KERNEL_TYPES.false c.get.result (rw o at l.3)
   where
-    by : (w : WorldValue) (n : ℕ) → 7 ≤ n → (r : Option (Bor Born)) → MatchOption r (length w.objects ≤ n - 7) (λ x. (n - 7 < length w.objects) × ((d : Born) → x.now ≡ get_or w.objects (n - 7) d))
+    by : (w : WorldValue) (n : ℕ) → 7 ≤ n → (r : Option (Bor Born))
+        → MatchOption r (length w.objects ≤ n - 7) (λ x. (n - 7 < length w.objects) × ((d : Born) → x.now ≡ get_or w.objects (n - 7) d))
         → MatchOption r (opening_object w n ≡ no_object) (λ b. opening_object w n ≡ object_of b.now.kind)
     by w n h None b = born_gone w n h b
     by w n h (Some x) b = born_there w n x.now h b.0 (b.1 x.now)

@@ -10,4 +10,5 @@ offer-requires-clause-follows c =
     let forms = c.args.self.now.forms.now in
     let h = Slots (proc_at c.args.process) in
     subst (λ (s : ℕ). CellFollows w forms (Slots (proc_at c.args.process)) (c.object_count.result + c.args.maker) s) (sym c.all.ensures.word)
-    (made_follows w forms (Slots (proc_at c.args.process)) c.args.maker (c.object_count.result + c.args.maker) c.requires.maker (ap (λ (n : ℕ). n + c.args.maker) c.object_count.ensures.value) (c.has_made.ensures.had c.if-has_made.true))
+    (made_follows w forms (Slots (proc_at c.args.process)) c.args.maker (c.object_count.result + c.args.maker) c.requires.maker
+    (ap (λ (n : ℕ). n + c.args.maker) c.object_count.ensures.value) (c.has_made.ensures.had c.if-has_made.true))

@@ -19,11 +19,14 @@ returns-then-not-has_rights c =
     let w = c.args.self.now.world.now in
     let forms = c.args.self.now.forms.now in
     let rows = c.args.self.now.rows.now in
-    let here : slice_get forms c.args.place ≡ Some (get_or c.args.self.now.forms.now c.args.place c.index-self-place.result) = slice_get_read forms (length forms) c.args.place c.index-self-place.result refl c.requires.place c.index-self-place.is ∙ ap Some c.index-self-place.is in
+    let here : slice_get forms c.args.place ≡ Some (get_or c.args.self.now.forms.now c.args.place c.index-self-place.result) = slice_get_read forms (length forms) c.args.place
+    c.index-self-place.result refl c.requires.place c.index-self-place.is ∙ ap Some c.index-self-place.is in
     finds_none w forms rows (MergeRule w forms rows c.args.process c.args.name c.args.by c.args.place) c.args.gaps.now.items
     (λ form at type checked env.
     let same : form ≡ (get_or c.args.self.now.forms.now c.args.place c.index-self-place.result) = same_some (sym at ∙ here) in
-    let every : HasAll c.args.by (get_or c.args.self.now.forms.now c.args.place c.index-self-place.result).check = λ n h. checked n (word_right (get_or c.args.self.now.forms.now c.args.place c.index-self-place.result).check n c.has_rights.ensures.word h) (subst (λ (f : Form). has f.check n ≡ true) (sym same) h) in
+    let every : HasAll c.args.by (get_or c.args.self.now.forms.now c.args.place c.index-self-place.result).check = λ n h. checked n
+    (word_right (get_or c.args.self.now.forms.now c.args.place c.index-self-place.result).check n c.has_rights.ensures.word h)
+    (subst (λ (f : Form). has f.check n ≡ true) (sym same) h) in
     absurd (true≢false (sym (c.has_rights.ensures.value.1 every) ∙ c.if-not-has_rights.true)))
 
 pub offer-requires-clause-follows : goal.offer-requires-clause-follows
@@ -32,10 +35,13 @@ offer-requires-clause-follows c =
     let forms = c.args.self.now.forms.now in
     let rows = c.args.self.now.rows.now in
     let f = (get_or c.args.self.now.forms.now c.args.place c.index-self-place.result) in
-    let here : slice_get forms c.args.place ≡ Some (get_or c.args.self.now.forms.now c.args.place c.index-self-place.result) = slice_get_read forms (length forms) c.args.place c.index-self-place.result refl c.requires.place c.index-self-place.is ∙ ap Some c.index-self-place.is in
-    let is = c.index-self-place.is in let ne = c.ne.ensures in let no = c.if-ne.false in let type : (get_or c.args.self.now.forms.now c.args.place c.index-self-place.result).of ≡ c.type_of.result = first_of (search rules, grind (arith, common_steps), cc) in
+    let here : slice_get forms c.args.place ≡ Some (get_or c.args.self.now.forms.now c.args.place c.index-self-place.result) = slice_get_read forms (length forms) c.args.place
+    c.index-self-place.result refl c.requires.place c.index-self-place.is ∙ ap Some c.index-self-place.is in
+    let is = c.index-self-place.is in let ne = c.ne.ensures in let no = c.if-ne.false in let type : (get_or c.args.self.now.forms.now c.args.place c.index-self-place.result).of
+    ≡ c.type_of.result = first_of (search rules, grind (arith, common_steps), cc) in
     subst (λ (s : ℕ). CellFollows w forms (Slots (proc_at c.args.process)) c.args.name s) (sym (c.merged_rights-rights.ensures f.of))
-    (merge_follows w forms rows c.requires.known.follow c.args.process c.args.name c.args.by c.args.place (get_or c.args.self.now.forms.now c.args.place c.index-self-place.result) c.requires.name c.requires.cell here (type ∙ c.type_of.ensures)
+    (merge_follows w forms rows c.requires.known.follow c.args.process c.args.name c.args.by c.args.place (get_or c.args.self.now.forms.now c.args.place c.index-self-place.result)
+    c.requires.name c.requires.cell here (type ∙ c.type_of.ensures)
     (c.has_rights.ensures.value.0 c.if-not-has_rights.false)
     (ap (λ (n : ℕ). env_in (cell rows c.args.process (n + c.args.place))) (sym c.thing_count.ensures.value) ∙ (sym c.has_env.ensures ∙ c.if-not-has_env.false)))
 
@@ -45,9 +51,12 @@ returns c =
     let forms = c.args.self.now.forms.now in
     let rows = c.args.self.now.rows.now in
     let f = (get_or c.args.self.now.forms.now c.args.place c.index-self-place.result) in
-    let here : slice_get forms c.args.place ≡ Some (get_or c.args.self.now.forms.now c.args.place c.index-self-place.result) = slice_get_read forms (length forms) c.args.place c.index-self-place.result refl c.requires.place c.index-self-place.is ∙ ap Some c.index-self-place.is in
-    finds_more w forms rows (Offered rows c.args.process c.args.name c.merged_rights-rights.result) (MergeRule w forms rows c.args.process c.args.name c.args.by c.args.place) c.args.gaps.now.items c.offer.new.gaps.items
+    let here : slice_get forms c.args.place ≡ Some (get_or c.args.self.now.forms.now c.args.place c.index-self-place.result) = slice_get_read forms (length forms) c.args.place
+    c.index-self-place.result refl c.requires.place c.index-self-place.is ∙ ap Some c.index-self-place.is in
+    finds_more w forms rows (Offered rows c.args.process c.args.name c.merged_rights-rights.result) (MergeRule w forms rows c.args.process c.args.name c.args.by c.args.place)
+    c.args.gaps.now.items c.offer.new.gaps.items
     (λ offered form at type checked env.
     let same : form ≡ (get_or c.args.self.now.forms.now c.args.place c.index-self-place.result) = same_some (sym at ∙ here) in
-    subst (λ (g : Form). Offered rows c.args.process c.args.name (merged_rights c.args.by (Some g.of) g.give)) (sym same) (subst (Offered rows c.args.process c.args.name) (c.merged_rights-rights.ensures f.of) offered))
+    subst (λ (g : Form). Offered rows c.args.process c.args.name (merged_rights c.args.by (Some g.of) g.give)) (sym same)
+    (subst (Offered rows c.args.process c.args.name) (c.merged_rights-rights.ensures f.of) offered))
     (c.in_ok-offer.ensures {u = tt})

@@ -11,7 +11,8 @@ returns c =
     let forms = c.args.self.now.forms.now in
     let rows = c.args.self.now.rows.now in
     let e : cell rows c.args.process c.args.name ≡ Some c.in-Some.by = sym c.get.ensures ∙ c.in-Some.is in
-    finds_more w forms rows ((EntriesRule w forms rows c.args.process c.args.name × ParamsRule w forms rows c.args.process c.args.name c.in-Some.by) × (TypeRule w forms rows c.args.process c.args.name c.in-Some.by × MergesRule w forms rows c.args.process c.args.name c.in-Some.by))
+    finds_more w forms rows ((EntriesRule w forms rows c.args.process c.args.name × ParamsRule w forms rows c.args.process c.args.name c.in-Some.by)
+    × (TypeRule w forms rows c.args.process c.args.name c.in-Some.by × MergesRule w forms rows c.args.process c.args.name c.in-Some.by))
     (ObjectRule w forms rows c.args.process c.args.name) c.args.gaps.now.items c.merge_all.new.gaps.items
     (λ h. record {
       entries = h.0.0;
@@ -19,6 +20,7 @@ returns c =
       types = λ b at. subst (λ (x : ℕ). TypeRule w forms rows c.args.process c.args.name x) (same_some (sym e ∙ at)) h.1.0;
       merges = λ b at. subst (λ (x : ℕ). MergesRule w forms rows c.args.process c.args.name x) (same_some (sym e ∙ at)) h.1.1;
     })
-    (finds_four w forms rows (EntriesRule w forms rows c.args.process c.args.name) (ParamsRule w forms rows c.args.process c.args.name c.in-Some.by) (TypeRule w forms rows c.args.process c.args.name c.in-Some.by) (MergesRule w forms rows c.args.process c.args.name c.in-Some.by)
+    (finds_four w forms rows (EntriesRule w forms rows c.args.process c.args.name) (ParamsRule w forms rows c.args.process c.args.name c.in-Some.by)
+    (TypeRule w forms rows c.args.process c.args.name c.in-Some.by) (MergesRule w forms rows c.args.process c.args.name c.in-Some.by)
     c.args.gaps.now.items c.take_entries.new.gaps.items c.take_params.new.gaps.items c.make_form.new.gaps.items c.merge_all.new.gaps.items
     (c.in_ok-take_entries.ensures {u = tt}) (c.in_ok-take_params.ensures {u = tt}) (c.in_ok-make_form.ensures {u = tt}) (c.in_ok-merge_all.ensures {u = tt}))

@@ -19,5 +19,6 @@ returns c =
     let rows = c.args.self.now.rows.now in
     let end = c.loop-name-test.false in
     let count = c.object_count-name-end.ensures.value in
-    finds_more w forms rows ((k : ℕ) → k < c.loop-name.name → ObjectRule w forms rows c.args.process k) ((k : ℕ) → k < object_count w → ObjectRule w forms rows c.args.process k) c.args.gaps.now.items c.loop-name.gaps.items
+    finds_more w forms rows ((k : ℕ) → k < c.loop-name.name → ObjectRule w forms rows c.args.process k) ((k : ℕ) → k < object_count w → ObjectRule w forms rows c.args.process k)
+    c.args.gaps.now.items c.loop-name.gaps.items
     (λ h k low. h k (omega (arith, low, end, count))) c.loop-name.invariant

@@ -12,15 +12,18 @@ pub slot_gap-requires-clause-opens : goal.slot_gap-requires-clause-opens
 slot_gap-requires-clause-opens c =
     opens_from c.args.self.now.world.now c.args.process c.loop-entry.entry-index c.args.task.now c.entry-item.result c.requires.task
     (subst (λ (es : List Entry). slice_get es c.loop-entry.entry-index ≡ Some c.entry-item.result) c.as_slice-entry-items.ensures.value
-    (slice_get_read c.as_slice-entry-items.result.now (length c.as_slice-entry-items.result.now) c.loop-entry.entry-index c.entry-item.result refl c.loop-entry-test.true c.entry-item.is))
+    (slice_get_read c.as_slice-entry-items.result.now (length c.as_slice-entry-items.result.now) c.loop-entry.entry-index c.entry-item.result refl
+    c.loop-entry-test.true c.entry-item.is))
 
 pub loop-entry-preserved : goal.loop-entry-preserved
 loop-entry-preserved c =
     let w = c.args.self.now.world.now in
     let forms = c.args.self.now.forms.now in
     let rows = c.args.self.now.rows.now in
-    finds_item w forms rows (SlotRule w forms rows c.args.process) c.as_slice-entry-items.result.now c.loop-entry.entry-index c.entry-item.result c.args.gaps.now.items c.loop-entry.gaps.items c.slot_gap.new.gaps.items
-    (slice_get_read c.as_slice-entry-items.result.now (length c.as_slice-entry-items.result.now) c.loop-entry.entry-index c.entry-item.result refl c.loop-entry-test.true c.entry-item.is)
+    finds_item w forms rows (SlotRule w forms rows c.args.process) c.as_slice-entry-items.result.now c.loop-entry.entry-index c.entry-item.result c.args.gaps.now.items
+    c.loop-entry.gaps.items c.slot_gap.new.gaps.items
+    (slice_get_read c.as_slice-entry-items.result.now (length c.as_slice-entry-items.result.now) c.loop-entry.entry-index c.entry-item.result refl
+    c.loop-entry-test.true c.entry-item.is)
     c.loop-entry.invariant (c.in_ok-slot_gap.ensures {u = tt})
 
 pub returns : goal.returns
@@ -28,6 +31,8 @@ returns c =
     let w = c.args.self.now.world.now in
     let forms = c.args.self.now.forms.now in
     let rows = c.args.self.now.rows.now in
-    finds_more w forms rows (Each (SlotRule w forms rows c.args.process) c.as_slice-entry-items.result.now) (Each (SlotRule w forms rows c.args.process) c.args.task.now.slots) c.args.gaps.now.items c.loop-entry.gaps.items
+    finds_more w forms rows (Each (SlotRule w forms rows c.args.process) c.as_slice-entry-items.result.now) (Each (SlotRule w forms rows c.args.process) c.args.task.now.slots)
+    c.args.gaps.now.items c.loop-entry.gaps.items
     (λ all. subst (λ (es : List Entry). Each (SlotRule w forms rows c.args.process) es) c.as_slice-entry-items.ensures.value all)
-    (finds_end w forms rows (SlotRule w forms rows c.args.process) c.as_slice-entry-items.result.now c.loop-entry.entry-index c.args.gaps.now.items c.loop-entry.gaps.items c.loop-entry-test.false c.loop-entry.invariant)
+    (finds_end w forms rows (SlotRule w forms rows c.args.process) c.as_slice-entry-items.result.now c.loop-entry.entry-index c.args.gaps.now.items c.loop-entry.gaps.items
+    c.loop-entry-test.false c.loop-entry.invariant)

@@ -13,8 +13,10 @@ loop-entry-preserved c =
     let w = c.args.self.now.world.now in
     let forms = c.args.self.now.forms.now in
     let rows = c.args.self.now.rows.now in
-    finds_item w forms rows (EntryRule w forms rows c.args.process c.args.name c.in-Some.taking) c.entries_of-entry-items.result.now c.loop-entry.entry-index c.entry-item.result c.args.gaps.now.items c.loop-entry.gaps.items c.take_entry.new.gaps.items
-    (slice_get_read c.entries_of-entry-items.result.now (length c.entries_of-entry-items.result.now) c.loop-entry.entry-index c.entry-item.result refl c.loop-entry-test.true c.entry-item.is)
+    finds_item w forms rows (EntryRule w forms rows c.args.process c.args.name c.in-Some.taking) c.entries_of-entry-items.result.now c.loop-entry.entry-index c.entry-item.result
+    c.args.gaps.now.items c.loop-entry.gaps.items c.take_entry.new.gaps.items
+    (slice_get_read c.entries_of-entry-items.result.now (length c.entries_of-entry-items.result.now) c.loop-entry.entry-index c.entry-item.result refl
+    c.loop-entry-test.true c.entry-item.is)
     c.loop-entry.invariant (c.in_ok-take_entry.ensures {u = tt})
 
 pub returns : goal.returns
@@ -22,7 +24,10 @@ returns c =
     let w = c.args.self.now.world.now in
     let forms = c.args.self.now.forms.now in
     let rows = c.args.self.now.rows.now in
-    finds_more w forms rows (Each (EntryRule w forms rows c.args.process c.args.name c.in-Some.taking) c.entries_of-entry-items.result.now) (EntriesRule w forms rows c.args.process c.args.name) c.args.gaps.now.items c.loop-entry.gaps.items
+    finds_more w forms rows (Each (EntryRule w forms rows c.args.process c.args.name c.in-Some.taking) c.entries_of-entry-items.result.now)
+    (EntriesRule w forms rows c.args.process c.args.name) c.args.gaps.now.items c.loop-entry.gaps.items
     (λ all t e. let same : c.in-Some.taking ≡ t = cc (c.in-Some.is, c.taking.ensures, e) in
-        subst (λ (es : List Entry). Each (EntryRule w forms rows c.args.process c.args.name t) es) c.entries_of-entry-items.ensures (subst (λ (x : Taking). Each (EntryRule w forms rows c.args.process c.args.name x) c.entries_of-entry-items.result.now) same all))
-    (finds_end w forms rows (EntryRule w forms rows c.args.process c.args.name c.in-Some.taking) c.entries_of-entry-items.result.now c.loop-entry.entry-index c.args.gaps.now.items c.loop-entry.gaps.items c.loop-entry-test.false c.loop-entry.invariant)
+    subst (λ (es : List Entry). Each (EntryRule w forms rows c.args.process c.args.name t) es) c.entries_of-entry-items.ensures
+    (subst (λ (x : Taking). Each (EntryRule w forms rows c.args.process c.args.name x) c.entries_of-entry-items.result.now) same all))
+    (finds_end w forms rows (EntryRule w forms rows c.args.process c.args.name c.in-Some.taking) c.entries_of-entry-items.result.now c.loop-entry.entry-index c.args.gaps.now.items
+    c.loop-entry.gaps.items c.loop-entry-test.false c.loop-entry.invariant)

@@ -14,4 +14,5 @@ offer_form-requires-clause-holds c =
 pub offer_form-requires-clause-follows : goal.offer_form-requires-clause-follows
 offer_form-requires-clause-follows c =
     let a = c.requires.among in
-    param_follows c.args.self.now.world.now c.args.self.now.forms.now c.args.process c.args.name a.place c.args.param.now c.in-Some.form c.requires.procedure c.requires.call a.is (sym c.param_form.ensures ∙ c.in-Some.is)
+    param_follows c.args.self.now.world.now c.args.self.now.forms.now c.args.process c.args.name a.place c.args.param.now c.in-Some.form c.requires.procedure c.requires.call a.is
+    (sym c.param_form.ensures ∙ c.in-Some.is)

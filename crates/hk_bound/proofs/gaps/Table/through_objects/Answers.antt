@@ -15,13 +15,17 @@ loop-name-preserved c =
     let q = c.args.other in
     let i = c.loop-name.invariant in
     let low : c.loop-name.name < object_count c.args.self.now.world.now = (let t = c.loop-name-test.true in let v = c.object_count-name-end.ensures.value in omega (arith, t, v)) in
-    let is : c.joined_cells-by.result ≡ joined_cells c.loop-name.by (through_in (type_of w (name_at c.loop-name.name)) (cell rows c.args.process c.loop-name.name) (cell rows c.args.other c.loop-name.name)) =
-        c.joined_cells-by.ensures ∙ ap (joined_cells c.loop-name.by) c.through_object.ensures in
+    let is : c.joined_cells-by.result ≡ joined_cells c.loop-name.by
+    (through_in (type_of w (name_at c.loop-name.name)) (cell rows c.args.process c.loop-name.name) (cell rows c.args.other c.loop-name.name)) =
+    c.joined_cells-by.ensures ∙ ap (joined_cells c.loop-name.by) c.through_object.ensures in
     record {
       passes = subst (λ (o : Option ℕ). IfSome o (Passes w forms c.args.process c.args.other)) (sym is)
-          (passes_joined w forms rows c.args.process c.args.other c.loop-name.by (through_in (type_of w (name_at c.loop-name.name)) (cell rows c.args.process c.loop-name.name) (cell rows c.args.other c.loop-name.name)) i.passes
+          (passes_joined w forms rows c.args.process c.args.other c.loop-name.by
+          (through_in (type_of w (name_at c.loop-name.name)) (cell rows c.args.process c.loop-name.name) (cell rows c.args.other c.loop-name.name)) i.passes
           (through_passes w forms rows c.args.process c.args.other c.requires.known.follow c.requires.process c.loop-name.name low));
-      all = subst (λ (o : Option ℕ). HasTakings w rows c.args.process c.args.other (c.loop-name.name + 1) o) (sym is) (takings_more w forms rows c.args.process c.args.other c.loop-name.name c.loop-name.by i.all);
+      all =
+          subst (λ (o : Option ℕ). HasTakings w rows c.args.process c.args.other (c.loop-name.name + 1) o) (sym is)
+          (takings_more w forms rows c.args.process c.args.other c.loop-name.name c.loop-name.by i.all);
     }
 
 pub returns-clause-all : goal.returns-clause-all
