@@ -68,7 +68,6 @@ base_at n (t ∷ ts) zero zero f e =
 base_at n (t ∷ ts) zero (suc k) f e = absurd (cc)
 base_at n (t ∷ ts) (suc q) k f e = let h = base_at (n + 1) ts q k f e in (omega (arith, h.0), h.1, omega (arith, h.2))
 
-
 pub base_numbered : (tasks : List Task) (i : ℕ) (stacks : List (List StackFrame)) → length tasks ≤ i → stacks ≡ base_stacks 0 (take i tasks) → AreNumbered stacks (record { 0 = length tasks })
 base_numbered tasks i stacks past e = subst (λ (s : List (List StackFrame)). AreNumbered s (record { 0 = length tasks })) (sym (e ∙ ap (base_stacks 0) (take_all i tasks past))) (record {
   apart = λ p q i j f g a b same. let h = base_at 0 tasks p i f a in let k = base_at 0 tasks q j g b in (omega (arith, h.0, k.0), h.1 ∙ sym k.1);

@@ -89,7 +89,7 @@ module _ (ps : List (Option (Name × Body))) (ws : List (List Proc)) (s : ℕ) (
       → standing (whole (change ps s f) ws) ≡ set_value (same_name n) (standing (whole ps ws)) (g (object_in (standing (whole ps ws)) n))
   part_written f g same =
       ap standing (whole-set ps ws s (option_map (λ e. (e.0, f e.1)) (place ps s))
-        ∙ ap (λ (p : Option (Name × Body)). set (whole ps ws) s (with_waiters (option_map (λ e. (e.0, f e.1)) p) (slice_index_or ws s []))) there.1)
+      ∙ ap (λ (p : Option (Name × Body)). set (whole ps ws) s (with_waiters (option_map (λ e. (e.0, f e.1)) p) (slice_index_or ws s []))) there.1)
       ∙ standing-put (whole ps ws) s n (whole_object there.0 (slice_index_or ws s [])) (whole_object (f there.0) (slice_index_or ws s [])) stands (apart-whole ps ws apart)
       ∙ ap (set_value (same_name n) (standing (whole ps ws))) (same there.0 (slice_index_or ws s []) ∙ ap g (sym found))
 

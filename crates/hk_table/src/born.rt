@@ -95,7 +95,12 @@ fn kernel_types(alloc: Global) -> Result<Objects, NoMemory>
 {
     let mut objects = Objects::with_room(alloc)?;
     for _n in 0..7u64 {
-        add_plain(&mut objects, Name(0), Words::new(alloc), Entries::new(alloc));
+        add_plain(
+            &mut objects,
+            Name(0),
+            Words::new(alloc),
+            Entries::new(alloc),
+        );
     }
     Ok(objects)
 }

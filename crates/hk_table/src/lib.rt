@@ -26,4 +26,3 @@ mod walks;
 mod words;
 
 pub use table::Table;
-

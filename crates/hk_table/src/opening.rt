@@ -8,8 +8,8 @@ ghost use Rattle.hk_model.specs.Opening.{all_ready, proc_numbers, opening};
 ghost use Rattle.hk_table.specs.Joined.{FewNumbers};
 
 use crate::born::objects_of;
-use crate::stacks::Stacks;
 use crate::parts::Parts;
+use crate::stacks::Stacks;
 use hk_model::{Born, Inc, Name, NoMemory, Proc, Process, ProcessState, Task, World};
 use hk_queues::Queues;
 use hk_running::Processes;

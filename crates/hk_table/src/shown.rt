@@ -153,7 +153,10 @@ pub(crate) fn all_incarnations(
 }
 
 /// The objects with their names.
-pub(crate) fn all_seen(alloc: Global, objects: BTreeMap<Name, Object>) -> Result<Items<Seen>, NoMemory>
+pub(crate) fn all_seen(
+    alloc: Global,
+    objects: BTreeMap<Name, Object>,
+) -> Result<Items<Seen>, NoMemory>
     ensures { IfOk result (λ v. v ≡ map seen objects.entries) }
 {
     let mut all = Vec::new(alloc);
