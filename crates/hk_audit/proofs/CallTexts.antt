@@ -30,7 +30,7 @@ arguments_written word path args into old begun filled new b f n = rw (n, f, b, 
 -- a template that amplifies, behind its path
 pub amplify_written : (path : List ℕ) (check give : ℕ) (into : Slot) (old begun new checked given : List ℕ)
     → begun ≡ old ++ (codes "template " ++ path) → checked ≡ rights_text check → given ≡ rights_text give
-        → new ≡ begun ++ (codes " amplify " ++ (checked ++ 32 ∷ (given ++ 32 ∷ decimal into.0)))
+    → new ≡ begun ++ (codes " amplify " ++ (checked ++ 32 ∷ (given ++ 32 ∷ decimal into.0)))
     → new ≡ old ++ (codes "template " ++ join_with_byte 32 (path ∷ map spell (making_pieces (making.Amplify check give) ++ slot_piece into ∷ [])))
 amplify_written path check give into old begun new checked given b c g n =
     rw (n, b, c, g, spelled_rights (rights_text check), spelled_rights (rights_text give)) (simp append_assoc refl)

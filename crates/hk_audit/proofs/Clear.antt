@@ -129,17 +129,17 @@ clear_path (x ∷ y ∷ more) h =
     let all = path_texts (x ∷ y ∷ more) h.2 in
     let cut = split_joined (λ b. b == 46) 46 (decimal x) (map spell_index (map Fixed (y ∷ more))) all.free refl in
     let few : between 2 8 (length (map spell_index (map Fixed (x ∷ y ∷ more)))) ≡ true = let size = length-map (map Fixed (x ∷ y ∷ more)) spell_index in let size-1 =
-        length-map (x ∷ y ∷ more) Fixed in let most = h.1 in grind (arith, nat_tests) in
+    length-map (x ∷ y ∷ more) Fixed in let most = h.1 in grind (arith, nat_tests) in
     let text : List ℕ = join_with_byte 46 (map spell_index (map Fixed (x ∷ y ∷ more))) in
     let several : indices_spelled (join_with_byte 46 (map spell_index (map Fixed (x ∷ y ∷ more)))) ≡ Some (x ∷ y ∷ more) = ap indices_of cut
-        ∙ rw (few, all.good) (ap Some all.values) in
+    ∙ rw (few, all.good) (ap Some all.values) in
     let none = no_number (join_with_byte 46 (map spell_index (map Fixed (x ∷ y ∷ more)))) (with_point (decimal x) (join_with_byte 46 (map spell_index (map Fixed (y ∷ more))))) in
     record {
       seen = seen_path_of (join_with_byte 46 (map spell_index (map Fixed (x ∷ y ∷ more)))) (x ∷ y ∷ more) none several;
       plain = all_joined is_plain 46 (map spell_index (map Fixed (x ∷ y ∷ more))) all.plain refl;
       wide =
           rw (piece_again (Path (map Fixed (x ∷ y ∷ more))) (and_from _ _ (indices_few (x ∷ y ∷ more) (let most = h.1 in grind (arith, nat_tests)))
-              (indices_small (x ∷ y ∷ more) h.2))) refl;
+          (indices_small (x ∷ y ∷ more) h.2))) refl;
     }
 
 -- rights
@@ -173,11 +173,46 @@ IsClearName n = (seen (name_of n) ≡ Upper (name_of n)) × (list_all is_plain (
 
 all_clear : AllByRecursion IsClearName right_numbers
 unfolding IsClearName seen right_table right_numbers number_named name_of rights_spelled rights_text
-all_clear =
-    ((refl, refl, refl), ((refl, refl, refl), ((refl, refl, refl), ((refl, refl, refl), ((refl, refl, refl),
-        ((refl, refl, refl), ((refl, refl, refl), ((refl, refl, refl), ((refl, refl, refl),
-        ((refl, refl, refl), ((refl, refl, refl), ((refl, refl, refl), ((refl, refl, refl),
-        ((refl, refl, refl), ((refl, refl, refl), ((refl, refl, refl), ((refl, refl, refl), ((refl, refl, refl), ((refl, refl, refl), tt)))))))))))))))))))
+all_clear = (
+  (refl, refl, refl),
+  (
+    (refl, refl, refl),
+    (
+      (refl, refl, refl),
+      (
+        (refl, refl, refl),
+        (
+          (refl, refl, refl),
+          (
+            (refl, refl, refl),
+            (
+              (refl, refl, refl),
+              (
+                (refl, refl, refl),
+                (
+                  (refl, refl, refl),
+                  (
+                    (refl, refl, refl),
+                    (
+                      (refl, refl, refl),
+                      (
+                        (refl, refl, refl),
+                        (
+                          (refl, refl, refl),
+                          ((refl, refl, refl), ((refl, refl, refl), ((refl, refl, refl), ((refl, refl, refl), ((refl, refl, refl), ((refl, refl, refl), tt)))))),
+                        ),
+                      ),
+                    ),
+                  ),
+                ),
+              ),
+            ),
+          ),
+        ),
+      ),
+    ),
+  ),
+)
 
 clear_right : (n : ℕ) → IsTrue (is_right n) → Clear (Upper (name_of n))
 unfolding IsClearName
@@ -214,12 +249,26 @@ clear_call (call.Erase list at) h = (clear_word (codes "erase") refl refl refl r
 clear_call (call.Drop slot) h = (clear_word (codes "drop") refl refl refl refl refl, (clear_slot slot h, tt))
 clear_call (call.Restrict slot keep) h = (clear_word (codes "restrict") refl refl refl refl refl, (clear_slot slot h.0, (clear_rights keep h.1, tt)))
 clear_call (call.Look of) h = (clear_word (codes "look") refl refl refl refl refl, (clear_path of h, tt))
-clear_call (call.MakeTemplate of (making.Amplify check give) into) h =
-    (clear_word (codes "template") refl refl refl refl refl, (clear_path of h.0, (clear_word (codes "amplify") refl refl refl refl refl,
-        (clear_rights check h.1.0, (clear_rights give h.1.1, (clear_slot into h.2, tt))))))
-clear_call (call.MakeTemplate of (making.Create give) into) h =
-    (clear_word (codes "template") refl refl refl refl refl, (clear_path of h.0, (clear_word (codes "create") refl refl refl refl refl,
-        (clear_rights give h.1, (clear_slot into h.2, tt)))))
+clear_call (call.MakeTemplate of (making.Amplify check give) into) h = (
+  clear_word (codes "template") refl refl refl refl refl,
+  (
+    clear_path of h.0,
+    (
+      clear_word (codes "amplify") refl refl refl refl refl,
+      (clear_rights check h.1.0, (clear_rights give h.1.1, (clear_slot into h.2, tt))),
+    ),
+  ),
+)
+clear_call (call.MakeTemplate of (making.Create give) into) h = (
+  clear_word (codes "template") refl refl refl refl refl,
+  (
+    clear_path of h.0,
+    (
+      clear_word (codes "create") refl refl refl refl refl,
+      (clear_rights give h.1, (clear_slot into h.2, tt)),
+    ),
+  ),
+)
 clear_call (call.Create by into) h = (clear_word (codes "create") refl refl refl refl refl, (clear_path by h.0, (clear_slot into h.1, tt)))
 clear_call (call.Merge with held into) h = (clear_word (codes "merge") refl refl refl refl refl, (clear_path with h.0, (clear_slot held h.1, (clear_slot into h.2, tt))))
 clear_call (call.Copy of into) h = (clear_word (codes "copy") refl refl refl refl refl, (clear_path of h.0, (clear_slot into h.1, tt)))

@@ -31,7 +31,7 @@ pub slots_spelled : (front : List ℕ) (args : List ℕ) (into : Slot)
 slots_spelled front [] into = ap (λ (t : List ℕ). t ++ 32 ∷ decimal into.0) (append-nil front)
 slots_spelled front (slot ∷ slots) into =
     append_assoc front (32 ∷ (decimal slot ++ flat_map (λ n. 32 ∷ decimal n) slots)) (32 ∷ decimal into.0)
-        ∙ ap (λ (t : List ℕ). front ++ 32 ∷ t) (slots_spelled (decimal slot) slots into)
+    ∙ ap (λ (t : List ℕ). front ++ 32 ∷ t) (slots_spelled (decimal slot) slots into)
 
 -- all of the indices behind the first are taken
 behind_first : (rest : List ℕ) (taken : ℕ) → length rest ≤ taken → take taken (take (suc (length rest) - 1) rest) ≡ rest
@@ -45,4 +45,4 @@ pub path_whole : (path old begun new : List ℕ) (taken : ℕ) → 0 < length pa
 path_whole [] old begun new taken some all b n = absurd (omega arith)
 path_whole (first ∷ rest) old begun new taken some all b n =
     n ∙ rw (b, behind_first rest taken (omega arith)) (append_assoc old (decimal first) (flat_map (λ index. 46 ∷ decimal index) rest)
-        ∙ ap (λ (t : List ℕ). old ++ t) (sym (path_spelled first rest)))
+    ∙ ap (λ (t : List ℕ). old ++ t) (sym (path_spelled first rest)))

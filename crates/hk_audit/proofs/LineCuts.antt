@@ -124,7 +124,7 @@ join_arrow x (z ∷ zs) y ys =
 joined_cuts : (a b : List ℕ) → join_with_byte 32 (slice_split (λ c. c == 32) a ++ arrow ∷ slice_split (λ c. c == 32) b) ≡ halves_text a b
 joined_cuts a b =
     go (slice_split (λ c. c == 32) a) (cut_turn (λ c. c == 32) a) (slice_split (λ c. c == 32) b) (cut_turn (λ c. c == 32) b) (join_with_byte-slice_split 32 a)
-        (join_with_byte-slice_split 32 b)
+    (join_with_byte-slice_split 32 b)
   where
     go : (xs : List (List ℕ)) {x : List ℕ} {more : List (List ℕ)} → xs ≡ x ∷ more → (ys : List (List ℕ)) {y : List ℕ} {others : List (List ℕ)} → ys ≡ y ∷ others
         → join_with_byte 32 xs ≡ a → join_with_byte 32 ys ≡ b → join_with_byte 32 (xs ++ arrow ∷ ys) ≡ halves_text a b
@@ -140,7 +140,7 @@ body_is l es rs e f =
 -- what was read of both halves is the line of the whole
 pub line_found : (body a b : List ℕ) (g : Reply → Line) (r : Reply) (left right : List Piece) → halves_text a b ≡ body
     → event_line (map seen (slice_split (λ c. c == 32) a)) ≡ Ok (g, left) → reply_line (map seen (slice_split (λ c. c == 32) b)) ≡ Ok (r, right)
-        → IsLine (g r) × (line_body (g r) ≡ body)
+    → IsLine (g r) × (line_body (g r) ≡ body)
 line_found body a b g r left right whole first second =
     let event = (sound_event seen_forms).sound (slice_split (λ c. c == 32) a) g left first in
     let answer = (sound_reply seen_forms).sound (slice_split (λ c. c == 32) b) r right second in
@@ -174,9 +174,9 @@ line_halves l h = go (reply_pieces l.reply) refl (clear_reply l.reply h.reply) (
         let first = clear_texts (event_pieces l) (clear_event l h) in
         let second = clear_texts (p ∷ ps) c in
         let cut-1 : slice_split (λ c. c == 32) (join_with_byte 32 (map spell (event_pieces l))) ≡ map spell (event_pieces l) =
-            split_joined (λ c. c == 32) 32 (decimal l.cpu.0) (map spell (Number l.proc.0 ∷ Number l.inc.0 ∷ what_pieces l.what)) first.free refl in
+        split_joined (λ c. c == 32) 32 (decimal l.cpu.0) (map spell (Number l.proc.0 ∷ Number l.inc.0 ∷ what_pieces l.what)) first.free refl in
         let cut-2 : slice_split (λ c. c == 32) (join_with_byte 32 (map spell (p ∷ ps))) ≡ map spell (p ∷ ps) =
-            split_joined (λ c. c == 32) 32 (spell p) (map spell ps) second.free refl in
+        split_joined (λ c. c == 32) 32 (spell p) (map spell ps) second.free refl in
         record {
           event = join_with_byte 32 (map spell (event_pieces l));
           reply = join_with_byte 32 (map spell (p ∷ ps));
@@ -191,7 +191,7 @@ line_halves l h = go (reply_pieces l.reply) refl (clear_reply l.reply h.reply) (
 
 pub stripped_end : {X : Type 0} (view : X → List ℕ) (r : Option X) (text end : List ℕ)
     → MatchOption r (pointwise nat_eq (drop (length text - length end) text) end ≡ false) (λ x. (pointwise nat_eq (drop (length text - length end) text) end ≡ true)
-        × (view x ≡ take (length text - length end) text) × (length (view x) + length end ≡ length text))
+    × (view x ≡ take (length text - length end) text) × (length (view x) + length end ≡ length text))
     → IfSome r (λ x. view x ++ end ≡ text) × IfNone r ((t : List ℕ) → t ++ end ≡ text → ⊥)
 stripped_end view (Some x) text end h = (ends_so text end (view x) h.0 h.1, tt)
 stripped_end view None text end h = (tt, λ t e. ends_otherwise text end t h e)
@@ -213,7 +213,7 @@ begins_otherwise text start t h e =
 
 pub stripped_start : {X : Type 0} (view : X → List ℕ) (r : Option X) (text start : List ℕ)
     → MatchOption r (pointwise nat_eq (take (length start) text) start ≡ false) (λ x. (pointwise nat_eq (take (length start) text) start ≡ true)
-        × (view x ≡ drop (length start) text) × (length (view x) + length start ≡ length text))
+    × (view x ≡ drop (length start) text) × (length (view x) + length start ≡ length text))
     → IfSome r (λ x. start ++ view x ≡ text) × IfNone r ((t : List ℕ) → start ++ t ≡ text → ⊥)
 stripped_start view (Some x) text start h = (begins_so text start (view x) h.0 h.1, tt)
 stripped_start view None text start h = (tt, λ t e. begins_otherwise text start t h e)
@@ -226,7 +226,7 @@ event_refused a b cause bad l h ha hb e =
     let known = line_halves l h in
     let same = halves_only (halves_text a b) _ _ known.event known.reply a b (cut_halves a b ha hb) refl refl known.event_free known.reply_free (known.text ∙ e) in
     let read : event_line (map seen (slice_split (λ c. c == 32) a)) ≡ Ok (line_with l.cpu.0 l.proc.0 l.inc.0 l.what, []) =
-        subst (λ (t : List ℕ). event_line (map seen (slice_split (λ c. c == 32) t)) ≡ Ok (line_with l.cpu.0 l.proc.0 l.inc.0 l.what, [])) same.0 known.event_read in
+    subst (λ (t : List ℕ). event_line (map seen (slice_split (λ c. c == 32) t)) ≡ Ok (line_with l.cpu.0 l.proc.0 l.inc.0 l.what, [])) same.0 known.event_read in
     let both : Err cause ≡ Ok (line_with l.cpu.0 l.proc.0 l.inc.0 l.what, []) = sym bad ∙ read in
     cc
 
@@ -236,7 +236,7 @@ reply_refused a b cause bad l h ha hb e =
     let known = line_halves l h in
     let same = halves_only (halves_text a b) _ _ known.event known.reply a b (cut_halves a b ha hb) refl refl known.event_free known.reply_free (known.text ∙ e) in
     let read : reply_line (map seen (slice_split (λ c. c == 32) b)) ≡ Ok (l.reply, []) = subst
-        (λ (t : List ℕ). reply_line (map seen (slice_split (λ c. c == 32) t)) ≡ Ok (l.reply, [])) same.1 known.reply_read in
+    (λ (t : List ℕ). reply_line (map seen (slice_split (λ c. c == 32) t)) ≡ Ok (l.reply, [])) same.1 known.reply_read in
     let both : Err cause ≡ Ok (l.reply, []) = sym bad ∙ read in
     cc
 
@@ -275,7 +275,7 @@ stripped_some event reply None body x y cut h = tt
 
 pub stripped_only : {X : Type 0} (event reply : X → List ℕ) (r : Option X) (body x y : List ℕ) → slice_split (λ c. c == 62) body ≡ x ∷ y ∷ []
     → IfSome r (λ f. (event f ++ 32 ∷ 45 ∷ [] ≡ x) × (32 ∷ reply f ≡ y)) → IfSome r (λ f. (a b : List ℕ) → HasNoArrow a → HasNoArrow b → halves_text a b ≡ body
-        → (a ≡ event f) × (b ≡ reply f))
+    → (a ≡ event f) × (b ≡ reply f))
 stripped_only event reply (Some f) body x y cut h = λ a b ha hb e. halves_only body x y a b (event f) (reply f) cut h.0 h.1 ha hb e
 stripped_only event reply None body x y cut h = tt
 

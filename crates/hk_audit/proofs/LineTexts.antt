@@ -84,24 +84,24 @@ reply_some (reply.No refusal) = refusal_some refusal
 -- the three numbers and what happened
 event-text : (line : Line)
     → join_with_byte 32 (map spell (event_pieces line)) ≡ decimal line.cpu.0 ++ (32 ∷ (decimal line.proc.0
-        ++ (32 ∷ (decimal line.inc.0 ++ (32 ∷ spell_line (what_pieces line.what))))))
+    ++ (32 ∷ (decimal line.inc.0 ++ (32 ∷ spell_line (what_pieces line.what))))))
 event-text line =
     ap (λ t. decimal line.cpu.0 ++ (32 ∷ (decimal line.proc.0 ++ (32 ∷ t)))) (join-cons 32 (decimal line.inc.0) (map spell (what_pieces line.what)) (what_some line.what))
 
 -- the text of a line: the three numbers, what happened, an arrow and the reply
 pub line_body-parts : (line : Line)
     → line_body line ≡ (decimal line.cpu.0 ++ (32 ∷ (decimal line.proc.0 ++ (32 ∷ (decimal line.inc.0 ++ (32 ∷ spell_line (what_pieces line.what)))))))
-        ++ (32 ∷ 45 ∷ 62 ∷ 32 ∷ spell_line (reply_pieces line.reply))
+    ++ (32 ∷ 45 ∷ 62 ∷ 32 ∷ spell_line (reply_pieces line.reply))
 unfolding line_body
 line_body-parts line =
     join-append 32 (decimal line.cpu.0) (decimal line.proc.0 ∷ decimal line.inc.0 ∷ map spell (what_pieces line.what)) arrow (map spell (reply_pieces line.reply))
     ∙ ap (λ t. t ++ (32 ∷ join_with_byte 32 (arrow ∷ map spell (reply_pieces line.reply)))) (event-text line)
     ∙ ap (λ t. (decimal line.cpu.0 ++ (32 ∷ (decimal line.proc.0 ++ (32 ∷ (decimal line.inc.0 ++ (32 ∷ spell_line (what_pieces line.what))))))) ++ (32 ∷ t))
-        (join-cons 32 arrow (map spell (reply_pieces line.reply)) (reply_some line.reply))
+    (join-cons 32 arrow (map spell (reply_pieces line.reply)) (reply_some line.reply))
 
 -- a line that is written piece by piece
 pub written_line : (line : Line) (old numbers said pointed replied new : List ℕ)
     → numbers ≡ old ++ (decimal line.cpu.0 ++ (32 ∷ (decimal line.proc.0 ++ (32 ∷ (decimal line.inc.0 ++ (32 ∷ [])))))) → said ≡ numbers ++ spell_line (what_pieces line.what)
-        → pointed ≡ said ++ (32 ∷ 45 ∷ 62 ∷ 32 ∷ [])
+    → pointed ≡ said ++ (32 ∷ 45 ∷ 62 ∷ 32 ∷ [])
     → replied ≡ pointed ++ spell_line (reply_pieces line.reply) → new ≡ replied ++ (10 ∷ []) → new ≡ old ++ line_text line
 written_line line old numbers said pointed replied new a b c d e = rw (e, d, c, b, a, line_body-parts line) (simp append_assoc refl)

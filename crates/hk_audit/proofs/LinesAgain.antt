@@ -182,4 +182,4 @@ joined (p ∷ ps) next = go (as_word p)
 pub event_again : (l : Line) → IsLine l → event_line (event_pieces l) ≡ Ok (line_with l.cpu.0 l.proc.0 l.inc.0 l.what, [])
 event_again l h =
     rw (below_again 16 l.cpu.0 h.cpu, below_again 256 l.proc.0 h.proc, below_again inc_bound l.inc.0 h.inc)
-        (joined (what_pieces l.what) (λ event. end (line_with l.cpu.0 l.proc.0 l.inc.0 event)) ∙ rw (what_again l.what h.what) refl)
+    (joined (what_pieces l.what) (λ event. end (line_with l.cpu.0 l.proc.0 l.inc.0 event)) ∙ rw (what_again l.what h.what) refl)

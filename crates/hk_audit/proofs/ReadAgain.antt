@@ -44,11 +44,11 @@ guess_again l h =
     let first = clear_texts (event_pieces l) (clear_event l h) in
     let second = clear_texts (reply_pieces l.reply) (clear_reply l.reply h.reply) in
     let free : list_all (λ t. not (list_any (λ b. b == 32) t)) (map spell (event_pieces l) ++ arrow ∷ map spell (reply_pieces l.reply)) ≡ true =
-        all_both (λ t. not (list_any (λ b. b == 32) t)) (map spell (event_pieces l)) (arrow ∷ map spell (reply_pieces l.reply)) first.free second.free in
+    all_both (λ t. not (list_any (λ b. b == 32) t)) (map spell (event_pieces l)) (arrow ∷ map spell (reply_pieces l.reply)) first.free second.free in
     let cut = split_joined (λ b. b == 32) 32 (decimal l.cpu.0) (map spell (Number l.proc.0 ∷ Number l.inc.0 ∷ what_pieces l.what)
-        ++ arrow ∷ map spell (reply_pieces l.reply)) free refl in
+    ++ arrow ∷ map spell (reply_pieces l.reply)) free refl in
     let event : read_by event_line (wide_pieces (map spell (event_pieces l))) ≡ Some (line_with l.cpu.0 l.proc.0 l.inc.0 l.what) = ap (read_by event_line) first.wide
-        ∙ ap kept (event_again l h) in
+    ∙ ap kept (event_again l h) in
     let answer : read_by reply_line (wide_pieces (map spell (reply_pieces l.reply))) ≡ Some l.reply = ap (read_by reply_line) second.wide ∙ ap kept (reply_again l.reply h.reply) in
     ap (λ (ts : List (List ℕ)). from_halves (halves ts)) cut
     ∙ ap from_halves (first.apart (map spell (reply_pieces l.reply)))

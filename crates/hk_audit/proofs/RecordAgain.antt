@@ -78,7 +78,7 @@ line_unbroken l h =
     let event = (clear_texts (event_pieces l) (clear_event l h)).unbroken in
     let reply = (clear_texts (reply_pieces l.reply) (clear_reply l.reply h.reply)).unbroken in
     unbroken (line_body l) (all_joined (λ b. not (b == 10)) 32 (map spell (event_pieces l) ++ arrow ∷ map spell (reply_pieces l.reply))
-        (all_both (list_all (λ b. not (b == 10))) (map spell (event_pieces l)) (arrow ∷ map spell (reply_pieces l.reply)) event (and_from _ _ refl reply)) refl)
+    (all_both (list_all (λ b. not (b == 10))) (map spell (event_pieces l)) (arrow ∷ map spell (reply_pieces l.reply)) event (and_from _ _ refl reply)) refl)
 
 audit_lines_unbroken : (lines : List Line) → AllByRecursion IsLine lines → list_all (λ l. is_unbroken (line_body l)) lines ≡ true
 audit_lines_unbroken [] h = refl
@@ -155,7 +155,7 @@ unfolding record_text
 record_texts w lines e h g =
     canon_texts w (ended_line record_word ++ (lines_text lines ++ ended_line (end_text e))) h
     ∙ ap (λ (ts : List (List ℕ)). canon_lines w ++ record_word ∷ ts) (texts_ended line_body lines (ended_line (end_text e)) (audit_lines_unbroken lines g)
-        ∙ ap (λ (ts : List (List ℕ)). map line_body lines ++ ts) (last e))
+    ∙ ap (λ (ts : List (List ℕ)). map line_body lines ++ ts) (last e))
   where
     last : (e : End) → texts_of (ended_line (end_text e)) ≡ end_text e ∷ [] ∷ []
     last end.Done = refl

@@ -56,8 +56,10 @@ word32_fits = record { fits = all }
       where
         by : (n : ℕ) → numeral_of t ≡ Some n → (b : Bool) → leb n 4294967295 ≡ b → cond b (Ok n) (Err OutOfRange) ≡ Ok x → (x < 2 ^ 32) × (decimal x ≡ t)
         by n e true k i =
-            let same : n ≡ x = cc in (subst (λ (m : ℕ). m < 2 ^ 32) same (let most = leb-true n 4294967295 k in omega arith),
-                subst (λ (m : ℕ). decimal m ≡ t) same (numeral_is t n e))
+            let same : n ≡ x = cc in (
+              subst (λ (m : ℕ). m < 2 ^ 32) same (let most = leb-true n 4294967295 k in omega arith),
+              subst (λ (m : ℕ). decimal m ≡ t) same (numeral_is t n e),
+            )
         by n e false k i = cc
 
         go : (o : Option ℕ) → numeral_of t ≡ o → (x < 2 ^ 32) × (decimal x ≡ t)
@@ -122,7 +124,7 @@ path_fits = record { fits = all }
         one : (n : ℕ) → numeral_of t ≡ Some n → (b : Bool) → ltb n 65536 ≡ b → cond b (Ok (n ∷ [])) (Err OutOfRange) ≡ Ok x → IsPathValue x × (spell (path_piece x) ≡ t)
         one n e true k i =
             let same : n ∷ [] ≡ x = cc in subst (λ (q : List ℕ). IsPathValue q × (spell (path_piece q) ≡ t)) same
-                ((omega arith, omega arith, (ltb-true n 65536 k, tt)), numeral_is t n e)
+            ((omega arith, omega arith, (ltb-true n 65536 k, tt)), numeral_is t n e)
         one n e false k i = cc
 
         several : numeral_of t ≡ None → (o : Option (List ℕ)) → indices_spelled t ≡ o → IsPathValue x × (spell (path_piece x) ≡ t)

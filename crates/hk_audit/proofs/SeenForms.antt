@@ -267,7 +267,7 @@ right_refused t e = by_number (numeral_of t)
 -- what is no word
 pub not_word : {A : Type 0} (form : Piece → Result A ParseCause) (t : List ℕ) → ((x : List ℕ) → form (Upper x) ≡ Err UnknownWord)
     → form Dash ≡ Err UnknownWord → ((x : List Index) → form (Path x) ≡ Err UnknownWord) → ((n : ℕ) → form (Number n) ≡ Err UnknownWord) → is_lower (first t) ≡ false
-        → form (seen t) ≡ Err UnknownWord
+    → form (seen t) ≡ Err UnknownWord
 unfolding seen
 not_word form t upper dash path number h = by_number (numeral_of t)
   where

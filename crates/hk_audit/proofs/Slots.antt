@@ -65,7 +65,7 @@ slots_turn proc done into room next (p ∷ ps) left h =
   where
     go : (r : Found (List ℕ))
         → onward (onward r (λ xs rest. Ok (next.0 ∷ xs, rest))) (λ more. end (call.Enter proc (done ++ before_last into more) (slot_numbered (last_of into more))))
-            ≡ onward r (λ more. end (call.Enter proc ((done ++ into ∷ []) ++ before_last next.0 more) (slot_numbered (last_of next.0 more))))
+        ≡ onward r (λ more. end (call.Enter proc ((done ++ into ∷ []) ++ before_last next.0 more) (slot_numbered (last_of next.0 more))))
     go (Ok x) = ap (λ (args : List ℕ). end (call.Enter proc args (slot_numbered (last_of next.0 x.0))) x.1) (sym (append_assoc done (into ∷ []) (before_last next.0 x.0)))
     go (Err cause) = refl
 
@@ -116,7 +116,7 @@ call_bad before middle proc cause h k = rw (h, slot_refused middle cause k) refl
 pub call_turn : (proc : List ℕ) (args : List Slot) (count : ℕ) (into next : Slot) (pieces left : List Piece) (whole : Found Call) → count < 8 → length args ≡ 8
     → wanted as_any_slot pieces ≡ Ok (next, left)
     → slots_on proc (map (λ s. s.0) (take count args)) into.0 (8 - count) pieces ≡ whole → slots_on proc (map (λ s. s.0) (take (count + 1) (set args count into))) next.0
-        (8 - (count + 1)) left ≡ whole
+    (8 - (count + 1)) left ≡ whole
 call_turn proc args count into next pieces left whole few size h k =
     let room : 8 - count ≡ suc (8 - (count + 1)) = omega arith in
     let more = take_more_set args count into (omega arith) in

@@ -81,7 +81,7 @@ same_behind false front a b e = tt
 pub sound_wanted : {view : List ℕ → Piece} {exact : Bool} {A B : Type 0} {form : Piece → Result A ParseCause} {piece : A → Piece} {Q : A → Type 0} {next : A
     → Reads B} {front : List (List ℕ) → List (List ℕ)} {pieces : B → List Piece} {P : B → Type 0}
     → FormFits view exact A form piece Q → ((x : A) → Q x → Sound view exact B (next x) (λ ts. front (spell (piece x) ∷ ts)) pieces P)
-        → Sound view exact B (wanted form >>= next) front pieces P
+    → Sound view exact B (wanted form >>= next) front pieces P
 sound_wanted {view} {exact} {A} {B} {form} {piece} {Q} {next} {front} {pieces} {P} f more = record { sound = all }
   where
     all : (ts : List (List ℕ)) (x : B) (rest : List Piece) → (wanted form >>= next) (map view ts) ≡ Ok (x, rest) → P x × Same exact (front ts) (map spell (pieces x))
@@ -113,7 +113,7 @@ sound_unknown = record { sound = λ ts x rest h. cc }
 -- one reader for a word, and another for others
 pub sound_word : {view : List ℕ → Piece} {exact : Bool} {B : Type 0} {reads others : Reads B} {pieces : B → List Piece} {P : B → Type 0} (word literal : List ℕ)
     → Sound view exact B reads (λ ts. literal ∷ ts) pieces P → Sound view exact B others (λ ts. word ∷ ts) pieces P
-        → Sound view exact B (cond (same_text word literal) reads others) (λ ts. word ∷ ts) pieces P
+    → Sound view exact B (cond (same_text word literal) reads others) (λ ts. word ∷ ts) pieces P
 sound_word {view} {exact} {B} {reads} {others} {pieces} {P} word literal one other = go (same_text word literal) refl
   where
     go : (b : Bool) → same_text word literal ≡ b → Sound view exact B (cond b reads others) (λ ts. word ∷ ts) pieces P
@@ -125,7 +125,7 @@ sound_word {view} {exact} {B} {reads} {others} {pieces} {P} word literal one oth
 sound_template_end : {view : List ℕ → Piece} {exact : Bool} (f : Forms view exact) (of : List ℕ) (kind : Making) → IsPathValue of → IsMaking kind
     → (front : List (List ℕ) → List (List ℕ))
     → ((into : Slot) → front (decimal into.0 ∷ []) ≡ map spell (call_pieces (call.MakeTemplate of kind into)))
-        → Sound view exact Call (template_call_end of kind) front call_pieces IsCall
+    → Sound view exact Call (template_call_end of kind) front call_pieces IsCall
 sound_template_end f of kind h j front e = sound_wanted f.slot (λ into k. sound_end (h, j, k) (e into))
 
 sound_template : {view : List ℕ → Piece} {exact : Bool} (f : Forms view exact) (of : List ℕ) → IsPathValue of → (kind : Verb)
@@ -186,7 +186,7 @@ slots_sound {view} {exact} f (suc room) (t ∷ ts) more rest h = go (as_number_b
     go : (r : Result ℕ ParseCause) → as_number_below 256 (view t) ≡ r → (s : Found (List ℕ)) → at_most room (as_number_below 256) (map view ts) ≡ s
         → onward (taken r (map view ts)) (λ x left. onward (at_most room (as_number_below 256) (map view ts)) (λ xs last. Ok (x ∷ xs, last))) ≡ Ok (more, rest)
         → ((m : List ℕ) (left : List Piece) → at_most room (as_number_below 256) (map view ts) ≡ Ok (m, left) → AreSlots view exact room ts m)
-            → AreSlots view exact (suc room) (t ∷ ts) more
+        → AreSlots view exact (suc room) (t ∷ ts) more
     go (Ok y) e s i k others = by s i (rw i at k)
       where
         by : (s : Found (List ℕ)) → at_most room (as_number_below 256) (map view ts) ≡ s → onward s (λ xs last. Ok (y ∷ xs, last)) ≡ Ok (more, rest)
@@ -197,8 +197,12 @@ slots_sound {view} {exact} f (suc room) (t ∷ ts) more rest h = go (as_number_b
             let few = later.few in
             let pair : ◌≡◌ {A = List ℕ × List Piece} (y ∷ q.0, q.1) (more, rest) = cc in
             let same : y ∷ q.0 ≡ more = ap (λ (p : List ℕ × List Piece). p.0) pair in
-            subst (λ (m : List ℕ). AreSlots view exact (suc room) (t ∷ ts) m) same (record { few = omega arith; all = (here.0, later.all); same =
-                same_cons exact (decimal y) t ts (map decimal q.0) here.1 later.same })
+            subst (λ (m : List ℕ). AreSlots view exact (suc room) (t ∷ ts) m) same (record {
+              few = omega arith;
+              all = (here.0, later.all);
+              same =
+                  same_cons exact (decimal y) t ts (map decimal q.0) here.1 later.same;
+            })
         by (Err cause) i k = cc
     go (Err cause) e s i k others = cc
 
@@ -213,7 +217,7 @@ slots_spelled x (y ∷ ys) = ap (λ (ts : List (List ℕ)). decimal x ∷ ts) (s
 
 sound_slots : {view : List ℕ → Piece} {exact : Bool} (f : Forms view exact) (proc : List ℕ) (first : ℕ) → IsPathValue proc → first < 256
     → Sound view exact Call (at_most 8 (as_number_below 256) >>= (λ more. end (call.Enter proc (before_last first more) (slot_numbered (last_of first more)))))
-        (λ ts. codes "call" ∷ spell (path_piece proc) ∷ decimal first ∷ ts) call_pieces IsCall
+    (λ ts. codes "call" ∷ spell (path_piece proc) ∷ decimal first ∷ ts) call_pieces IsCall
 sound_slots {view} {exact} f proc first h k = record { sound = λ ts x rest e. go ts x rest (at_most 8 (as_number_below 256) (map view ts)) refl e }
   where
     go : (ts : List (List ℕ)) (x : Call) (rest : List Piece) (r : Found (List ℕ)) → at_most 8 (as_number_below 256) (map view ts) ≡ r
@@ -233,7 +237,7 @@ sound_slots {view} {exact} f proc first h k = record { sound = λ ts x rest e. g
       where
         spells : (b : Bool) → call.Enter proc (before_last first more) (slot_numbered (last_of first more)) ≡ x
             → codes "call" ∷ spell (path_piece proc) ∷ decimal first ∷ map decimal more ≡ map spell
-                (call_pieces (call.Enter proc (before_last first more) (slot_numbered (last_of first more))))
+            (call_pieces (call.Enter proc (before_last first more) (slot_numbered (last_of first more))))
             → Same b ts (map decimal more) → Same b (codes "call" ∷ spell (path_piece proc) ∷ decimal first ∷ ts) (map spell (call_pieces x))
         spells true same spelled e =
             ap (λ (us : List (List ℕ)). codes "call" ∷ spell (path_piece proc) ∷ decimal first ∷ us) e ∙ spelled ∙ ap (λ (c : Call). map spell (call_pieces c)) same
@@ -333,7 +337,7 @@ pub record IsEvent (g : Reply → Line) : Type 0 where
 
 sound_last : {view : List ℕ → Piece} {exact : Bool} (f : Forms view exact) (cpu proc inc : ℕ) (word : List ℕ) → cpu < 16 → proc < 256 → inc < inc_bound
     → Sound view exact (Reply → Line) (what_of word >>= (λ event. end (line_with cpu proc inc event))) (λ ts. decimal cpu ∷ decimal proc ∷ decimal inc ∷ word ∷ ts)
-        (λ g. event_pieces (g reply.Done)) IsEvent
+    (λ g. event_pieces (g reply.Done)) IsEvent
 sound_last {view} {exact} f cpu proc inc word a b c = record { sound = λ ts g rest h. go ts g rest (what_of word (map view ts)) refl h }
   where
     go : (ts : List (List ℕ)) (g : Reply → Line) (rest : List Piece) (r : Found What) → what_of word (map view ts) ≡ r

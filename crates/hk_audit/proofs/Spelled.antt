@@ -28,7 +28,7 @@ use Rattle.hk_audit.specs.Names.{same_texts}
 or_three : (a b c : ℕ) → bit_or a (bit_or b c) ≡ bit_or (bit_or a b) c
 or_three a b c =
     same_rights (bit_or a (bit_or b c)) (bit_or (bit_or a b) c) (λ n. has-bit_or a (bit_or b c) n
-        ∙ rw (has-bit_or b c n, has-bit_or (bit_or a b) c n, has-bit_or a b n) (three (has a n) (has b n) (has c n)))
+    ∙ rw (has-bit_or b c n, has-bit_or (bit_or a b) c n, has-bit_or a b n) (three (has a n) (has b n) (has c n)))
   where
     three : (x y z : Bool) → (x || (y || z)) ≡ (x || y || z)
     three true y z = refl
@@ -91,7 +91,7 @@ joined_same x xs t free = together _ _
     let e : join_with_byte 43 (x ∷ xs) ≡ t = same_is (join_with_byte 43 (x ∷ xs)) t h in
     let cut : slice_split (λ b. b == 43) (join_with_byte 43 (x ∷ xs)) ≡ x ∷ xs = split_joined (λ b. b == 43) 43 x xs free refl in
     subst (λ (z : List ℕ). same_texts (x ∷ xs) (slice_split (λ b. b == 43) z) ≡ true) e (subst (λ (z : List (List ℕ)). same_texts (x ∷ xs) z ≡ true) (sym cut)
-        (texts_self (x ∷ xs))))
+    (texts_self (x ∷ xs))))
 
 IsFree : ℕ → Type 0
 IsFree n = not (list_any (λ b. b == 43) (name_of n)) ≡ true

@@ -145,7 +145,7 @@ merged_in : (rights : ℕ) (of : Option Name) (give : ℕ) → IsRightsWord give
 merged_in rights None give h = IsRightsWord-bit_and give rights h
 merged_in rights (Some wanted) give h =
     IsRightsWord-bit_or (bit_and give (all_but special_rights)) (bit_and (bit_and give special_rights) rights) (IsRightsWord-bit_and give (all_but special_rights) h)
-        (IsRightsWord-bit_and (bit_and give special_rights) rights (IsRightsWord-bit_and give special_rights h))
+    (IsRightsWord-bit_and (bit_and give special_rights) rights (IsRightsWord-bit_and give special_rights h))
 
 pub obtained_fine : (by : ℕ) (entry : Entry) (step : ℕ) → EntryIn entry → IsStep step → Fine EntryIn (obtained by entry step)
 obtained_fine by Empty step h low = tt
@@ -158,4 +158,4 @@ merged_fine cap of form step h low =
     and_fine {A = Unit {0}} (λ u. IsTrue (matches form.of of)) CapIn (unless (matches form.of of) (refused.WrongType step)) (allowed cap.rights form.check step >> Ok new)
     (unless_fine (matches form.of of) (refused.WrongType step) low)
     (λ u p. and_fine {A = Unit {0}} Passed CapIn (allowed cap.rights form.check step) (Ok new) (allowed_fine cap.rights form.check step low)
-        (λ v q. merged_in cap.rights form.of form.give h))
+    (λ v q. merged_in cap.rights form.of form.give h))

@@ -7,9 +7,9 @@ ghost use Rattle.hk_audit.specs.Left.{texts};
 ghost use Rattle.hk_audit.specs.RecordCuts.{behind_first};
 ghost use Rattle.hk_audit.specs.RecordEvents.{Finds, GivesEvents, have_no_byte};
 
+use crate::audits::RecordError;
 use crate::parts::Parts;
 use crate::reading::read_body;
-use crate::audits::RecordError;
 use hk_format::{Cause, ParseCause};
 use hk_model::{End, Items, Line, Template};
 use std::alloc::Global;

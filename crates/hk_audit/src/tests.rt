@@ -11,8 +11,8 @@ use crate::{
     steps_have_texts,
 };
 use hk_model::{
-    Args, Call, Cpu, End, Frame, Inc, Instr, Items, Line, Making, NoMemory, Path, Proc, Refusal, Reply, Slot,
-    Text, What, What8, World,
+    Args, Call, Cpu, End, Frame, Inc, Instr, Items, Line, Making, NoMemory, Path, Proc, Refusal,
+    Reply, Slot, Text, What, What8, World,
 };
 use hk_rights::{Right, Rights};
 use std::alloc::Global;

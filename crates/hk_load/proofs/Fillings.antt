@@ -30,7 +30,7 @@ after_entry c e line (Err x) = refl
 
 words_onto : (c : Contents) (words : List ℕ) (line : ℕ) (rest : Used → Result Contents Refused) (few : Bool)
     → after c (onto more_words line (limited few (Ok words)) (rest (used (length c.words + length words) (length c.params) (length c.entries))))
-        ≡ (at_line line (limited few (Ok words) >>= (λ ws. Ok (contents (c.words ++ ws) c.params c.entries))) >>= (λ (d : Contents). after d (rest (used_by d))))
+    ≡ (at_line line (limited few (Ok words) >>= (λ ws. Ok (contents (c.words ++ ws) c.params c.entries))) >>= (λ (d : Contents). after d (rest (used_by d))))
 words_onto c words line rest true =
     after_words c words line (rest (used (length c.words + length words) (length c.params) (length c.entries)))
     ∙ ap (λ n. after (contents (c.words ++ words) c.params c.entries) (rest (used n (length c.params) (length c.entries)))) (sym (length-append c.words words))
@@ -38,7 +38,7 @@ words_onto c words line rest false = refl
 
 param_onto : (c : Contents) (p : Result Param LoadCause) (line : ℕ) (rest : Used → Result Contents Refused) (few : Bool)
     → after c (onto one_param line (limited few p) (rest (used (length c.words) (length c.params + 1) (length c.entries))))
-        ≡ (at_line line (p >>= (λ x. limited few (Ok x) >>= (λ y. Ok (contents c.words (c.params ++ y ∷ []) c.entries)))) >>= (λ (d : Contents). after d (rest (used_by d))))
+    ≡ (at_line line (p >>= (λ x. limited few (Ok x) >>= (λ y. Ok (contents c.words (c.params ++ y ∷ []) c.entries)))) >>= (λ (d : Contents). after d (rest (used_by d))))
 param_onto c (Ok p) line rest true =
     after_param c p line (rest (used (length c.words) (length c.params + 1) (length c.entries)))
     ∙ ap (λ n. after (contents c.words (c.params ++ p ∷ []) c.entries) (rest (used (length c.words) n (length c.entries)))) (sym (length-append c.params (p ∷ [])))
@@ -47,7 +47,7 @@ param_onto c (Err cause) line rest few = refl
 
 entry_onto : (c : Contents) (e : Result Entry LoadCause) (line : ℕ) (rest : Used → Result Contents Refused)
     → after c (onto one_entry line e (rest (used (length c.words) (length c.params) (length c.entries + 1))))
-        ≡ (at_line line (e >>= (λ y. Ok (contents c.words c.params (c.entries ++ y ∷ [])))) >>= (λ (d : Contents). after d (rest (used_by d))))
+    ≡ (at_line line (e >>= (λ y. Ok (contents c.words c.params (c.entries ++ y ∷ [])))) >>= (λ (d : Contents). after d (rest (used_by d))))
 entry_onto c (Ok e) line rest =
     after_entry c e line (rest (used (length c.words) (length c.params) (length c.entries + 1)))
     ∙ ap (λ n. after (contents c.words c.params (c.entries ++ e ∷ [])) (rest (used (length c.words) (length c.params) n))) (sym (length-append c.entries (e ∷ [])))
@@ -70,7 +70,7 @@ added_onto names r c line (StepIs step) rest = entry_onto c (limited (ltb (lengt
 -- the next line, with those behind it
 pub line_turn : (names : Names) (r : Room) (c : Contents) (parts : List Part) (at : ℕ) (p : Part) → at < length parts → p ≡ get_or parts at p
     → after c (contents_of names r (used_by c) (drop at parts)) ≡ (at_line p.line (added names r c p.body) >>=
-        (λ (d : Contents). after d (contents_of names r (used_by d) (drop (at + 1) parts))))
+    (λ (d : Contents). after d (contents_of names r (used_by d) (drop (at + 1) parts))))
 line_turn names r c parts at p more e =
     at_drop_more (λ ps. after c (contents_of names r (used_by c) ps)) parts at p more
     ∙ ap (λ (x : Part). after c (contents_of names r (used_by c) (x ∷ drop (at + 1) parts))) (sym e)

@@ -33,9 +33,9 @@ pub labels_more : (es new : List (String Global × ℕ)) (k : String Global) (t 
 labels_more es new k t place labels v h e f =
     let texts : label_texts (labels_seen es) ≡ map (λ (x : String Global × ℕ). string_bytes x.0) es = texts_of es in
     let last : new ≡ es ++ (k, place) ∷ [] = f ∙ insert_new es k place (ap (λ x. is_among x (string_bytes k)) (sym texts) ∙ ap (λ x. is_among (label_texts (labels_seen es)) x) e
-        ∙ ap (λ (x : List Label). is_among (label_texts x) t) v ∙ h) in
+    ∙ ap (λ (x : List Label). is_among (label_texts x) t) v ∙ h) in
     ap labels_seen last ∙ map-append (λ (x : String Global × ℕ). label_at (string_bytes x.0) x.1) es ((k, place) ∷ [])
-        ∙ ap (λ (x : List Label). x ++ label_at (string_bytes k) place ∷ []) v ∙ ap (λ x. labels ++ label_at x place ∷ []) e
+    ∙ ap (λ (x : List Label). x ++ label_at (string_bytes k) place ∷ []) v ∙ ap (λ x. labels ++ label_at x place ∷ []) e
   where
     texts_of : (es : List (String Global × ℕ)) → label_texts (labels_seen es) ≡ map (λ (x : String Global × ℕ). string_bytes x.0) es
     texts_of [] = refl
@@ -78,7 +78,7 @@ pub label_new : (labels : List Label) (n : ℕ) (parts : List Part) (at : ℕ) (
     → HasNewLabels (label_texts labels) (drop at parts) → (is_among (label_texts labels) t ≡ false) × HasNewLabels (label_texts (labels ++ label_at t n ∷ [])) (drop (at + 1) parts)
 label_new labels n parts at p t more e b h =
     let new = subst (λ body. IsTrue (is_new_label (label_texts labels) body) × HasNewLabels (noted_label (label_texts labels) body) (drop (at + 1) parts)) b
-        (new_parts (label_texts labels) parts at p more e h) in
+    (new_parts (label_texts labels) parts at p more e h) in
     (not_true (is_among (label_texts labels) t) new.0, rw map-append new.1)
   where
     not_true : (b : Bool) → not b ≡ true → b ≡ false
@@ -146,9 +146,9 @@ pub target_gives : (es : List (String Global × ℕ)) (labels : List Label) (t k
     → Some n ≡ position (λ (k : String Global). same_text key (string_bytes k)) (map (λ e. e.0) es) → slice_get es n ≡ Some (k, place) → target labels t ≡ Ok (to_limit place)
 target_gives es labels t key n k place v e h at =
     let there = place_some (λ (k : String Global). same_text t (string_bytes k)) (map (λ y. y.0) es) n
-        (ap (λ x. position (λ (k : String Global). same_text x (string_bytes k)) (map (λ y. y.0) es)) (sym e) ∙ sym h) in
+    (ap (λ x. position (λ (k : String Global). same_text x (string_bytes k)) (map (λ y. y.0) es)) (sym e) ∙ sym h) in
     let f : find (λ (l : Label). same_text t l.text) (labels_seen es) ≡ Some (label_at (string_bytes k) place) = find_at (λ (l : Label). same_text t l.text) (labels_seen es)
-        ∙ ap (λ m. slice_get (labels_seen es) m) (same_place es t ∙ there) ∙ get_map (λ (y : String Global × ℕ). label_at (string_bytes y.0) y.1) es n (k, place) at in
+    ∙ ap (λ m. slice_get (labels_seen es) m) (same_place es t ∙ there) ∙ get_map (λ (y : String Global × ℕ). label_at (string_bytes y.0) y.1) es n (k, place) at in
     ap (λ (x : List Label). target x t) (sym v) ∙ ap (λ o. found (option_map (λ (l : Label). to_limit l.place) o) UnknownName) f
 
 -- to none
@@ -156,12 +156,12 @@ pub no_target : (es : List (String Global × ℕ)) (labels : List Label) (t key 
     → None ≡ position (λ (k : String Global). same_text key (string_bytes k)) (map (λ e. e.0) es) → target labels t ≡ Err UnknownName
 no_target es labels t key v e h =
     let past = place_none (λ (k : String Global). same_text t (string_bytes k)) (map (λ y. y.0) es)
-        (ap (λ x. position (λ (k : String Global). same_text x (string_bytes k)) (map (λ y. y.0) es)) (sym e) ∙ sym h) in
+    (ap (λ x. position (λ (k : String Global). same_text x (string_bytes k)) (map (λ y. y.0) es)) (sym e) ∙ sym h) in
     let same = same_place es t in
     let size : length (map (λ (y : String Global × ℕ). y.0) es) ≡ length es = length-map es (λ (y : String Global × ℕ). y.0) in
     let size-1 : length (labels_seen es) ≡ length es = length-map es (λ (y : String Global × ℕ). label_at (string_bytes y.0) y.1) in
     let f : find (λ (l : Label). same_text t l.text) (labels_seen es) ≡ None = find_at (λ (l : Label). same_text t l.text) (labels_seen es)
-        ∙ get_past (labels_seen es) (position_or_len (λ (l : Label). same_text t l.text) (labels_seen es)) (omega arith) in
+    ∙ get_past (labels_seen es) (position_or_len (λ (l : Label). same_text t l.text) (labels_seen es)) (omega arith) in
     ap (λ (x : List Label). target x t) (sym v) ∙ ap (λ o. found (option_map (λ (l : Label). to_limit l.place) o) UnknownName) f
 
 -- instructions
@@ -192,7 +192,7 @@ step_onto labels steps line (ParamIs kind check give) rest = refl
 -- the next line, with those behind it
 pub step_turn : (labels : List Label) (steps : List Instr) (parts : List Part) (at : ℕ) (p : Part) → at < length parts → p ≡ get_or parts at p
     → after_steps steps (instrs_of labels (length steps) (drop at parts)) ≡ (at_line p.line (step_added labels steps p.body) >>=
-        (λ s. after_steps s (instrs_of labels (length s) (drop (at + 1) parts))))
+    (λ s. after_steps s (instrs_of labels (length s) (drop (at + 1) parts))))
 step_turn labels steps parts at p more e =
     at_part (λ ps. after_steps steps (instrs_of labels (length steps) ps)) parts at p more e
     ∙ step_onto labels steps p.line p.body (λ next. instrs_of labels next (drop (at + 1) parts))

@@ -53,7 +53,7 @@ of_text_error bytes (Err error) read_error.NoMemory h f line cause r = absurd (c
 pub of_parse_error : (bytes : List ℕ) (lines : Lines) (result : Result WorldValue (ReadError Cause)) (e : (ReadError ParseCause)) → text bytes ≡ Ok lines
     → IsErrAnd result (λ error. error ≡ with_cause OfParse e)
     → ((line : ℕ) (cause : ParseCause) → e ≡ read_error.Refused line cause → script lines ≡ Err (line, cause)) → (line : ℕ) (cause : Cause) → IsRefused result line cause
-        → world bytes ≡ Err (line, cause)
+    → world bytes ≡ Err (line, cause)
 of_parse_error bytes lines (Ok w) e t h f line cause r = absurd h
 of_parse_error bytes lines (Err error) (read_error.Refused at why) t h f line cause r =
     let a : at ≡ line = cc in let b : OfParse why ≡ cause = cc in parse_refused bytes lines at why t (f at why refl) ∙ rw (a, b) refl
@@ -62,7 +62,7 @@ of_parse_error bytes lines (Err error) read_error.NoMemory t h f line cause r = 
 pub of_load_error : (bytes : List ℕ) (lines : Lines) (items : List Item) (result : Result WorldValue (ReadError Cause)) (e : (ReadError LoadCause)) → text bytes ≡ Ok lines
     → script lines ≡ Ok items → IsErrAnd result (λ error. error ≡ with_cause OfLoad e)
     → ((line : ℕ) (cause : LoadCause) → e ≡ read_error.Refused line cause → load items ≡ Err (line, cause)) → (line : ℕ) (cause : Cause) → IsRefused result line cause
-        → world bytes ≡ Err (line, cause)
+    → world bytes ≡ Err (line, cause)
 of_load_error bytes lines items (Ok w) e t p h f line cause r = absurd h
 of_load_error bytes lines items (Err error) (read_error.Refused at why) t p h f line cause r =
     let a : at ≡ line = cc in let b : OfLoad why ≡ cause = cc in load_refused bytes lines items at why t p (f at why refl) ∙ rw (a, b) refl

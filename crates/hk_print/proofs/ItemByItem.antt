@@ -23,12 +23,12 @@ items_text (i ∷ is) = flat_map-append pieces_line (item_lines i) (flat_map ite
 -- the header, the limit, the objects, the codes, the processes
 pub canon_is : (w : WorldValue)
     → canon w ≡ (((codes "hydra 1\n" ++ flat_map item_text (limit_items w.limit)) ++ flat_map (λ (b : Born). item_text (object_item (spoken w) b)) w.objects)
-        ++ flat_map (λ (c : Code). item_text (code_item c)) w.codes) ++ flat_map (λ (t : Task). item_text (task_item (spoken w) t)) w.tasks
+    ++ flat_map (λ (c : Code). item_text (code_item c)) w.codes) ++ flat_map (λ (t : Task). item_text (task_item (spoken w) t)) w.tasks
 unfolding canon digits
 canon_is w =
     ap (λ (t : List ℕ). codes "hydra 1\n" ++ t) (items_text (syntax_of w) ∙ parts)
     ∙ sym (append_assoc (codes "hydra 1\n" ++ limits ++ objects) coded tasks ∙ append_assoc (codes "hydra 1\n" ++ limits) objects (coded ++ tasks)
-        ∙ append_assoc (codes "hydra 1\n") limits (objects ++ (coded ++ tasks)))
+    ∙ append_assoc (codes "hydra 1\n") limits (objects ++ (coded ++ tasks)))
   where
     limits : List ℕ
     limits = flat_map item_text (limit_items w.limit)

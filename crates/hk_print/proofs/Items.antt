@@ -18,7 +18,7 @@ use Rattle.hk_print.specs.ItemTexts.{pieces_line, body_text, parts_text, entry_l
 pub item_spelled : (head : Head) (parts : List Part) → has_parts head ≡ true → item_text (item head parts) ≡ pieces_line (head_pieces head) ++ (parts_text parts ++ codes "end\n")
 item_spelled head parts has =
     rw has (ap (λ (t : List ℕ). pieces_line (head_pieces head) ++ t) (flat_map-append pieces_line (map (λ (p : Part). body_pieces p.body) parts) (end_line ∷ [])
-        ∙ ap (λ (t : List ℕ). t ++ codes "end\n") (flat_map-map pieces_line (λ (p : Part). body_pieces p.body) parts)))
+    ∙ ap (λ (t : List ℕ). t ++ codes "end\n") (flat_map-map pieces_line (λ (p : Part). body_pieces p.body) parts)))
 
 pub parts_joined : (xs ys : List Part) → parts_text (xs ++ ys) ≡ parts_text xs ++ parts_text ys
 parts_joined xs ys = flat_map-append (λ (p : Part). body_text p.body) xs ys
@@ -34,7 +34,7 @@ pub item_written : (head : Head) (parts : List Part) (old begun filled new : Lis
     → filled ≡ begun ++ parts_text parts → new ≡ filled ++ codes "end\n" → new ≡ old ++ item_text (item head parts)
 item_written head parts old begun filled new has b f n =
     n ∙ rw (f, b) (append_assoc (old ++ pieces_line (head_pieces head)) (parts_text parts) (codes "end\n")
-        ∙ append_assoc old (pieces_line (head_pieces head)) (parts_text parts ++ codes "end\n") ∙ ap (λ (t : List ℕ). old ++ t) (sym (item_spelled head parts has)))
+    ∙ append_assoc old (pieces_line (head_pieces head)) (parts_text parts ++ codes "end\n") ∙ ap (λ (t : List ℕ). old ++ t) (sym (item_spelled head parts has)))
 
 -- an item with lines of two kinds
 pub item_of_two : (head : Head) (xs ys : List Part) (old begun half filled new : List ℕ) → has_parts head ≡ true → begun ≡ old ++ pieces_line (head_pieces head)

@@ -26,7 +26,7 @@ pub joined_next : {X : Type 0} (b : ℕ) (text : X → List ℕ) (xs : List X) (
     → new ≡ join_with_byte b (map text (take (i + 1) xs))
 joined_next b text xs i d inside e f p n =
     n ∙ rw (p, e, f, take_more xs i d inside) (append_assoc (join_with_byte b (map text (take i xs))) (separator b (take i xs)) (text (get_or xs i d))
-        ∙ sym (joined b text (take i xs) (get_or xs i d)))
+    ∙ sym (joined b text (take i xs) (get_or xs i d)))
 
 -- and the byte stands before the one behind it
 pub separated_next : {X : Type 0} (b : ℕ) (xs : List X) (i : ℕ) (d : X) → i < length xs → (b ∷ []) ≡ separator b (take (i + 1) xs)

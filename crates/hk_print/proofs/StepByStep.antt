@@ -40,7 +40,7 @@ step_written all i d whole out labelled text new inside before l e n =
     let label = parts_text (label_parts all i) in
     let rest = parts_text (code_parts all (i + 1) (drop (i + 1) all)) in
     let split : parts_text (code_parts all i (drop i all)) ≡ label ++ (line ++ rest) = rw cut
-        (parts_joined (label_parts all i) (part (StepIs (written_of (get_or all i d))) ∷ code_parts all (i + 1) (drop (i + 1) all))) in
+    (parts_joined (label_parts all i) (part (StepIs (written_of (get_or all i d))) ∷ code_parts all (i + 1) (drop (i + 1) all))) in
     rw (n, e, l) (append_assoc (out ++ label) line rest ∙ append_assoc out label (line ++ rest)) ∙ (ap (λ (t : List ℕ). out ++ t) (sym split) ∙ before)
 
 drop_all : (all : List Instr) → drop (length all) all ≡ []

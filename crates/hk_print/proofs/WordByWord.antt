@@ -57,7 +57,7 @@ word_breaks used w ws over =
     let no : leb (used + number_bytes w) 1000 ≡ false = grind (arith, nat_tests) in
     let rest = words_from (5 + number_bytes w) ws in
     rw no (ap (λ (t : List ℕ). 10 ∷ t) (line_begun (onto_first w rest) (onto_some w rest) ∙ ap (λ (t : List ℕ). codes "words" ++ t)
-        (put_first w rest (from_some (5 + number_bytes w) ws))))
+    (put_first w rest (from_some (5 + number_bytes w) ws))))
 
 -- a word is written on its line
 pub word_written : (used w len : ℕ) (old number new rest : List ℕ) → used + len ≤ 1000 → number ≡ 32 ∷ decimal w → len ≡ length number → new ≡ old ++ number
@@ -65,7 +65,7 @@ pub word_written : (used w len : ℕ) (old number new rest : List ℕ) → used 
 word_written used w len old number new rest fits e l n =
     let same : len ≡ number_bytes w = l ∙ ap length e ∙ omega arith in
     rw (n, e, same) (append_assoc old (32 ∷ decimal w) (begun_lines (words_from (used + number_bytes w) rest))
-        ∙ ap (λ (t : List ℕ). old ++ t) (sym (word_fits used w rest (omega arith))))
+    ∙ ap (λ (t : List ℕ). old ++ t) (sym (word_fits used w rest (omega arith))))
 
 -- or on the next
 pub word_moved : (used w len : ℕ) (old number broken new rest : List ℕ) → 1000 < used + len → number ≡ 32 ∷ decimal w → len ≡ length number → broken ≡ old ++ (10 ∷ codes "words")
@@ -73,8 +73,8 @@ pub word_moved : (used w len : ℕ) (old number broken new rest : List ℕ) → 
 word_moved used w len old number broken new rest over e l b n =
     let same : len ≡ number_bytes w = l ∙ ap length e ∙ omega arith in
     rw (n, b, e, same) (append_assoc (old ++ (10 ∷ codes "words")) (32 ∷ decimal w) (begun_lines (words_from (5 + number_bytes w) rest))
-        ∙ append_assoc old (10 ∷ codes "words") ((32 ∷ decimal w) ++ begun_lines (words_from (5 + number_bytes w) rest))
-        ∙ ap (λ (t : List ℕ). old ++ t) (sym (word_breaks used w rest (omega arith))))
+    ∙ append_assoc old (10 ∷ codes "words") ((32 ∷ decimal w) ++ begun_lines (words_from (5 + number_bytes w) rest))
+    ∙ ap (λ (t : List ℕ). old ++ t) (sym (word_breaks used w rest (omega arith))))
 
 drop_all : (words : List ℕ) → drop (length words) words ≡ []
 drop_all [] = refl

@@ -135,7 +135,9 @@ fn entries_are_spelled_by_numbers(rt: HostRuntime) -> Result<(), Fail> {
 fn names_are_spelled_by_labels(rt: HostRuntime) -> Result<(), Fail> {
     let alloc = rt.alloc();
     let world = empty_world(alloc, 1);
-    let name = world.spell(alloc, Name(1)).map_err(|_error: NoMemory| "memory")?;
+    let name = world
+        .spell(alloc, Name(1))
+        .map_err(|_error: NoMemory| "memory")?;
     assert_eq!(rt; name.as_str(), "DATA");
     let param = Param {
         of: Some(Name(6)),

@@ -5,8 +5,8 @@
 mod run;
 
 use crate::run::refused_steps;
-use hk_load::read_world;
 use hk_io::{StdIn, StdOut, read_all, write_all};
+use hk_load::read_world;
 use hk_model::limits::SCRIPT_BYTES;
 use hk_plain::Plain;
 use std::process::ExitCode;

@@ -6,4 +6,4 @@ pub returns : goal.returns
 returns c =
     let same = c.as_slice-indices.ensures in
     path_whole c.args.path.now (string_bytes c.args.out.now) (string_bytes c.write.new.self) _ c.loop-index.index-index c.requires.0
-        (omega (arith, c.loop-index-test.false, ap length same)) (search rules) (rw (← same) (search rules))
+    (omega (arith, c.loop-index-test.false, ap length same)) (search rules) (rw (← same) (search rules))

@@ -4,4 +4,4 @@ use Rattle.hk_audit.proofs.lines.write_line.Goals as goal
 pub returns : goal.returns
 returns c =
     written_line c.args.line.now _ _ _ _ _ _ c.in_ok-write.ensures.bytes c.in_ok-write_what.ensures c.in_ok-push_str.ensures.bytes c.in_ok-write_reply.ensures
-        c.in_ok-push_str-2.ensures.bytes
+    c.in_ok-push_str-2.ensures.bytes

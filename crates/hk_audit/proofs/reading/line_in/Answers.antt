@@ -15,7 +15,7 @@ returns-in_default-clause-none c =
 pub returns-in_default-reply-clause-none : goal.returns-in_default-reply-clause-none
 returns-in_default-reply-clause-none c =
     reply_refused c.args.event.now c.args.reply.now c.in_default-reply.field-0 (sym (ap (λ (ts : List (List ℕ)). reply_line (map seen ts)) c.new-2.ensures)
-        ∙ c.in_default-reply.ensures)
+    ∙ c.in_default-reply.ensures)
 
 pub returns-clause-some : goal.returns-clause-some
 returns-clause-some c =

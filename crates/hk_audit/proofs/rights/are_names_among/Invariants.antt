@@ -8,4 +8,4 @@ use Rattle.hk_audit.proofs.rights.are_names_among.Given as goal
 abbrev pub invariant-loop-number : goal.invariant-loop-number
 invariant-loop-number l =
     same_texts (map name_of (filter (has l.rights) (drop l.number-index l.numbers))) (texts l.parts)
-        ≡ same_texts (map name_of (filter (has l.rights) l.numbers)) (slice_split (λ b. b == 43) l.text)
+    ≡ same_texts (map name_of (filter (has l.rights) l.numbers)) (slice_split (λ b. b == 43) l.text)

@@ -18,7 +18,7 @@ loop-start-preserved c = record {
   low = let size = length-drop c.loop-start.start c.args.bytes.now in omega (arith, c.first_of-len.ensures.within);
   rest =
       line_passed c.args.bytes.now c.loop-start.start c.first_of-len.result _ (omega arith) c.first_of-len.ensures.place c.first_of-len.ensures.within
-          (sym c.is_record.ensures ∙ c.if-is_record.false) c.loop-start.invariant.rest;
+      (sym c.is_record.ensures ∙ c.if-is_record.false) c.loop-start.invariant.rest;
 }
 
 pub returns-clause-cut : goal.returns-clause-cut

@@ -22,24 +22,24 @@ loop-item-preserved c = record {
   new = (next_new c.args.items.now c.loop-item.item-index c.item-item.result c.loop-item-test.true c.item-item.is c.loop-item.invariant.new).1;
   all =
       item_goes (added c.args.declared.now (built_of c.loop-item.loaded) c.item-item.result.line c.item-item.result.parts c.item-item.result.head) (built_of c.add.new.self)
-          (λ (d : Built). after d (items_of c.args.declared.now (counts_of d) (drop (c.loop-item.item-index + 1) c.args.items.now))) (load c.args.items.now) c.in_ok-add.ensures
-          (sym c.loop-item.invariant.all ∙ item_turn c.args.declared.now
-          (built_of c.loop-item.loaded) c.args.items.now c.loop-item.item-index c.item-item.result c.loop-item-test.true c.item-item.is);
+      (λ (d : Built). after d (items_of c.args.declared.now (counts_of d) (drop (c.loop-item.item-index + 1) c.args.items.now))) (load c.args.items.now) c.in_ok-add.ensures
+      (sym c.loop-item.invariant.all ∙ item_turn c.args.declared.now
+      (built_of c.loop-item.loaded) c.args.items.now c.loop-item.item-index c.item-item.result c.loop-item-test.true c.item-item.is);
 }
 
 pub returns-in_err-add : goal.returns-in_err-add
 returns-in_err-add c =
     let p = err_from_is_err_and c.from_residual.result c.from_residual.ensures.1 in
     rw (p.1, p.2) (item_stops c.in_err-add.field-0.0
-        (added c.args.declared.now (built_of c.loop-item.loaded) c.item-item.result.line c.item-item.result.parts c.item-item.result.head)
-        (λ (d : Built). after d (items_of c.args.declared.now (counts_of d) (drop (c.loop-item.item-index + 1) c.args.items.now))) (load c.args.items.now) c.in_err-add.ensures
-        (sym c.loop-item.invariant.all ∙ item_turn c.args.declared.now
-        (built_of c.loop-item.loaded) c.args.items.now c.loop-item.item-index c.item-item.result c.loop-item-test.true c.item-item.is))
+    (added c.args.declared.now (built_of c.loop-item.loaded) c.item-item.result.line c.item-item.result.parts c.item-item.result.head)
+    (λ (d : Built). after d (items_of c.args.declared.now (counts_of d) (drop (c.loop-item.item-index + 1) c.args.items.now))) (load c.args.items.now) c.in_err-add.ensures
+    (sym c.loop-item.invariant.all ∙ item_turn c.args.declared.now
+    (built_of c.loop-item.loaded) c.args.items.now c.loop-item.item-index c.item-item.result c.loop-item-test.true c.item-item.is))
 
 pub finish-requires : goal.finish-requires
 finish-requires c =
     loaded_world c.args.items.now (finished (built_of c.loop-item.loaded)) c.requires.syntax
-        (last_items c.args.declared.now (built_of c.loop-item.loaded) c.args.items.now c.loop-item.item-index c.loop-item-test.false c.loop-item.invariant.all)
+    (last_items c.args.declared.now (built_of c.loop-item.loaded) c.args.items.now c.loop-item.item-index c.loop-item-test.false c.loop-item.invariant.all)
 
 pub returns : goal.returns
 returns c =

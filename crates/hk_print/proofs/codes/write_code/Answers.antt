@@ -12,4 +12,4 @@ returns c =
     let steps = c.args.code.now.steps in
     let begun : string_bytes c.write.new.self ≡ string_bytes c.args.out.now ++ pieces_line (head_pieces (CodeIs label)) = search rules in
     item_written (CodeIs label) (code_parts steps 0 steps) (string_bytes c.args.out.now) (string_bytes c.write.new.self) (string_bytes c.write_steps.new.out)
-        (string_bytes c.push_str.new.self) refl begun (search rules) (search rules)
+    (string_bytes c.push_str.new.self) refl begun (search rules) (search rules)

@@ -11,5 +11,5 @@ returns-in_ok-write-in-Held g c =
     let object = g.S.Speller.name_text c.args.speller.now cap.name in
     let wrote : string_bytes c.write.new.self ≡ string_bytes c.args.out.now ++ (codes "cap " ++ (object ++ 32 ∷ rights_text cap.rights)) = search rules in
     let text : entry_text (g.S.Speller.name_text c.args.speller.now) c.args.entry ≡ codes "cap " ++ (object ++ 32 ∷ rights_text cap.rights) =
-        rw c.in-Held.is (cap_text object (rights_text cap.rights)) in
+    rw c.in-Held.is (cap_text object (rights_text cap.rights)) in
     wrote ∙ ap (λ (t : List ℕ). string_bytes c.args.out.now ++ t) (sym text)

@@ -9,5 +9,5 @@ pub returns : goal.returns
 returns g c =
     let kind = kind_spelled (g.S.Speller.name_text c.args.speller.now) c.args.param.of in
     let wrote : string_bytes c.write.new.self ≡ string_bytes c.args.out.now ++ (codes "param "
-        ++ (kind ++ 32 ∷ (rights_text c.args.param.check ++ 32 ∷ rights_text c.args.param.give))) = search rules in
+    ++ (kind ++ 32 ∷ (rights_text c.args.param.check ++ 32 ∷ rights_text c.args.param.give))) = search rules in
     wrote ∙ ap (λ (t : List ℕ). string_bytes c.args.out.now ++ t) (sym (param_text kind (rights_text c.args.param.check) (rights_text c.args.param.give)))

@@ -12,9 +12,9 @@ returns-in_ok-write-in-Amplify g c =
     let speak = g.S.Speller.name_text c.args.speller.now in
     let kind = kind_spelled speak w.of in
     let wrote : string_bytes c.write.new.self ≡ string_bytes c.args.out.now ++ (codes "amplify " ++ (kind ++ 32 ∷ (rights_text w.check ++ 32 ∷ rights_text w.give))) =
-        search rules in
+    search rules in
     let text : entry_text speak (Form c.args.template) ≡ codes "amplify " ++ (kind ++ 32 ∷ (rights_text w.check ++ 32 ∷ rights_text w.give)) =
-        rw w.is (amplify_text kind (rights_text w.check) (rights_text w.give)) in
+    rw w.is (amplify_text kind (rights_text w.check) (rights_text w.give)) in
     wrote ∙ ap (λ (t : List ℕ). string_bytes c.args.out.now ++ t) (sym text)
 
 pub returns-in_ok-write-in-Create : goal.returns-in_ok-write-in-Create

@@ -20,4 +20,4 @@ returns c =
     let half : string_bytes c.write_words.new.out ≡ string_bytes c.write.new.self ++ parts_text (word_parts words) = search rules in
     let filled : string_bytes c.write_entries.new.out ≡ string_bytes c.write_words.new.out ++ parts_text (entry_parts s entries) = rw (entries_spelled s entries) (search rules) in
     item_of_two (ObjectIs label of) (word_parts words) (entry_parts s entries) (string_bytes c.args.out.now) (string_bytes c.write.new.self) (string_bytes c.write_words.new.out)
-        (string_bytes c.write_entries.new.out) (string_bytes c.push_str.new.self) refl begun half filled (search rules)
+    (string_bytes c.write_entries.new.out) (string_bytes c.push_str.new.self) refl begun half filled (search rules)

@@ -20,4 +20,4 @@ returns c =
     let half : string_bytes c.write_params.new.out ≡ string_bytes c.write.new.self ++ parts_text (param_parts s params) = rw (params_spelled s params) (search rules) in
     let filled : string_bytes c.write_entries.new.out ≡ string_bytes c.write_params.new.out ++ parts_text (entry_parts s entries) = rw (entries_spelled s entries) (search rules) in
     item_of_two (ProcedureIs label code) (param_parts s params) (entry_parts s entries) (string_bytes c.args.out.now) (string_bytes c.write.new.self)
-        (string_bytes c.write_params.new.out) (string_bytes c.write_entries.new.out) (string_bytes c.push_str.new.self) refl begun half filled (search rules)
+    (string_bytes c.write_params.new.out) (string_bytes c.write_entries.new.out) (string_bytes c.push_str.new.self) refl begun half filled (search rules)

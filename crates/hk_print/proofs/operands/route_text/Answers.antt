@@ -9,6 +9,6 @@ loop-index-preserved c = record {
   ascii = search rules;
   text =
       joined_next 46 spell_index c.as_slice-index-items.result.now c.loop-index.index-index _ c.loop-index-test.true c.loop-index.invariant.text c.loop-index.invariant.before
-          c.in_ok-push_str.ensures.bytes c.in_ok-write_index.ensures;
+      c.in_ok-push_str.ensures.bytes c.in_ok-write_index.ensures;
   before = separated_next 46 c.as_slice-index-items.result.now c.loop-index.index-index (Fixed 0) c.loop-index-test.true;
 }

@@ -18,4 +18,4 @@ returns c =
     let begun = wrote ∙ ap (λ (t : List ℕ). string_bytes c.args.out.now ++ t) (sym (process_spelled label code)) in
     let filled : string_bytes c.write_entries.new.out ≡ string_bytes c.write.new.self ++ parts_text (entry_parts s entries) = rw (entries_spelled s entries) (search rules) in
     item_written (ProcessIs label code) (entry_parts s entries) (string_bytes c.args.out.now) (string_bytes c.write.new.self) (string_bytes c.write_entries.new.out)
-        (string_bytes c.push_str.new.self) refl begun filled (search rules)
+    (string_bytes c.push_str.new.self) refl begun filled (search rules)

@@ -9,7 +9,7 @@ loop-number-preserved c = elim c.match-right_of.branch [
   | in-Some+in_ok-push_name w ↦
       let asked = asked_some (has c.args.rights (get_or c.args.numbers.now c.loop-number.number-index 0)) _ w.in-Some.right c.right_of.result c.right_of.ensures w.in-Some.is in
       let next = name_pushed (has c.args.rights) c.args.numbers.now c.loop-number.number-index 0
-          (string_bytes c.loop-number.out) c.loop-number.separator.now c.loop-number-test.true asked.0 c.loop-number.invariant.text c.loop-number.invariant.before in
+      (string_bytes c.loop-number.out) c.loop-number.separator.now c.loop-number-test.true asked.0 c.loop-number.invariant.text c.loop-number.invariant.before in
       let named = ap (λ (n : ℕ). string_bytes c.loop-number.out ++ (c.loop-number.separator.now ++ name_of n)) asked.1 in
       record { text = rw w.out-is (w.in_ok-push_name.ensures ∙ (named ∙ next.0)); before = rw w.separator-is next.1 }
   | in_default w ↦

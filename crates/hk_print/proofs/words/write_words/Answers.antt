@@ -7,4 +7,4 @@ pub returns : goal.returns
 returns c =
     let some : c.args.words.now ≡ [] → ⊥ = λ none. grind (arith, nat_tests, ap length none) in
     words_over c.args.words.now c.loop-word.word-index c.loop-word.used (string_bytes c.args.out.now) (string_bytes c.push_str.new.self) (string_bytes c.loop-word.out)
-        (string_bytes c.push_str-2.new.self) some (omega arith) (search rules) c.loop-word.invariant.text (search rules)
+    (string_bytes c.push_str-2.new.self) some (omega arith) (search rules) c.loop-word.invariant.text (search rules)

@@ -7,5 +7,5 @@ returns-then-eq c = word_first c.args.word.now c.as_slice.result.now _ c.eq.resu
 pub returns-then-eq-3 : goal.returns-then-eq-3
 returns-then-eq-3 c =
     word_later c.args.word.now c.as_slice.result.now _ c.eq.result _ _ _ _ c.eq.ensures c.as_slice.ensures c.if-eq.false
-        (word_later c.args.word.now c.as_slice-2.result.now _ c.eq-2.result _ _ _ _ c.eq-2.ensures c.as_slice-2.ensures c.if-eq-2.false
-        (word_first c.args.word.now c.as_slice-3.result.now _ c.eq-3.result _ _ _ _ c.eq-3.ensures c.as_slice-3.ensures c.if-eq-3.true c.reply_ends-then-eq-3.ensures))
+    (word_later c.args.word.now c.as_slice-2.result.now _ c.eq-2.result _ _ _ _ c.eq-2.ensures c.as_slice-2.ensures c.if-eq-2.false
+    (word_first c.args.word.now c.as_slice-3.result.now _ c.eq-3.result _ _ _ _ c.eq-3.ensures c.as_slice-3.ensures c.if-eq-3.true c.reply_ends-then-eq-3.ensures))
