@@ -41,7 +41,7 @@ found_legal w lines end world is status text made due = by due
     by : {status : ℕ} {text : List ℕ} {made : Option State} → DueTo (words_of command.Check) (record_text w lines end) status text made → (status ≡ 0) × (text ≡ verdict_text Legal)
     by (record_of v _ _ _ reads recorded) = absurd (no_run recorded.run)
     by (script_of v show reads) = absurd (cc)
-    by (bounds_of v bounds bound reads are) = absurd (cc)
+    by (bounds_of v bounds bound reads are) = absurd (no_script (inr (inr (inr bound))))
     by (verdict_of a _ _ check reads checked) =
         let both = sym again ∙ reads in
         let same : audited w (events lines end) ≡ a = cc in

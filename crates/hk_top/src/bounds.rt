@@ -1,7 +1,6 @@
 //! The bounds of the processes of a world as text (`docs/FORMATS.md`, "Statuses and outputs").
 
 ghost use Rattle.std.specs.Prelude.{◌≡◌, ◌≤◌, ◌+◌, ◌++◌, length, map, IfOk, OnOk, string_bytes};
-ghost use Rattle.std.specs.Vec.{Vec};
 ghost use Rattle.hk_top.specs.BoundTexts.{bounds_text, bounds_from, pairs_text, pair_text, pair_count};
 
 use hk_model::{Name, NoMemory, Text};
@@ -25,7 +24,8 @@ fn write_bounds(out: &mut String, bounds: &[Vec<Name>]) -> Result<usize, NoMemor
 {
     let mut count = 0;
     for (process, names) in bounds.iter().enumerate() {
-        write_pairs(out, process, names.as_slice())?;
+        let names = names.as_slice();
+        write_pairs(out, process, names)?;
         let _written = out.len();
         count += names.len();
     }

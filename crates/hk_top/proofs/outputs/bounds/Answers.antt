@@ -3,7 +3,7 @@ use Rattle.hk_model.specs.declared.names.Name.{Name}
 use Rattle.hk_model.specs.WorldValue.{WorldValue}
 use Rattle.hk_bound.specs.Columns.{proc_at}
 use Rattle.hk_bound.specs.Listed.{IsBoundOf}
-use Rattle.hk_top.specs.BoundTexts.{AreBounds}
+use Rattle.hk_top.specs.BoundTexts.{AreBounds, bounds_text}
 use Rattle.hk_top.proofs.outputs.bounds.Goals as goal
 
 -- the lists of the bounds
@@ -24,4 +24,9 @@ are_bounds : (w : WorldValue) (bounds : List (Vec Name Global)) → length bound
 are_bounds w bounds count exact = record { count = as_many bounds ∙ count; exact = λ p. same_there (IsBoundOf w (proc_at p)) bounds p (exact p) }
 
 pub returns : goal.returns
-returns c = ?
+returns c = (
+  lists c.in_ok-bounds.bounds.items,
+  are_bounds c.args.world.now c.in_ok-bounds.bounds.items c.in_ok-bounds.ensures.count c.in_ok-bounds.ensures.exact,
+  refl,
+  c.in_ok-bounds_text.ensures ∙ ap (λ (bs : List (Vec Name Global)). bounds_text (lists bs)) c.as_slice.ensures.value,
+)
