@@ -12,7 +12,8 @@ lists bounds = map (λ (names : Vec Name Global). names.items) bounds
 one_more : (xs : List (Vec Name Global)) (n i : ℕ) (x : Vec Name Global) → i < length xs → x ≡ get_or xs i x
     → bounds_from n (lists (take (suc i) xs)) ≡ bounds_from n (lists (take i xs)) ++ pairs_text (n + i) x.items
 one_more [] n i x h e = absurd (omega (arith, h))
-one_more (y ∷ ys) n zero x h e = append-nil (pairs_text n y.items) ∙ (ap (λ (v : Vec Name Global). pairs_text n v.items) (sym e) ∙ ap (λ (m : ℕ). pairs_text m x.items) (omega arith))
+one_more (y ∷ ys) n zero x h e =
+    append-nil (pairs_text n y.items) ∙ (ap (λ (v : Vec Name Global). pairs_text n v.items) (sym e) ∙ ap (λ (m : ℕ). pairs_text m x.items) (omega arith))
 one_more (y ∷ ys) n (suc i) x h e =
     ap (λ (r : List ℕ). pairs_text n y.items ++ r) (one_more ys (n + 1) i x (omega (arith, h)) e)
     ∙ (sym (append_assoc (pairs_text n y.items) (bounds_from (n + 1) (lists (take i ys))) (pairs_text (n + 1 + i) x.items))
@@ -48,6 +49,7 @@ loop-process-preserved c =
     let i = c.loop-process.process in let x = c.index-bounds-process.result in let inv = c.loop-process.invariant in (
       written_more c.args.bounds.now i x c.as_slice-names.result.now (string_bytes c.args.out.now) (string_bytes c.loop-process.out) (string_bytes c.write_pairs.new.out)
           c.loop-process-test.true c.index-bounds-process.is c.as_slice-names.ensures.value inv.0 c.in_ok-write_pairs.ensures.text,
-      counted_more c.args.bounds.now i x c.loop-process.count (length c.as_slice-names.result.now) c.loop-process-test.true c.index-bounds-process.is (ap length c.as_slice-names.ensures.value) inv.1,
+      counted_more c.args.bounds.now i x c.loop-process.count (length c.as_slice-names.result.now) c.loop-process-test.true c.index-bounds-process.is
+          (ap length c.as_slice-names.ensures.value) inv.1,
       (let most = inv.2 in let more = c.in_ok-write_pairs.ensures.more in omega (arith, most, more)),
     )

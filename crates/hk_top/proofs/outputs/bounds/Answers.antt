@@ -14,7 +14,8 @@ as_many : (bounds : List (Vec Name Global)) → length (lists bounds) ≡ length
 as_many [] = refl
 as_many (names ∷ rest) = ap suc (as_many rest)
 
-same_there : (P : List Name → Type 0) (bounds : List (Vec Name Global)) (p : ℕ) → IfSome (slice_get bounds p) (λ (names : Vec Name Global). P names.items) → IfSome (slice_get (lists bounds) p) P
+same_there : (P : List Name → Type 0) (bounds : List (Vec Name Global)) (p : ℕ) → IfSome (slice_get bounds p) (λ (names : Vec Name Global). P names.items)
+    → IfSome (slice_get (lists bounds) p) P
 same_there P [] p h = tt
 same_there P (names ∷ rest) zero h = h
 same_there P (names ∷ rest) (suc p) h = same_there P rest p h
