@@ -1,4 +1,3 @@
-pub mod BoundTexts
 pub mod Outputs
 pub mod Served
 pub mod Words

@@ -1,7 +1,6 @@
 //! The commands of `hydra`, from words and bytes to bytes and a status.
 #![tactic(auto)]
 
-mod bounds;
 mod causes;
 mod commands;
 #[cfg(test)]
