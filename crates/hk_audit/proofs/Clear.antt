@@ -27,7 +27,8 @@ use Rattle.hk_format.specs.Pieces.{Piece, Word, Upper, Dash, Number, Path, piece
 use Rattle.hk_format.specs.Operands.{path_piece, slot_piece, rights_piece, rights_set_piece}
 use Rattle.hk_format.specs.RightsTexts.{rights_spelled, rights_text}
 use Rattle.hk_format.specs.Syntax.{IsRightsText}
-use Rattle.hk_format.specs.LineReading.{inc_bound, widened, wide_pieces, halves}
+use Rattle.hk_format.specs.LineReading.{widened, wide_pieces, halves}
+use Rattle.hk_model.specs.Limits.{inc_bound}
 use Rattle.hk_format.specs.AuditLines.{arrow, call_pieces, what_pieces, full_word, reply_pieces, event_pieces}
 use Rattle.hk_format.specs.LineRanges.{IsPathValue, IsAnySlot, IsCall, IsWhat, IsReply, IsLine}
 use Rattle.hk_model.specs.WorldValue.{IsWord32}

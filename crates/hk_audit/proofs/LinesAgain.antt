@@ -28,7 +28,8 @@ use Rattle.hk_format.specs.Reading.{Reads, ◌>>=◌, onward, taken, wanted, at_
 use Rattle.hk_format.specs.RightsTexts.{rights_spelled, rights_text}
 use Rattle.hk_format.specs.Forms.{as_word, as_number_below}
 use Rattle.hk_format.specs.LineReading.{is_number_index, index_number, as_path, as_any_slot, as_rights_set, as_right, as_word32, as_full, what_of, reply_line, event_line}
-use Rattle.hk_format.specs.LineReading.{line_with, inc_bound}
+use Rattle.hk_format.specs.LineReading.{line_with}
+use Rattle.hk_model.specs.Limits.{inc_bound}
 use Rattle.hk_format.specs.AuditLines.{what_pieces, full_word, reply_pieces, event_pieces}
 use Rattle.hk_format.specs.LineRanges.{IsPathValue, IsAnySlot, IsCall, IsWhat, IsReply, IsLine}
 use Rattle.hk_model.specs.WorldValue.{IsWord32}

@@ -20,7 +20,8 @@ use Rattle.hk_format.specs.Pieces.{Piece, Word, Upper, Dash, Number, Path, piece
 use Rattle.hk_format.specs.Reading.{Found, Reads}
 use Rattle.hk_format.specs.RightsTexts.{rights_spelled}
 use Rattle.hk_format.specs.Forms.{as_number_below, slot_numbered}
-use Rattle.hk_format.specs.LineReading.{inc_bound, is_number_index, index_number, set_found, as_path, as_any_slot, as_rights_set, as_right, as_word32, event_line, reply_line}
+use Rattle.hk_format.specs.LineReading.{is_number_index, index_number, set_found, as_path, as_any_slot, as_rights_set, as_right, as_word32, event_line, reply_line}
+use Rattle.hk_model.specs.Limits.{inc_bound}
 use Rattle.hk_format.specs.LineReading.{line_with, widened, wide_pieces, Halves, halves, kept, read_by, applied, from_halves, guess, if_spelled, read_body}
 use Rattle.hk_format.specs.Texts.{piece_onto}
 use Rattle.hk_format.specs.AuditLines.{what_pieces, event_pieces, reply_pieces, arrow, line_body}

@@ -5,7 +5,7 @@ use Rattle.hk_format.specs.declared.causes.Cause.{Cause}
 use Rattle.hk_model.specs.WorldValue.{WorldValue}
 use Rattle.hk_format.specs.Texts.{lines_of}
 use Rattle.hk_format.specs.Worlds.{Refused, world, world_of}
-use Rattle.hk_format.specs.Loading.{◌>>=◌}
+use Rattle.hk_model.specs.Refusing.{◌>>=◌}
 use Rattle.hk_format.specs.Audits.{Events, Audited, audit, audit_cut, audited, cut, cut_at_record, events_behind}
 use Rattle.hk_format.specs.declared.errors.ReadError.{ReadError}
 use Rattle.hk_format.specs.declared.errors.ReadError.TheVariants as read_error

@@ -18,7 +18,8 @@ use Rattle.hk_format.specs.Operands.{rights_piece}
 use Rattle.hk_format.specs.RightsTexts.{rights_spelled, rights_text}
 use Rattle.hk_format.specs.Syntax.{IsRightsText}
 use Rattle.hk_format.specs.Forms.{as_verb, verb_found, as_number_below, as_word, slot_numbered}
-use Rattle.hk_format.specs.LineReading.{inc_bound, as_word32, as_any_slot, is_number_index, index_number, as_path, as_rights_set, as_right, set_found}
+use Rattle.hk_format.specs.LineReading.{as_word32, as_any_slot, is_number_index, index_number, as_path, as_rights_set, as_right, set_found}
+use Rattle.hk_model.specs.Limits.{inc_bound}
 use Rattle.hk_format.proofs.ItemsGood.{rights_good}
 use Rattle.hk_format.proofs.LineAgain.{same_is}
 use Rattle.hk_format.proofs.LoadGood.{rights_word}

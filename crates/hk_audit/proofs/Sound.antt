@@ -30,7 +30,8 @@ use Rattle.hk_format.specs.Reading.{Found, Reads, ◌>>=◌, onward, taken, want
 use Rattle.hk_format.specs.Forms.{as_verb, as_word, as_number_below, verb_found, slot_numbered}
 use Rattle.hk_format.specs.WrittenLines.{before_last, last_of}
 use Rattle.hk_format.specs.LineReading.{as_path, as_any_slot, as_rights_set, as_right, as_word32, as_full, call_of, template_call, template_call_end, some_call, call_named}
-use Rattle.hk_format.specs.LineReading.{what_of, stepped, refusal_of, reply_of, reply_line, event_line, line_with, inc_bound}
+use Rattle.hk_format.specs.LineReading.{what_of, stepped, refusal_of, reply_of, reply_line, event_line, line_with}
+use Rattle.hk_model.specs.Limits.{inc_bound}
 use Rattle.hk_format.specs.AuditLines.{call_pieces, what_pieces, full_word, reply_pieces, event_pieces}
 use Rattle.hk_format.specs.LineRanges.{IsPathValue, IsAnySlot, IsCall, IsWhat, IsReply, IsLine}
 use Rattle.hk_model.specs.WorldValue.{IsWord32, IsMaking}

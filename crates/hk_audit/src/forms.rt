@@ -5,7 +5,8 @@ ghost use Rattle.std.specs.Prelude.{◌≡◌, ◌≤◌, ◌<◌, Ok, Err, IfOk
 ghost use Rattle.hk_model.specs.Labels.{first, is_lower};
 ghost use Rattle.hk_format.specs.Pieces.{Number};
 ghost use Rattle.hk_format.specs.Forms.{as_verb, as_word, as_number_below};
-ghost use Rattle.hk_format.specs.LineReading.{as_path, as_any_slot, as_rights_set, as_right, as_word32, as_full, inc_bound};
+ghost use Rattle.hk_format.specs.LineReading.{as_path, as_any_slot, as_rights_set, as_right, as_word32, as_full};
+ghost use Rattle.hk_model.specs.Limits.{inc_bound};
 ghost use Rattle.hk_audit.specs.TextPieces.{seen};
 
 use crate::paths::path_in;

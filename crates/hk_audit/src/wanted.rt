@@ -4,7 +4,8 @@
 ghost use Rattle.std.specs.Prelude.{◌≡◌, ◌<◌, Ok, Err, IfOk, IfErr};
 ghost use Rattle.hk_format.specs.Reading.{end, taken, wanted};
 ghost use Rattle.hk_format.specs.Forms.{as_verb, as_word, as_number_below};
-ghost use Rattle.hk_format.specs.LineReading.{as_path, as_any_slot, as_rights_set, as_right, as_word32, as_full, inc_bound};
+ghost use Rattle.hk_format.specs.LineReading.{as_path, as_any_slot, as_rights_set, as_right, as_word32, as_full};
+ghost use Rattle.hk_model.specs.Limits.{inc_bound};
 ghost use Rattle.hk_audit.specs.Left.{rest};
 
 use crate::forms;

@@ -20,7 +20,8 @@ use Rattle.hk_model.specs.Labels.{same_text}
 use Rattle.hk_model.specs.WorldValue.{IsMaking, IsInstr}
 use Rattle.hk_format.specs.Syntax.{IsWritten, Belongs, AreParts}
 use Rattle.hk_format.specs.Grammar.{noted_label}
-use Rattle.hk_format.specs.Loading.{◌>>=◌, limited, front, rights_named, making_of, to_limit, target, Label, labels_from, label_onto, instr_of, instr_onto, instrs_of}
+use Rattle.hk_format.specs.Loading.{limited, front, rights_named, making_of, to_limit, target, Label, labels_from, label_onto, instr_of, instr_onto, instrs_of}
+use Rattle.hk_model.specs.Refusing.{◌>>=◌}
 use Rattle.hk_format.proofs.LoadGood.{bind_ok, onto_ok, found_ok, limited_ok, moved, rights_word}
 
 -- the lines of a code

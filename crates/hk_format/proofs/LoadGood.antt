@@ -29,7 +29,8 @@ use Rattle.hk_model.specs.Labels.{same_text}
 use Rattle.hk_format.specs.RightsTexts.{rights_spelled, right_of, both, union_of}
 use Rattle.hk_model.specs.WorldValue.{WorldValue, IsEntry, IsParam, IsObject, IsType, IsTypeOrAny, IsTypeKind}
 use Rattle.hk_format.specs.Names.{Names, kernel_flags}
-use Rattle.hk_format.specs.Loading.{Refused, ◌>>=◌, ◌>>◌, found, unless, limited, permitted, onto, object_named, type_named, kind_named, some_name, code_named, rights_named}
+use Rattle.hk_format.specs.Loading.{Refused, found, unless, limited, permitted, onto, object_named, type_named, kind_named, some_name, code_named, rights_named}
+use Rattle.hk_model.specs.Refusing.{◌>>=◌, ◌>>◌}
 use Rattle.hk_format.specs.Loading.{name_numbered, entry_meant, param_of, parameter, held_entry, place, to_limit}
 use Rattle.hk_format.proofs.NamesAgain.{is_type_object}
 

@@ -27,7 +27,8 @@ use Rattle.hk_format.specs.Grammar.{GivenNames, nothing_seen, is_among, is_new, 
 use Rattle.hk_format.specs.Names.{Names}
 use Rattle.hk_format.specs.Loading.{Refused, unless, limited, type_named, code_named, name_numbered, names_of, object_label, is_type_head, code_label, Contents, used, room}
 use Rattle.hk_format.specs.Loading.{contents_of, labels_from, instrs_of, Counts, counts, counted, object_fits, with_limit, with_object, with_code, with_task, at_line, plain_type}
-use Rattle.hk_format.specs.Loading.{head_loaded, item_of, put_item, items_of, load, ◌>>=◌, ◌>>◌}
+use Rattle.hk_format.specs.Loading.{head_loaded, item_of, put_item, items_of, load}
+use Rattle.hk_model.specs.Refusing.{◌>>=◌, ◌>>◌}
 use Rattle.hk_format.proofs.NamesAgain.{is_type_object}
 use Rattle.hk_format.proofs.LoadGood.{bind_ok, then_ok, limited_ok, unless_ok, moved, NamesFit, type_loaded, code_loaded}
 use Rattle.hk_format.proofs.ItemsLoaded.{code_loaded_whole}

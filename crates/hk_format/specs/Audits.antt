@@ -10,7 +10,7 @@ use Rattle.hk_format.specs.declared.causes.ParseCause.TheVariants.{Missing, Extr
 use Rattle.hk_model.specs.Labels.{same_text}
 use Rattle.hk_model.specs.WorldValue.{WorldValue}
 use Rattle.hk_format.specs.Texts.{is_none}
-use Rattle.hk_format.specs.Loading.{◌>>=◌}
+use Rattle.hk_model.specs.Refusing.{◌>>=◌}
 use Rattle.hk_format.specs.Worlds.{Refused, world_of}
 use Rattle.hk_format.specs.LineReading.{read_body}
 use Rattle.hk_format.specs.Records.{record_word, end_text}

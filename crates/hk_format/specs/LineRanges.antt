@@ -1,5 +1,5 @@
 -- The lines that have a text: the ranges of their numbers. docs/FORMATS.md, "Audit lines and records".
-use Rattle.std.specs.Prelude.{ℕ, ◌<◌, ◌≤◌, ◌^◌, List, length, Option, Some, None, IsTrue}
+use Rattle.std.specs.Prelude.{ℕ, ◌<◌, ◌≤◌, List, length, Option, Some, None, IsTrue}
 use Rattle.std.specs.List.{AllByRecursion}
 use Rattle.hk_rights.specs.Rights.{IsRightsWord, is_right}
 use Rattle.hk_model.specs.declared.names.Slot.{Slot}
@@ -12,7 +12,7 @@ use Rattle.hk_model.specs.declared.calls.Reply.TheVariants as reply
 use Rattle.hk_model.specs.declared.lines.What.{What}
 use Rattle.hk_model.specs.declared.lines.What.TheVariants as what
 use Rattle.hk_model.specs.declared.lines.Line.{Line}
-use Rattle.hk_model.specs.Limits.{argument_limit, path_limit, index_bound, slot_bound, step_bound, cpu_limit, process_limit}
+use Rattle.hk_model.specs.Limits.{argument_limit, path_limit, index_bound, slot_bound, step_bound, cpu_limit, process_limit, inc_bound}
 use Rattle.hk_model.specs.WorldValue.{IsWord32, IsMaking}
 
 -- one to eight indices
@@ -88,6 +88,6 @@ IsReply (reply.No refusal) = IsRefusal refusal
 pub record IsLine (line : Line) : Type 0 where
   pub cpu : line.cpu.0 < cpu_limit
   pub proc : line.proc.0 < process_limit
-  pub inc : line.inc.0 < 2 ^ 64
+  pub inc : line.inc.0 < inc_bound
   pub what : IsWhat line.what
   pub reply : IsReply line.reply

@@ -25,7 +25,7 @@ use Rattle.hk_format.specs.declared.causes.TextCause.TheVariants.{NotAscii, Long
 use Rattle.hk_format.specs.declared.causes.ParseCause.{ParseCause}
 use Rattle.hk_format.specs.declared.causes.ParseCause.TheVariants.{UnknownWord, OutOfRange}
 use Rattle.hk_model.specs.Labels.{same_text}
-use Rattle.hk_model.specs.Limits.{argument_limit, index_bound, slot_bound, step_bound, cpu_limit, process_limit}
+use Rattle.hk_model.specs.Limits.{argument_limit, index_bound, slot_bound, step_bound, cpu_limit, process_limit, inc_bound}
 use Rattle.hk_format.specs.RightsTexts.{rights_spelled}
 use Rattle.hk_format.specs.Pieces.{largest_number, Piece, Word, Upper, Dash, Number, Path, piece_of, is_number, value}
 use Rattle.hk_format.specs.Texts.{piece_onto}
@@ -45,10 +45,6 @@ is_number_index (ByReg reg) = false
 abbrev pub index_number : Index → ℕ
 index_number (Fixed n) = n
 index_number (ByReg reg) = 0
-
--- the number of an incarnation has 64 bits
-abbrev pub inc_bound : ℕ
-inc_bound = 18446744073709551616
 
 -- a path of one index, or of several
 abbrev pub as_path : Piece → Result (List ℕ) ParseCause

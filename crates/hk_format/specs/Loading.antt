@@ -26,6 +26,7 @@ use Rattle.hk_model.specs.declared.world.Kind.TheVariants as kind
 use Rattle.hk_format.specs.declared.causes.LoadCause.{LoadCause}
 use Rattle.hk_format.specs.declared.causes.LoadCause.TheVariants.{UnknownName, WrongPart, TooMany, BadRights}
 use Rattle.hk_model.specs.Labels.{same_text}
+use Rattle.hk_model.specs.Refusing.{◌>>=◌, ◌>>◌}
 use Rattle.hk_model.specs.Limits.{object_limit, word_limit, entry_limit, slot_limit, param_limit, code_limit, process_limit, usual_limit}
 use Rattle.hk_model.specs.Targets.{DATA, kernel_types, is_general}
 use Rattle.hk_format.specs.RightsTexts.{rights_spelled}
@@ -35,17 +36,6 @@ use Rattle.hk_format.specs.Names.{Names, kernel_names, kernel_flags}
 -- a line and its cause
 abbrev pub Refused : Type 0
 Refused = ℕ × LoadCause
-
-infixl 10 ◌>>=◌ ◌>>◌
--- the second test stands only where the first has passed
-abbrev pub ◌>>=◌ : {A B C : Type 0} → Result A C → (A → Result B C) → Result B C
-(Ok x) >>= f = f x
-(Err e) >>= f = Err e
-
--- the same, where the first test gives nothing
-abbrev pub ◌>>◌ : {A B C : Type 0} → Result A C → Result B C → Result B C
-(Ok x) >> next = next
-(Err e) >> next = Err e
 
 -- nothing is refused where the test holds
 abbrev pub unless : Bool → LoadCause → Result (Unit {0}) LoadCause

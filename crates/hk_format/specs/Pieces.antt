@@ -7,7 +7,7 @@ use Rattle.hk_model.specs.declared.instructions.Index.{Index}
 use Rattle.hk_model.specs.declared.instructions.Index.TheVariants.{Fixed, ByReg}
 use Rattle.hk_format.specs.declared.causes.TextCause.{TextCause}
 use Rattle.hk_format.specs.declared.causes.TextCause.TheVariants.{BadToken, NumberTooLarge}
-use Rattle.hk_model.specs.Limits.{path_limit, register_limit}
+use Rattle.hk_model.specs.Limits.{path_limit, register_limit, word_bound}
 use Rattle.hk_model.specs.Labels.{between, is_digit, is_lower, is_capital, is_word, is_register, first}
 
 -- a piece: a word, names in capital letters, a dash, a number, or a path of two to eight indices, each any number or a register
@@ -20,7 +20,7 @@ pub data Piece : Type 0 where
 
 -- the largest number that a piece of a script can be
 abbrev pub largest_number : ℕ
-largest_number = 4294967295
+largest_number = word_bound - 1
 
 -- capital letters and digits
 abbrev pub is_upper_byte : ℕ → Bool

@@ -16,7 +16,8 @@ use Rattle.hk_model.specs.Targets.{DATA}
 use Rattle.hk_format.specs.Loading as loading
 use Rattle.hk_format.specs.Names.{Names}
 use Rattle.hk_format.specs.Loading.{Refused, Contents, Counts, counts, counted, object_fits, at_line, unless, limited, plain_type, code_named, name_numbered, room, used}
-use Rattle.hk_format.specs.Loading.{contents_of, labels_from, instrs_of, with_object, head_loaded, item_of, put_item, items_of, names_of, load, ◌>>=◌, ◌>>◌}
+use Rattle.hk_format.specs.Loading.{contents_of, labels_from, instrs_of, with_object, head_loaded, item_of, put_item, items_of, names_of, load}
+use Rattle.hk_model.specs.Refusing.{◌>>=◌, ◌>>◌}
 use Rattle.hk_load.specs.Building.{Built, built, counts_of, with_limit, with_born, with_code, with_task, limit_or, finished, added, after}
 
 after_born : (b : Built) (name : List ℕ) (k : Kind) (rest : Result WorldValue Refused) → after b (put_item (Ok (with_object name k)) rest) ≡ after (with_born b name k) rest

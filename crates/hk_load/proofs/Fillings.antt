@@ -10,7 +10,8 @@ use Rattle.hk_format.specs.declared.syntax.Body.TheVariants.{WordsAre, EmptyEntr
 use Rattle.hk_format.specs.declared.syntax.Part.{Part}
 use Rattle.hk_format.specs.Names.{Names}
 use Rattle.hk_format.specs.Loading.{Refused, Contents, Used, Room, contents, used, limited, permitted, entry_meant, param_of, onto, more_words, one_param, one_entry, content_onto}
-use Rattle.hk_format.specs.Loading.{contents_of, at_line, ◌>>=◌}
+use Rattle.hk_format.specs.Loading.{contents_of, at_line}
+use Rattle.hk_model.specs.Refusing.{◌>>=◌}
 use Rattle.hk_load.specs.Filling.{used_by, added, after}
 
 after_words : (c : Contents) (words : List ℕ) (line : ℕ) (rest : Result Contents Refused)

@@ -18,7 +18,8 @@ use Rattle.hk_format.specs.declared.syntax.Body.TheVariants.{WordsAre, EmptyEntr
 use Rattle.hk_format.specs.declared.syntax.Part.{Part}
 use Rattle.hk_model.specs.Labels.{same_text}
 use Rattle.hk_format.specs.Grammar.{is_among, is_new_label, noted_label}
-use Rattle.hk_format.specs.Loading.{Refused, Label, labels_from, label_onto, target, found, to_limit, limited, front, onto, instr_of, instr_onto, instrs_of, at_line, ◌>>=◌}
+use Rattle.hk_format.specs.Loading.{Refused, Label, labels_from, label_onto, target, found, to_limit, limited, front, onto, instr_of, instr_onto, instrs_of, at_line}
+use Rattle.hk_model.specs.Refusing.{◌>>=◌}
 use Rattle.hk_load.specs.Jumping.{label_at, labels_seen, label_texts, HasNewLabels, step_added, after_steps}
 use Rattle.hk_load.proofs.NameLists.{insert_new, position_map}
 

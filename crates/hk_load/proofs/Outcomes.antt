@@ -2,7 +2,8 @@
 use Rattle.std.proofs.Common.{◌≡◌, ℕ, refl, ap, sym, ◌∙◌, Ok, Err, Result}
 use Rattle.std.specs.Prelude.{IfOk}
 use Rattle.hk_format.specs.declared.causes.LoadCause.{LoadCause}
-use Rattle.hk_format.specs.Loading.{Refused, at_line, ◌>>=◌}
+use Rattle.hk_format.specs.Loading.{Refused, at_line}
+use Rattle.hk_model.specs.Refusing.{◌>>=◌}
 use Rattle.hk_format.specs.declared.errors.LineError.{LineError}
 use Rattle.hk_format.specs.declared.errors.LineError.TheVariants as line_error
 use Rattle.hk_format.specs.declared.errors.ReadError.{ReadError}

@@ -16,7 +16,8 @@ use Rattle.hk_model.specs.Targets.{DATA}
 use Rattle.hk_model.specs.WorldValue.{WorldValue, world_value}
 use Rattle.hk_format.specs.Names.{Names}
 use Rattle.hk_format.specs.Loading.{Refused, Counts, counts, object_fits, at_line, unless, limited, plain_type, code_named, name_numbered, room, used, contents_of, labels_from}
-use Rattle.hk_format.specs.Loading.{instrs_of, ◌>>=◌, ◌>>◌}
+use Rattle.hk_format.specs.Loading.{instrs_of}
+use Rattle.hk_model.specs.Refusing.{◌>>=◌, ◌>>◌}
 use Rattle.hk_load.specs.declared.items.Loaded.{Loaded}
 
 -- what items have given

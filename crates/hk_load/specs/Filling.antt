@@ -7,7 +7,8 @@ use Rattle.hk_format.specs.declared.syntax.Body.TheVariants.{WordsAre, ParamIs}
 use Rattle.hk_model.specs.Limits.{word_limit, param_limit}
 use Rattle.hk_format.specs.Loading as loading
 use Rattle.hk_format.specs.Names.{Names}
-use Rattle.hk_format.specs.Loading.{Refused, contents, room, used, limited, permitted, entry_meant, param_of, ◌>>=◌}
+use Rattle.hk_format.specs.Loading.{Refused, contents, room, used, limited, permitted, entry_meant, param_of}
+use Rattle.hk_model.specs.Refusing.{◌>>=◌}
 use Rattle.hk_load.specs.declared.contents.Contents.{Contents}
 use Rattle.hk_load.specs.declared.contents.Room.{Room}
 

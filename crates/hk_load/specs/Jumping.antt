@@ -8,7 +8,8 @@ use Rattle.hk_format.specs.declared.syntax.Body.TheVariants.{StepIs}
 use Rattle.hk_format.specs.declared.syntax.Part.{Part}
 use Rattle.hk_model.specs.Limits.{code_limit}
 use Rattle.hk_format.specs.Grammar.{is_new_label, noted_label}
-use Rattle.hk_format.specs.Loading.{Label, Refused, limited, instr_of, ◌>>=◌}
+use Rattle.hk_format.specs.Loading.{Label, Refused, limited, instr_of}
+use Rattle.hk_model.specs.Refusing.{◌>>=◌}
 
 -- a label, and the number of the instruction behind it
 abbrev pub label_at : List ℕ → ℕ → Label

@@ -1,5 +1,5 @@
 -- The control of a process: what it does next, and how a reply changes that. docs/RULES.md, "Control of a process".
-use Rattle.std.specs.Prelude.{ℕ, zero, suc, ◌+◌, ◌-◌, ◌%◌, ◌^◌, ◌==◌, Bool, true, false, List, [], ◌∷◌, length, Option, Some, None, nat_lt, if◌then◌else◌, slice_index, slice_get}
+use Rattle.std.specs.Prelude.{ℕ, zero, suc, ◌+◌, ◌-◌, ◌%◌, ◌==◌, Bool, true, false, List, [], ◌∷◌, length, Option, Some, None, nat_lt, if◌then◌else◌, slice_index, slice_get}
 use Rattle.std.specs.Prelude.{slice_set, map, min, replicate}
 use Rattle.hk_model.specs.declared.calls.Call.{Call}
 use Rattle.hk_model.specs.declared.calls.Call.TheVariants as call
@@ -15,7 +15,7 @@ use Rattle.hk_model.specs.declared.instructions.Route.{Route}
 use Rattle.hk_model.specs.declared.frames.Frame.{Frame}
 use Rattle.hk_model.specs.declared.frames.Todo.{Todo}
 use Rattle.hk_model.specs.declared.frames.Todo.TheVariants.{Do, Halt}
-use Rattle.hk_model.specs.Limits.{index_bound, local_limit, register_limit}
+use Rattle.hk_model.specs.Limits.{index_bound, local_limit, register_limit, word_bound}
 use Rattle.hk_model.specs.WorldValue.{WorldValue}
 
 -- a frame at the beginning of a code
@@ -73,7 +73,7 @@ meaning f (instr.P of) = Calls (call.P (path_of f of))
 meaning f (instr.V of) = Calls (call.V (path_of f of))
 meaning f instr.Yield = Calls call.Yield
 meaning f (instr.SetReg reg to) = Local (step_over (record f { registers = slice_set f.registers reg (operand f to) }))
-meaning f (instr.AddReg reg by) = Local (step_over (record f { registers = slice_set f.registers reg ((slice_index f.registers reg + operand f by) % 2 ^ 32) }))
+meaning f (instr.AddReg reg by) = Local (step_over (record f { registers = slice_set f.registers reg ((slice_index f.registers reg + operand f by) % word_bound) }))
 meaning f (instr.Goto to) = Local (go_to f to)
 meaning f (instr.IfEq left right to) = Local (if operand f left == operand f right then go_to f to else step_over f)
 meaning f (instr.IfLess left right to) = Local (if nat_lt (operand f left) (operand f right) then go_to f to else step_over f)

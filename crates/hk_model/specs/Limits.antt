@@ -1,5 +1,5 @@
 -- How many of each there can be. docs/RULES.md, "Limits".
-use Rattle.std.specs.Prelude.{ℕ}
+use Rattle.std.specs.Prelude.{ℕ, ◌^◌}
 use Rattle.hk_model.specs.declared.limits.TheConstants.{OBJECT_LIMIT, WORD_LIMIT, ENTRY_LIMIT, SLOT_LIMIT, PARAM_LIMIT, ARGUMENT_LIMIT, PATH_LIMIT, INDEX_BOUND, SLOT_BOUND}
 use Rattle.hk_model.specs.declared.limits.TheConstants.{STEP_BOUND, REGISTER_LIMIT}
 use Rattle.hk_model.specs.declared.limits.TheConstants.{DEPTH_LIMIT, TOKEN_LIMIT, CODE_LIMIT, PROCESS_LIMIT, CPU_LIMIT, LOCAL_LIMIT, EVENT_LIMIT, USUAL_LIMIT, LINE_BYTES}
@@ -43,6 +43,13 @@ slot_bound = SLOT_BOUND
 -- what each step that a refusal tells is below
 abbrev pub step_bound : ℕ
 step_bound = STEP_BOUND
+
+-- what each word of an object and each register is below, and each number of an incarnation
+abbrev pub word_bound : ℕ
+word_bound = 2 ^ 32
+
+abbrev pub inc_bound : ℕ
+inc_bound = 2 ^ 64
 
 -- registers of a frame
 abbrev pub register_limit : ℕ

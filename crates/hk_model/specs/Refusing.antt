@@ -6,11 +6,12 @@ use Rattle.hk_rights.specs.Rights.{first_missing}
 
 infixl 10 ◌>>=◌ ◌>>◌
 -- the second test stands only where the first has passed
-abbrev pub ◌>>=◌ : {A B : Type 0} → Result A Refusal → (A → Result B Refusal) → Result B Refusal
+abbrev pub ◌>>=◌ : {A B C : Type 0} → Result A C → (A → Result B C) → Result B C
 (Ok x) >>= f = f x
 (Err e) >>= f = Err e
 
-abbrev pub ◌>>◌ : {A B : Type 0} → Result A Refusal → Result B Refusal → Result B Refusal
+-- the same, where the first test gives nothing
+abbrev pub ◌>>◌ : {A B C : Type 0} → Result A C → Result B C → Result B C
 (Ok x) >> next = next
 (Err e) >> next = Err e
 

@@ -1,5 +1,5 @@
 -- What a world consists of, and when it can be run. docs/RULES.md, "Worlds" and "Limits".
-use Rattle.std.specs.Prelude.{◌≡◌, ◌⊎◌, ℕ, ◌+◌, ◌-◌, ◌<◌, ◌≤◌, ◌^◌, List, [], ◌∷◌, ◌++◌, length, IsTrue, Option, Some, None, map, slice_get}
+use Rattle.std.specs.Prelude.{◌≡◌, ◌⊎◌, ℕ, ◌+◌, ◌-◌, ◌<◌, ◌≤◌, List, [], ◌∷◌, ◌++◌, length, IsTrue, Option, Some, None, map, slice_get}
 use Rattle.std.specs.List.{AllByRecursion}
 use Rattle.hk_model.specs.declared.names.Name.{Name}
 use Rattle.hk_model.specs.declared.names.Slot.{Slot}
@@ -24,7 +24,7 @@ use Rattle.hk_model.specs.declared.world.Task.{Task}
 use Rattle.hk_rights.specs.Rights.{IsRightsWord}
 use Rattle.hk_model.specs.Labels.{is_name, are_apart}
 use Rattle.hk_model.specs.Limits.{object_limit, word_limit, entry_limit, slot_limit, param_limit, argument_limit, path_limit, index_bound, register_limit, token_limit, code_limit}
-use Rattle.hk_model.specs.Limits.{process_limit, event_limit}
+use Rattle.hk_model.specs.Limits.{process_limit, event_limit, word_bound}
 use Rattle.hk_model.specs.Targets.{DATA, UNIVERSAL, kernel_types}
 
 pub record WorldValue : Type 0 where
@@ -75,7 +75,7 @@ IsParam w param = IsTypeOrAny w param.of × IsRightsWord param.check × IsRights
 
 -- a word of 32 bits
 abbrev pub IsWord32 : ℕ → Type 0
-IsWord32 n = n < 2 ^ 32
+IsWord32 n = n < word_bound
 
 -- a plain object is of DATA, without entries, or of UNIVERSAL or a declared type
 abbrev pub IsPlainType : WorldValue → Name → List Entry → Type 0

@@ -9,7 +9,7 @@ use Rattle.std.proofs.lemmas.Bool.{and_parts, false≢true, lt-ltb, le-ltb, ltb-
 use Rattle.std.proofs.lemmas.Bool.Decides.{nat_tests}
 use Rattle.hk_model.specs.Labels.{is_digit}
 use Rattle.hk_format.specs.Pieces.{is_number, value}
-use Rattle.hk_format.specs.LineReading.{inc_bound}
+use Rattle.hk_model.specs.Limits.{inc_bound}
 use Rattle.hk_format.proofs.PieceAgain.{digits_number, value_decimal}
 use Rattle.hk_text.specs.Numerals.{is_numeral, numeral_of}
 use Rattle.hk_text.proofs.Numbers.{digits_model}

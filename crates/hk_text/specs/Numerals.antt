@@ -2,7 +2,7 @@
 use Rattle.std.specs.Prelude.{ℕ, ◌==◌, Bool, not, ◌&&◌, ◌||◌, List, length, Option, Some, None, if◌then◌else◌, nat_lt}
 use Rattle.hk_model.specs.Labels.{first}
 use Rattle.hk_format.specs.Pieces.{is_number, value}
-use Rattle.hk_format.specs.LineReading.{inc_bound}
+use Rattle.hk_model.specs.Limits.{inc_bound}
 
 -- a number without a leading zero
 abbrev pub is_numeral : List ℕ → Bool

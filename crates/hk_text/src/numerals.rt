@@ -3,7 +3,7 @@
 
 ghost use Rattle.std.specs.Prelude.{◌≡◌, IsTrue, Some, None, nat_lt, if◌then◌else◌};
 ghost use Rattle.hk_format.specs.Pieces.{is_number, value};
-ghost use Rattle.hk_format.specs.LineReading.{inc_bound};
+ghost use Rattle.hk_model.specs.Limits.{inc_bound};
 ghost use Rattle.hk_text.specs.Numerals.{numeral_of};
 
 use crate::bytes::are_digits;

@@ -1,5 +1,5 @@
 use Rattle.std.proofs.Common.{sym, ◌∙◌}
-use Rattle.hk_format.specs.LineReading.{inc_bound}
+use Rattle.hk_model.specs.Limits.{inc_bound}
 use Rattle.hk_audit.proofs.SeenForms.{inc_taken, below_refused}
 use Rattle.hk_audit.proofs.forms.inc.Goals as goal
 
