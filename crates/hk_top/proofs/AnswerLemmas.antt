@@ -28,8 +28,9 @@ use Rattle.hk_top.specs.declared.served.Silence.TheVariants as silence
 use Rattle.hk_top.specs.declared.words.Command.{Command}
 use Rattle.hk_top.specs.declared.words.Command.TheVariants as command
 use Rattle.hk_top.specs.Words.{IsAlone, IsCommand, IsInRange, ReadsScript, ReadsAtMost, words_of, byte_limit}
+use Rattle.hk_top.specs.BoundTexts.{AreTold}
 use Rattle.hk_top.specs.Served.{IsTooLong, silent_status}
-use Rattle.hk_top.specs.Outputs.{Due, DueTo, Answer, IsRecorded, IsChecked, IsLawful, Stream, IsSaid, status_of, read, record_of, script_of, verdict_of, script_refused}
+use Rattle.hk_top.specs.Outputs.{Due, DueTo, Answer, IsRecorded, IsChecked, IsLawful, Stream, IsSaid, status_of, read, record_of, script_of, bounds_of, verdict_of, script_refused}
 use Rattle.hk_top.specs.Outputs.{record_refused, legal, illegal, too_long, written, read_fault, no_memory, write_fault, HadFault}
 
 -- a text that is due and said is an answer
@@ -66,6 +67,11 @@ pub script_due : (bytes : List ℕ) (w : WorldValue) (r : Result DueText NoMemor
     → IfOk r (λ due. DueTo (words_of command.Show) bytes due.status due.text None)
 script_due bytes w (Ok due) is h = rw (h.0, h.1) (script_of w refl is)
 script_due bytes w (Err error) is h = tt
+
+pub bounds_due : (bytes : List ℕ) (w : WorldValue) (r : Result DueText NoMemory) → world bytes ≡ Ok w → IfOk r (λ due. AreTold w due.status due.text)
+    → IfOk r (λ due. DueTo (words_of command.Bound) bytes due.status due.text None)
+bounds_due bytes w (Ok due) is h = rw (h.2, h.3) (bounds_of w h.0 refl is h.1)
+bounds_due bytes w (Err error) is h = tt
 
 pub script_refused_due : (c : Command) (bytes : List ℕ) (line : ℕ) (cause : Cause) (r : Result DueText NoMemory) → ReadsScript (words_of c) → world bytes ≡ Err (line, cause)
     → IfOk r (λ due. (due.status ≡ 3) × (due.text ≡ refusal_text line (cause_name cause))) → IfOk r (λ due. DueTo (words_of c) bytes due.status due.text None)
@@ -110,7 +116,8 @@ illegal_due a w lines end v n cause (Err error) w_is lines_are end_is is v_is h 
 at_most : (c : Command) → IsInRange c → ReadsAtMost (words_of c) (byte_limit c)
 at_most command.Run range = inl (inl refl, refl)
 at_most (command.RunOn cpus) range = inl (inr (inl (cpus, (refl, range))), refl)
-at_most command.Show range = inl (inr (inr refl), refl)
+at_most command.Show range = inl (inr (inr (inl refl)), refl)
+at_most command.Bound range = inl (inr (inr (inr refl)), refl)
 at_most command.Check range = inr (refl, refl)
 
 pub read_due : {before after : Option (List ℕ)} {bytes same text : List ℕ} {status : ℕ} {made : Option State} (c : Command) (limit : ℕ) → IsInRange c → limit ≡ byte_limit c
@@ -141,6 +148,7 @@ check_speaks (illegal n cause is) = (λ e. absurd (cc), λ e. absurd (cc))
 pub speaks : {words : List (List ℕ)} {bytes : List ℕ} {status : ℕ} {text : List ℕ} {made : Option State} → DueTo words bytes status text made → (status ≢ 4) × (status ≢ 5)
 speaks (record_of w status text made is r) = subst Speaks (sym r.record_is.status_is) (run_speaks r.end)
 speaks (script_of w show is) = (λ e. absurd (cc), λ e. absurd (cc))
+speaks (bounds_of w bounds bound is are) = (λ e. absurd (cc), λ e. absurd (cc))
 speaks (verdict_of a status text checks is h) = check_speaks h
 speaks (script_refused line cause reads is) = (λ e. absurd (cc), λ e. absurd (cc))
 speaks (record_refused line cause reads is) = (λ e. absurd (cc), λ e. absurd (cc))
@@ -149,7 +157,8 @@ speaks (record_refused line cause reads is) = (λ e. absurd (cc), λ e. absurd (
 pub of_command : {words : List (List ℕ)} (c : Command) → IsInRange c → words ≡ words_of c → IsCommand words
 of_command command.Run range is = inl (inl is)
 of_command (command.RunOn cpus) range is = inl (inr (inl (cpus, (is, range))))
-of_command command.Show range is = inl (inr (inr is))
+of_command command.Show range is = inl (inr (inr (inl is)))
+of_command command.Bound range is = inl (inr (inr (inr is)))
 of_command command.Check range is = inr is
 
 -- a command that one processor serves, and one that many serve
@@ -157,6 +166,7 @@ pub alone_ranges : (c : Command) → IsAlone c → IsInRange c
 alone_ranges command.Run alone = tt
 alone_ranges (command.RunOn cpus) alone = absurd alone
 alone_ranges command.Show alone = tt
+alone_ranges command.Bound alone = tt
 alone_ranges command.Check alone = tt
 
 -- what a run of many processors, or of one, came to where the script is refused

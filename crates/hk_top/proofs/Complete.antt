@@ -29,7 +29,8 @@ of_reading (inr h) = inr h.0
 one_input : {words : List (List ℕ)} → ReadsScript words → ReadsRecord words → ⊥
 one_input (inl run) check = let both : codes "run" ∷ [] ≡ codes "check" ∷ [] = sym run ∙ check in absurd (cc)
 one_input (inr (inl many)) check = let both : codes "run" ∷ _ ∷ [] ≡ codes "check" ∷ [] = sym many.1.0 ∙ check in absurd (cc)
-one_input (inr (inr show)) check = let both : codes "show" ∷ [] ≡ codes "check" ∷ [] = sym show ∙ check in absurd (cc)
+one_input (inr (inr (inl show))) check = let both : codes "show" ∷ [] ≡ codes "check" ∷ [] = sym show ∙ check in absurd (cc)
+one_input (inr (inr (inr bound))) check = let both : codes "bound" ∷ [] ≡ codes "check" ∷ [] = sym bound ∙ check in absurd (cc)
 
 -- so they have one limit
 one_limit : {words : List (List ℕ)} {limit other : ℕ} → ReadsAtMost words limit → ReadsAtMost words other → limit ≡ other

@@ -4,6 +4,7 @@ use Rattle.std.specs.Io.KnownBytes.{Consumes, Appends, IsAtEnd}
 use Rattle.hk_io.specs.Causes.{Rose}
 use Rattle.hk_io.specs.Streams.{Took}
 use Rattle.hk_model.specs.declared.names.Cpu.{Cpu}
+use Rattle.hk_model.specs.declared.names.Name.{Name}
 use Rattle.hk_format.specs.declared.causes.Cause.{Cause}
 use Rattle.hk_model.specs.declared.verdicts.Misstep.{Misstep}
 use Rattle.hk_model.specs.declared.verdicts.Verdict.TheVariants.{Legal, Illegal}
@@ -25,7 +26,8 @@ use Rattle.hk_format.specs.Worlds.{world}
 use Rattle.hk_format.specs.Canonical.{canon}
 use Rattle.hk_format.specs.Records.{record_text}
 use Rattle.hk_format.specs.Audits.{Audited, audit}
-use Rattle.hk_top.specs.Words.{IsRun, IsRunOn, IsShow, IsCheck, ReadsScript, ReadsRecord, IsCommand, ReadsAtMost}
+use Rattle.hk_top.specs.BoundTexts.{AreBounds, bounds_text}
+use Rattle.hk_top.specs.Words.{IsRun, IsRunOn, IsShow, IsBound, IsCheck, ReadsScript, ReadsRecord, IsCommand, ReadsAtMost}
 
 -- what is written of words that are no command
 abbrev pub usage_text : List ℕ
@@ -94,6 +96,8 @@ pub data DueTo (words : List (List ℕ)) (bytes : List ℕ) : ℕ → List ℕ �
   record_of : (w : WorldValue) (status : ℕ) (text : List ℕ) (made : Option State) → world bytes ≡ Ok w → IsRecorded words w status text made → DueTo words bytes status text made
   -- 0: the bytes are the script of a world, and the text is its canonical script
   script_of : (w : WorldValue) → IsShow words → world bytes ≡ Ok w → DueTo words bytes 0 (canon w) None
+  -- 0: the bytes are the script of a world, and the text is the bounds of its processes
+  bounds_of : (w : WorldValue) (bounds : List (List Name)) → IsBound words → world bytes ≡ Ok w → AreBounds w bounds → DueTo words bytes 0 (bounds_text bounds) None
   -- 0, 8: the bytes are a record, and the text is the verdict on it
   verdict_of : (a : Audited) (status : ℕ) (text : List ℕ) → IsCheck words → audit bytes ≡ Ok a → IsChecked a status text → DueTo words bytes status text None
   -- 3: the bytes are the script of no world, and the text is the first line that is refused, with its first cause

@@ -29,13 +29,17 @@ RunsOnMany words = (cpus : ℕ) × IsRunOn words cpus
 abbrev pub IsShow : List (List ℕ) → Type 0
 IsShow words = words ≡ codes "show" ∷ []
 
+-- the words `bound`
+abbrev pub IsBound : List (List ℕ) → Type 0
+IsBound words = words ≡ codes "bound" ∷ []
+
 -- the words `check`
 abbrev pub IsCheck : List (List ℕ) → Type 0
 IsCheck words = words ≡ codes "check" ∷ []
 
 -- the words of a command that reads a script
 abbrev pub ReadsScript : List (List ℕ) → Type 0
-ReadsScript words = IsRun words ⊎ (RunsOnMany words ⊎ IsShow words)
+ReadsScript words = IsRun words ⊎ (RunsOnMany words ⊎ (IsShow words ⊎ IsBound words))
 
 -- the words of a command that reads a record
 abbrev pub ReadsRecord : List (List ℕ) → Type 0
@@ -54,6 +58,7 @@ abbrev pub words_of : Command → List (List ℕ)
 words_of command.Run = codes "run" ∷ []
 words_of (command.RunOn cpus) = codes "run" ∷ decimal cpus ∷ []
 words_of command.Show = codes "show" ∷ []
+words_of command.Bound = codes "bound" ∷ []
 words_of command.Check = codes "check" ∷ []
 
 -- one processor serves the command
@@ -66,6 +71,7 @@ abbrev pub byte_limit : Command → ℕ
 byte_limit command.Run = script_bytes
 byte_limit (command.RunOn cpus) = script_bytes
 byte_limit command.Show = script_bytes
+byte_limit command.Bound = script_bytes
 byte_limit command.Check = record_bytes
 
 -- a number of processors that the command has may run a script

@@ -164,7 +164,7 @@ fn byte_limit(command: Command) -> usize
     ensures { result ≡ byte_limit command }
 {
     match command {
-        Command::Run | Command::RunOn(_) | Command::Show => SCRIPT_BYTES,
+        Command::Run | Command::RunOn(_) | Command::Show | Command::Bound => SCRIPT_BYTES,
         Command::Check => RECORD_BYTES,
     }
 }

@@ -1,6 +1,7 @@
 //! The commands of `hydra`, from words and bytes to bytes and a status.
 #![tactic(auto)]
 
+mod bounds;
 mod causes;
 mod commands;
 #[cfg(test)]

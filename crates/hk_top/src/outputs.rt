@@ -8,9 +8,11 @@ ghost use Rattle.hk_format.specs.Canonical.{canon};
 ghost use Rattle.hk_model.specs.Opening.{opening};
 ghost use Rattle.hk_model.specs.Running.{AreStepsOf};
 ghost use Rattle.hk_top.specs.Words.{words_of, byte_limit, IsAlone};
+ghost use Rattle.hk_top.specs.BoundTexts.{AreTold};
 ghost use Rattle.hk_top.specs.Outputs.{DueTo, IsChecked, IsRecord};
 ghost use Rattle.hk_top.specs.Served.{IsDueTo, Records};
 
+use crate::bounds::bounds_text;
 use crate::causes::{refusal_text, verdict_text};
 use crate::maker::Maker;
 use crate::running::{laws, run_alone};
@@ -18,6 +20,7 @@ use crate::served::{DueText, Served};
 use crate::status;
 use crate::words::Command;
 use hk_audit::{Audit, RecordError, read_record, record_text, steps_have_texts};
+use hk_bound::bound;
 use hk_check::check;
 use hk_format::Cause;
 use hk_load::{WorldError, read_world};
@@ -41,6 +44,7 @@ pub(crate) fn due_to_bytes<M: Maker>(
         Command::Run => run_script(alloc, bytes, kernels),
         Command::RunOn(_) => unreachable!(),
         Command::Show => Ok(text_alone(show_script(alloc, bytes)?)),
+        Command::Bound => Ok(text_alone(bound_script(alloc, bytes)?)),
         Command::Check => Ok(text_alone(check_record(alloc, bytes)?)),
     }
 }
@@ -108,6 +112,18 @@ fn show_script(alloc: Global, bytes: &[u8]) -> Result<DueText, NoMemory>
     }
 }
 
+// What is due to `bound` and the bytes of a script.
+fn bound_script(alloc: Global, bytes: &[u8]) -> Result<DueText, NoMemory>
+    requires few { length bytes.now ≤ script_bytes }
+    ensures { IfOk result (λ due. DueTo (words_of Command.Bound) bytes.now due.status due.text None) }
+{
+    match read_world(alloc, bytes) {
+        Ok(world) => bounds(alloc, &world),
+        Err(WorldError::Refused { line, cause }) => refused(alloc, line, cause),
+        Err(WorldError::NoMemory) => Err(NoMemory),
+    }
+}
+
 // What is due to `check` and the bytes of a record.
 fn check_record(alloc: Global, bytes: &[u8]) -> Result<DueText, NoMemory>
     requires few { length bytes.now ≤ record_bytes }
@@ -156,6 +172,17 @@ fn script(alloc: Global, world: &World) -> Result<DueText, NoMemory>
     Ok(DueText {
         status: status::DONE,
         text: script_text(alloc, world)?,
+    })
+}
+
+// What is due to `bound` and a world: the bounds of its processes.
+fn bounds(alloc: Global, world: &World) -> Result<DueText, NoMemory>
+    ensures { IfOk result (λ due. AreTold world.now due.status due.text) }
+{
+    let bounds = bound(alloc, world)?;
+    Ok(DueText {
+        status: status::DONE,
+        text: bounds_text(alloc, bounds.as_slice())?,
     })
 }
 

@@ -16,6 +16,8 @@ pub enum Command {
     RunOn(u8),
     /// Writes the canonical script of the world that a script declares.
     Show,
+    /// Writes the static bound of each process of the world that a script declares.
+    Bound,
     /// Writes the verdict on a record.
     Check,
 }
@@ -40,6 +42,9 @@ fn command_of_word(word: &str) -> Option<Command>
     }
     if word == "show" {
         return Some(Command::Show);
+    }
+    if word == "bound" {
+        return Some(Command::Bound);
     }
     if word == "check" {
         return Some(Command::Check);
