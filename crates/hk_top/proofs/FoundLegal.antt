@@ -14,6 +14,7 @@ use Rattle.hk_audit.proofs.StepsInRange.{steps_in_range}
 use Rattle.hk_check.proofs.OneVerdict.{one_verdict}
 use Rattle.hk_top.specs.declared.words.Command.TheVariants as command
 use Rattle.hk_top.specs.Words.{words_of, ReadsScript}
+use Rattle.hk_top.proofs.WordLemmas.{bound_is_no_check}
 use Rattle.hk_top.specs.Outputs.{DueTo, IsChecked, IsRunOf, record_of, script_of, bounds_of, verdict_of, script_refused, record_refused, legal, illegal, alone, shared}
 
 -- the words `check` read no script and ask for no run
@@ -25,7 +26,7 @@ no_script : ReadsScript (words_of command.Check) → ⊥
 no_script (inl is) = absurd (cc)
 no_script (inr (inl many)) = let words = many.1.0 in absurd (cc)
 no_script (inr (inr (inl is))) = absurd (cc)
-no_script (inr (inr (inr is))) = absurd (cc)
+no_script (inr (inr (inr is))) = bound_is_no_check (sym is)
 
 checked_legal : (a : Audited) (status : ℕ) (text : List ℕ) → IsLegal a.world a.lines a.end → IsChecked a status text → (status ≡ 0) × (text ≡ verdict_text Legal)
 checked_legal a status text h (legal is laws) = (refl, refl)

@@ -1,5 +1,5 @@
 -- Words that spell a number of processors.
-use Rattle.std.specs.Prelude.{◌≡◌, ℕ, List, Option, Some, None, IfNone}
+use Rattle.std.specs.Prelude.{◌≡◌, ℕ, List, [], ◌∷◌, codes, Option, Some, None, IfNone}
 use Rattle.std.proofs.Common.{arith, ap, sym, ◌∙◌}
 use Rattle.hk_text.specs.Numerals.{numeral_of}
 use Rattle.hk_text.proofs.NumeralTexts.{numeral_again}
@@ -20,3 +20,13 @@ other_spelled word n e h cpus may is =
 pub from_none : {P : Type 0} (r : Option ℕ) → P → IfNone r P
 from_none None p = p
 from_none (Some n) p = tt
+
+-- the first letter of the first word
+first_letter : List (List ℕ) → ℕ
+first_letter [] = 0
+first_letter ([] ∷ words) = 0
+first_letter ((letter ∷ letters) ∷ words) = letter
+
+-- words that begin with other letters are other words
+pub bound_is_no_check : codes "bound" ∷ [] ≡ codes "check" ∷ [] → ⊥
+bound_is_no_check same = let letters : 98 ≡ 99 = ap first_letter same in omega (arith, letters)

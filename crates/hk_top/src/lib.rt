@@ -7,8 +7,6 @@ mod commands;
 #[cfg(test)]
 mod commands_tests;
 mod maker;
-#[cfg(test)]
-mod moments_tests;
 mod outputs;
 mod printed;
 mod processors;

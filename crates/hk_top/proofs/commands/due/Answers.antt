@@ -1,4 +1,4 @@
-use Rattle.hk_top.proofs.AnswerLemmas.{alone_ranges, read_due, unread_due}
+use Rattle.hk_top.proofs.AnswerLemmas.{alone_ranges, read_due, speaks, unread_due}
 use Rattle.hk_top.proofs.commands.due.Goals as goal
 
 pub returns-in_ok-due_to_bytes-in-Ok-clause-due : goal.returns-in_ok-due_to_bytes-in-Ok-clause-due
@@ -10,3 +10,6 @@ pub returns-in-Err-clause-due : goal.returns-in-Err-clause-due
 returns-in-Err-clause-due g c =
     unread_due g.M.Made.Kernel.state c.args.command c.byte_limit.result _ _ c.read_all.result c.in-Err.error c.unread.result (alone_ranges c.args.command c.requires.alone)
     c.byte_limit.ensures c.in-Err.is c.read_all.ensures.long c.unread.ensures.long
+
+pub returns-in_ok-due_to_bytes-in-Ok-clause-status : goal.returns-in_ok-due_to_bytes-in-Ok-clause-status
+returns-in_ok-due_to_bytes-in-Ok-clause-status g c = speaks c.in_ok-due_to_bytes-in-Ok.ensures
