@@ -5,7 +5,7 @@ ghost use Rattle.std.specs.Prelude.{◌≡◌, ◌≤◌, IfOk};
 use crate::{Naming, Shared};
 use hk_model::{Code, Cpu, Entries, Items, Kernel, Task, Text, World};
 use hk_plain::Plain;
-use hk_procs::{Ended, Gate, work};
+use hk_procs::{Asked, Desk, Ended, Gate, work};
 use std::alloc::{AllocError, Global};
 use std::marker::Brand;
 use std::sync::Wait;
@@ -96,5 +96,34 @@ fn a_worker_is_over_at_the_limit(rt: HostRuntime) -> Result<(), Fail> {
     assert!(rt; left.ended == Ended::Over);
     assert_eq!(rt; left.lines, 1);
     assert!(rt; left.current);
+    Ok(())
+}
+
+// How many lines a second processor is told of, where the first runs the only process of the world that is named.
+#[tactic(auto, using(crate::proofs::NewPasses::new_runs_nothing))]
+fn idle_named<J: Naming, R: Wait>(rt: &R, alloc: Global, world: &World) -> Result<u64, Fail>
+    requires { world.now ≡ J.world }
+{
+    let kernel = Plain::new(alloc, world).ok().ok_or("a kernel")?;
+    let started = Shared::<Plain, J>::start(alloc, kernel, world, 2);
+    let (shared, mut passes) = started.ok().ok_or("a desk")?;
+    let first = passes.remove(0);
+    let second = passes.remove(0);
+    let (_first, _given) = shared.ask(rt, first);
+    match shared.ask(rt, second) {
+        (_second, Asked::Idle(lines)) => Ok(lines),
+        _ => Err("a processor without a process".into()),
+    }
+}
+
+// Runs a world, which it names.
+fn idle<R: Wait>(rt: &R, alloc: Global, world: &World) -> Result<u64, Fail> {
+    idle_named::<Brand, R>(rt, alloc, world)
+}
+
+#[test]
+fn an_idle_processor_is_told_of_the_lines_up_to_its_turn(rt: HostRuntime) -> Result<(), Fail> {
+    let world = returns(rt.alloc(), 10)?;
+    assert_eq!(rt; idle(&rt, rt.alloc(), &world)?, 1);
     Ok(())
 }

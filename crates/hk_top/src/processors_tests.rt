@@ -141,6 +141,19 @@ fn the_lines_are_those_of_the_processors(rt: HostRuntime) -> Result<(), Fail> {
     Ok(())
 }
 
+#[test]
+fn another_order_makes_another_record(rt: HostRuntime) -> Result<(), Fail> {
+    let alloc = rt.alloc();
+    let ran = run_in_order(&rt, alloc, &[1, 0, 0, 1, 1, 0, 0, 1])?;
+    assert_eq!(rt; ran.status, status::DONE);
+    assert_eq!(rt; ran.missed, 0);
+    assert_eq!(rt; ran.events, 8);
+    let record =
+        b"hydra 1\ncode main\nyield\nend\nprocess a main\nend\nprocess b main\nend\nrecord\n1 0 0 dispatch -> done\n0 1 1 dispatch -> done\n0 1 1 yield -> done\n1 0 0 yield -> done\n1 1 1 dispatch -> done\n0 0 0 dispatch -> done\n0 0 0 return -> done\n1 1 1 return -> done\nend done\n";
+    assert_eq!(rt; ran.text.as_slice(), record.as_slice());
+    Ok(())
+}
+
 // A plain kernel, but its first call wants memory.
 #[derive(Drop)]
 struct Wanting {
