@@ -43,6 +43,7 @@ fn returns(alloc: Global, limit: u32) -> Result<World, Fail>
 }
 
 // What a run leaves.
+#[derive(Drop)]
 struct Left {
     ended: Ended,
     lines: usize,
