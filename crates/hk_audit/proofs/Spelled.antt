@@ -1,9 +1,8 @@
 -- Names of rights, read one after another and compared with the canonical spelling.
 use Rattle.std.proofs.Common.{◌≡◌, ℕ, zero, suc, ltb, ◌+◌, ◌<◌, ◌≤◌, ◌^◌, ◌==◌, Bool, true, false, cond, List, [], ◌∷◌, length, map, drop, get_or, refl, sym, ap, subst, ◌∙◌, arith}
-use Rattle.std.proofs.Common.{◌||◌, not, Option, Some, None, IsTrue}
+use Rattle.std.proofs.Common.{not, Option, Some, None}
 use Rattle.std.specs.Prelude.{codes, option_map, find}
 use Rattle.std.specs.List.{AllByRecursion, list_all, list_any, filter, slice_split, join_with_byte}
-use Rattle.std.specs.Int.Bits.{or_zero_l, or_zero_r}
 use Rattle.std.specs.Str.{IsUtf8, IsAscii}
 use Rattle.std.proofs.lemmas.Str.{IsUtf8-from_ascii}
 use Rattle.std.specs.Cmp.Lexicographic.{pointwise}
@@ -13,10 +12,7 @@ use Rattle.std.proofs.lemmas.List.{drop_more, drop_all}
 use Rattle.hk_format.specs.Texts.{is_none}
 use Rattle.std.proofs.lemmas.List.Splits.{join_with_byte-slice_split}
 use Rattle.std.proofs.lemmas.List.Folds.{list_all-append}
-use Rattle.hk_rights.specs.Rights.{Row, has, is_right, IsRightsWord, right_numbers, right_table, name_of, number_named, all_rights}
-use Rattle.hk_rights.proofs.Sets.{has-bit_or, same_rights}
-use Rattle.hk_rights.proofs.Words.{HasAll-all_rights}
-use Rattle.hk_rights.proofs.Table.{has-all_rights}
+use Rattle.hk_rights.specs.Rights.{Row, has, IsRightsWord, right_numbers, right_table, name_of, number_named, all_rights}
 use Rattle.hk_model.specs.Labels.{same_text}
 use Rattle.hk_format.specs.RightsTexts.{both, union_of, rights_spelled}
 use Rattle.hk_format.proofs.Cutting.{split_joined}
@@ -148,15 +144,15 @@ joined_text c (t ∷ u ∷ us) small h =
 names_text : (ts : List (List ℕ)) (r : ℕ) → union_of ts ≡ Some r → list_all (list_all (λ b. ltb b 128)) ts ≡ true
 unfolding IsText
 names_text [] r e = refl
-names_text (t ∷ ts) r e = go (number_named t) refl (union_of ts) refl e
+names_text (t ∷ ts) r e = go (number_named t) refl (union_of ts) refl e (λ x l. names_text ts x l)
   where
     go : (o : Option ℕ) → number_named t ≡ o → (u : Option ℕ) → union_of ts ≡ u → both (option_map (λ n. 2 ^ n) o) u ≡ Some r
-        → list_all (list_all (λ b. ltb b 128)) (t ∷ ts) ≡ true
-    go (Some n) k (Some x) l h =
+        → ((x : ℕ) → union_of ts ≡ Some x → list_all (list_all (λ b. ltb b 128)) ts ≡ true) → list_all (list_all (λ b. ltb b 128)) (t ∷ ts) ≡ true
+    go (Some n) k (Some x) l h more =
         let row = named_row IsText t n all_texts k in
-        and_from _ _ (rw (← row.1) row.3) (names_text ts x l)
-    go (Some n) k None l h = absurd (let none : None ≡ Some r = h in cc)
-    go None k u l h = absurd (let none : None ≡ Some r = h in cc)
+        and_from _ _ (rw (← row.1) row.3) (more x l)
+    go (Some n) k None l h more = absurd (let none : None ≡ Some r = h in cc)
+    go None k u l h more = absurd (let none : None ≡ Some r = h in cc)
 
 -- what is no text means no set
 pub no_rights : (t : List ℕ) → (IsUtf8 t → ⊥) → ◌≡◌ {A = Option ℕ} None (rights_spelled t)
@@ -168,7 +164,7 @@ no_rights t bad = dash (same_text t (codes "-")) refl
 
     names : (u : Option ℕ) → union_of (slice_split (λ b. b == 43) t) ≡ u → ◌≡◌ {A = Option ℕ} None u
     names None e = refl
-    names (Some r) e = absurd (plain (rw (← join_with_byte-slice_split 43 t) (joined_text 43 _ refl (names_text _ r e))))
+    names (Some r) e = absurd (plain (rw (← join_with_byte-slice_split 43 t) (joined_text 43 (slice_split (λ b. b == 43) t) refl (names_text (slice_split (λ b. b == 43) t) r e))))
 
     all : (b : Bool) → same_text t (codes "ALL") ≡ b → ◌≡◌ {A = Option ℕ} None (cond b (Some all_rights) (union_of (slice_split (λ b. b == 43) t)))
     all true e = absurd (plain (rw (same_is t (codes "ALL") e) refl))
