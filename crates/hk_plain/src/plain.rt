@@ -1,10 +1,14 @@
 //! The plain kernel.
 
-ghost use Rattle.std.specs.Prelude.{◌≡◌, IfOk};
+ghost use Rattle.std.specs.Prelude.{◌≡◌, IfOk, option_copied};
+ghost use Rattle.std.specs.Map.{lookup};
 ghost use Rattle.hk_model.specs.Opening.{opening};
+ghost use Rattle.hk_model.specs.State.{same_name, same_inc};
 
 use crate::tables::Tables;
-use hk_model::{Acted, Call, Cpu, Inc, Kernel, NoMemory, Proc, Snapshot, World};
+use hk_model::{
+    Acted, Call, Cpu, Inc, Incarnation, Kernel, Name, NoMemory, Object, Proc, Snapshot, World,
+};
 use std::alloc::Global;
 use std::marker::Model;
 
@@ -34,6 +38,34 @@ impl Plain {
     {
         let tables = Tables::open(alloc, world)?;
         Ok(Plain { tables })
+    }
+
+    /// The object of a name. None exactly where no object has it.
+    pub fn object(&self, name: Name) -> Option<&Object>
+        ensures { option_copied result ≡ lookup (same_name name) self.now.objects }
+    {
+        self.tables.object(name)
+    }
+
+    /// The live incarnation of a number. None exactly where no live one has it.
+    pub fn incarnation(&self, inc: Inc) -> Option<&Incarnation>
+        ensures { option_copied result ≡ lookup (same_inc inc) self.now.incarnations }
+    {
+        self.tables.incarnations.get(inc)
+    }
+
+    /// The name that the next object takes, which no object has had.
+    pub fn next_name(&self) -> Name
+        ensures { result ≡ self.now.next_name }
+    {
+        self.tables.next_name
+    }
+
+    /// The number that the next incarnation takes, which none has had.
+    pub fn next_inc(&self) -> Inc
+        ensures { result ≡ self.now.next_inc }
+    {
+        self.tables.incarnations.next()
     }
 }
 
