@@ -7,8 +7,9 @@ ghost use Rattle.hk_trace.specs.Uses.{chain_found};
 use crate::chains::{Chain, Link, Origin, Place};
 use crate::turns::{Source, Turn, source_in};
 use crate::using::UsedPlace;
-use hk_model::{Items, NoMemory};
+use hk_model::{Entry, Items, NoMemory, Template};
 use std::alloc::Global;
+use std::marker::PhantomData;
 
 /// The links that lead back from a place, and where they end.
 #[derive(Drop)]
@@ -23,16 +24,18 @@ fn follow(alloc: Global, turns: &[Turn], from: Place) -> Result<Trail, NoMemory>
     requires { length turns.now < 2 ^ 32 }
     ensures { IfOk result (λ found. found ≡ trail turns.now (length turns.now) from) }
 {
+    let _ = PhantomData::<(Entry, Template)>; // Rattle is to know what an Entry holds
     let mut links = Vec::new(alloc);
     let mut place = from;
     let mut line = turns.len();
     while line > 0 {
-        match source_in(&turns[line - 1], place) {
+        let source = source_in(&turns[line - 1], place);
+        match &source {
             None => {}
             Some(Source::Came(from)) => {
                 let line = line as u32;
-                links.push(Link { line, from })?;
                 place = from.place;
+                links.push(Link { line, from: *from })?;
             }
             Some(Source::Made) => {
                 return Ok(Trail {
@@ -58,6 +61,7 @@ pub(crate) fn chains_of(
     requires { length turns.now < 2 ^ 32 }
     ensures { IfOk result (λ chains. chains.items ≡ map (chain_found turns.now) used.now) }
 {
+    let _ = PhantomData::<(Entry, Template)>; // Rattle is to know what an Entry holds
     let mut all = Vec::new(alloc);
     for one in used {
         let found = follow(alloc, turns, one.at.place)?;

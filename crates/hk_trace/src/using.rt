@@ -21,16 +21,16 @@ pub struct UsedPlace {
 }
 
 // The step of a refusal, if it tells one.
-fn step_of(refusal: Refusal) -> Option<u8>
-    ensures { result ≡ step_of refusal }
+fn step_of(refusal: &Refusal) -> Option<u8>
+    ensures { result ≡ step_of refusal.now }
 {
     match refusal {
-        Refusal::Range { step } => Some(step),
-        Refusal::Empty { step } => Some(step),
-        Refusal::NotCap { step } => Some(step),
-        Refusal::Denied { step, .. } => Some(step),
-        Refusal::WrongType { step } => Some(step),
-        Refusal::BadTemplate { step } => Some(step),
+        Refusal::Range { step } => Some(*step),
+        Refusal::Empty { step } => Some(*step),
+        Refusal::NotCap { step } => Some(*step),
+        Refusal::Denied { step, .. } => Some(*step),
+        Refusal::WrongType { step } => Some(*step),
+        Refusal::BadTemplate { step } => Some(*step),
         Refusal::Count => None,
         Refusal::Full { .. } => None,
         Refusal::Deep => None,
@@ -71,15 +71,15 @@ fn rights_place(call: &Call, step: u8) -> u8
 }
 
 // The place of a refusal of a call in the order of refusals, 1 to 8.
-fn order_of(call: &Call, refusal: Refusal) -> u8
-    ensures { result ≡ order_of call.now refusal }
+fn order_of(call: &Call, refusal: &Refusal) -> u8
+    ensures { result ≡ order_of call.now refusal.now }
 {
     match refusal {
-        Refusal::Range { step } => on_path(call, step, 2, behind_path(call, step)),
-        Refusal::Empty { step } => on_path(call, step, 2, 7),
-        Refusal::NotCap { step } => on_path(call, step, 2, 7),
-        Refusal::Denied { step, .. } => on_path(call, step, rights_place(call, step), 7),
-        Refusal::WrongType { step } => on_path(call, step, 3, 7),
+        Refusal::Range { step } => on_path(call, *step, 2, behind_path(call, *step)),
+        Refusal::Empty { step } => on_path(call, *step, 2, 7),
+        Refusal::NotCap { step } => on_path(call, *step, 2, 7),
+        Refusal::Denied { step, .. } => on_path(call, *step, rights_place(call, *step), 7),
+        Refusal::WrongType { step } => on_path(call, *step, 3, 7),
         Refusal::BadTemplate { .. } => 2,
         Refusal::Count => 6,
         Refusal::Full { .. } => 8,
@@ -98,8 +98,8 @@ fn is_below(told: Option<u8>, step: u8) -> bool
 }
 
 // Whether a call was refused at an earlier step than this, or in an earlier place of the order.
-fn is_refused_before(call: &Call, reply: Reply, order: u8, step: u8) -> bool
-    ensures { result ≡ is_refused_before call.now reply order step }
+fn is_refused_before(call: &Call, reply: &Reply, order: u8, step: u8) -> bool
+    ensures { result ≡ is_refused_before call.now reply.now order step }
 {
     match reply {
         Reply::No(refusal) => is_below(step_of(refusal), step) || order_of(call, refusal) < order,
@@ -113,13 +113,13 @@ fn is_refused_before(call: &Call, reply: Reply, order: u8, step: u8) -> bool
 fn add_uses(
     all: &mut Vec<UsedPlace>,
     call: &Call,
-    reply: Reply,
+    reply: &Reply,
     order: u8,
     first: u8,
     held: &[Option<Standing>],
 ) -> Result<(), NoMemory>
     requires { first + length held.now ≤ 255 }
-    ensures { OnOk result (all.new.items ≡ all.old.items ++ uses_of call.now reply order first held.now) }
+    ensures { OnOk result (all.new.items ≡ all.old.items ++ uses_of call.now reply.now order first held.now) }
 {
     for (index, one) in held.iter().enumerate() {
         let step = first + index as u8;
@@ -139,9 +139,9 @@ fn used_by(
     kernel: &Plain,
     inc: Inc,
     call: &Call,
-    reply: Reply,
+    reply: &Reply,
 ) -> Result<Vec<UsedPlace>, NoMemory>
-    ensures { IfOk result (λ all. all.items ≡ map (told_use kernel.now) (used_by kernel.now inc (what.Call call.now) reply)) }
+    ensures { IfOk result (λ all. all.items ≡ map (told_use kernel.now) (used_by kernel.now inc (what.Call call.now) reply.now)) }
 {
     let mut all = Vec::new(alloc);
     if let Some(path) = path_of(call) {
@@ -159,7 +159,7 @@ pub(crate) fn used(alloc: Global, kernel: &Plain, line: &Line) -> Result<Vec<Use
     ensures { IfOk result (λ all. all.items ≡ map (told_use kernel.now) (used kernel.now line.now)) }
 {
     match &line.what {
-        What::Call(call) => used_by(alloc, kernel, line.inc, call, line.reply),
+        What::Call(call) => used_by(alloc, kernel, line.inc, call, &line.reply),
         What::Dispatch => Ok(Vec::new(alloc)),
         What::Halt => Ok(Vec::new(alloc)),
     }
