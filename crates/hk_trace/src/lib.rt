@@ -12,10 +12,12 @@ mod chains;
 mod following;
 mod replay;
 mod standing;
+mod texts;
 mod tracing;
 mod turns;
 mod using;
 
 pub use chains::{Chain, Link, Origin, Place, Standing};
 pub use hk_model::{Line, NoMemory, World};
+pub use texts::chains_text;
 pub use tracing::trace;
