@@ -1,0 +1,8 @@
+pub mod Told
+pub mod Carried
+pub mod Used
+pub mod Traced
+pub mod Held
+pub mod Turns
+pub mod Uses
+pub mod ChainTexts

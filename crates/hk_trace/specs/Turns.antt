@@ -1,0 +1,127 @@
+-- What each line writes, and from where: kept of a line once its state has gone. And the way back over such turns.
+use Rattle.std.specs.Prelude.{ℕ, zero, suc, ◌+◌, ◌==◌, ◌&&◌, Bool, List, [], ◌∷◌, ◌++◌, length, map, take, slice_get, slice_index_or, Option, Some, None, if◌then◌else◌}
+use Rattle.std.specs.Option.{unwrap_or}
+use Rattle.hk_model.specs.declared.names.Name.{Name}
+use Rattle.hk_model.specs.declared.names.Inc.{Inc}
+use Rattle.hk_model.specs.declared.names.Slot.{Slot}
+use Rattle.hk_model.specs.declared.entries.Entry.{Entry}
+use Rattle.hk_model.specs.declared.calls.Call.{Call}
+use Rattle.hk_model.specs.declared.calls.Call.TheVariants as call
+use Rattle.hk_model.specs.declared.lines.Line.{Line}
+use Rattle.hk_model.specs.declared.objects.Object.{Object}
+use Rattle.hk_model.specs.WorldValue.{WorldValue}
+use Rattle.hk_model.specs.Running.{Machine, moved}
+use Rattle.hk_model.specs.State.{State, object, incarnation, same_name, same_inc}
+use Rattle.hk_model.specs.Places as places
+use Rattle.hk_model.specs.Places.{walk_end, named_by}
+use Rattle.hk_model.specs.Lines.{done_call}
+use Rattle.hk_model.specs.Origins as origins
+use Rattle.hk_trace.specs.declared.chains.Place.{Place}
+use Rattle.hk_trace.specs.declared.chains.Place.TheVariants.{SlotOf, EntryOf}
+use Rattle.hk_trace.specs.declared.chains.Standing.{Standing}
+use Rattle.hk_trace.specs.declared.chains.Link.{Link}
+use Rattle.hk_trace.specs.declared.chains.Origin.{Origin}
+use Rattle.hk_trace.specs.declared.chains.Origin.TheVariants.{Opening, Made}
+use Rattle.hk_trace.specs.declared.turns.Source.{Source}
+use Rattle.hk_trace.specs.declared.turns.Source.TheVariants as source
+use Rattle.hk_trace.specs.declared.turns.Turn.{Turn}
+use Rattle.hk_trace.specs.declared.turns.Turn.TheVariants as turn
+use Rattle.hk_trace.specs.declared.following.Trail.{Trail}
+use Rattle.hk_trace.specs.Held.{held_entry, held_at}
+
+-- ---- sources
+
+-- the source of an entry that came from a place, if something stood there
+abbrev pub came : Option Standing → Option Source
+came None = None
+came (Some from) = Some (source.Came from)
+
+-- an origin as a source: none where nothing stood at its place
+abbrev pub source_told : State → Option origins.Origin → Option Source
+source_told s None = None
+source_told s (Some (origins.From place)) = came (held_at s place)
+source_told s (Some (origins.Through place form)) = came (held_at s place)
+source_told s (Some (origins.Made by target)) = Some source.Made
+
+-- what the slots of an incarnation hold
+abbrev pub held_slots : State → Inc → List ℕ → List (Option Standing)
+held_slots s inc slots = map (λ slot. held_at s (places.SlotOf inc slot)) slots
+
+-- what the entries of an object hold, from an index on
+abbrev pub held_list : Name → ℕ → List Entry → List (Option Standing)
+held_list name index [] = []
+held_list name index (entry ∷ rest) = held_entry (EntryOf name index) entry ∷ held_list name (index + 1) rest
+
+-- where the slots of a new incarnation come from: the arguments, as many as there are parameters, and then the procedure's entries
+abbrev pub held_space : State → Inc → Name → List ℕ → Object → List (Option Standing)
+held_space s inc name args o = held_slots s inc (take (length o.params) args) ++ held_list name 0 o.entries
+
+-- ---- turns
+
+-- a return hands what a slot holds to the caller's slot
+abbrev pub leave_turn : State → Inc → Option Inc → Slot → Option Slot → Turn
+leave_turn s inc (Some caller) into (Some slot) = turn.InSlot caller into (held_at s (places.SlotOf inc slot.0))
+leave_turn s inc (Some caller) into None = turn.Nothing
+leave_turn s inc None into give = turn.Nothing
+
+-- what a call that moves one entry writes, and from where; another call nothing
+abbrev pub moving_turn : State → Inc → Call → Turn
+moving_turn s inc (call.Load path into) = turn.InSlot inc into (held_at s (walk_end s inc path))
+moving_turn s inc (call.Store path at from) = turn.InList (named_by s inc path) at (held_at s (places.SlotOf inc from.0))
+moving_turn s inc (call.Append path from) =
+    turn.InList (named_by s inc path) (length (object s (named_by s inc path)).entries) (held_at s (places.SlotOf inc from.0))
+moving_turn s inc (call.Restrict slot keep) = turn.InSlot inc slot (held_at s (places.SlotOf inc slot.0))
+moving_turn s inc (call.Merge path cap into) = turn.InSlot inc into (held_at s (places.SlotOf inc cap.0))
+moving_turn s inc _ = turn.Nothing
+
+-- what a call that is done writes, and from where
+abbrev pub turn_by : State → Inc → Call → Turn
+turn_by s inc (call.MakeTemplate path kind into) = turn.NewInSlot inc into
+turn_by s inc (call.Create path into) = turn.NewInSlot inc into
+turn_by s inc (call.Copy path into) = turn.InCopy inc into s.next_name (held_list (named_by s inc path) 0 (object s (named_by s inc path)).entries)
+turn_by s inc (call.Enter path args into) =
+    turn.InSpace s.next_inc (held_space s inc (named_by s inc path) args (object s (named_by s inc path)))
+turn_by s inc (call.Leave give) = leave_turn s inc (incarnation s inc).caller (incarnation s inc).into give
+turn_by s inc c = moving_turn s inc c
+
+-- of a call, or none
+abbrev pub turn_of : State → Inc → Option Call → Turn
+turn_of s inc None = turn.Nothing
+turn_of s inc (Some c) = turn_by s inc c
+
+-- where a turn has what it wrote at a place from; none where it did not write there
+abbrev pub source_in : Turn → Place → Option Source
+source_in turn.Nothing p = None
+source_in (turn.InSlot inc into from) (SlotOf i n) = if same_inc i inc && n.0 == into.0 then came from else None
+source_in (turn.InSlot inc into from) (EntryOf a i) = None
+source_in (turn.NewInSlot inc into) (SlotOf i n) = if same_inc i inc && n.0 == into.0 then Some source.Made else None
+source_in (turn.NewInSlot inc into) (EntryOf a i) = None
+source_in (turn.InList name at from) (SlotOf i n) = None
+source_in (turn.InList name at from) (EntryOf a i) = if same_name a name && i == at then came from else None
+source_in (turn.InCopy inc into name held) (SlotOf i n) = if same_inc i inc && n.0 == into.0 then Some source.Made else None
+source_in (turn.InCopy inc into name held) (EntryOf a i) = if same_name a name then came (slice_index_or held i None) else None
+source_in (turn.InSpace inc held) (SlotOf i n) = if same_inc i inc then came (slice_index_or held n.0 None) else None
+source_in (turn.InSpace inc held) (EntryOf a i) = None
+
+-- the turns of the lines of a history, from a machine on
+abbrev pub turns_of : WorldValue → Machine → List Line → List Turn
+turns_of w m [] = []
+turns_of w m (line ∷ lines) = turn_of m.state line.inc (done_call line) ∷ turns_of w (moved w m line.cpu) lines
+
+-- ---- the way back
+
+-- the links that lead back from a place, and where they end, after a line, by the trails before it
+abbrev pub trail_by : ℕ → Option Source → (Place → Trail) → Place → Trail
+trail_by line None before p = before p
+trail_by line (Some (source.Came from)) before p =
+    record { links = record { line = line; from = from } ∷ (before from.place).links; origin = (before from.place).origin }
+trail_by line (Some source.Made) before p = record { links = []; origin = Made line }
+
+-- the turn of a line, counted from 0
+abbrev pub turn_at : List Turn → ℕ → Turn
+turn_at turns n = unwrap_or (slice_get turns n) turn.Nothing
+
+-- the trail of a place after so many turns
+abbrev pub trail : List Turn → ℕ → Place → Trail
+trail turns zero p = record { links = []; origin = Opening }
+trail turns (suc n) p = trail_by (suc n) (source_in (turn_at turns n) p) (trail turns n) p

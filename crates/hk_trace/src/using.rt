@@ -1,0 +1,166 @@
+//! Which places a line used (`docs/RULES.md`, "Traced descent" and "The order of refusals").
+
+ghost use Rattle.std.specs.Prelude.{◌≡◌, ◌+◌, ◌≤◌, ◌++◌, length, map, IfOk, OnOk};
+ghost use Rattle.hk_model.specs.declared.lines.What.TheVariants as what;
+ghost use Rattle.hk_trace.specs.Used.{is_below, step_of, on_path, behind_path, rights_place, order_of, is_refused_before, used_by, used};
+ghost use Rattle.hk_trace.specs.Uses.{told_use, uses_of};
+
+use crate::carrying::{carried_slots, carried_step, has_at, path_len, path_of};
+use crate::chains::Standing;
+use crate::standing::{along, held_slots};
+use hk_model::{Call, Inc, Line, NoMemory, Refusal, Reply, What};
+use hk_plain::Plain;
+use std::alloc::Global;
+
+/// A place that a line used, with what stood there before it.
+#[derive(Clone, Copy, PartialEq, Eq, Debug)]
+pub struct UsedPlace {
+    /// The step of the call.
+    pub step: u8,
+    pub at: Standing,
+}
+
+// The step of a refusal, if it tells one.
+fn step_of(refusal: &Refusal) -> Option<u8>
+    ensures { result ≡ step_of refusal.now }
+{
+    match refusal {
+        Refusal::Range { step } => Some(*step),
+        Refusal::Empty { step } => Some(*step),
+        Refusal::NotCap { step } => Some(*step),
+        Refusal::Denied { step, .. } => Some(*step),
+        Refusal::WrongType { step } => Some(*step),
+        Refusal::BadTemplate { step } => Some(*step),
+        Refusal::Count => None,
+        Refusal::Full { .. } => None,
+        Refusal::Deep => None,
+    }
+}
+
+// A place of the order for a step of the path, and another for a step behind it.
+fn on_path(call: &Call, step: u8, walked: u8, behind: u8) -> u8
+    ensures { result ≡ on_path call.now step walked behind }
+{
+    if step < path_len(call) {
+        walked
+    } else {
+        behind
+    }
+}
+
+// Of a step behind the path: the test of `at`, or of a slot's number.
+fn behind_path(call: &Call, step: u8) -> u8
+    ensures { result ≡ behind_path call.now step }
+{
+    if has_at(call) && step == path_len(call) {
+        5
+    } else {
+        1
+    }
+}
+
+// Of a step of the path: the walk, or at the last step the rights of the target.
+fn rights_place(call: &Call, step: u8) -> u8
+    ensures { result ≡ rights_place call.now step }
+{
+    if step as u32 + 1 == path_len(call) as u32 {
+        4
+    } else {
+        2
+    }
+}
+
+// The place of a refusal of a call in the order of refusals, 1 to 8.
+fn order_of(call: &Call, refusal: &Refusal) -> u8
+    ensures { result ≡ order_of call.now refusal.now }
+{
+    match refusal {
+        Refusal::Range { step } => on_path(call, *step, 2, behind_path(call, *step)),
+        Refusal::Empty { step } => on_path(call, *step, 2, 7),
+        Refusal::NotCap { step } => on_path(call, *step, 2, 7),
+        Refusal::Denied { step, .. } => on_path(call, *step, rights_place(call, *step), 7),
+        Refusal::WrongType { step } => on_path(call, *step, 3, 7),
+        Refusal::BadTemplate { .. } => 2,
+        Refusal::Count => 6,
+        Refusal::Full { .. } => 8,
+        Refusal::Deep => 8,
+    }
+}
+
+// Whether a step that is told is below this one.
+fn is_below(told: Option<u8>, step: u8) -> bool
+    ensures { result ≡ is_below told step }
+{
+    match told {
+        Some(told) => told < step,
+        None => false,
+    }
+}
+
+// Whether a call was refused at an earlier step than this, or in an earlier place of the order.
+fn is_refused_before(call: &Call, reply: &Reply, order: u8, step: u8) -> bool
+    ensures { result ≡ is_refused_before call.now reply.now order step }
+{
+    match reply {
+        Reply::No(refusal) => is_below(step_of(refusal), step) || order_of(call, refusal) < order,
+        Reply::Done => false,
+        Reply::Word(_) => false,
+        Reply::Waits => false,
+    }
+}
+
+// The uses of what stands at steps that count on from this one.
+fn add_uses(
+    all: &mut Vec<UsedPlace>,
+    call: &Call,
+    reply: &Reply,
+    order: u8,
+    first: u8,
+    held: &[Option<Standing>],
+) -> Result<(), NoMemory>
+    requires { first + length held.now ≤ 255 }
+    ensures { OnOk result (all.new.items ≡ all.old.items ++ uses_of call.now reply.now order first held.now) }
+{
+    for (index, one) in held.iter().enumerate() {
+        let step = first + index as u8;
+        let refused = is_refused_before(call, reply, order, step);
+        if let Some(at) = one
+            && !refused
+        {
+            all.push(UsedPlace { step, at: *at })?;
+        }
+    }
+    Ok(())
+}
+
+// The places that a call used.
+fn used_by(
+    alloc: Global,
+    kernel: &Plain,
+    inc: Inc,
+    call: &Call,
+    reply: &Reply,
+) -> Result<Vec<UsedPlace>, NoMemory>
+    ensures { IfOk result (λ all. all.items ≡ map (told_use kernel.now) (used_by kernel.now inc (what.Call call.now) reply.now)) }
+{
+    let mut all = Vec::new(alloc);
+    if let Some(path) = path_of(call) {
+        let held = along(alloc, kernel, inc, path)?;
+        add_uses(&mut all, call, reply, 2, 0, held.as_slice())?;
+    }
+    let slots = carried_slots(call);
+    let held = held_slots(alloc, kernel, inc, slots.as_slice())?;
+    add_uses(&mut all, call, reply, 7, carried_step(call), held.as_slice())?;
+    Ok(all)
+}
+
+/// The places that a line used, by a kernel in the state before it. NoMemory is want of memory.
+pub(crate) fn used(alloc: Global, kernel: &Plain, line: &Line) -> Result<Vec<UsedPlace>, NoMemory>
+    ensures { IfOk result (λ all. all.items ≡ map (told_use kernel.now) (used kernel.now line.now)) }
+{
+    match &line.what {
+        What::Call(call) => used_by(alloc, kernel, line.inc, call, &line.reply),
+        What::Dispatch => Ok(Vec::new(alloc)),
+        What::Halt => Ok(Vec::new(alloc)),
+    }
+}
