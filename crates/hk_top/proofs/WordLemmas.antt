@@ -22,11 +22,11 @@ from_none None p = p
 from_none (Some n) p = tt
 
 -- the first letter of the first word
-first_letter : List (List ℕ) → ℕ
+abbrev first_letter : List (List ℕ) → ℕ
 first_letter [] = 0
 first_letter ([] ∷ words) = 0
 first_letter ((letter ∷ letters) ∷ words) = letter
 
 -- words that begin with other letters are other words
 pub bound_is_no_check : codes "bound" ∷ [] ≡ codes "check" ∷ [] → ⊥
-bound_is_no_check same = let letters : 98 ≡ 99 = ap first_letter same in omega (arith, letters)
+bound_is_no_check same = let letters : ◌≡◌ {A = ℕ} 98 99 = ap first_letter same in omega (arith, letters)
