@@ -1,3 +1,5 @@
 mod HeldLemmas
 mod Trails
 mod Replaying
+mod Uses
+mod TurnLemmas
