@@ -3,3 +3,4 @@ mod Trails
 mod Replaying
 mod Uses
 mod TurnLemmas
+mod ChainLemmas
