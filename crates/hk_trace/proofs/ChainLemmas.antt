@@ -1,10 +1,9 @@
 -- The way back over the turns of a history is the chain of the definitions.
-use Rattle.std.specs.Prelude.{◌≡◌, ℕ, zero, suc, ◌+◌, ◌-◌, ◌<◌, ◌≤◌, Bool, true, false, List, [], ◌∷◌, length, map, filter, take, slice_get, slice_index_or, not, ◌&&◌, Option, Some, None, refl}
+use Rattle.std.specs.Prelude.{◌≡◌, ℕ, zero, suc, ◌+◌, ◌-◌, ◌<◌, ◌≤◌, Bool, true, false, List, [], ◌∷◌, length, map, filter, take, slice_get, not, Option, Some, None, refl}
 use Rattle.std.proofs.Common.{arith, ap, sym, ◌∙◌, subst, cond}
 use Rattle.std.proofs.lemmas.Bool.{true≢false, false≢true, and_parts}
 use Rattle.hk_model.specs.declared.entries.Entry.{Entry}
 use Rattle.hk_model.specs.declared.entries.Entry.TheVariants.{Empty, Held, Form}
-use Rattle.hk_model.specs.declared.calls.Reply.{Reply}
 use Rattle.hk_model.specs.declared.lines.What.{What}
 use Rattle.hk_model.specs.declared.lines.What.TheVariants as what
 use Rattle.hk_model.specs.declared.lines.Line.{Line}
@@ -20,17 +19,14 @@ use Rattle.hk_model.specs.Descent.{Gate, extended, extend, chains, IsLink, IfThe
 use Rattle.hk_model.proofs.Steps.{told_last, first_steps}
 use Rattle.hk_model.proofs.EventCounts.{events_are}
 use Rattle.hk_trace.specs.declared.chains.Place.{Place}
-use Rattle.hk_trace.specs.declared.chains.Link.{Link}
 use Rattle.hk_trace.specs.declared.chains.Chain.{Chain}
 use Rattle.hk_trace.specs.declared.following.Trail.{Trail}
 use Rattle.hk_trace.specs.declared.turns.Turn.{Turn}
-use Rattle.hk_trace.specs.declared.turns.Turn.TheVariants as turn
-use Rattle.hk_trace.specs.declared.turns.Source.{Source}
 use Rattle.hk_trace.specs.declared.using.UsedPlace.{UsedPlace}
-use Rattle.hk_trace.specs.Told.{told_place, meant, told_standing, links_of, end_of, told_chain}
+use Rattle.hk_trace.specs.Told.{told_place, meant, told_standing, links_of, end_of}
 use Rattle.hk_trace.specs.Used.{Looked, looked_at, is_refused_before, is_used, used_by, used}
 use Rattle.hk_trace.specs.Traced.{chain_after, traced, trace_of}
-use Rattle.hk_trace.specs.Held.{held_entry, held_at}
+use Rattle.hk_trace.specs.Held.{held_entry}
 use Rattle.hk_trace.specs.Turns.{came, source_told, turn_of, turns_of, turn_at, source_in, trail, trail_by}
 use Rattle.hk_trace.specs.Uses.{told_use, chain_found}
 use Rattle.hk_trace.proofs.TurnLemmas.{line_told}
@@ -120,11 +116,11 @@ follows w lines steps zero few p x e d = refl
 follows w lines steps (suc n) few p x e d =
     let found = there lines n (omega arith) in
     let last : chains w (take (suc n) lines) (meant p) ≡ extended (state_at w lines n) (chains w (take n lines)) (line_origin (state_at w lines n) found.0 (meant p)) (meant p)
-        = ap (λ (g : places.Place → descent.Chain). g (meant p)) (told_last extend w (opened w) lines n found.0 descent.Opened found.1) in
+    = ap (λ (g : places.Place → descent.Chain). g (meant p)) (told_last extend w (opened w) lines n found.0 descent.Opened found.1) in
     let many : (state_at w lines n).events + 1 ≡ suc n =
     let a = events_are w (take n lines) (first_steps w (opened w) lines n steps) in let b = length_take lines n (omega arith) in omega (arith, a, b) in
     let wrote : source_in (turn_at (turns_of w (opened w) lines) n) p ≡ source_told (state_at w lines n) (line_origin (state_at w lines n) found.0 (meant p))
-        = ap (λ (t : Turn). source_in t p) (turn_is w (opened w) lines n found.0 found.1) ∙ line_told (state_at w lines n) found.0 p in
+    = ap (λ (t : Turn). source_in t p) (turn_is w (opened w) lines n found.0 found.1) ∙ line_told (state_at w lines n) found.0 p in
     rw (wrote, last)
     (goes_back w (state_at w lines n) (suc n) (trail (turns_of w (opened w) lines) n) (chains w (take n lines)) (follows w lines steps n (omega arith)) p x
     (line_origin (state_at w lines n) found.0 (meant p)) many e (subst (Descends w x) last d))
@@ -138,12 +134,12 @@ same_chain w lines steps law l full =
     let many = turns_many w (opened w) lines in
     let place = meant_told l.place in
     let descends : Descends w (standing (state_after w lines) l.place) (chains w lines l.place)
-        = subst (λ (ls : List Line). Descends w (standing (state_after w ls) l.place) (chains w ls l.place)) all (law (length lines) l.place) in
+    = subst (λ (ls : List Line). Descends w (standing (state_after w ls) l.place) (chains w ls l.place)) all (law (length lines) l.place) in
     let same : trail (turns_of w (opened w) lines) (length lines) (told_place l.place) ≡ told_trail (chains w (take (length lines) lines) (meant (told_place l.place)))
-        = follows w lines steps (length lines) (omega arith) (told_place l.place) (standing (state_after w lines) l.place) full
-        (rw (all, place) descends) in
+    = follows w lines steps (length lines) (omega arith) (told_place l.place) (standing (state_after w lines) l.place) full
+    (rw (all, place) descends) in
     let whole : trail (turns_of w (opened w) lines) (length (turns_of w (opened w) lines)) (told_place l.place) ≡ told_trail (chains w lines l.place)
-        = rw many (same ∙ rw (all, place) refl) in
+    = rw many (same ∙ rw (all, place) refl) in
     ap (λ (t : Trail). let c : Chain = record { step = l.step; at = told_standing (state_after w lines) l.place; links = t.links; origin = t.origin } in c) whole
 
 map_kept : {A B : Type 0} (f g : A → B) (test : A → Bool) (xs : List A) → ((x : A) → test x ≡ true → f x ≡ g x) → map f (filter test xs) ≡ map g (filter test xs)

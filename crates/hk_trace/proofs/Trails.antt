@@ -1,11 +1,10 @@
 -- The way back, line by line.
 use Rattle.std.specs.Prelude.{◌≡◌, ℕ, zero, suc, ◌-◌, ◌<◌, ◌≤◌, List, [], ◌∷◌, ◌++◌, length, slice_index_or, refl}
-use Rattle.std.proofs.Common.{arith, ap, sym, ◌∙◌, subst, append_assoc}
+use Rattle.std.proofs.Common.{arith, ap, sym, ◌∙◌, append_assoc}
 use Rattle.hk_trace.specs.declared.chains.Place.{Place}
 use Rattle.hk_trace.specs.declared.chains.Standing.{Standing}
 use Rattle.hk_trace.specs.declared.chains.Link.{Link}
-use Rattle.hk_trace.specs.declared.chains.Origin.{Origin}
-use Rattle.hk_trace.specs.declared.chains.Origin.TheVariants.{Opening, Made}
+use Rattle.hk_trace.specs.declared.chains.Origin.TheVariants.{Made}
 use Rattle.hk_trace.specs.declared.turns.Source.{Source}
 use Rattle.hk_trace.specs.declared.turns.Source.TheVariants as source
 use Rattle.hk_trace.specs.declared.turns.Turn.{Turn}
@@ -55,7 +54,7 @@ back_came turns n p links whole t o from some few there e came h =
     let g = one_back turns n p some in
     let k = source_is turns n p t o some few there e ∙ came in
     let longer : joined (links ++ record { line = n; from = from } ∷ []) (trail turns (n - 1) from.place) ≡ joined links (trail_by n (source.Came from) (trail turns (n - 1)) p)
-        = ap (λ (l : List Link). let x : Trail = record { links = l; origin = (trail turns (n - 1) from.place).origin } in x) (append_assoc links (record { line = n; from = from } ∷ []) (trail turns (n - 1) from.place).links) in
+    = ap (λ (l : List Link). let x : Trail = record { links = l; origin = (trail turns (n - 1) from.place).origin } in x) (append_assoc links (record { line = n; from = from } ∷ []) (trail turns (n - 1) from.place).links) in
     longer ∙ (sym (ap (joined links) (g ∙ ap (λ (f : Source). trail_by n f (trail turns (n - 1)) p) k)) ∙ h)
 
 pub back_made : (turns : List Turn) (n : ℕ) (p : Place) (links : List Link) (whole : Trail) (t : Turn) (o : Source) → 0 < n → n ≤ length turns
@@ -65,7 +64,7 @@ back_made turns n p links whole t o some few there e made h =
     let g = one_back turns n p some in
     let k = source_is turns n p t o some few there e ∙ made in
     let less : ◌≡◌ {A = Trail} (record { links = links; origin = Made n }) (joined links (trail_by n source.Made (trail turns (n - 1)) p))
-        = ap (λ (l : List Link). let x : Trail = record { links = l; origin = Made n } in x) (sym (nothing links)) in
+    = ap (λ (l : List Link). let x : Trail = record { links = l; origin = Made n } in x) (sym (nothing links)) in
     less ∙ (sym (ap (joined links) (g ∙ ap (λ (f : Source). trail_by n f (trail turns (n - 1)) p) k)) ∙ h)
   where
     nothing : (l : List Link) → l ++ [] ≡ l

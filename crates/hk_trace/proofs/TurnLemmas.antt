@@ -1,6 +1,6 @@
 -- What is kept of a line tells the origin of each entry that it wrote.
-use Rattle.std.specs.Prelude.{◌≡◌, ℕ, zero, suc, ◌+◌, ◌==◌, ◌&&◌, Bool, true, false, not, List, [], ◌∷◌, ◌++◌, length, map, take, slice_index_or, Option, Some, None, refl}
-use Rattle.std.proofs.Common.{arith, ap, sym, ◌∙◌, subst, cond, zero-add}
+use Rattle.std.specs.Prelude.{◌≡◌, ℕ, zero, suc, ◌+◌, ◌==◌, ◌&&◌, Bool, true, false, not, List, [], ◌∷◌, ◌++◌, length, take, slice_index_or, Option, Some, None, refl}
+use Rattle.std.proofs.Common.{arith, ap, ◌∙◌, cond}
 use Rattle.std.specs.Option.{option_and_then}
 use Rattle.hk_model.specs.declared.names.Name.{Name}
 use Rattle.hk_model.specs.declared.names.Inc.{Inc}
@@ -17,10 +17,9 @@ use Rattle.hk_model.specs.Places as places
 use Rattle.hk_model.specs.Places.{standing, rights_held, form_of, walk_end, named_by, found}
 use Rattle.hk_model.specs.Lines.{done_call}
 use Rattle.hk_model.specs.Ways.{Way, Walked, Stored, Lessened, Merged, Copied, CopyOf, Created, Formed, Emptied, way, call_way, returned_way}
-use Rattle.hk_model.specs.Origins.{Origin, origin_of, line_origin}
+use Rattle.hk_model.specs.Origins.{origin_of, line_origin}
 use Rattle.hk_trace.specs.declared.chains.Place.{Place}
 use Rattle.hk_trace.specs.declared.chains.Place.TheVariants.{SlotOf, EntryOf}
-use Rattle.hk_trace.specs.declared.chains.Standing.{Standing}
 use Rattle.hk_trace.specs.declared.turns.Source.{Source}
 use Rattle.hk_trace.specs.declared.turns.Source.TheVariants as source
 use Rattle.hk_trace.specs.Told.{meant}

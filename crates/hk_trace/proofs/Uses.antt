@@ -1,6 +1,6 @@
 -- The used places of a line are those that are found.
-use Rattle.std.specs.Prelude.{◌≡◌, ℕ, ◌+◌, ◌≤◌, Bool, true, false, not, ◌&&◌, List, [], ◌∷◌, ◌++◌, length, map, filter, Option, Some, None, refl}
-use Rattle.std.proofs.Common.{arith, ap, sym, ◌∙◌, subst, cond}
+use Rattle.std.specs.Prelude.{◌≡◌, ℕ, ◌+◌, ◌≤◌, Bool, true, false, not, ◌&&◌, List, [], ◌∷◌, ◌++◌, length, map, filter, Option, refl}
+use Rattle.std.proofs.Common.{arith, ap, sym, cond}
 use Rattle.std.proofs.lemmas.List.Elements.{filter-append}
 use Rattle.std.proofs.lemmas.List.{map-append}
 use Rattle.hk_model.specs.declared.names.Inc.{Inc}
@@ -15,7 +15,7 @@ use Rattle.hk_trace.specs.declared.chains.Standing.{Standing}
 use Rattle.hk_trace.specs.declared.using.UsedPlace.{UsedPlace}
 use Rattle.hk_trace.specs.Told.{told_place}
 use Rattle.hk_trace.specs.Carried.{path_of, carried_slots, carried_step}
-use Rattle.hk_trace.specs.Used.{Looked, path_walked, carried_tested, looked_from, looked_at, is_refused_before, is_used, used_by}
+use Rattle.hk_trace.specs.Used.{Looked, path_walked, carried_tested, looked_from, is_refused_before, is_used, used_by}
 use Rattle.hk_trace.specs.Held.{held_entry, held_at}
 use Rattle.hk_trace.specs.Turns.{held_slots}
 use Rattle.hk_trace.specs.Uses.{told_use, use_of, uses_of}
@@ -47,9 +47,18 @@ pub used_is : (s : State) (inc : Inc) (c : Call) (reply : Reply) (step : ℕ) (w
     → walked ≡ map (held_at s) (passed s inc (path_of c)) → slots ≡ carried_slots c → held ≡ held_slots s inc slots → step ≡ carried_step c → first ≡ []
     → all ≡ (first ++ uses_of c reply 2 0 walked) ++ uses_of c reply 7 step held → all ≡ map (told_use s) (used_by s inc (what.Call c) reply)
 used_is s inc c reply step walked held first all slots w sl h st f a =
-    rw (a, f, w, h, sl, st, slots_held s inc (carried_slots c), uses_told s c reply 2 0 (passed s inc (path_of c)),
-    uses_told s c reply 7 (carried_step c) (map (λ slot. SlotOf inc slot) (carried_slots c)),
-    filter-append (is_used s c reply) (looked_from path_walked 0 (passed s inc (path_of c))) (looked_from carried_tested (carried_step c) (map (λ slot. SlotOf inc slot) (carried_slots c))))
+    rw (
+      a,
+      f,
+      w,
+      h,
+      sl,
+      st,
+      slots_held s inc (carried_slots c),
+      uses_told s c reply 2 0 (passed s inc (path_of c)),
+      uses_told s c reply 7 (carried_step c) (map (λ slot. SlotOf inc slot) (carried_slots c)),
+      filter-append (is_used s c reply) (looked_from path_walked 0 (passed s inc (path_of c))) (looked_from carried_tested (carried_step c) (map (λ slot. SlotOf inc slot) (carried_slots c))),
+    )
     (sym (map-append (told_use s) (filter (is_used s c reply) (looked_from path_walked 0 (passed s inc (path_of c))))
     (filter (is_used s c reply) (looked_from carried_tested (carried_step c) (map (λ slot. SlotOf inc slot) (carried_slots c))))))
 

@@ -1,5 +1,5 @@
 -- What each line writes, and from where: kept of a line once its state has gone. And the way back over such turns.
-use Rattle.std.specs.Prelude.{ℕ, zero, suc, ◌+◌, ◌==◌, ◌&&◌, Bool, List, [], ◌∷◌, ◌++◌, length, map, take, slice_index_or, Option, Some, None, if◌then◌else◌}
+use Rattle.std.specs.Prelude.{ℕ, zero, suc, ◌+◌, ◌==◌, ◌&&◌, List, [], ◌∷◌, ◌++◌, length, map, take, slice_index_or, Option, Some, None, if◌then◌else◌}
 use Rattle.hk_model.specs.declared.names.Name.{Name}
 use Rattle.hk_model.specs.declared.names.Inc.{Inc}
 use Rattle.hk_model.specs.declared.names.Slot.{Slot}
@@ -18,8 +18,6 @@ use Rattle.hk_model.specs.Origins as origins
 use Rattle.hk_trace.specs.declared.chains.Place.{Place}
 use Rattle.hk_trace.specs.declared.chains.Place.TheVariants.{SlotOf, EntryOf}
 use Rattle.hk_trace.specs.declared.chains.Standing.{Standing}
-use Rattle.hk_trace.specs.declared.chains.Link.{Link}
-use Rattle.hk_trace.specs.declared.chains.Origin.{Origin}
 use Rattle.hk_trace.specs.declared.chains.Origin.TheVariants.{Opening, Made}
 use Rattle.hk_trace.specs.declared.turns.Source.{Source}
 use Rattle.hk_trace.specs.declared.turns.Source.TheVariants as source

@@ -35,7 +35,10 @@ pub enum Turn {
         from: Option<Standing>,
     },
     /// A slot, with an entry that the call made.
-    NewInSlot { inc: Inc, into: Slot },
+    NewInSlot {
+        inc: Inc,
+        into: Slot,
+    },
     /// An index of a list.
     InList {
         name: Name,

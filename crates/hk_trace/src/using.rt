@@ -168,7 +168,14 @@ fn used_by(
     let walked = walked(alloc, kernel, inc, call)?;
     add_uses(&mut all, call, reply, 2, 0, walked.as_slice())?;
     let held = held_slots(alloc, kernel, inc, slots.as_slice())?;
-    add_uses(&mut all, call, reply, 7, carried_step(call), held.as_slice())?;
+    add_uses(
+        &mut all,
+        call,
+        reply,
+        7,
+        carried_step(call),
+        held.as_slice(),
+    )?;
     Ok(all)
 }
 

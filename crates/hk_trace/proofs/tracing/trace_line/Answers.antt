@@ -1,6 +1,5 @@
 use Rattle.std.proofs.Common.{◌≡◌, ◌<◌, length, map, arith, ◌∙◌, refl}
-use Rattle.hk_model.specs.Running.{opened, after_lines, state_after}
-use Rattle.hk_trace.specs.declared.using.UsedPlace.{UsedPlace}
+use Rattle.hk_model.specs.Running.{opened}
 use Rattle.hk_trace.specs.Used.{used}
 use Rattle.hk_trace.specs.Uses.{told_use, chain_found}
 use Rattle.hk_trace.specs.Turns.{turns_of}

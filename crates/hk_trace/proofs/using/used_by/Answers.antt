@@ -1,6 +1,5 @@
-use Rattle.std.proofs.Common.{◌≡◌, ◌∙◌, List, Option, map}
+use Rattle.std.proofs.Common.{◌≡◌, ◌∙◌, map}
 use Rattle.hk_model.specs.Places.{passed}
-use Rattle.hk_trace.specs.declared.chains.Standing.{Standing}
 use Rattle.hk_trace.specs.Carried.{path_of}
 use Rattle.hk_trace.specs.Held.{held_at}
 use Rattle.hk_trace.proofs.Uses.{walked_few}
