@@ -4,3 +4,5 @@ mod Replaying
 mod Uses
 mod TurnLemmas
 mod ChainLemmas
+mod RowWorlds
+mod TraceRows
