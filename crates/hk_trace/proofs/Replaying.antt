@@ -1,5 +1,5 @@
 -- A history once more, line by line.
-use Rattle.std.specs.Prelude.{◌≡◌, ℕ, List, [], ◌∷◌, Option, Some, None, IfSome, IfNone, option_map, refl}
+use Rattle.std.specs.Prelude.{◌≡◌, Option, Some, None, IfSome, IfNone, option_map}
 use Rattle.std.proofs.Common.{ap, sym, ◌∙◌}
 use Rattle.std.specs.Option.{unwrap_or}
 use Rattle.hk_model.specs.declared.names.Cpu.{Cpu}

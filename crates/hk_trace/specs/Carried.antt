@@ -1,6 +1,6 @@
 -- The operands of each call, by their steps: its path, `at`, and the slots that it carries. docs/RULES.md, "Step numbers"
 -- and "The table of the calls".
-use Rattle.std.specs.Prelude.{ℕ, ◌+◌, Bool, true, false, List, [], ◌∷◌, length, Option, Some, None, if◌then◌else◌}
+use Rattle.std.specs.Prelude.{ℕ, ◌+◌, Bool, true, false, List, [], ◌∷◌, length, Some, if◌then◌else◌}
 use Rattle.hk_model.specs.declared.calls.Call.{Call}
 use Rattle.hk_model.specs.declared.calls.Call.TheVariants as call
 

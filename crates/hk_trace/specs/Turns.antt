@@ -1,6 +1,5 @@
 -- What each line writes, and from where: kept of a line once its state has gone. And the way back over such turns.
-use Rattle.std.specs.Prelude.{ℕ, zero, suc, ◌+◌, ◌==◌, ◌&&◌, Bool, List, [], ◌∷◌, ◌++◌, length, map, take, slice_get, slice_index_or, Option, Some, None, if◌then◌else◌}
-use Rattle.std.specs.Option.{unwrap_or}
+use Rattle.std.specs.Prelude.{ℕ, zero, suc, ◌+◌, ◌==◌, ◌&&◌, List, [], ◌∷◌, ◌++◌, length, map, take, slice_index_or, Option, Some, None, if◌then◌else◌}
 use Rattle.hk_model.specs.declared.names.Name.{Name}
 use Rattle.hk_model.specs.declared.names.Inc.{Inc}
 use Rattle.hk_model.specs.declared.names.Slot.{Slot}
@@ -19,8 +18,6 @@ use Rattle.hk_model.specs.Origins as origins
 use Rattle.hk_trace.specs.declared.chains.Place.{Place}
 use Rattle.hk_trace.specs.declared.chains.Place.TheVariants.{SlotOf, EntryOf}
 use Rattle.hk_trace.specs.declared.chains.Standing.{Standing}
-use Rattle.hk_trace.specs.declared.chains.Link.{Link}
-use Rattle.hk_trace.specs.declared.chains.Origin.{Origin}
 use Rattle.hk_trace.specs.declared.chains.Origin.TheVariants.{Opening, Made}
 use Rattle.hk_trace.specs.declared.turns.Source.{Source}
 use Rattle.hk_trace.specs.declared.turns.Source.TheVariants as source
@@ -31,17 +28,17 @@ use Rattle.hk_trace.specs.Held.{held_entry, held_at}
 
 -- ---- sources
 
--- the source of an entry that came from a place, if something stood there
-abbrev pub came : Option Standing → Option Source
-came None = None
-came (Some from) = Some (source.Came from)
+-- the source of an entry that came from a place: nothing came where nothing stood there
+abbrev pub came : Option Standing → Source
+came None = source.Nowhere
+came (Some from) = source.Came from
 
--- an origin as a source: none where nothing stood at its place
-abbrev pub source_told : State → Option origins.Origin → Option Source
-source_told s None = None
+-- an origin as a source
+abbrev pub source_told : State → Option origins.Origin → Source
+source_told s None = source.Nowhere
 source_told s (Some (origins.From place)) = came (held_at s place)
 source_told s (Some (origins.Through place form)) = came (held_at s place)
-source_told s (Some (origins.Made by target)) = Some source.Made
+source_told s (Some (origins.Made by target)) = source.Made
 
 -- what the slots of an incarnation hold
 abbrev pub held_slots : State → Inc → List ℕ → List (Option Standing)
@@ -89,19 +86,19 @@ abbrev pub turn_of : State → Inc → Option Call → Turn
 turn_of s inc None = turn.Nothing
 turn_of s inc (Some c) = turn_by s inc c
 
--- where a turn has what it wrote at a place from; none where it did not write there
-abbrev pub source_in : Turn → Place → Option Source
-source_in turn.Nothing p = None
-source_in (turn.InSlot inc into from) (SlotOf i n) = if same_inc i inc && n.0 == into.0 then came from else None
-source_in (turn.InSlot inc into from) (EntryOf a i) = None
-source_in (turn.NewInSlot inc into) (SlotOf i n) = if same_inc i inc && n.0 == into.0 then Some source.Made else None
-source_in (turn.NewInSlot inc into) (EntryOf a i) = None
-source_in (turn.InList name at from) (SlotOf i n) = None
-source_in (turn.InList name at from) (EntryOf a i) = if same_name a name && i == at then came from else None
-source_in (turn.InCopy inc into name held) (SlotOf i n) = if same_inc i inc && n.0 == into.0 then Some source.Made else None
-source_in (turn.InCopy inc into name held) (EntryOf a i) = if same_name a name then came (slice_index_or held i None) else None
-source_in (turn.InSpace inc held) (SlotOf i n) = if same_inc i inc then came (slice_index_or held n.0 None) else None
-source_in (turn.InSpace inc held) (EntryOf a i) = None
+-- where a turn has what it wrote at a place from; from nowhere where it did not write there, or nothing
+abbrev pub source_in : Turn → Place → Source
+source_in turn.Nothing p = source.Nowhere
+source_in (turn.InSlot inc into from) (SlotOf i n) = if same_inc i inc && n.0 == into.0 then came from else source.Nowhere
+source_in (turn.InSlot inc into from) (EntryOf a i) = source.Nowhere
+source_in (turn.NewInSlot inc into) (SlotOf i n) = if same_inc i inc && n.0 == into.0 then source.Made else source.Nowhere
+source_in (turn.NewInSlot inc into) (EntryOf a i) = source.Nowhere
+source_in (turn.InList name at from) (SlotOf i n) = source.Nowhere
+source_in (turn.InList name at from) (EntryOf a i) = if same_name a name && i == at then came from else source.Nowhere
+source_in (turn.InCopy inc into name held) (SlotOf i n) = if same_inc i inc && n.0 == into.0 then source.Made else source.Nowhere
+source_in (turn.InCopy inc into name held) (EntryOf a i) = if same_name a name then came (slice_index_or held i None) else source.Nowhere
+source_in (turn.InSpace inc held) (SlotOf i n) = if same_inc i inc then came (slice_index_or held n.0 None) else source.Nowhere
+source_in (turn.InSpace inc held) (EntryOf a i) = source.Nowhere
 
 -- the turns of the lines of a history, from a machine on
 abbrev pub turns_of : WorldValue → Machine → List Line → List Turn
@@ -111,15 +108,15 @@ turns_of w m (line ∷ lines) = turn_of m.state line.inc (done_call line) ∷ tu
 -- ---- the way back
 
 -- the links that lead back from a place, and where they end, after a line, by the trails before it
-abbrev pub trail_by : ℕ → Option Source → (Place → Trail) → Place → Trail
-trail_by line None before p = before p
-trail_by line (Some (source.Came from)) before p =
+abbrev pub trail_by : ℕ → Source → (Place → Trail) → Place → Trail
+trail_by line source.Nowhere before p = before p
+trail_by line (source.Came from) before p =
     record { links = record { line = line; from = from } ∷ (before from.place).links; origin = (before from.place).origin }
-trail_by line (Some source.Made) before p = record { links = []; origin = Made line }
+trail_by line source.Made before p = record { links = []; origin = Made line }
 
 -- the turn of a line, counted from 0
 abbrev pub turn_at : List Turn → ℕ → Turn
-turn_at turns n = unwrap_or (slice_get turns n) turn.Nothing
+turn_at turns n = slice_index_or turns n turn.Nothing
 
 -- the trail of a place after so many turns
 abbrev pub trail : List Turn → ℕ → Place → Trail

@@ -31,13 +31,13 @@ fn follow(alloc: Global, turns: &[Turn], from: Place) -> Result<Trail, NoMemory>
     while line > 0 {
         let source = source_in(&turns[line - 1], place);
         match &source {
-            None => {}
-            Some(Source::Came(from)) => {
+            Source::Nowhere => {}
+            Source::Came(from) => {
                 let line = line as u32;
                 place = from.place;
                 links.push(Link { line, from: *from })?;
             }
-            Some(Source::Made) => {
+            Source::Made => {
                 return Ok(Trail {
                     links: Items::from_vec(links),
                     origin: Origin::Made(line as u32),

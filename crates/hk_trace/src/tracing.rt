@@ -21,12 +21,7 @@ use std::alloc::Global;
 ///
 /// `lines` are steps of `world` from its opening on, in the order of the history. The lines before
 /// the traced one are made once more.
-pub fn trace(
-    alloc: Global,
-    world: &World,
-    lines: &[Line],
-    n: u32,
-) -> Result<Vec<Chain>, NoMemory>
+pub fn trace(alloc: Global, world: &World, lines: &[Line], n: u32) -> Result<Vec<Chain>, NoMemory>
     requires { AreStepsOf world.now lines.now }
     ensures { IfOk result (λ chains. chains.items ≡ trace_of world.now lines.now n) }
 {
@@ -41,6 +36,7 @@ pub fn trace(
 }
 
 // The chains of what a line used, behind these lines.
+#[tactic(auto, using(crate::proofs::ChainLemmas::found_traced, crate::proofs::ChainLemmas::turns_few))]
 fn trace_line(
     alloc: Global,
     world: &World,

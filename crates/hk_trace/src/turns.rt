@@ -15,6 +15,8 @@ use std::alloc::Global;
 /// Where an entry that a line wrote came from.
 #[derive(Clone, Copy, PartialEq, Eq, Debug)]
 pub enum Source {
+    /// None: the line wrote nothing there.
+    Nowhere,
     /// A place, with what stood there before the line.
     Came(Standing),
     /// The call of the line made it.
@@ -33,7 +35,10 @@ pub enum Turn {
         from: Option<Standing>,
     },
     /// A slot, with an entry that the call made.
-    NewInSlot { inc: Inc, into: Slot },
+    NewInSlot {
+        inc: Inc,
+        into: Slot,
+    },
     /// An index of a list.
     InList {
         name: Name,
@@ -211,28 +216,29 @@ pub(crate) fn turn_of(alloc: Global, kernel: &Plain, line: &Line) -> Result<Turn
     }
 }
 
-// A standing as a source, if there is one.
-fn came(held: Option<Standing>) -> Option<Source>
+// A standing as a source.
+fn came(held: Option<Standing>) -> Source
     ensures { result ≡ came held }
 {
     match held {
-        Some(from) => Some(Source::Came(from)),
-        None => None,
+        Some(from) => Source::Came(from),
+        None => Source::Nowhere,
     }
 }
 
 // One of several, if it is there and something stood there.
-fn came_at(held: &[Option<Standing>], at: usize) -> Option<Source>
+fn came_at(held: &[Option<Standing>], at: usize) -> Source
     ensures { result ≡ came (slice_index_or held.now at None) }
 {
     match held.get(at) {
         Some(held) => came(*held),
-        None => None,
+        None => Source::Nowhere,
     }
 }
 
-/// Where a turn has what it wrote at a place from. None where it wrote nothing there.
-pub(crate) fn source_in(turn: &Turn, place: Place) -> Option<Source>
+/// Where a turn has what it wrote at a place from. Nowhere where it wrote
+/// nothing there.
+pub(crate) fn source_in(turn: &Turn, place: Place) -> Source
     ensures { result ≡ source_in turn.now place }
 {
     match place {
@@ -242,25 +248,25 @@ pub(crate) fn source_in(turn: &Turn, place: Place) -> Option<Source>
 }
 
 // Where a turn has what it wrote in a slot from.
-fn source_in_slot(turn: &Turn, at: Inc, slot: Slot) -> Option<Source>
+fn source_in_slot(turn: &Turn, at: Inc, slot: Slot) -> Source
     ensures { result ≡ source_in turn.now (Place.SlotOf at slot) }
 {
     match turn {
         Turn::InSlot { inc, into, from } if at == *inc && slot.0 == into.0 => came(*from),
-        Turn::NewInSlot { inc, into } if at == *inc && slot.0 == into.0 => Some(Source::Made),
-        Turn::InCopy { inc, into, .. } if at == *inc && slot.0 == into.0 => Some(Source::Made),
+        Turn::NewInSlot { inc, into } if at == *inc && slot.0 == into.0 => Source::Made,
+        Turn::InCopy { inc, into, .. } if at == *inc && slot.0 == into.0 => Source::Made,
         Turn::InSpace { inc, held } if at == *inc => came_at(held.as_slice(), slot.0 as usize),
-        _ => None,
+        _ => Source::Nowhere,
     }
 }
 
 // Where a turn has what it wrote in a list from.
-fn source_in_list(turn: &Turn, of: Name, index: u16) -> Option<Source>
+fn source_in_list(turn: &Turn, of: Name, index: u16) -> Source
     ensures { result ≡ source_in turn.now (Place.EntryOf of index) }
 {
     match turn {
         Turn::InList { name, at, from } if of == *name && index as u32 == *at => came(*from),
         Turn::InCopy { name, held, .. } if of == *name => came_at(held.as_slice(), index as usize),
-        _ => None,
+        _ => Source::Nowhere,
     }
 }

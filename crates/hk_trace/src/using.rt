@@ -3,6 +3,9 @@
 ghost use Rattle.std.specs.Prelude.{◌≡◌, ◌+◌, ◌≤◌, ◌++◌, length, map, IfOk, OnOk};
 ghost use Rattle.hk_model.specs.declared.lines.What.TheVariants as what;
 ghost use Rattle.hk_trace.specs.Used.{is_below, step_of, on_path, behind_path, rights_place, order_of, is_refused_before, used_by, used};
+ghost use Rattle.hk_model.specs.Places.{passed};
+ghost use Rattle.hk_trace.specs.Carried.{path_of};
+ghost use Rattle.hk_trace.specs.Held.{held_at};
 ghost use Rattle.hk_trace.specs.Uses.{told_use, uses_of};
 
 use crate::carrying::{carried_slots, carried_step, has_at, path_len, path_of};
@@ -133,7 +136,23 @@ fn add_uses(
     Ok(())
 }
 
+// What stands at each step of a call's path.
+fn walked(
+    alloc: Global,
+    kernel: &Plain,
+    inc: Inc,
+    call: &Call,
+) -> Result<Vec<Option<Standing>>, NoMemory>
+    ensures { IfOk result (λ all. all.items ≡ map (held_at kernel.now) (passed kernel.now inc (path_of call.now))) }
+{
+    match path_of(call) {
+        Some(path) => Ok(along(alloc, kernel, inc, path)?),
+        None => Ok(Vec::new(alloc)),
+    }
+}
+
 // The places that a call used.
+#[tactic(auto, using(crate::proofs::Uses::used_is, crate::proofs::Uses::walked_few, crate::proofs::Uses::slots_few))]
 fn used_by(
     alloc: Global,
     kernel: &Plain,
@@ -143,14 +162,20 @@ fn used_by(
 ) -> Result<Vec<UsedPlace>, NoMemory>
     ensures { IfOk result (λ all. all.items ≡ map (told_use kernel.now) (used_by kernel.now inc (what.Call call.now) reply.now)) }
 {
-    let mut all = Vec::new(alloc);
-    if let Some(path) = path_of(call) {
-        let held = along(alloc, kernel, inc, path)?;
-        add_uses(&mut all, call, reply, 2, 0, held.as_slice())?;
-    }
     let slots = carried_slots(call);
+    let count = path_len(call) as usize + slots.len();
+    let mut all = Vec::with_capacity(alloc, count)?;
+    let walked = walked(alloc, kernel, inc, call)?;
+    add_uses(&mut all, call, reply, 2, 0, walked.as_slice())?;
     let held = held_slots(alloc, kernel, inc, slots.as_slice())?;
-    add_uses(&mut all, call, reply, 7, carried_step(call), held.as_slice())?;
+    add_uses(
+        &mut all,
+        call,
+        reply,
+        7,
+        carried_step(call),
+        held.as_slice(),
+    )?;
     Ok(all)
 }
 
