@@ -1,4 +1,4 @@
-use Rattle.std.proofs.Common.{◌≡◌, ◌≤◌, ◌+◌, ◌++◌, length, map, take, string_bytes}
+use Rattle.std.proofs.Common.{◌≡◌, ◌≤◌, ◌++◌, length, map, take, string_bytes}
 use Rattle.hk_top.specs.BoundTexts.{bounds_from, pair_count}
 use Rattle.hk_top.proofs.bounds.write_bounds.Given as goal
 

@@ -1,4 +1,4 @@
-use Rattle.std.proofs.Common.{◌≡◌, ℕ, zero, suc, List, [], ◌∷◌, length, map, Vec, Global, Ok, Err, Result, IfOk, IfSome, slice_get, sym, ap, ◌∙◌, refl}
+use Rattle.std.proofs.Common.{◌≡◌, ℕ, zero, suc, List, [], ◌∷◌, length, map, Vec, Global, IfSome, slice_get, ap, ◌∙◌, refl}
 use Rattle.hk_model.specs.declared.names.Name.{Name}
 use Rattle.hk_model.specs.WorldValue.{WorldValue}
 use Rattle.hk_bound.specs.Columns.{proc_at}
