@@ -12,6 +12,8 @@ mod chains;
 mod following;
 mod replay;
 mod standing;
+#[cfg(test)]
+mod tests;
 mod tracing;
 mod turns;
 mod using;
