@@ -68,14 +68,14 @@ winding-steps = (refl, (refl, (refl, (refl, (refl, (refl, (refl, (refl, (refl, t
 
 six-links : trace_of winding winding_lines 9 ≡
     chain 0 (in_slot 2 0 (cap 7 GETDATA))
-        (link 8 (in_slot 1 4 (cap 7 (GETDATA + ENV)))
-        ∷ link 7 (in_slot 1 4 (cap 7 (GETDATA + LOAD + ENV)))
-        ∷ link 6 (in_slot 1 3 (cap 7 (GETDATA + LOAD + COPY + ENV)))
-        ∷ link 5 (in_slot 1 0 (cap 7 (GETDATA + LOAD + COPY + ENV)))
-        ∷ link 4 (in_slot 0 0 (cap 7 (GETDATA + LOAD + COPY + ENV)))
-        ∷ link 3 (in_slot 0 0 (cap 7 (GETDATA + PUTDATA + LOAD + COPY + ENV)))
-        ∷ [])
-        Opening
+    (link 8 (in_slot 1 4 (cap 7 (GETDATA + ENV)))
+    ∷ link 7 (in_slot 1 4 (cap 7 (GETDATA + LOAD + ENV)))
+    ∷ link 6 (in_slot 1 3 (cap 7 (GETDATA + LOAD + COPY + ENV)))
+    ∷ link 5 (in_slot 1 0 (cap 7 (GETDATA + LOAD + COPY + ENV)))
+    ∷ link 4 (in_slot 0 0 (cap 7 (GETDATA + LOAD + COPY + ENV)))
+    ∷ link 3 (in_slot 0 0 (cap 7 (GETDATA + PUTDATA + LOAD + COPY + ENV)))
+    ∷ [])
+    Opening
     ∷ []
 unfolding opened opening step next next_from after kept_objects get_word load_entry restrict_slot merge_cap enter_procedure first_missing right_numbers right_table
 six-links = refl
