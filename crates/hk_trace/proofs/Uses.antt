@@ -14,7 +14,7 @@ use Rattle.hk_model.specs.Places.{Place, SlotOf, standing, is_empty, next_place,
 use Rattle.hk_trace.specs.declared.chains.Standing.{Standing}
 use Rattle.hk_trace.specs.declared.using.UsedPlace.{UsedPlace}
 use Rattle.hk_trace.specs.Told.{told_place}
-use Rattle.hk_trace.specs.Carried.{path_of, carried_slots, carried_step}
+use Rattle.hk_trace.specs.Carried.{call_path, carried_slots, carried_step}
 use Rattle.hk_trace.specs.Used.{Looked, path_walked, carried_tested, looked_from, is_refused_before, is_used, used_by}
 use Rattle.hk_trace.specs.Held.{held_entry, held_at}
 use Rattle.hk_trace.specs.Turns.{held_slots}
@@ -44,7 +44,7 @@ slots_held s inc (slot ∷ slots) = ap (λ (l : List (Option Standing)). held_at
 
 -- the uses of the path, and of the slots that are carried
 pub used_is : (s : State) (inc : Inc) (c : Call) (reply : Reply) (step : ℕ) (walked held : List (Option Standing)) (first all : List UsedPlace) (slots : List ℕ)
-    → walked ≡ map (held_at s) (passed s inc (path_of c)) → slots ≡ carried_slots c → held ≡ held_slots s inc slots → step ≡ carried_step c → first ≡ []
+    → walked ≡ map (held_at s) (passed s inc (call_path c)) → slots ≡ carried_slots c → held ≡ held_slots s inc slots → step ≡ carried_step c → first ≡ []
     → all ≡ (first ++ uses_of c reply 2 0 walked) ++ uses_of c reply 7 step held → all ≡ map (told_use s) (used_by s inc (what.Call c) reply)
 used_is s inc c reply step walked held first all slots w sl h st f a =
     rw (
@@ -55,11 +55,11 @@ used_is s inc c reply step walked held first all slots w sl h st f a =
       sl,
       st,
       slots_held s inc (carried_slots c),
-      uses_told s c reply 2 0 (passed s inc (path_of c)),
+      uses_told s c reply 2 0 (passed s inc (call_path c)),
       uses_told s c reply 7 (carried_step c) (map (λ slot. SlotOf inc slot) (carried_slots c)),
-      filter-append (is_used s c reply) (looked_from path_walked 0 (passed s inc (path_of c))) (looked_from carried_tested (carried_step c) (map (λ slot. SlotOf inc slot) (carried_slots c))),
+      filter-append (is_used s c reply) (looked_from path_walked 0 (passed s inc (call_path c))) (looked_from carried_tested (carried_step c) (map (λ slot. SlotOf inc slot) (carried_slots c))),
     )
-    (sym (map-append (told_use s) (filter (is_used s c reply) (looked_from path_walked 0 (passed s inc (path_of c))))
+    (sym (map-append (told_use s) (filter (is_used s c reply) (looked_from path_walked 0 (passed s inc (call_path c))))
     (filter (is_used s c reply) (looked_from carried_tested (carried_step c) (map (λ slot. SlotOf inc slot) (carried_slots c))))))
 
 -- how many there are

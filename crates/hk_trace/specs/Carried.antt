@@ -5,27 +5,27 @@ use Rattle.hk_model.specs.declared.calls.Call.{Call}
 use Rattle.hk_model.specs.declared.calls.Call.TheVariants as call
 
 -- the path of a call, whose indices are its first steps; none of a call without one
-abbrev pub path_of : Call → List ℕ
-path_of (call.Get of at) = of
-path_of (call.Put of at word) = of
-path_of (call.Add of word) = of
-path_of (call.Length of) = of
-path_of (call.Load from into) = from
-path_of (call.Store list at from) = list
-path_of (call.Append list from) = list
-path_of (call.Erase list at) = list
-path_of (call.Drop slot) = []
-path_of (call.Restrict slot keep) = []
-path_of (call.Look of) = of
-path_of (call.MakeTemplate of making into) = of
-path_of (call.Create by into) = by
-path_of (call.Merge with cap into) = with
-path_of (call.Copy of into) = of
-path_of (call.Enter proc args into) = proc
-path_of (call.Leave give) = []
-path_of (call.P of) = of
-path_of (call.V of) = of
-path_of call.Yield = []
+abbrev pub call_path : Call → List ℕ
+call_path (call.Get of at) = of
+call_path (call.Put of at word) = of
+call_path (call.Add of word) = of
+call_path (call.Length of) = of
+call_path (call.Load from into) = from
+call_path (call.Store list at from) = list
+call_path (call.Append list from) = list
+call_path (call.Erase list at) = list
+call_path (call.Drop slot) = []
+call_path (call.Restrict slot keep) = []
+call_path (call.Look of) = of
+call_path (call.MakeTemplate of making into) = of
+call_path (call.Create by into) = by
+call_path (call.Merge with cap into) = with
+call_path (call.Copy of into) = of
+call_path (call.Enter proc args into) = proc
+call_path (call.Leave give) = []
+call_path (call.P of) = of
+call_path (call.V of) = of
+call_path call.Yield = []
 
 -- the call has an index `at`, whose step is the next behind its path
 abbrev pub has_at : Call → Bool
@@ -47,4 +47,4 @@ carried_slots _ = []
 
 -- the step of the first of them
 abbrev pub carried_step : Call → ℕ
-carried_step c = length (path_of c) + (if has_at c then 1 else 0)
+carried_step c = length (call_path c) + (if has_at c then 1 else 0)

@@ -11,7 +11,7 @@ use Rattle.hk_model.specs.declared.lines.What.TheVariants as what
 use Rattle.hk_model.specs.declared.lines.Line.{Line}
 use Rattle.hk_model.specs.State.{State}
 use Rattle.hk_model.specs.Places.{Place, SlotOf, standing, is_empty, passed}
-use Rattle.hk_trace.specs.Carried.{path_of, has_at, carried_slots, carried_step}
+use Rattle.hk_trace.specs.Carried.{call_path, has_at, carried_slots, carried_step}
 
 -- the places of the order of refusals
 abbrev pub slots_tested : ℕ
@@ -52,15 +52,15 @@ step_of refused.Deep = None
 
 -- a place of the order for a step of the path, and another for a step behind it
 abbrev pub on_path : Call → ℕ → ℕ → ℕ → ℕ
-on_path c step walked behind = if nat_lt step (length (path_of c)) then walked else behind
+on_path c step walked behind = if nat_lt step (length (call_path c)) then walked else behind
 
 -- of a step behind the path: the test of `at`, or of a slot's number
 abbrev pub behind_path : Call → ℕ → ℕ
-behind_path c step = if has_at c && step == length (path_of c) then at_tested else slots_tested
+behind_path c step = if has_at c && step == length (call_path c) then at_tested else slots_tested
 
 -- of a step of the path: the walk, or at the last step the rights of the target
 abbrev pub rights_place : Call → ℕ → ℕ
-rights_place c step = if step + 1 == length (path_of c) then rights_tested else path_walked
+rights_place c step = if step + 1 == length (call_path c) then rights_tested else path_walked
 
 -- the place of a refusal of a call in the order of refusals
 abbrev pub order_of : Call → Refusal → ℕ
@@ -88,7 +88,7 @@ looked_from order step (place ∷ rest) = record { order = order; step = step; p
 -- all places that a call looks at, by their steps: those of its path, and the slots that it carries
 abbrev pub looked_at : State → Inc → Call → List Looked
 looked_at s inc c =
-    looked_from path_walked 0 (passed s inc (path_of c)) ++ looked_from carried_tested (carried_step c) (map (λ slot. SlotOf inc slot) (carried_slots c))
+    looked_from path_walked 0 (passed s inc (call_path c)) ++ looked_from carried_tested (carried_step c) (map (λ slot. SlotOf inc slot) (carried_slots c))
 
 -- a step that is told is below this one
 abbrev pub is_below : Option ℕ → ℕ → Bool

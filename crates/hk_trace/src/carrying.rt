@@ -1,13 +1,13 @@
 //! The operands of a call by their steps (`docs/RULES.md`, "Step numbers").
 
 ghost use Rattle.std.specs.Prelude.{◌≡◌, ◌≤◌, [], ◌∷◌, length, MatchOption};
-ghost use Rattle.hk_trace.specs.Carried.{path_of, has_at, carried_slots, carried_step};
+ghost use Rattle.hk_trace.specs.Carried.{call_path, has_at, carried_slots, carried_step};
 
 use hk_model::{Args, Call, Path, Slot};
 
 /// The path of a call. None of a call without one.
-pub(crate) fn path_of(call: &Call) -> Option<&Path>
-    ensures { MatchOption result (path_of call.now ≡ []) (λ path. path_of call.now ≡ path.now) }
+pub(crate) fn call_path(call: &Call) -> Option<&Path>
+    ensures { MatchOption result (call_path call.now ≡ []) (λ path. call_path call.now ≡ path.now) }
 {
     match call {
         Call::Get { of, .. } => Some(of),
@@ -32,10 +32,10 @@ pub(crate) fn path_of(call: &Call) -> Option<&Path>
 
 /// The number of indices of a call's path, 0 to 8: 0 of a call without one.
 pub(crate) fn path_len(call: &Call) -> u8
-    ensures value { result ≡ length (path_of call.now) }
+    ensures value { result ≡ length (call_path call.now) }
     ensures few { result ≤ 8 }
 {
-    match path_of(call) {
+    match call_path(call) {
         Some(path) => path.len() as u8,
         None => 0,
     }

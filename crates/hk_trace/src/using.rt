@@ -4,11 +4,11 @@ ghost use Rattle.std.specs.Prelude.{◌≡◌, ◌+◌, ◌≤◌, ◌++◌, len
 ghost use Rattle.hk_model.specs.declared.lines.What.TheVariants as what;
 ghost use Rattle.hk_trace.specs.Used.{is_below, step_of, on_path, behind_path, rights_place, order_of, is_refused_before, used_by, used};
 ghost use Rattle.hk_model.specs.Places.{passed};
-ghost use Rattle.hk_trace.specs.Carried.{path_of};
+ghost use Rattle.hk_trace.specs.Carried.{call_path};
 ghost use Rattle.hk_trace.specs.Held.{held_at};
 ghost use Rattle.hk_trace.specs.Uses.{told_use, uses_of};
 
-use crate::carrying::{carried_slots, carried_step, has_at, path_len, path_of};
+use crate::carrying::{call_path, carried_slots, carried_step, has_at, path_len};
 use crate::chains::Standing;
 use crate::standing::{along, held_slots};
 use hk_model::{Call, Inc, Line, NoMemory, Refusal, Reply, What};
@@ -143,9 +143,9 @@ fn walked(
     inc: Inc,
     call: &Call,
 ) -> Result<Vec<Option<Standing>>, NoMemory>
-    ensures { IfOk result (λ all. all.items ≡ map (held_at kernel.now) (passed kernel.now inc (path_of call.now))) }
+    ensures { IfOk result (λ all. all.items ≡ map (held_at kernel.now) (passed kernel.now inc (call_path call.now))) }
 {
-    match path_of(call) {
+    match call_path(call) {
         Some(path) => Ok(along(alloc, kernel, inc, path)?),
         None => Ok(Vec::new(alloc)),
     }
