@@ -260,7 +260,11 @@ module _ (w : WorldValue) (forms : List Form) (rows : List (List (Option ℕ))) 
         by true f = shared p q column r b p_runs q_runs within f e env
         by false f =
             let all = ((rules p.0 p_runs).others q.0 q_runs).stored f x.0 t.by low through in
-            record { by = all.0; more = bits_of all.0 b (λ n h. all.1 n (more n h)); offered = all.2 column within r e env }
+            record {
+              by = all.0;
+              more = (λ h. all.1.0 (more unconf_right h), λ h. all.1.1 (more env_right h));
+              offered = all.2 column within r e env;
+            }
 
     thing_within : (y : Thing) → IsThing w y → column_of w y < width_of w forms
     thing_within (Old x) h = omega (arith, h)

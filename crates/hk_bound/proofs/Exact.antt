@@ -181,13 +181,13 @@ push_cases [] y x (suc (suc k)) e = absurd (cc)
 push_cases (z ∷ xs) y x zero e = inl e
 push_cases (z ∷ xs) y x (suc k) e = elim (push_cases xs y x k e) [ inl h ↦ inl h | inr h ↦ inr (ap suc h.0, h.1) ]
 
-push_keeps : {A : Type 0} (xs : List A) (y x : A) (k : ℕ) → slice_get xs k ≡ Some x → slice_get (xs ++ y ∷ []) k ≡ Some x
+pub push_keeps : {A : Type 0} (xs : List A) (y x : A) (k : ℕ) → slice_get xs k ≡ Some x → slice_get (xs ++ y ∷ []) k ≡ Some x
 push_keeps [] y x zero e = absurd (cc)
 push_keeps [] y x (suc k) e = absurd (cc)
 push_keeps (z ∷ xs) y x zero e = e
 push_keeps (z ∷ xs) y x (suc k) e = push_keeps xs y x k e
 
-push_last : {A : Type 0} (xs : List A) (y : A) → slice_get (xs ++ y ∷ []) (length xs) ≡ Some y
+pub push_last : {A : Type 0} (xs : List A) (y : A) → slice_get (xs ++ y ∷ []) (length xs) ≡ Some y
 push_last [] y = refl
 push_last (z ∷ xs) y = push_last xs y
 

@@ -15,4 +15,5 @@ mod TaskSlots
 mod Through
 mod Growth
 mod Filling
+mod Ways
 mod Exact
