@@ -16,4 +16,5 @@ mod Through
 mod Growth
 mod Filling
 mod Ways
+mod Sorted
 mod Exact

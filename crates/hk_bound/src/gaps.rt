@@ -9,10 +9,10 @@ ghost use Rattle.hk_model.specs.declared.names.Name.{Name as NameOf};
 ghost use Rattle.hk_bound.specs.Taking.{Slots, Old, MadeBy, Has, Right as RightOf, Amplifies, Follows, type_of};
 ghost use Rattle.hk_bound.specs.Each.{Among, Each};
 ghost use Rattle.hk_bound.specs.Columns.{name_at, proc_at, opening_entries, opening_params, object_count, thing_count, width_of, cell, CellFollows, Finds};
-ghost use Rattle.hk_bound.specs.Forms.{entry_form, Holds, IsFirst};
+ghost use Rattle.hk_bound.specs.Forms.{entry_form, Holds, IsFirst, AreSorted};
 ghost use Rattle.hk_bound.specs.Rules.{IsKnown, IsHeldAs, env_in, stores_in, taking_of, OpensWithEnv, StoredWithEnv, ListedWithEnv, Offered, EntryRule, EntriesRule, FormRule, ParamRule, ParamsRule, TypeRule, MergeRule, MergesRule, ObjectRule, Passes, share_made, HasTakings, through_in, joined_cells, CellRule, PassedRule, AreStored, passes_all, StoredRule, OpensWith, SlotRule, MadeRule, OwnRule};
 
-use crate::forms::{Form, entry_form, made_form, param_form, place_of};
+use crate::forms::{Form, entry_form, made_form, param_form, place_of, start_of};
 use crate::opening::{entries_of, is_general, is_listed, object_count, params_of, type_of};
 use crate::rows::{Rows, covers, joined};
 use hk_model::{Entry, Name, NoMemory, Param, Task, World};
@@ -118,6 +118,7 @@ impl<'a> Table<'a> {
 
     // The column of a template.
     fn form_column(&self, form: &Form) -> Option<usize>
+        requires { AreSorted self.now.forms.now }
         ensures found { IfSome result (λ column. (place : ℕ) × IsFirst self.now.forms.now form.now place × (column ≡ thing_count self.now.world.now + place)) }
         ensures some { Holds self.now.forms.now form.now → IsSome result }
     {
@@ -129,7 +130,8 @@ impl<'a> Table<'a> {
 
     // The column that an entry counts for, and its rights there.
     fn held(&self, entry: &Entry) -> Option<(usize, Rights)>
-        requires { IfSome (entry_form entry.now) (Holds self.now.forms.now) }
+        requires sorted { AreSorted self.now.forms.now }
+        requires there { IfSome (entry_form entry.now) (Holds self.now.forms.now) }
         ensures { IsHeldAs self.now.world.now self.now.forms.now entry.now result }
     {
         if let Entry::Held(cap) = entry {
@@ -293,6 +295,7 @@ impl<'a> Table<'a> {
 
     // A template that a process has.
     fn offer_form(&self, process: usize, form: &Form, gaps: &mut Vec<Gap>) -> Result<(), NoMemory>
+        requires sorted { AreSorted self.now.forms.now }
         requires process { process < length self.now.world.now.tasks }
         requires holds { Holds self.now.forms.now form.now }
         requires follows { Follows self.now.world.now (Amplifies (Slots (proc_at process)) form.now.of form.now.check form.now.give) }
@@ -431,7 +434,11 @@ impl<'a> Table<'a> {
         requires cell { cell self.now.rows.now process name ≡ Some by }
         ensures { OnOk result (Finds self.now.world.now self.now.forms.now self.now.rows.now (MergesRule self.now.world.now self.now.forms.now self.now.rows.now process name by) gaps.old.items gaps.new.items) }
     {
-        for place in 0..self.forms.len() {
+        let of = type_of(self.world, name);
+        for place in start_of(self.forms, of)..self.forms.len() {
+            if self.forms[place].of != of {
+                return Ok(());
+            }
             self.merge(process, name, by, place, gaps)?;
         }
         Ok(())
