@@ -1,20 +1,20 @@
 // What the rules give to processes, and the rows do not have.
 
-ghost use Rattle.std.specs.Prelude.{◌≡◌, ◌⊎◌, false, ◌↔◌, IsTrue, ◌<◌, ◌+◌, ◌^◌, ℕ, true, Some, IfSome, IsSome, OnOk, is_some, length, slice_get};
-ghost use Rattle.hk_rights.specs.Rights.{HasAll, IsRightsWord, all_rights, a0_right};
+ghost use Rattle.std.specs.Prelude.{◌≡◌, ◌⊎◌, false, ◌↔◌, IsTrue, ◌<◌, ◌+◌, ◌^◌, ℕ, true, Some, IfSome, IsSome, OnOk, is_some, length, slice_get, slice_index_or, []};
+ghost use Rattle.hk_rights.specs.Rights.{HasAll, IsRightsWord, all_rights, has, env_right, a0_right};
 ghost use Rattle.hk_model.specs.Walking.{reduced_rights};
 ghost use Rattle.hk_model.specs.Merging.{merged_rights};
 ghost use Rattle.hk_model.specs.Targets.{PROCEDURE};
 ghost use Rattle.hk_model.specs.declared.names.Name.{Name as NameOf};
 ghost use Rattle.hk_bound.specs.Taking.{Slots, Old, MadeBy, Has, Right as RightOf, Amplifies, Follows, type_of};
 ghost use Rattle.hk_bound.specs.Each.{Among, Each};
-ghost use Rattle.hk_bound.specs.Columns.{name_at, proc_at, opening_entries, opening_params, object_count, thing_count, width_of, cell, CellFollows, Finds};
+ghost use Rattle.hk_bound.specs.Columns.{name_at, proc_at, opening_entries, opening_params, object_count, thing_count, width_of, cell, covers, CellFollows, Finds};
 ghost use Rattle.hk_bound.specs.Forms.{entry_form, Holds, IsFirst, AreSorted};
 ghost use Rattle.hk_bound.specs.Rules.{IsKnown, IsHeldAs, env_in, stores_in, taking_of, OpensWithEnv, StoredWithEnv, ListedWithEnv, Offered, EntryRule, EntriesRule, FormRule, ParamRule, ParamsRule, TypeRule, MergeRule, MergesRule, ObjectRule, Passes, share_made, HasTakings, through_in, joined_cells, CellRule, PassedRule, AreStored, passes_all, StoredRule, OpensWith, SlotRule, MadeRule, OwnRule};
 
 use crate::forms::{Form, entry_form, made_form, param_form, place_of, start_of};
 use crate::opening::{entries_of, is_general, is_listed, object_count, params_of, type_of};
-use crate::rows::{Rows, covers, joined};
+use crate::rows::{Rows, cell_at, covers, joined};
 use hk_model::{Entry, Name, NoMemory, Param, Task, World};
 use hk_rights::{Right, Rights};
 
@@ -87,6 +87,16 @@ fn passes_all(by: &Option<Rights>) -> bool
     match by {
         None => false,
         Some(by) => by.has(Right::UNCONF) && by.has(Right::ENV),
+    }
+}
+
+// Whether a cell has what passes to it of another one through these rights.
+fn is_passed(mine: Option<Rights>, theirs: Option<Rights>, by: Rights) -> bool
+    ensures { result ≡ true → (rights : ℕ) → theirs ≡ Some rights → has rights env_right ≡ true → covers mine (reduced_rights by rights) ≡ true }
+{
+    match theirs {
+        None => true,
+        Some(rights) => !rights.has(Right::ENV) || covers(mine, reduced_rights(by, rights)),
     }
 }
 
@@ -558,6 +568,32 @@ impl<'a> Table<'a> {
         Ok(())
     }
 
+    // The same, where the rows of the two are at hand.
+    fn take_at(
+        &self,
+        process: usize,
+        other: usize,
+        by: Rights,
+        column: usize,
+        mine: &[Option<Rights>],
+        theirs: &[Option<Rights>],
+        gaps: &mut Vec<Gap>,
+    ) -> Result<(), NoMemory>
+        requires known { IsKnown self.now.world.now self.now.forms.now self.now.rows.now }
+        requires process { process < length self.now.world.now.tasks }
+        requires passes { Passes self.now.world.now self.now.forms.now process other by }
+        requires column { column < width_of self.now.world.now self.now.forms.now }
+        requires mine { mine.now ≡ slice_index_or self.now.rows.now process [] }
+        requires theirs { theirs.now ≡ slice_index_or self.now.rows.now other [] }
+        ensures { OnOk result (Finds self.now.world.now self.now.forms.now self.now.rows.now (CellRule self.now.rows.now process other by column) gaps.old.items gaps.new.items) }
+    {
+        if is_passed(cell_at(mine, column), cell_at(theirs, column), by) {
+            return Ok(());
+        }
+        self.take_cell(process, other, by, column, gaps)?;
+        Ok(())
+    }
+
     /// What a process takes of all that another stores, through these rights.
     pub(crate) fn take_row(
         &self,
@@ -571,8 +607,10 @@ impl<'a> Table<'a> {
         requires passes { Passes self.now.world.now self.now.forms.now process other by }
         ensures { OnOk result (Finds self.now.world.now self.now.forms.now self.now.rows.now (PassedRule self.now.world.now self.now.forms.now self.now.rows.now process other by) gaps.old.items gaps.new.items) }
     {
+        let mine = self.rows.row(process);
+        let theirs = self.rows.row(other);
         for column in 0..self.width() {
-            self.take_cell(process, other, by, column, gaps)?;
+            self.take_at(process, other, by, column, mine, theirs, gaps)?;
         }
         Ok(())
     }
