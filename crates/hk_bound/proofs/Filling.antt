@@ -1,5 +1,5 @@
 -- Gaps are filled one after another, and the cells that have grown are taken up.
-use Rattle.std.proofs.Common.{◌≡◌, ℕ, zero, suc, ◌+◌, ◌*◌, ◌-◌, ◌<◌, ◌≤◌, List, [], ◌∷◌, ◌++◌, length, length-append, get_or, take, Bool, true, false, Option, Some, None, refl, sym, ◌∙◌, ap}
+use Rattle.std.proofs.Common.{◌≡◌, ℕ, zero, suc, ◌+◌, ◌*◌, ◌-◌, ◌<◌, ◌≤◌, List, [], ◌∷◌, ◌++◌, length, length-append, get_or, take, drop, Bool, true, false, Option, Some, None, refl, sym, ◌∙◌, ap}
 use Rattle.std.proofs.Common.{subst, arith}
 use Rattle.std.specs.Prelude.{IfSome, slice_get, slice_index_or, ◌⊎◌}
 use mathlib.Core.Logic.{inl, inr}
@@ -36,6 +36,16 @@ in_first (suc n) (y ∷ xs) (suc k) x e = in_first n xs k x e
 pub each_first : {A : Type 0} (P : A → Type 0) (n : ℕ) (xs : List A) → Each P xs → Each P (take n xs)
 each_first P n xs all k x e = all k x (in_first n xs k x e)
 
+in_last : {A : Type 0} (n : ℕ) (xs : List A) (k : ℕ) (x : A) → slice_get (drop n xs) k ≡ Some x → slice_get xs (k + n) ≡ Some x
+in_last zero [] k x e = subst (λ (n : ℕ). slice_get [] n ≡ Some x) (let s : k ≡ k + 0 = omega arith in s) e
+in_last zero (y ∷ xs) k x e = subst (λ (n : ℕ). slice_get (y ∷ xs) n ≡ Some x) (let s : k ≡ k + 0 = omega arith in s) e
+in_last (suc n) [] zero x e = absurd (cc)
+in_last (suc n) [] (suc k) x e = absurd (cc)
+in_last (suc n) (y ∷ xs) k x e = subst (λ (m : ℕ). slice_get (y ∷ xs) m ≡ Some x) (let s : suc (k + n) ≡ k + suc n = omega arith in s) (in_last n xs k x e)
+
+pub each_last : {A : Type 0} (P : A → Type 0) (n : ℕ) (xs : List A) → Each P xs → Each P (drop n xs)
+each_last P n xs all k x e = all (k + n) x (in_last n xs k x e)
+
 module _ (w : WorldValue) (forms : List Form) where
   -- what holds while gaps are filled
   pub record Filled (start now : List (List (Option ℕ))) (before after : List Grown) (n : ℕ) : Type 0 where
@@ -45,6 +55,18 @@ module _ (w : WorldValue) (forms : List Form) where
 
   pub fills_none : (start : List (List (Option ℕ))) (before : List Grown) → AreFilling w forms start before → FillsAll w forms start start before before
   fills_none start before h = record { filling = h; less = omega arith; no_less = omega arith }
+
+  pub fills_then : (a b c : List (List (Option ℕ))) (x y z : List Grown) → FillsAll w forms a b x y → FillsAll w forms b c y z → FillsAll w forms a c x z
+  fills_then a b c x y z f g =
+      let l = f.less in let m = g.less in let n = f.no_less in let o = g.no_less in
+      record { filling = g.filling; less = omega (arith, l, m); no_less = omega (arith, n, o) }
+
+  pub filling_split : (rows : List (List (Option ℕ))) (grown first : List Grown) (n : ℕ) → first ≡ take n grown → AreFilling w forms rows grown → AreFilling w forms rows first
+  filling_split rows grown first n e h =
+      record { follow = h.follow; are = h.are; within = subst (Each (IsWithin w forms)) (sym e) (each_first (IsWithin w forms) n grown h.within) }
+
+  pub within_split : (grown last : List Grown) (n : ℕ) → last ≡ drop n grown → Each (IsWithin w forms) grown → Each (IsWithin w forms) last
+  within_split grown last n e h = subst (Each (IsWithin w forms)) (sym e) (each_last (IsWithin w forms) n grown h)
 
   pub filled_start : (start : List (List (Option ℕ))) (before : List Grown) → AreFilling w forms start before → Filled start start before before 0
   filled_start start before h = record { all = fills_none start before h; start_is = λ k. refl; more = λ k. absurd (omega (arith, k)) }
@@ -132,7 +154,7 @@ module _ (w : WorldValue) (forms : List Form) where
   abbrev pub left : List (List (Option ℕ)) → List Grown → ℕ
   left rows grown = 2 * (most_weight w forms - rows_weight rows) + length grown
 
-  pub left_falls : (old new : List (List (Option ℕ))) (before mid after : List Grown) → length mid + 1 ≡ length before → FillsAll w forms old new mid after
+  pub left_falls : (old new : List (List (Option ℕ))) (before mid after : List Grown) → length mid < length before → FillsAll w forms old new mid after
       → left new after < left old before
   left_falls old new before mid after popped h =
       let a = weighs_most new h.filling.are in let b = h.less in let c = h.no_less in omega (arith, a, b, c, popped)

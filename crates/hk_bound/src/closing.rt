@@ -7,6 +7,7 @@ ghost use Rattle.hk_bound.specs.Columns.{AreGaps, Finds};
 ghost use Rattle.hk_bound.specs.Forms.{AreForms};
 ghost use Rattle.hk_bound.specs.Rules.{IsKnown, AreStored, OwnRule, StoredRule, ProcessRule};
 ghost use Rattle.hk_bound.specs.Weights.{rows_weight};
+ghost use Rattle.hk_bound.specs.Each.{Each};
 ghost use Rattle.hk_bound.specs.Filled.{IsWithin, AreFilling, AreWays, Fills, FillsAll, AddsStored};
 ghost use Rattle.hk_bound.specs.Listed.{AreExact};
 
@@ -120,7 +121,107 @@ fn take_up(
     Ok(())
 }
 
-// Takes up the cells that have grown, until none is left.
+// Gives another process what it takes of cells that have grown.
+fn pass_cells(
+    alloc: Global,
+    world: &World,
+    forms: &[Form],
+    kinds: &[Vec<usize>],
+    other: usize,
+    cells: &[Grown],
+    rows: &mut Rows,
+    ways: &Rows,
+    grown: &mut Vec<Grown>,
+) -> Result<(), NoMemory>
+    requires world { IsWorld world.now }
+    requires forms { AreForms world.now forms.now }
+    requires other { other < length world.now.tasks }
+    requires cells { Each (IsWithin world.now forms.now) cells.now }
+    requires filling { AreFilling world.now forms.now rows.old grown.old.items }
+    requires ways { AreWays world.now forms.now ways.now }
+    ensures { OnOk result (FillsAll world.now forms.now rows.old rows.new grown.old.items grown.new.items) }
+{
+    let mut gaps = Vec::new(alloc);
+    let table = Table {
+        world,
+        forms,
+        kinds,
+        rows: &*rows,
+    };
+    for cell in cells {
+        table.pass_to(other, cell.process, cell.column, ways, &mut gaps)?;
+    }
+    fill_all(world, forms, rows, &gaps, grown)?;
+    Ok(())
+}
+
+// Gives all processes what they take of cells that have grown.
+fn pass_on(
+    alloc: Global,
+    world: &World,
+    forms: &[Form],
+    kinds: &[Vec<usize>],
+    cells: &[Grown],
+    rows: &mut Rows,
+    ways: &Rows,
+    grown: &mut Vec<Grown>,
+) -> Result<(), NoMemory>
+    requires world { IsWorld world.now }
+    requires forms { AreForms world.now forms.now }
+    requires cells { Each (IsWithin world.now forms.now) cells.now }
+    requires filling { AreFilling world.now forms.now rows.old grown.old.items }
+    requires ways { AreWays world.now forms.now ways.now }
+    ensures { OnOk result (FillsAll world.now forms.now rows.old rows.new grown.old.items grown.new.items) }
+{
+    for other in 0..world.tasks().len() {
+        pass_cells(alloc, world, forms, kinds, other, cells, rows, ways, grown)?;
+    }
+    Ok(())
+}
+
+// Takes up cells that have grown.
+fn take_up_cells(
+    alloc: Global,
+    world: &World,
+    forms: &[Form],
+    kinds: &[Vec<usize>],
+    cells: &[Grown],
+    rows: &mut Rows,
+    ways: &mut Rows,
+    grown: &mut Vec<Grown>,
+) -> Result<(), NoMemory>
+    requires world { IsWorld world.now }
+    requires forms { AreForms world.now forms.now }
+    requires cells { Each (IsWithin world.now forms.now) cells.now }
+    requires filling { AreFilling world.now forms.now rows.old grown.old.items }
+    requires ways { AreWays world.now forms.now ways.old }
+    ensures filled { OnOk result (FillsAll world.now forms.now rows.old rows.new grown.old.items grown.new.items) }
+    ensures ways { OnOk result (AreWays world.now forms.now ways.new) }
+{
+    for cell in cells {
+        take_up(alloc, world, forms, kinds, cell, rows, ways, grown)?;
+    }
+    Ok(())
+}
+
+// The number of cells before those at the end that are all of one process, one of these at least.
+fn before_last(grown: &[Grown]) -> usize
+    requires { 0 < length grown.now }
+    ensures { result < length grown.now }
+{
+    let last = grown.len() - 1;
+    let process = grown[last].process;
+    for back in 0..last {
+        let start = last - back;
+        if grown[start - 1].process != process {
+            return start;
+        }
+    }
+    0
+}
+
+// Takes up the cells that have grown, until none is left: always those at the end that are of one
+// process together, so that others take them in the order of their columns.
 fn take_up_all(
     alloc: Global,
     world: &World,
@@ -138,8 +239,11 @@ fn take_up_all(
     ensures no_less { OnOk result (rows_weight rows.old ≤ rows_weight rows.new) }
     ensures ways { OnOk result (AreWays world.now forms.now ways.new) }
 {
-    'cells: while let Some(cell) = grown.pop() {
-        take_up(alloc, world, forms, kinds, &cell, rows, ways, grown)?;
+    'cells: while !grown.is_empty() {
+        let start = before_last(grown);
+        let cells = grown.split_off(start)?;
+        pass_on(alloc, world, forms, kinds, &cells, rows, ways, grown)?;
+        take_up_cells(alloc, world, forms, kinds, &cells, rows, ways, grown)?;
     }
     Ok(())
 }

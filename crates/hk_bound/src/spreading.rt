@@ -20,8 +20,8 @@ pub(crate) struct Grown {
 }
 
 impl<'a> Table<'a> {
-    // What another process takes of a cell of this one, if it takes from this one.
-    fn pass_to(
+    /// What another process takes of a cell of this one, if it takes from this one.
+    pub(crate) fn pass_to(
         &self,
         other: usize,
         process: usize,
@@ -37,25 +37,6 @@ impl<'a> Table<'a> {
     {
         if let Some(by) = ways.get(other, process) {
             self.take_cell(other, process, by, column, gaps)?;
-        }
-        Ok(())
-    }
-
-    // What all processes take of a cell of this one.
-    fn pass_on(
-        &self,
-        process: usize,
-        column: usize,
-        ways: &Rows,
-        gaps: &mut Vec<Gap>,
-    ) -> Result<(), NoMemory>
-        requires known { IsKnown self.now.world.now self.now.forms.now self.now.rows.now }
-        requires column { column < width_of self.now.world.now self.now.forms.now }
-        requires ways { AreWays self.now.world.now self.now.forms.now ways.now }
-        ensures { OnOk result (Gains self.now.world.now self.now.forms.now self.now.rows.now gaps.old.items gaps.new.items) }
-    {
-        for other in 0..self.world.tasks().len() {
-            self.pass_to(other, process, column, ways, gaps)?;
         }
         Ok(())
     }
@@ -242,7 +223,7 @@ impl<'a> Table<'a> {
         Ok(())
     }
 
-    /// What comes of a cell that has grown, by each rule that asks for it.
+    /// What comes of a cell that has grown for its process, and through new ways for others.
     pub(crate) fn take_up(
         &self,
         grown: &Grown,
@@ -259,7 +240,6 @@ impl<'a> Table<'a> {
         let column = grown.column;
         let objects = object_count(self.world);
         let things = self.thing_count();
-        self.pass_on(process, column, ways, gaps)?;
         if column < objects {
             self.take_up_object(process, column, ways, gaps)?;
         } else if column < things {
