@@ -208,3 +208,16 @@ pub record ProcessRule (w : WorldValue) (forms : List Form) (rows : List (List (
   pub made : (maker : ℕ) → maker < length w.tasks → MadeRule w rows p maker
   pub objects : (name : ℕ) → name < object_count w → ObjectRule w forms rows p name
   pub others : (q : ℕ) → q < length w.tasks → StoredRule w forms rows p q
+
+-- the rules of all processes: by what they have themselves, of what one stores and of what all store, and all of them
+abbrev pub OwnRules : WorldValue → List Form → List (List (Option ℕ)) → Type 0
+OwnRules w forms rows = (p : ℕ) → p < length w.tasks → OwnRule w forms rows p
+
+abbrev pub StoredFrom : WorldValue → List Form → List (List (Option ℕ)) → ℕ → Type 0
+StoredFrom w forms rows q = (p : ℕ) → p < length w.tasks → StoredRule w forms rows p q
+
+abbrev pub StoredRules : WorldValue → List Form → List (List (Option ℕ)) → Type 0
+StoredRules w forms rows = (q : ℕ) → q < length w.tasks → StoredFrom w forms rows q
+
+abbrev pub AllRules : WorldValue → List Form → List (List (Option ℕ)) → Type 0
+AllRules w forms rows = (p : ℕ) → p < length w.tasks → ProcessRule w forms rows p

@@ -1,11 +1,11 @@
 // All that the processes of a world can come to have: a worklist of cells that have grown, and looks
 // over all rules that see whether anything is missing.
 
-ghost use Rattle.std.specs.Prelude.{◌≡◌, ◌<◌, ◌≤◌, ℕ, [], IfOk, OnOk, length};
+ghost use Rattle.std.specs.Prelude.{◌≡◌, ◌<◌, ◌≤◌, [], IfOk, OnOk, length};
 ghost use Rattle.hk_model.specs.WorldValue.{IsWorld};
 ghost use Rattle.hk_bound.specs.Columns.{AreGaps, Finds};
 ghost use Rattle.hk_bound.specs.Forms.{AreForms};
-ghost use Rattle.hk_bound.specs.Rules.{IsKnown, AreStored, OwnRule, StoredRule, ProcessRule};
+ghost use Rattle.hk_bound.specs.Rules.{IsKnown, AreStored, OwnRules, StoredFrom, StoredRules, AllRules};
 ghost use Rattle.hk_bound.specs.Weights.{rows_weight};
 ghost use Rattle.hk_bound.specs.Each.{Each};
 ghost use Rattle.hk_bound.specs.Filled.{IsWithin, AreFilling, AreWays, Fills, FillsAll, AddsStored};
@@ -283,7 +283,7 @@ fn stored_gaps(
 ) -> Result<(), NoMemory>
     requires known { IsKnown table.now.world.now table.now.forms.now table.now.rows.now }
     requires other { other < length table.now.world.now.tasks }
-    ensures { OnOk result (Finds table.now.world.now table.now.forms.now table.now.rows.now ((p : ℕ) → p < length table.now.world.now.tasks → StoredRule table.now.world.now table.now.forms.now table.now.rows.now p other) gaps.old.items gaps.new.items) }
+    ensures { OnOk result (Finds table.now.world.now table.now.forms.now table.now.rows.now (StoredFrom table.now.world.now table.now.forms.now table.now.rows.now other) gaps.old.items gaps.new.items) }
 {
     let names = stored_names(alloc, table, other)?;
     for process in 0..table.world.tasks().len() {
@@ -295,7 +295,7 @@ fn stored_gaps(
 // What processes get by what they have themselves.
 fn all_own_gaps(table: &Table, gaps: &mut Vec<Gap>) -> Result<(), NoMemory>
     requires known { IsKnown table.now.world.now table.now.forms.now table.now.rows.now }
-    ensures { OnOk result (Finds table.now.world.now table.now.forms.now table.now.rows.now ((p : ℕ) → p < length table.now.world.now.tasks → OwnRule table.now.world.now table.now.forms.now table.now.rows.now p) gaps.old.items gaps.new.items) }
+    ensures { OnOk result (Finds table.now.world.now table.now.forms.now table.now.rows.now (OwnRules table.now.world.now table.now.forms.now table.now.rows.now) gaps.old.items gaps.new.items) }
 {
     for (process, task) in table.world.tasks().iter().enumerate() {
         table.own_gaps(process, task, gaps)?;
@@ -306,7 +306,7 @@ fn all_own_gaps(table: &Table, gaps: &mut Vec<Gap>) -> Result<(), NoMemory>
 // What processes take of what others store.
 fn all_stored_gaps(alloc: Global, table: &Table, gaps: &mut Vec<Gap>) -> Result<(), NoMemory>
     requires known { IsKnown table.now.world.now table.now.forms.now table.now.rows.now }
-    ensures { OnOk result (Finds table.now.world.now table.now.forms.now table.now.rows.now ((q : ℕ) → q < length table.now.world.now.tasks → (p : ℕ) → p < length table.now.world.now.tasks → StoredRule table.now.world.now table.now.forms.now table.now.rows.now p q) gaps.old.items gaps.new.items) }
+    ensures { OnOk result (Finds table.now.world.now table.now.forms.now table.now.rows.now (StoredRules table.now.world.now table.now.forms.now table.now.rows.now) gaps.old.items gaps.new.items) }
 {
     for other in 0..table.world.tasks().len() {
         stored_gaps(alloc, table, other, gaps)?;
@@ -317,7 +317,7 @@ fn all_stored_gaps(alloc: Global, table: &Table, gaps: &mut Vec<Gap>) -> Result<
 // All that the rules give and the rows lack, of all processes.
 fn missing(alloc: Global, table: &Table) -> Result<Vec<Gap>, NoMemory>
     requires known { IsKnown table.now.world.now table.now.forms.now table.now.rows.now }
-    ensures { IfOk result (λ gaps. Finds table.now.world.now table.now.forms.now table.now.rows.now ((p : ℕ) → p < length table.now.world.now.tasks → ProcessRule table.now.world.now table.now.forms.now table.now.rows.now p) [] gaps.items) }
+    ensures { IfOk result (λ gaps. Finds table.now.world.now table.now.forms.now table.now.rows.now (AllRules table.now.world.now table.now.forms.now table.now.rows.now) [] gaps.items) }
 {
     let mut gaps = Vec::new(alloc);
     all_own_gaps(table, &mut gaps)?;
@@ -334,7 +334,7 @@ fn look(
     rows: &Rows,
 ) -> Result<Vec<Gap>, NoMemory>
     requires known { IsKnown world.now forms.now rows.now }
-    ensures { IfOk result (λ gaps. Finds world.now forms.now rows.now ((p : ℕ) → p < length world.now.tasks → ProcessRule world.now forms.now rows.now p) [] gaps.items) }
+    ensures { IfOk result (λ gaps. Finds world.now forms.now rows.now (AllRules world.now forms.now rows.now) [] gaps.items) }
 {
     let table = Table {
         world,
