@@ -1,17 +1,15 @@
 -- Gaps are filled one after another, and the cells that have grown are taken up.
-use Rattle.std.proofs.Common.{◌≡◌, ℕ, zero, suc, ◌+◌, ◌*◌, ◌-◌, ◌<◌, ◌≤◌, List, [], ◌∷◌, ◌++◌, length, length-append, get_or, take, drop, Bool, true, false, Option, Some, None, refl, sym, ◌∙◌, ap}
+use Rattle.std.proofs.Common.{◌≡◌, ℕ, zero, suc, ◌+◌, ◌*◌, ◌-◌, ◌<◌, ◌≤◌, List, [], ◌∷◌, ◌++◌, length, length-append, take, drop, false, Option, Some, refl, sym, ◌∙◌}
 use Rattle.std.proofs.Common.{subst, arith}
-use Rattle.std.specs.Prelude.{IfSome, slice_get, slice_index_or, ◌⊎◌}
+use Rattle.std.specs.Prelude.{slice_get, slice_index_or, ◌⊎◌}
 use mathlib.Core.Logic.{inl, inr}
 use Rattle.std.proofs.lemmas.Bool.{true≢false}
-use Rattle.std.proofs.lemmas.Option.{slice_get_read}
-use Rattle.hk_rights.specs.Rights.{IsRightsWord}
 use Rattle.hk_model.specs.WorldValue.{WorldValue}
 use Rattle.hk_bound.specs.declared.forms.Form.{Form}
 use Rattle.hk_bound.specs.declared.gaps.Gap.{Gap}
 use Rattle.hk_bound.specs.declared.spreading.Grown.{Grown}
 use Rattle.hk_bound.specs.Each.{Each}
-use Rattle.hk_bound.specs.Columns.{cell, covers, joined, joined_rows, empty_rows, width_of, AreRows, IsGap, AreGaps}
+use Rattle.hk_bound.specs.Columns.{cell, covers, joined_rows, empty_rows, width_of, AreRows, IsGap, AreGaps}
 use Rattle.hk_bound.specs.Weights.{rows_weight, most_weight}
 use Rattle.hk_bound.specs.Filled.{IsWithin, AreFilling, Fills, Had, Got, FillsAll, grown_at}
 use Rattle.hk_bound.proofs.Growth.{joined_follow, joined_rows_are, joined_more, rows_most, empty_follow, empty_are}

@@ -1,8 +1,8 @@
 -- Rows grow: how much they weigh, and what a cell with more rights tells.
-use Rattle.std.proofs.Common.{◌≡◌, ℕ, zero, suc, ◌+◌, ◌*◌, ◌-◌, ◌<◌, ◌≤◌, List, [], ◌∷◌, length, Bool, true, false, Option, Some, None, refl, sym, ◌∙◌, ap, subst, arith, cond}
+use Rattle.std.proofs.Common.{◌≡◌, ℕ, zero, suc, ◌+◌, ◌*◌, ◌<◌, ◌≤◌, List, [], ◌∷◌, length, Bool, true, false, Option, Some, None, refl, sym, ◌∙◌, ap, subst, arith, cond}
 use Rattle.std.proofs.Common.{bit_and, bit_or, replicate}
 use mathlib.Core.Logic.{inl, inr}
-use Rattle.std.specs.Prelude.{IfSome, slice_set, slice_get, slice_index_or, ◌||◌, ◌&&◌, ◌==◌, ◌⊎◌, not, find, IsTrue}
+use Rattle.std.specs.Prelude.{IfSome, slice_set, slice_index_or, ◌||◌, ◌&&◌, ◌⊎◌, not, find}
 use Rattle.std.specs.Option.{unwrap_or}
 use Rattle.std.proofs.lemmas.Bool.{true≢false, false≢true, cases_lt}
 use Rattle.std.proofs.lemmas.Bool.Decides.{nat_tests}

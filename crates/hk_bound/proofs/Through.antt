@@ -1,6 +1,6 @@
 -- The rights through which a process takes what another stores, object by object.
 use Rattle.std.proofs.Common.{◌≡◌, ℕ, zero, suc, ◌+◌, ◌<◌, ◌≤◌, List, [], ◌∷◌, length, get_or, Bool, true, false, Option, Some, None, refl, sym, ◌∙◌, ap, subst, arith, bit_or}
-use Rattle.std.specs.Prelude.{IfSome, ◌⊎◌, ◌&&◌, option_map, slice_get}
+use Rattle.std.specs.Prelude.{IfSome, ◌⊎◌, slice_get}
 use mathlib.Core.Logic.{inl, inr}
 use Rattle.std.proofs.lemmas.Bool.{false≢true}
 use Rattle.std.proofs.lemmas.Option.{slice_get_within}
@@ -11,7 +11,7 @@ use Rattle.hk_model.specs.WorldValue.{WorldValue}
 use Rattle.hk_bound.specs.declared.forms.Form.{Form}
 use Rattle.hk_bound.specs.declared.gaps.Taking.{Taking}
 use Rattle.hk_bound.specs.Taking.{type_of}
-use Rattle.hk_bound.specs.Columns.{name_at, object_count, cell, RowsFollow, width_of}
+use Rattle.hk_bound.specs.Columns.{name_at, object_count, cell, RowsFollow}
 use Rattle.hk_bound.specs.Rules.{Passes, stores_in, taking_of, through_in, joined_cells, passes_all, Reaches, AreStored, HasTakings, PassedRule, StoredRule, share_made}
 use Rattle.hk_bound.proofs.Passing.{passes_or}
 use Rattle.hk_bound.proofs.Sources.{taking_passes, same_some}

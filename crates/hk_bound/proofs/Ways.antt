@@ -1,6 +1,6 @@
 -- Gaps that are found of a cell that has grown, and the ways by which processes take.
-use Rattle.std.proofs.Common.{◌≡◌, ℕ, zero, suc, ◌+◌, ◌<◌, ◌≤◌, List, [], ◌∷◌, ◌++◌, length, Bool, true, false, Option, Some, None, refl, sym, ◌∙◌, ap, subst, arith, bit_or}
-use Rattle.std.specs.Prelude.{IfSome, ◌⊎◌, slice_get}
+use Rattle.std.proofs.Common.{◌≡◌, ℕ, zero, suc, ◌+◌, ◌<◌, ◌≤◌, List, [], ◌∷◌, ◌++◌, length, true, false, Option, Some, None, refl, sym, ◌∙◌, ap, subst, arith, bit_or}
+use Rattle.std.specs.Prelude.{◌⊎◌, slice_get}
 use Rattle.std.proofs.lemmas.Bool.{true≢false}
 use mathlib.Core.Logic.{inl, inr}
 use Rattle.hk_model.specs.WorldValue.{WorldValue}

@@ -1,23 +1,23 @@
 -- The rules of taking over rows of cells: what a process gets where the rows have the cells of a rule.
-use Rattle.std.specs.Prelude.{◌≡◌, ◌==◌, ◌&&◌, ◌||◌, ◌⊎◌, ℕ, ◌+◌, ◌-◌, ◌<◌, Bool, true, false, List, length, Option, Some, None, IsTrue, IsSome, is_some, IfSome, MatchOption}
-use Rattle.std.specs.Prelude.{slice_get, if◌then◌else◌, bit_or, nat_lt, option_map}
+use Rattle.std.specs.Prelude.{◌≡◌, ◌==◌, ◌&&◌, ◌||◌, ◌⊎◌, ℕ, ◌+◌, ◌<◌, Bool, true, false, List, length, Option, Some, None, IsTrue, is_some, IfSome, MatchOption}
+use Rattle.std.specs.Prelude.{slice_get, if◌then◌else◌, bit_or, option_map}
 use Rattle.hk_model.specs.declared.names.Name.{Name}
 use Rattle.hk_model.specs.declared.entries.Entry.{Entry}
 use Rattle.hk_model.specs.declared.entries.Entry.TheVariants as entry
 use Rattle.hk_model.specs.declared.entries.Param.{Param}
 use Rattle.hk_model.specs.declared.entries.Template.TheVariants as template
 use Rattle.hk_model.specs.declared.world.Task.{Task}
-use Rattle.hk_rights.specs.Rights.{has, all_rights, HasAll, ENV, load_right, store_right, append_right, copy_right, modify_right, env_right, unconf_right, a0_right}
+use Rattle.hk_rights.specs.Rights.{has, all_rights, ENV, load_right, store_right, append_right, copy_right, modify_right, env_right, unconf_right, a0_right}
 use Rattle.hk_model.specs.WorldValue.{WorldValue, IsWorld}
 use Rattle.hk_model.specs.Walking.{reduced_rights}
 use Rattle.hk_model.specs.Merging.{merged_rights}
 use Rattle.hk_model.specs.Targets.{TYPE, PROCEDURE, is_general, is_listed}
 use Rattle.hk_bound.specs.declared.forms.Form.{Form}
 use Rattle.hk_bound.specs.declared.gaps.Taking.{Taking}
-use Rattle.hk_bound.specs.Taking.{Holder, Slots, at_opening, type_of}
+use Rattle.hk_bound.specs.Taking.{Slots, at_opening, type_of}
 use Rattle.hk_bound.specs.Each.{Each, Among}
-use Rattle.hk_bound.specs.Forms.{AreForms, IsFirst, entry_form, param_form, made_form}
-use Rattle.hk_bound.specs.Columns.{name_at, proc_at, joined, opening_entries, opening_params, object_count, thing_count, width_of, cell, covers, AreRows, CellFollows, RowsFollow}
+use Rattle.hk_bound.specs.Forms.{AreForms, IsFirst, param_form, made_form}
+use Rattle.hk_bound.specs.Columns.{name_at, proc_at, joined, opening_entries, opening_params, object_count, thing_count, width_of, cell, covers, CellFollows, RowsFollow}
 
 -- what is known of rows
 pub record IsKnown (w : WorldValue) (forms : List Form) (rows : List (List (Option ℕ))) : Type 0 where

@@ -1,4 +1,3 @@
-use Rattle.std.proofs.Common.{ℕ}
 use Rattle.hk_bound.specs.Rules.{OwnRule}
 use Rattle.hk_bound.proofs.FindsLemmas.{finds_number}
 use Rattle.hk_bound.proofs.closing.all_own_gaps.Goals as goal

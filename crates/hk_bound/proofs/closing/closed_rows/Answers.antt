@@ -1,10 +1,7 @@
-use Rattle.std.proofs.Common.{◌≡◌, ◌∙◌, ◌<◌, ◌≤◌, ◌+◌, ℕ, List, [], length, true, false, refl, ap, subst, sym, arith}
+use Rattle.std.proofs.Common.{◌≡◌, ◌<◌, ◌+◌, [], length, refl, ap, subst, sym, arith}
 use Rattle.std.proofs.lemmas.Bool.Decides.{nat_tests}
-use Rattle.hk_bound.specs.declared.gaps.Gap.{Gap}
-use Rattle.hk_bound.specs.declared.spreading.Grown.{Grown}
-use Rattle.hk_bound.specs.Columns.{AreGaps, AreRows, RowsFollow, width_of, empty_rows}
-use Rattle.hk_bound.specs.Filled.{AreFilling, AreWays}
-use Rattle.hk_bound.proofs.Growth.{empty_follow, empty_are}
+use Rattle.hk_bound.specs.Columns.{AreGaps}
+use Rattle.hk_bound.specs.Filled.{AreWays}
 use Rattle.hk_bound.proofs.Filling.{no_gaps, smaller, filling_first}
 use Rattle.hk_bound.proofs.Ways.{ways_none}
 use Rattle.hk_bound.proofs.Exact.{exact}

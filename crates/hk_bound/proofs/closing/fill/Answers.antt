@@ -1,4 +1,4 @@
-use Rattle.std.proofs.Common.{◌≡◌, ◌∙◌, ℕ, Option, refl, ap, sym}
+use Rattle.std.proofs.Common.{◌∙◌, ℕ, Option, refl, ap, sym}
 use Rattle.hk_bound.specs.Columns.{covers}
 use Rattle.hk_bound.specs.Filled.{Had, Got}
 use Rattle.hk_bound.proofs.closing.fill.Goals as goal

@@ -1,4 +1,4 @@
-use Rattle.std.proofs.Common.{◌<◌, ◌≤◌, length, refl, arith}
+use Rattle.std.proofs.Common.{length, refl, arith}
 use Rattle.std.proofs.lemmas.Option.{slice_get_read}
 use Rattle.hk_bound.proofs.Filling.{filled_start, filled_more}
 use Rattle.hk_bound.proofs.closing.fill_all.Goals as goal

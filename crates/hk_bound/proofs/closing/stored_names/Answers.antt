@@ -1,4 +1,4 @@
-use Rattle.std.proofs.Common.{◌≡◌, ◌<◌, ◌≤◌, arith}
+use Rattle.std.proofs.Common.{arith}
 use Rattle.hk_bound.proofs.Ways.{storing_none, storing_more, storing_all}
 use Rattle.hk_bound.proofs.closing.stored_names.Goals as goal
 

@@ -1,5 +1,4 @@
-use Rattle.std.proofs.Common.{List, subst, sym}
-use Rattle.hk_bound.specs.declared.gaps.Gap.{Gap}
+use Rattle.std.proofs.Common.{subst, sym}
 use Rattle.hk_bound.specs.Columns.{AreGaps}
 use Rattle.hk_bound.proofs.Filling.{no_gaps}
 use Rattle.hk_bound.proofs.closing.take_up.Goals as goal

@@ -1,4 +1,4 @@
-use Rattle.std.proofs.Common.{◌≡◌, ◌<◌, ◌≤◌, ℕ, length, ap, arith}
+use Rattle.std.proofs.Common.{length, ap, arith}
 use Rattle.hk_bound.proofs.Filling.{left_falls, fills_then}
 use Rattle.hk_bound.proofs.closing.take_up_all.Goals as goal
 

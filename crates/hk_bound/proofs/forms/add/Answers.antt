@@ -1,6 +1,5 @@
-use Rattle.std.proofs.Common.{◌≡◌, ◌∙◌, ◌≤◌, List, length, Option, Some, ap, subst, sym, arith}
+use Rattle.std.proofs.Common.{List, length, Option, ap, subst, sym, arith}
 use Rattle.std.specs.Prelude.{IfSome}
-use Rattle.std.specs.List.{insert}
 use Rattle.hk_bound.specs.declared.forms.Form.{Form}
 use Rattle.hk_bound.specs.Forms.{Holds, KeepsForms}
 use Rattle.hk_bound.proofs.Sorted.{keeps_insert, holds_insert}

@@ -1,4 +1,4 @@
-use Rattle.std.proofs.Common.{sym, subst, Option}
+use Rattle.std.proofs.Common.{subst, Option}
 use Rattle.std.specs.Prelude.{IfSome}
 use Rattle.hk_model.specs.declared.entries.Entry.{Entry}
 use Rattle.hk_bound.specs.declared.forms.Form.{Form}

@@ -1,11 +1,8 @@
-use Rattle.std.proofs.Common.{◌≡◌, ◌∙◌, ◌<◌, ℕ, List, Some, subst, sym, ap, arith}
+use Rattle.std.proofs.Common.{◌≡◌, ℕ, List, Some, subst, arith}
 use Rattle.std.specs.Prelude.{slice_get}
-use Rattle.hk_model.specs.declared.entries.Entry.{Entry}
 use Rattle.hk_model.specs.declared.world.Task.{Task}
-use Rattle.hk_bound.specs.Each.{EachBelow}
-use Rattle.hk_bound.specs.Columns.{object_count}
-use Rattle.hk_bound.specs.Forms.{HaveEntryForms, HaveObjectForms}
-use Rattle.hk_bound.proofs.EachLemmas.{entry_forms_stay, object_forms_stay, objects_more, each_none, each_read, each_all, each_weaker}
+use Rattle.hk_bound.specs.Forms.{HaveEntryForms}
+use Rattle.hk_bound.proofs.EachLemmas.{entry_forms_stay, object_forms_stay, objects_more, each_read, each_all, each_weaker}
 use Rattle.hk_bound.proofs.Sorted.{sorted_none}
 use Rattle.hk_bound.proofs.forms.all_forms.Goals as goal
 

@@ -1,4 +1,4 @@
-use Rattle.std.proofs.Common.{◌<◌, ◌≤◌, ◌+◌, ℕ, arith}
+use Rattle.std.proofs.Common.{arith}
 use Rattle.hk_bound.specs.Rules.{MergeRule}
 use Rattle.hk_bound.proofs.FindsLemmas.{finds_number}
 use Rattle.hk_bound.proofs.gaps.Table.merge_all.Goals as goal

@@ -1,4 +1,4 @@
-use Rattle.std.proofs.Common.{◌≡◌, ◌∙◌, ◌<◌, ℕ, length, subst, sym}
+use Rattle.std.proofs.Common.{◌∙◌, ◌<◌, ℕ, length, subst, sym}
 use Rattle.hk_model.specs.declared.world.Task.{Task}
 use Rattle.hk_bound.specs.Each.{Each}
 use Rattle.hk_bound.specs.Columns.{object_count}

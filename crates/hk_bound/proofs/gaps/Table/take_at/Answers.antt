@@ -1,6 +1,5 @@
-use Rattle.std.proofs.Common.{◌≡◌, ◌∙◌, ℕ, List, Option, Some, None, true, ap, subst, sym}
+use Rattle.std.proofs.Common.{◌≡◌, ◌∙◌, ℕ, List, Option, None, true, ap, subst}
 use Rattle.std.specs.Prelude.{slice_index_or}
-use Rattle.hk_rights.specs.Rights.{has, env_right}
 use Rattle.hk_model.specs.Walking.{reduced_rights}
 use Rattle.hk_bound.specs.Columns.{cell, covers}
 use Rattle.hk_bound.specs.Rules.{CellRule}

@@ -1,9 +1,9 @@
-use Rattle.std.proofs.Common.{◌≡◌, ◌∙◌, ◌<◌, ◌≤◌, ℕ, ◌+◌, Option, Some, length, get_or, refl, ap, subst, sym, arith}
+use Rattle.std.proofs.Common.{◌≡◌, ◌∙◌, ◌<◌, ℕ, ◌+◌, Option, Some, get_or, ap, subst, sym}
 use Rattle.std.specs.Prelude.{IfSome, slice_get}
 use Rattle.hk_bound.specs.Taking.{type_of}
 use Rattle.hk_bound.specs.Columns.{name_at, cell, object_count}
 use Rattle.hk_bound.specs.Rules.{Passes, HasTakings, through_in, joined_cells}
-use Rattle.hk_bound.proofs.Through.{First, read, passes_joined, through_passes, takings_none, takings_more, takings_all, takings_early}
+use Rattle.hk_bound.proofs.Through.{First, read, passes_joined, through_passes, takings_more, takings_all, takings_early}
 use Rattle.hk_bound.proofs.gaps.Table.through_objects.Goals as goal
 
 pub loop-name-preserved : goal.loop-name-preserved

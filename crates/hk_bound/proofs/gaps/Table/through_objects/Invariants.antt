@@ -1,4 +1,3 @@
-use Rattle.std.proofs.Common.{◌<◌, ℕ}
 use Rattle.std.specs.Prelude.{IfSome}
 use Rattle.hk_bound.specs.Rules.{Passes, HasTakings}
 use Rattle.hk_bound.proofs.Through.{First}
