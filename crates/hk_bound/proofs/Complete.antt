@@ -1,7 +1,7 @@
 -- Rows that keep the rules of every process tell all that follows from the opening.
-use Rattle.std.proofs.Common.{◌≡◌, ℕ, zero, suc, ◌+◌, ◌-◌, ◌<◌, ◌≤◌, List, [], ◌∷◌, length, Bool, true, false, Option, Some, None, refl, sym, ◌∙◌, ap, subst, arith, bit_and}
-use Rattle.std.proofs.Common.{bit_or, cond}
-use Rattle.std.specs.Prelude.{IsTrue, IsSome, slice_get, slice_index_or, ◌⊎◌, ◌||◌, ◌&&◌, ◌==◌, is_some, option_map, IfSome}
+use Rattle.std.proofs.Common.{◌≡◌, ℕ, zero, suc, ◌+◌, ◌<◌, List, [], ◌∷◌, length, Bool, true, false, Option, Some, None, refl, sym, ◌∙◌, ap, subst, arith, bit_and}
+use Rattle.std.proofs.Common.{bit_or}
+use Rattle.std.specs.Prelude.{IsSome, slice_get, slice_index_or, ◌⊎◌, ◌||◌, ◌&&◌, ◌==◌, is_some, IfSome}
 use mathlib.Core.Logic.{inl, inr}
 use Rattle.std.proofs.lemmas.Bool.{true≢false, false≢true}
 use Rattle.std.proofs.lemmas.Bool.Decides.{nat_tests}
@@ -9,29 +9,26 @@ use Rattle.std.proofs.lemmas.Option.{slice_get_within}
 use Rattle.hk_model.specs.declared.names.Name.{Name}
 use Rattle.hk_model.specs.declared.names.Proc.{Proc}
 use Rattle.hk_model.specs.declared.entries.Cap.{Cap}
-use Rattle.hk_model.specs.declared.entries.Param.{Param}
 use Rattle.hk_model.specs.declared.entries.Entry.{Entry}
 use Rattle.hk_model.specs.declared.entries.Entry.TheVariants.{Empty, Held, Form as Templated}
 use Rattle.hk_model.specs.declared.entries.Template.TheVariants as template
-use Rattle.hk_model.specs.declared.world.Task.{Task}
-use Rattle.hk_rights.specs.Rights.{has, all_rights, special_rights, HasAll, STORE, APPEND, ENV, load_right, copy_right, modify_right, env_right, unconf_right, a0_right}
+use Rattle.hk_rights.specs.Rights.{has, all_rights, HasAll, STORE, APPEND, ENV, load_right, copy_right, modify_right, env_right, unconf_right, a0_right}
 use Rattle.hk_rights.specs.Rights.{store_right, append_right}
-use Rattle.hk_rights.proofs.Sets.{has-bit_or, has-bit_or_cases, has-zero, or_right, HasAll-from_bit_and, has-pow}
+use Rattle.hk_rights.proofs.Sets.{has-bit_or, has-bit_or_cases, or_right, HasAll-from_bit_and, has-pow}
 use Rattle.hk_model.specs.WorldValue.{WorldValue, IsWorld}
 use Rattle.hk_model.specs.Walking.{reduced_rights}
 use Rattle.hk_model.specs.Merging.{merged_rights}
 use Rattle.hk_model.specs.Places.{SlotOf, EntryOf, is_empty}
 use Rattle.hk_model.proofs.NamesGiven.{IsBelow}
-use Rattle.hk_model.specs.Targets.{TYPE, PROCEDURE, is_general, is_listed}
+use Rattle.hk_model.specs.Targets.{PROCEDURE, is_general, is_listed}
 use Rattle.hk_bound.specs.declared.forms.Form.{Form}
 use Rattle.hk_bound.specs.declared.gaps.Taking.{Taking}
-use Rattle.hk_bound.specs.Taking.{Thing, Old, MadeBy, Holder, Slots, ListOf, Fact, Has, Right, Amplifies, type_of, has_words, has_list, STORE+APPEND, confined_away, Follows}
+use Rattle.hk_bound.specs.Taking.{Thing, Old, MadeBy, Holder, Slots, ListOf, Fact, Has, Right, Amplifies, type_of, STORE+APPEND, confined_away, Follows}
 use Rattle.hk_bound.specs.Taking.{at_opening, open_has, open_gives, open_form, made_has, made_gives, load_has, load_gives, load_form, store_has, store_gives, store_form, copy_has}
 use Rattle.hk_bound.specs.Taking.{copy_gives, copy_form, enter_has, enter_gives, enter_form, enter_param, merge_gives, make_form}
-use Rattle.hk_bound.specs.Each.{Each}
-use Rattle.hk_bound.specs.Forms.{AreForms, Holds, IsFirst, entry_form, param_form, made_form}
-use Rattle.hk_bound.specs.Columns.{name_at, proc_at, opening_entries, opening_params, object_count, thing_count, width_of, cell, covers}
-use Rattle.hk_bound.specs.Rules.{env_in, stores_in, taking_of, IsHeld, OpensWithEnv, StoredWithEnv, ListedWithEnv, Offered, share_made, through_in, FormRule, ProcessRule}
+use Rattle.hk_bound.specs.Forms.{AreForms, IsFirst, param_form}
+use Rattle.hk_bound.specs.Columns.{opening_entries, object_count, thing_count, width_of, cell, covers}
+use Rattle.hk_bound.specs.Rules.{env_in, stores_in, taking_of, ListedWithEnv, Offered, share_made, through_in, FormRule, ProcessRule}
 use Rattle.hk_bound.proofs.Sources.{opens_below}
 use Rattle.hk_bound.proofs.TaskSlots.{opens_to}
 use Rattle.hk_bound.proofs.Reductions.{reduced_keeps, merged_keeps}
@@ -260,7 +257,11 @@ module _ (w : WorldValue) (forms : List Form) (rows : List (List (Option ℕ))) 
         by true f = shared p q column r b p_runs q_runs within f e env
         by false f =
             let all = ((rules p.0 p_runs).others q.0 q_runs).stored f x.0 t.by low through in
-            record { by = all.0; more = bits_of all.0 b (λ n h. all.1 n (more n h)); offered = all.2 column within r e env }
+            record {
+              by = all.0;
+              more = (λ h. all.1.0 (more unconf_right h), λ h. all.1.1 (more env_right h));
+              offered = all.2 column within r e env;
+            }
 
     thing_within : (y : Thing) → IsThing w y → column_of w y < width_of w forms
     thing_within (Old x) h = omega (arith, h)

@@ -1,16 +1,16 @@
 -- Rows that keep the rules are exact, and so is the bound that is read off them.
-use Rattle.std.proofs.Common.{◌≡◌, ℕ, zero, suc, ◌+◌, ◌<◌, ◌≤◌, List, [], ◌∷◌, ◌++◌, length, Bool, true, false, Option, Some, None, refl, sym, ◌∙◌, ap, subst, arith, length-append}
-use Rattle.std.specs.Prelude.{IsTrue, IfSome, slice_get, ◌⊎◌, ◌||◌, ◌&&◌, ◌==◌, ◌^◌, bit_or}
+use Rattle.std.proofs.Common.{◌≡◌, ℕ, zero, suc, ◌+◌, ◌<◌, ◌≤◌, List, [], ◌∷◌, ◌++◌, length, Bool, true, false, Option, Some, None, refl, sym, ◌∙◌, ap, subst, arith}
+use Rattle.std.specs.Prelude.{IfSome, slice_get, ◌⊎◌, ◌||◌, ◌&&◌, ◌==◌, ◌^◌, bit_or}
 use mathlib.Core.Logic.{inl, inr}
 use Rattle.std.proofs.lemmas.Bool.{true≢false, false≢true}
 use Rattle.std.proofs.lemmas.Bool.Decides.{nat_tests}
 use Rattle.std.proofs.lemmas.Option.{slice_get_within}
 use Rattle.hk_model.specs.declared.names.Name.{Name}
 use Rattle.hk_model.specs.declared.names.Proc.{Proc}
-use Rattle.hk_rights.specs.Rights.{has, all_rights, PUTDATA, ADDDATA, STORE, APPEND, KILL, A0, A1, putdata_right, adddata_right, store_right, append_right, kill_right}
+use Rattle.hk_rights.specs.Rights.{has, all_rights, STORE, APPEND, KILL, putdata_right, adddata_right, store_right, append_right, kill_right}
 use Rattle.hk_rights.specs.Rights.{modify_right, a0_right, a1_right}
 use Rattle.hk_rights.proofs.Sets.{has-bit_or_cases, has-pow, left_of, right_of, or_right}
-use Rattle.hk_model.specs.WorldValue.{WorldValue, IsWorld, IsObject}
+use Rattle.hk_model.specs.WorldValue.{WorldValue, IsWorld}
 use Rattle.hk_model.specs.Targets.{SEMAPHORE, is_general, is_listed}
 use Rattle.hk_bound.specs.declared.forms.Form.{Form}
 use Rattle.hk_bound.specs.Taking.{Old, Slots, Right, Follows, type_of}
@@ -181,13 +181,13 @@ push_cases [] y x (suc (suc k)) e = absurd (cc)
 push_cases (z ∷ xs) y x zero e = inl e
 push_cases (z ∷ xs) y x (suc k) e = elim (push_cases xs y x k e) [ inl h ↦ inl h | inr h ↦ inr (ap suc h.0, h.1) ]
 
-push_keeps : {A : Type 0} (xs : List A) (y x : A) (k : ℕ) → slice_get xs k ≡ Some x → slice_get (xs ++ y ∷ []) k ≡ Some x
+pub push_keeps : {A : Type 0} (xs : List A) (y x : A) (k : ℕ) → slice_get xs k ≡ Some x → slice_get (xs ++ y ∷ []) k ≡ Some x
 push_keeps [] y x zero e = absurd (cc)
 push_keeps [] y x (suc k) e = absurd (cc)
 push_keeps (z ∷ xs) y x zero e = e
 push_keeps (z ∷ xs) y x (suc k) e = push_keeps xs y x k e
 
-push_last : {A : Type 0} (xs : List A) (y : A) → slice_get (xs ++ y ∷ []) (length xs) ≡ Some y
+pub push_last : {A : Type 0} (xs : List A) (y : A) → slice_get (xs ++ y ∷ []) (length xs) ≡ Some y
 push_last [] y = refl
 push_last (z ∷ xs) y = push_last xs y
 

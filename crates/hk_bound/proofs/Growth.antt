@@ -1,8 +1,8 @@
 -- Rows grow: how much they weigh, and what a cell with more rights tells.
-use Rattle.std.proofs.Common.{◌≡◌, ℕ, zero, suc, ◌+◌, ◌*◌, ◌-◌, ◌<◌, ◌≤◌, List, [], ◌∷◌, length, Bool, true, false, Option, Some, None, refl, sym, ◌∙◌, ap, subst, arith, cond}
+use Rattle.std.proofs.Common.{◌≡◌, ℕ, zero, suc, ◌+◌, ◌*◌, ◌<◌, ◌≤◌, List, [], ◌∷◌, length, Bool, true, false, Option, Some, None, refl, sym, ◌∙◌, ap, subst, arith, cond}
 use Rattle.std.proofs.Common.{bit_and, bit_or, replicate}
 use mathlib.Core.Logic.{inl, inr}
-use Rattle.std.specs.Prelude.{IfSome, slice_set, slice_get, slice_index_or, ◌||◌, ◌&&◌, ◌==◌, ◌⊎◌, not, find, IsTrue}
+use Rattle.std.specs.Prelude.{IfSome, slice_set, slice_index_or, ◌||◌, ◌&&◌, ◌⊎◌, not, find}
 use Rattle.std.specs.Option.{unwrap_or}
 use Rattle.std.proofs.lemmas.Bool.{true≢false, false≢true, cases_lt}
 use Rattle.std.proofs.lemmas.Bool.Decides.{nat_tests}
@@ -169,7 +169,7 @@ set_at (y ∷ xs) zero (suc j) x d = inr refl
 set_at (y ∷ xs) (suc k) zero x d = inr refl
 set_at (y ∷ xs) (suc k) (suc j) x d = elim (set_at xs k j x d) [ inl h ↦ inl (ap suc h.0, h.1) | inr h ↦ inr h ]
 
-joined_at : (rows : List (List (Option ℕ))) (p c r q j : ℕ)
+pub joined_at : (rows : List (List (Option ℕ))) (p c r q j : ℕ)
     → ((p ≡ q) × (c ≡ j) × (cell (joined_rows rows p c r) q j ≡ joined (cell rows p c) r)) ⊎ (cell (joined_rows rows p c r) q j ≡ cell rows q j)
 joined_at rows p c r q j = by (set_at rows p q (slice_set (slice_index_or rows p []) c (joined (cell rows p c) r)) [])
   where
@@ -188,6 +188,9 @@ joined_at rows p c r q j = by (set_at rows p q (slice_set (slice_index_or rows p
         → ((p ≡ q) × (c ≡ j) × (cell (joined_rows rows p c r) q j ≡ joined (cell rows p c) r)) ⊎ (cell (joined_rows rows p c r) q j ≡ cell rows q j)
     by (inl h) = in_row h.0 (slice_index_or (joined_rows rows p c r) q []) h.1 (set_at (slice_index_or rows p []) c j (joined (cell rows p c) r) None)
     by (inr h) = inr (ap (λ (l : List (Option ℕ)). slice_index_or l j None) h)
+
+pub joined_count : (rows : List (List (Option ℕ))) (p c r : ℕ) → length (joined_rows rows p c r) ≡ length rows
+joined_count rows p c r = rows_length rows p (slice_set (slice_index_or rows p []) c (joined (cell rows p c) r))
 
 module _ (w : WorldValue) (forms : List Form) where
   pub joined_rows_are : (rows : List (List (Option ℕ))) (p c r : ℕ) → AreRows w forms rows → AreRows w forms (joined_rows rows p c r)
@@ -238,7 +241,7 @@ no_cell zero (suc j) = refl
 no_cell (suc n) zero = refl
 no_cell (suc n) (suc j) = no_cell n j
 
-nothing : (count width p j : ℕ) → cell (empty_rows count width) p j ≡ None
+pub nothing : (count width p j : ℕ) → cell (empty_rows count width) p j ≡ None
 nothing zero width zero zero = refl
 nothing zero width zero (suc j) = refl
 nothing zero width (suc p) zero = refl
@@ -250,7 +253,7 @@ many_cells : (width : ℕ) → length (replicate {A = Option ℕ} width None) �
 many_cells zero = refl
 many_cells (suc n) = ap suc (many_cells n)
 
-empty_count : (count width : ℕ) → length (empty_rows count width) ≡ count
+pub empty_count : (count width : ℕ) → length (empty_rows count width) ≡ count
 empty_count zero width = refl
 empty_count (suc n) width = ap suc (empty_count n width)
 

@@ -15,4 +15,6 @@ mod TaskSlots
 mod Through
 mod Growth
 mod Filling
+mod Ways
+mod Sorted
 mod Exact

@@ -1,16 +1,14 @@
 -- What stands at the opening, by the places of the script.
-use Rattle.std.proofs.Common.{◌≡◌, ℕ, zero, suc, ◌+◌, ◌-◌, ◌<◌, ◌≤◌, List, [], ◌∷◌, ◌++◌, length, Bool, true, false, Option, Some, None, refl, sym, ◌∙◌, ap, arith, cond, map}
+use Rattle.std.proofs.Common.{◌≡◌, ℕ, zero, suc, ◌+◌, ◌-◌, ◌<◌, ◌≤◌, List, [], ◌∷◌, ◌++◌, length, Bool, true, false, Option, Some, None, refl, sym, ◌∙◌, ap, arith, map}
 use Rattle.std.proofs.Common.{replicate, get_or}
 use Rattle.std.specs.Prelude.{slice_get, option_map}
 use Rattle.std.specs.Option.{unwrap_or}
 use Rattle.std.specs.Map.{lookup}
-use Rattle.std.specs.Ordering.{is_eq}
-use Rattle.std.proofs.lemmas.Bool.Decides.{nat_tests}
 use Rattle.hk_model.specs.declared.names.Name.{Name}
 use Rattle.hk_model.specs.declared.objects.Object.{Object}
 use Rattle.hk_model.specs.declared.world.Born.{Born}
 use Rattle.hk_model.specs.WorldValue.{WorldValue}
-use Rattle.hk_model.specs.State.{object, same_name, no_object}
+use Rattle.hk_model.specs.State.{same_name, no_object}
 use Rattle.hk_model.specs.Opening.{opening, numbered, object_of}
 use Rattle.hk_model.specs.Targets.{kernel_types}
 use Rattle.hk_model.proofs.Standing.{name_laws, name_same}

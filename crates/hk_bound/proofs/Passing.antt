@@ -1,21 +1,17 @@
 -- What follows for a process of what follows for the holders from which it takes.
-use Rattle.std.proofs.Common.{◌≡◌, ℕ, ◌+◌, ◌-◌, ◌<◌, ◌≤◌, List, length, Bool, true, false, Option, Some, None, refl, sym, ◌∙◌, ap, subst, arith, bit_and, bit_or, cond}
-use Rattle.std.specs.Prelude.{IsTrue, slice_get, ◌⊎◌, ◌||◌}
+use Rattle.std.proofs.Common.{◌≡◌, ℕ, ◌<◌, List, length, refl, bit_or}
+use Rattle.std.specs.Prelude.{IsTrue}
 use mathlib.Core.Logic.{inl, inr}
-use Rattle.std.proofs.lemmas.Bool.{true≢false, false≢true}
-use Rattle.hk_model.specs.declared.names.Proc.{Proc}
-use Rattle.hk_rights.specs.Rights.{has, all_rights, all_but, ENV, MODIFY, UNCONF, load_right, copy_right, modify_right, env_right, unconf_right, a0_right, store_right}
-use Rattle.hk_rights.specs.Rights.{append_right}
-use Rattle.hk_rights.proofs.Sets.{has-bit_and, has-bit_or, has-bit_or_cases, has-bit_and_left, has-bit_and_right}
+use Rattle.hk_rights.specs.Rights.{has, all_rights, load_right, copy_right, modify_right, env_right, unconf_right, a0_right}
 use Rattle.hk_model.specs.WorldValue.{WorldValue}
-use Rattle.hk_model.specs.Walking.{reduced_rights, confined_rights, local_rights}
-use Rattle.hk_model.specs.Targets.{PROCEDURE, is_general, is_listed}
+use Rattle.hk_model.specs.Walking.{reduced_rights}
+use Rattle.hk_model.specs.Targets.{PROCEDURE}
 use Rattle.hk_model.proofs.RightsWithin.{HasAll-reduced}
 use Rattle.hk_bound.specs.declared.forms.Form.{Form}
-use Rattle.hk_bound.specs.Taking.{Thing, Old, MadeBy, Holder, Slots, ListOf, Has, Right, Amplifies, Follows, type_of, has_words, has_list, confined_away, STORE+APPEND, made_has}
+use Rattle.hk_bound.specs.Taking.{Thing, Old, MadeBy, Holder, Slots, ListOf, Has, Right, Amplifies, Follows, type_of, has_words, has_list, STORE+APPEND, made_has}
 use Rattle.hk_bound.specs.Taking.{made_gives, load_has, load_gives, load_form, store_has, store_gives, store_form, copy_has, copy_gives, copy_form, enter_has, enter_gives}
 use Rattle.hk_bound.specs.Taking.{enter_form}
-use Rattle.hk_bound.specs.Columns.{name_at, proc_at, object_count, ThingFollows, CellFollows}
+use Rattle.hk_bound.specs.Columns.{name_at, proc_at, ThingFollows, CellFollows}
 use Rattle.hk_bound.specs.Rules.{Passes}
 use Rattle.hk_bound.proofs.Bounded.{reduced_unconf, reduced_env}
 use Rattle.hk_bound.proofs.Reductions.{reduced_or_cases}

@@ -1,6 +1,6 @@
 -- What rights are left of a reduction and of a merge.
 use Rattle.std.proofs.Common.{◌≡◌, ℕ, Bool, true, false, refl, sym, ◌∙◌, ap, cond, bit_and, bit_or}
-use Rattle.std.specs.Prelude.{IsTrue, ◌||◌, ◌⊎◌}
+use Rattle.std.specs.Prelude.{◌||◌, ◌⊎◌}
 use mathlib.Core.Logic.{inl, inr}
 use Rattle.std.proofs.lemmas.Bool.{false≢true}
 use Rattle.hk_model.specs.declared.names.Name.{Name}

@@ -1,30 +1,28 @@
 -- What rows get by the rules follows, where all that they tell follows.
-use Rattle.std.proofs.Common.{◌≡◌, ℕ, ◌+◌, ◌-◌, ◌<◌, ◌≤◌, List, length, Bool, true, false, Option, Some, None, refl, sym, ◌∙◌, ap, subst, arith, bit_and, bit_or, cond}
-use Rattle.std.specs.Prelude.{IsTrue, slice_get, slice_index_or, ◌⊎◌, ◌||◌, ◌&&◌, ◌==◌, is_some, option_map}
+use Rattle.std.proofs.Common.{◌≡◌, ℕ, ◌+◌, ◌<◌, List, length, Bool, true, false, Option, Some, None, refl, sym, ◌∙◌, ap, subst, arith, bit_and, bit_or, cond}
+use Rattle.std.specs.Prelude.{IsTrue, slice_get, ◌||◌, ◌&&◌, ◌==◌, is_some, option_map}
 use mathlib.Core.Logic.{inl, inr}
 use Rattle.std.proofs.lemmas.Bool.{true≢false, false≢true}
 use Rattle.std.proofs.lemmas.Bool.Decides.{nat_tests}
 use Rattle.std.proofs.lemmas.Option.{slice_get_within, get_or_from_slice_get}
 use Rattle.hk_model.specs.declared.names.Name.{Name}
-use Rattle.hk_model.specs.declared.names.Proc.{Proc}
-use Rattle.hk_model.specs.declared.entries.Cap.{Cap}
 use Rattle.hk_model.specs.declared.entries.Entry.{Entry}
 use Rattle.hk_model.specs.declared.entries.Entry.TheVariants as entry
 use Rattle.hk_model.specs.declared.entries.Param.{Param}
 use Rattle.hk_model.specs.declared.entries.Template.TheVariants as template
 use Rattle.hk_rights.specs.Rights.{has, all_rights, all_but, minus, special_rights, HasAll, IsRightsWord, ENV, load_right, copy_right, modify_right, env_right, unconf_right}
 use Rattle.hk_rights.specs.Rights.{a0_right, store_right, append_right}
-use Rattle.hk_rights.proofs.Sets.{has-bit_or, has-bit_or_cases, has-bit_and_left, has-bit_and_right, left_of, right_of}
+use Rattle.hk_rights.proofs.Sets.{has-bit_or_cases, has-bit_and_left, has-bit_and_right, left_of, right_of}
 use Rattle.hk_model.specs.WorldValue.{WorldValue, IsWorld}
 use Rattle.hk_model.specs.Opening.{opening}
 use Rattle.hk_model.specs.Walking.{reduced_rights}
 use Rattle.hk_model.specs.Merging.{merged_rights}
 use Rattle.hk_model.specs.Targets.{PROCEDURE, is_general, is_listed}
-use Rattle.hk_model.specs.Places.{Place, SlotOf, EntryOf, standing}
+use Rattle.hk_model.specs.Places.{Place, EntryOf, standing}
 use Rattle.hk_model.proofs.NamesGiven.{IsBelow, opening_given}
 use Rattle.hk_bound.specs.declared.forms.Form.{Form}
 use Rattle.hk_bound.specs.declared.gaps.Taking.{Taking}
-use Rattle.hk_bound.specs.Taking.{Thing, Old, MadeBy, Holder, Slots, ListOf, Has, Right, Amplifies, Follows, at_opening, type_of, STORE+APPEND, open_has, open_gives, open_form}
+use Rattle.hk_bound.specs.Taking.{Old, MadeBy, Holder, Slots, ListOf, Has, Right, Amplifies, Follows, at_opening, type_of, open_has, open_gives, open_form}
 use Rattle.hk_bound.specs.Taking.{made_has, made_gives, enter_param, merge_gives}
 use Rattle.hk_bound.specs.Columns.{name_at, proc_at, opening_entries, opening_params, object_count, thing_count, width_of, cell, ThingFollows, CellFollows, RowsFollow}
 use Rattle.hk_bound.specs.Forms.{param_form}

@@ -1,12 +1,11 @@
 -- What stands in the slots of a process at the opening, by its line of the script.
-use Rattle.std.proofs.Common.{◌≡◌, ℕ, zero, suc, ◌+◌, ◌-◌, ◌<◌, ◌≤◌, List, [], ◌∷◌, ◌++◌, length, Bool, true, false, Option, Some, None, refl, sym, ◌∙◌, ap, subst, arith, cond}
+use Rattle.std.proofs.Common.{◌≡◌, ℕ, zero, suc, ◌+◌, ◌-◌, ◌<◌, List, [], ◌∷◌, ◌++◌, length, Bool, true, false, Option, Some, None, refl, sym, ◌∙◌, ap, arith}
 use Rattle.std.proofs.Common.{replicate}
-use Rattle.std.specs.Prelude.{slice_get, slice_index_or, option_map}
+use Rattle.std.specs.Prelude.{slice_get, slice_index_or}
 use Rattle.std.specs.Option.{unwrap_or}
 use Rattle.std.specs.Map.{lookup}
 use Rattle.std.proofs.lemmas.Bool.{true≢false}
 use Rattle.hk_model.specs.declared.names.Inc.{Inc}
-use Rattle.hk_model.specs.declared.names.Proc.{Proc}
 use Rattle.hk_model.specs.declared.entries.Entry.{Entry}
 use Rattle.hk_model.specs.declared.entries.Entry.TheVariants.{Empty}
 use Rattle.hk_model.specs.declared.objects.Incarnation.{Incarnation}
@@ -14,7 +13,7 @@ use Rattle.hk_model.specs.declared.world.Task.{Task}
 use Rattle.hk_model.specs.Limits.{slot_limit}
 use Rattle.hk_model.specs.WorldValue.{WorldValue}
 use Rattle.hk_model.specs.State.{same_inc, no_incarnation}
-use Rattle.hk_model.specs.Opening.{opening, bases, base_of}
+use Rattle.hk_model.specs.Opening.{opening, bases}
 use Rattle.hk_model.specs.Places.{is_empty}
 use Rattle.hk_model.proofs.Standing.{inc_laws, inc_same}
 use Rattle.hk_bound.specs.Taking.{Slots, at_opening}

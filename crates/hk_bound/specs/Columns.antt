@@ -1,5 +1,5 @@
 -- Tables over a world: what the columns of a row stand for, and what the cells of rows tell of processes.
-use Rattle.std.specs.Prelude.{◌≡◌, ◌==◌, ◌&&◌, ℕ, ◌+◌, ◌-◌, ◌<◌, ◌≤◌, Bool, true, false, List, [], ◌∷◌, ◌++◌, length, Option, Some, None, IsTrue, IsSome, slice_get, slice_index_or}
+use Rattle.std.specs.Prelude.{◌≡◌, ◌==◌, ℕ, ◌+◌, ◌<◌, ◌≤◌, Bool, false, List, [], length, Option, Some, None, IsTrue, slice_get, slice_index_or}
 use Rattle.std.specs.Prelude.{slice_set, replicate, bit_and, bit_or, option_map}
 use Rattle.std.specs.Option.{unwrap_or}
 use Rattle.hk_model.specs.declared.names.Name.{Name}
@@ -16,7 +16,7 @@ use Rattle.hk_model.specs.Targets.{kernel_types}
 use Rattle.hk_bound.specs.declared.forms.Form.{Form}
 use Rattle.hk_bound.specs.declared.gaps.Gap.{Gap}
 use Rattle.hk_bound.specs.Each.{Each}
-use Rattle.hk_bound.specs.Taking.{Thing, Old, MadeBy, Holder, Slots, Has, Right, Amplifies, Follows, type_of}
+use Rattle.hk_bound.specs.Taking.{Thing, Old, MadeBy, Holder, Slots, Has, Right, Amplifies, Follows}
 
 abbrev pub name_at : ℕ → Name
 name_at n = record { 0 = n }

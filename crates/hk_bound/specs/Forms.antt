@@ -1,5 +1,5 @@
 -- The Amplify templates of a world that name a type.
-use Rattle.std.specs.Prelude.{◌≡◌, ℕ, ◌<◌, List, Option, Some, None, IfSome, slice_get, option_map}
+use Rattle.std.specs.Prelude.{◌≡◌, ℕ, ◌<◌, ◌≤◌, List, length, Option, Some, None, IfSome, slice_get, option_map}
 use Rattle.hk_model.specs.declared.names.Name.{Name}
 use Rattle.hk_model.specs.declared.entries.Entry.{Entry}
 use Rattle.hk_model.specs.declared.entries.Entry.TheVariants as entry
@@ -39,6 +39,16 @@ pub record IsFirst (forms : List Form) (form : Form) (place : ℕ) : Type 0 wher
   pub is : slice_get forms place ≡ Some form
   pub first : (k : ℕ) → k < place → slice_get forms k ≡ Some form → ⊥
 
+-- the templates stand in the order of the types that they are for
+abbrev pub AreSorted : List Form → Type 0
+AreSorted forms = (j k : ℕ) (f g : Form) → j < k → slice_get forms j ≡ Some f → slice_get forms k ≡ Some g → f.of.0 ≤ g.of.0
+
+-- from this place on stand the templates for a type and for those with later names
+pub record IsStart (forms : List Form) (of start : ℕ) : Type 0 where
+  pub before : (k : ℕ) (f : Form) → k < start → slice_get forms k ≡ Some f → f.of.0 < of
+  pub behind : (k : ℕ) (f : Form) → start ≤ k → slice_get forms k ≡ Some f → of ≤ f.of.0
+  pub within : start ≤ length forms
+
 -- what is among the first is among the second
 abbrev pub KeepsForms : List Form → List Form → Type 0
 KeepsForms old new = (form : Form) → Holds old form → Holds new form
@@ -56,7 +66,8 @@ pub record HaveObjectForms (w : WorldValue) (forms : List Form) (name : ℕ) : T
   pub params : HaveParamForms forms (opening_params w name)
   pub made : (type_of w (name_at name)).0 ≡ TYPE → Holds forms (made_form (name_at name))
 
--- all templates of a world are there
+-- all templates of a world are there, sorted
 pub record AreForms (w : WorldValue) (forms : List Form) : Type 0 where
+  pub sorted : AreSorted forms
   pub objects : (name : ℕ) → name < object_count w → HaveObjectForms w forms name
   pub slots : Each (λ (task : Task). HaveEntryForms forms task.slots) w.tasks

@@ -5,5 +5,5 @@ pub mod Columns
 pub mod Forms
 pub mod Rules
 pub mod Weights
-pub mod Rounds
+pub mod Filled
 pub mod Listed

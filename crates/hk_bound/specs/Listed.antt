@@ -1,5 +1,5 @@
 -- The bound of a process as a list, and rows that tell exactly what follows. docs/RULES.md, "The static bound".
-use Rattle.std.specs.Prelude.{◌≡◌, ◌&&◌, ◌||◌, ◌==◌, ℕ, suc, ◌<◌, Bool, true, false, List, Option, Some, None, IsTrue, slice_get}
+use Rattle.std.specs.Prelude.{◌≡◌, ◌&&◌, ◌||◌, ◌==◌, ℕ, suc, ◌<◌, Bool, true, false, List, Option, Some, None, slice_get}
 use Rattle.hk_model.specs.declared.names.Name.{Name}
 use Rattle.hk_model.specs.declared.names.Proc.{Proc}
 use Rattle.hk_rights.specs.Rights.{has, all_rights, putdata_right, adddata_right, store_right, append_right, kill_right, modify_right, a0_right, a1_right}

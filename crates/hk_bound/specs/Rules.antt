@@ -1,23 +1,23 @@
 -- The rules of taking over rows of cells: what a process gets where the rows have the cells of a rule.
-use Rattle.std.specs.Prelude.{◌≡◌, ◌==◌, ◌&&◌, ◌||◌, ◌⊎◌, ℕ, ◌+◌, ◌-◌, ◌<◌, Bool, true, false, List, length, Option, Some, None, IsTrue, IsSome, is_some, IfSome, MatchOption}
-use Rattle.std.specs.Prelude.{slice_get, if◌then◌else◌, bit_or, nat_lt, option_map}
+use Rattle.std.specs.Prelude.{◌≡◌, ◌==◌, ◌&&◌, ◌||◌, ◌⊎◌, ℕ, ◌+◌, ◌<◌, Bool, true, false, List, length, Option, Some, None, IsTrue, is_some, IfSome, MatchOption}
+use Rattle.std.specs.Prelude.{slice_get, if◌then◌else◌, bit_or, option_map}
 use Rattle.hk_model.specs.declared.names.Name.{Name}
 use Rattle.hk_model.specs.declared.entries.Entry.{Entry}
 use Rattle.hk_model.specs.declared.entries.Entry.TheVariants as entry
 use Rattle.hk_model.specs.declared.entries.Param.{Param}
 use Rattle.hk_model.specs.declared.entries.Template.TheVariants as template
 use Rattle.hk_model.specs.declared.world.Task.{Task}
-use Rattle.hk_rights.specs.Rights.{has, all_rights, HasAll, ENV, load_right, store_right, append_right, copy_right, modify_right, env_right, a0_right}
+use Rattle.hk_rights.specs.Rights.{has, all_rights, ENV, load_right, store_right, append_right, copy_right, modify_right, env_right, unconf_right, a0_right}
 use Rattle.hk_model.specs.WorldValue.{WorldValue, IsWorld}
 use Rattle.hk_model.specs.Walking.{reduced_rights}
 use Rattle.hk_model.specs.Merging.{merged_rights}
 use Rattle.hk_model.specs.Targets.{TYPE, PROCEDURE, is_general, is_listed}
 use Rattle.hk_bound.specs.declared.forms.Form.{Form}
 use Rattle.hk_bound.specs.declared.gaps.Taking.{Taking}
-use Rattle.hk_bound.specs.Taking.{Holder, Slots, at_opening, type_of}
-use Rattle.hk_bound.specs.Each.{Each}
-use Rattle.hk_bound.specs.Forms.{AreForms, IsFirst, entry_form, param_form, made_form}
-use Rattle.hk_bound.specs.Columns.{name_at, proc_at, joined, opening_entries, opening_params, object_count, thing_count, width_of, cell, covers, AreRows, CellFollows, RowsFollow}
+use Rattle.hk_bound.specs.Taking.{Slots, at_opening, type_of}
+use Rattle.hk_bound.specs.Each.{Each, Among}
+use Rattle.hk_bound.specs.Forms.{AreForms, IsFirst, param_form, made_form}
+use Rattle.hk_bound.specs.Columns.{name_at, proc_at, joined, opening_entries, opening_params, object_count, thing_count, width_of, cell, covers, CellFollows, RowsFollow}
 
 -- what is known of rows
 pub record IsKnown (w : WorldValue) (forms : List Form) (rows : List (List (Option ℕ))) : Type 0 where
@@ -148,10 +148,24 @@ abbrev pub joined_cells : Option ℕ → Option ℕ → Option ℕ
 joined_cells cell None = cell
 joined_cells cell (Some rights) = joined cell rights
 
--- the rights have those through which a process takes from the objects into which the other stores
-abbrev pub HasTakings : WorldValue → List (List (Option ℕ)) → ℕ → ℕ → ℕ → Option ℕ → Type 0
-HasTakings w rows p q n by =
-    (name more : ℕ) → name < n → through_in (type_of w (name_at name)) (cell rows p name) (cell rows q name) ≡ Some more → (all : ℕ) × (by ≡ Some all) × HasAll all more
+-- the rights pass whatever these pass
+abbrev pub Reaches : ℕ → ℕ → Type 0
+Reaches all more = (has more unconf_right ≡ true → has all unconf_right ≡ true) × (has more env_right ≡ true → has all env_right ≡ true)
+
+-- no more passes through any other rights
+abbrev pub passes_all : Option ℕ → Bool
+passes_all None = false
+passes_all (Some by) = has by unconf_right && has by env_right
+
+-- the rights pass what passes through those objects of a kind into which the other stores
+abbrev pub HasTakings : WorldValue → List (List (Option ℕ)) → ℕ → ℕ → (ℕ → Type 0) → Option ℕ → Type 0
+HasTakings w rows p q Is by =
+    (name more : ℕ) → Is name → through_in (type_of w (name_at name)) (cell rows p name) (cell rows q name) ≡ Some more → (all : ℕ) × (by ≡ Some all) × Reaches all more
+
+-- the objects of the opening into which a process stores, all of them
+pub record AreStored (w : WorldValue) (rows : List (List (Option ℕ))) (q : ℕ) (names : List ℕ) : Type 0 where
+  pub low : Each (λ name. name < object_count w) names
+  pub all : (name : ℕ) → name < object_count w → stores_in (type_of w (name_at name)) (cell rows q name) ≡ true → Among names name
 
 -- what the other has with ENV is there, through these rights
 abbrev pub CellRule : List (List (Option ℕ)) → ℕ → ℕ → ℕ → ℕ → Type 0
@@ -163,7 +177,7 @@ PassedRule w forms rows p q by = (column : ℕ) → column < width_of w forms �
 pub record StoredRule (w : WorldValue) (forms : List Form) (rows : List (List (Option ℕ))) (p q : ℕ) : Type 0 where
   pub made : share_made w rows p q ≡ true → PassedRule w forms rows p q all_rights
   pub stored : share_made w rows p q ≡ false → (name more : ℕ) → name < object_count w → through_in (type_of w (name_at name)) (cell rows p name) (cell rows q name) ≡ Some more
-      → (all : ℕ) × HasAll all more × PassedRule w forms rows p q all
+      → (all : ℕ) × Reaches all more × PassedRule w forms rows p q all
 
 -- ---- what a process has at the opening and makes
 
@@ -182,9 +196,28 @@ pub record MadeRule (w : WorldValue) (rows : List (List (Option ℕ))) (p maker 
   pub own : maker ≡ p → Offered rows p (object_count w + maker) all_rights
   pub had : is_some (cell rows p (object_count w + maker)) ≡ true → Offered rows p (object_count w + maker) all_rights
 
+-- the rules of a process by what it has itself
+pub record OwnRule (w : WorldValue) (forms : List Form) (rows : List (List (Option ℕ))) (p : ℕ) : Type 0 where
+  pub slots : (task : Task) → slice_get w.tasks p ≡ Some task → Each (SlotRule w forms rows p) task.slots
+  pub made : (maker : ℕ) → maker < length w.tasks → MadeRule w rows p maker
+  pub objects : (name : ℕ) → name < object_count w → ObjectRule w forms rows p name
+
 -- all rules of a process
 pub record ProcessRule (w : WorldValue) (forms : List Form) (rows : List (List (Option ℕ))) (p : ℕ) : Type 0 where
   pub slots : (task : Task) → slice_get w.tasks p ≡ Some task → Each (SlotRule w forms rows p) task.slots
   pub made : (maker : ℕ) → maker < length w.tasks → MadeRule w rows p maker
   pub objects : (name : ℕ) → name < object_count w → ObjectRule w forms rows p name
   pub others : (q : ℕ) → q < length w.tasks → StoredRule w forms rows p q
+
+-- the rules of all processes: by what they have themselves, of what one stores and of what all store, and all of them
+abbrev pub OwnRules : WorldValue → List Form → List (List (Option ℕ)) → Type 0
+OwnRules w forms rows = (p : ℕ) → p < length w.tasks → OwnRule w forms rows p
+
+abbrev pub StoredFrom : WorldValue → List Form → List (List (Option ℕ)) → ℕ → Type 0
+StoredFrom w forms rows q = (p : ℕ) → p < length w.tasks → StoredRule w forms rows p q
+
+abbrev pub StoredRules : WorldValue → List Form → List (List (Option ℕ)) → Type 0
+StoredRules w forms rows = (q : ℕ) → q < length w.tasks → StoredFrom w forms rows q
+
+abbrev pub AllRules : WorldValue → List Form → List (List (Option ℕ)) → Type 0
+AllRules w forms rows = (p : ℕ) → p < length w.tasks → ProcessRule w forms rows p

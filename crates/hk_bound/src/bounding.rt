@@ -1,81 +1,17 @@
 // The bounds of all processes of a world.
 
 ghost use Rattle.std.specs.Prelude.{◌≡◌, ◌↔◌, ◌<◌, ℕ, ◌+◌, IsTrue, IfOk, OnOk, IfSome, Some, length, slice_get};
-ghost use Rattle.hk_model.specs.WorldValue.{IsWorld};
-ghost use Rattle.hk_bound.specs.Columns.{proc_at, name_at, object_count, width_of, cell, AreRows, RowsFollow};
-ghost use Rattle.hk_bound.specs.Forms.{AreForms};
-ghost use Rattle.hk_bound.specs.Rounds.{Settles, Rounds};
+ghost use Rattle.hk_bound.specs.Columns.{proc_at, name_at, object_count};
 ghost use Rattle.hk_bound.specs.Listed.{IsBoundOf, Listing, AreExact, changes_in};
 ghost use Rattle.hk_bound.specs.Bounds.{IsInBound};
 
-use crate::forms::{Form, all_forms};
-use crate::gaps::Table;
+use crate::closing::closed_rows;
+use crate::forms::all_forms;
 use crate::opening::{is_general, is_listed, object_count, type_of};
 use crate::rows::Rows;
-use hk_model::{Name, NoMemory, Task, World};
+use hk_model::{Name, NoMemory, World};
 use hk_rights::{Right, Rights};
 use std::alloc::Global;
-
-// Gives a process what the rules give it by what the rows have; whether that was anything.
-fn settle(
-    alloc: Global,
-    world: &World,
-    forms: &[Form],
-    rows: &mut Rows,
-    process: usize,
-    task: &Task,
-) -> Result<bool, NoMemory>
-    requires world { IsWorld world.now }
-    requires forms { AreForms world.now forms.now }
-    requires follow { RowsFollow world.now forms.now rows.old }
-    requires are { AreRows world.now forms.now rows.old }
-    requires process { process < length world.now.tasks }
-    requires task { slice_get world.now.tasks process ≡ Some task.now }
-    ensures { IfOk result (λ grown. Settles world.now forms.now process rows.old rows.new grown) }
-{
-    let mut gaps = Vec::new(alloc);
-    let table = Table {
-        world,
-        forms,
-        rows: &*rows,
-    };
-    table.process_gaps(process, task, &mut gaps)?;
-    for gap in &gaps {
-        rows.join(gap.process, gap.column, gap.rights);
-    }
-    Ok(!gaps.is_empty())
-}
-
-// Gives each process what the rules give it by what the rows have; whether that was anything.
-fn round(alloc: Global, world: &World, forms: &[Form], rows: &mut Rows) -> Result<bool, NoMemory>
-    requires world { IsWorld world.now }
-    requires forms { AreForms world.now forms.now }
-    requires follow { RowsFollow world.now forms.now rows.old }
-    requires are { AreRows world.now forms.now rows.old }
-    ensures { IfOk result (λ grown. Rounds world.now forms.now rows.old rows.new grown) }
-{
-    let mut grown = false;
-    for (process, task) in world.tasks().iter().enumerate() {
-        grown |= settle(alloc, world, forms, rows, process, task)?;
-    }
-    Ok(grown)
-}
-
-// All that the processes can come to have.
-fn closed_rows(alloc: Global, world: &World, forms: &[Form]) -> Result<Rows, NoMemory>
-    requires world { IsWorld world.now }
-    requires forms { AreForms world.now forms.now }
-    ensures { IfOk result (λ rows. AreExact world.now rows) }
-{
-    let width = object_count(world) + world.tasks().len() + forms.len();
-    let mut rows = Rows::new(alloc, world.tasks().len(), width)?;
-    'rounds: loop {
-        let grown = round(alloc, world, forms, &mut rows)?;
-        if !grown {
-            return Ok(rows);
-        }
-    }
-}
 
 // Whether some of these rights, beside MODIFY, change an object of a type.
 fn changes(of: Name, rights: Rights) -> bool

@@ -1,7 +1,7 @@
 // The templates of a world that a merge can use.
 
-ghost use Rattle.std.specs.Prelude.{◌≡◌, IfOk, OnOk, IfSome, IsSome, slice_get};
-ghost use Rattle.hk_bound.specs.Forms.{entry_form, param_form, made_form, Holds, IsFirst, KeepsForms, HaveEntryForms, HaveParamForms, HaveObjectForms, AreForms};
+ghost use Rattle.std.specs.Prelude.{◌≡◌, ◌<◌, ◌≤◌, IfOk, OnOk, IfSome, IsSome, slice_get};
+ghost use Rattle.hk_bound.specs.Forms.{entry_form, param_form, made_form, Holds, IsFirst, AreSorted, IsStart, KeepsForms, HaveEntryForms, HaveParamForms, HaveObjectForms, AreForms};
 
 use crate::opening::{entries_of, object_count, params_of, type_of};
 use hk_model::{Entry, Name, NoMemory, Param, Template, World};
@@ -61,22 +61,53 @@ pub(crate) fn param_form(param: &Param) -> Option<Form>
     }
 }
 
+/// The place from which on templates are for a type or for those with later names.
+pub(crate) fn start_of(forms: &[Form], of: Name) -> usize
+    requires { AreSorted forms.now }
+    ensures { IsStart forms.now of.0 result }
+{
+    let mut low = 0;
+    let mut high = forms.len();
+    'halves: while low < high {
+        let middle = low + (high - low) / 2;
+        if forms[middle].of.0 < of.0 {
+            low = middle + 1;
+        } else {
+            high = middle;
+        }
+    }
+    low
+}
+
 /// The place of a template among others.
 pub(crate) fn place_of(forms: &[Form], form: &Form) -> Option<usize>
+    requires { AreSorted forms.now }
     ensures found { IfSome result (λ place. IsFirst forms.now form.now place) }
     ensures some { Holds forms.now form.now → IsSome result }
 {
-    forms.iter().position(|other| *other == *form)
+    for place in start_of(forms, form.of)..forms.len() {
+        let other = &forms[place];
+        if *other == *form {
+            return Some(place);
+        }
+        if other.of != form.of {
+            return None;
+        }
+    }
+    None
 }
 
-// Adds a template, if there is one that is not there.
+// Adds a template at its place, if there is one that is not there.
 fn add(forms: &mut Vec<Form>, form: Option<Form>) -> Result<(), NoMemory>
+    requires { AreSorted forms.old.items }
+    ensures sorted { OnOk result (AreSorted forms.new.items) }
     ensures keeps { OnOk result (KeepsForms forms.old.items forms.new.items) }
     ensures holds { OnOk result (IfSome form (λ f. Holds forms.new.items f)) }
 {
     if let Some(form) = form {
         if place_of(forms, &form).is_none() {
-            forms.push(form)?;
+            let place = start_of(forms, form.of);
+            forms.insert(place, form)?;
         }
     }
     Ok(())
@@ -84,6 +115,8 @@ fn add(forms: &mut Vec<Form>, form: Option<Form>) -> Result<(), NoMemory>
 
 // Adds the templates among some entries.
 fn add_entries(forms: &mut Vec<Form>, entries: &[Entry]) -> Result<(), NoMemory>
+    requires { AreSorted forms.old.items }
+    ensures sorted { OnOk result (AreSorted forms.new.items) }
     ensures keeps { OnOk result (KeepsForms forms.old.items forms.new.items) }
     ensures holds { OnOk result (HaveEntryForms forms.new.items entries.now) }
 {
@@ -95,6 +128,8 @@ fn add_entries(forms: &mut Vec<Form>, entries: &[Entry]) -> Result<(), NoMemory>
 
 // Adds the templates among some parameters.
 fn add_params(forms: &mut Vec<Form>, params: &[Param]) -> Result<(), NoMemory>
+    requires { AreSorted forms.old.items }
+    ensures sorted { OnOk result (AreSorted forms.new.items) }
     ensures keeps { OnOk result (KeepsForms forms.old.items forms.new.items) }
     ensures holds { OnOk result (HaveParamForms forms.new.items params.now) }
 {
@@ -107,6 +142,8 @@ fn add_params(forms: &mut Vec<Form>, params: &[Param]) -> Result<(), NoMemory>
 // Adds the templates of an object: those of its list and of its parameters, and for a type the one
 // that a process can make of it.
 fn add_object(forms: &mut Vec<Form>, world: &World, name: usize) -> Result<(), NoMemory>
+    requires { AreSorted forms.old.items }
+    ensures sorted { OnOk result (AreSorted forms.new.items) }
     ensures keeps { OnOk result (KeepsForms forms.old.items forms.new.items) }
     ensures holds { OnOk result (HaveObjectForms world.now forms.new.items name) }
 {

@@ -1,20 +1,20 @@
 // What the rules give to processes, and the rows do not have.
 
-ghost use Rattle.std.specs.Prelude.{◌≡◌, ◌⊎◌, false, ◌↔◌, IsTrue, ◌<◌, ◌+◌, ◌^◌, ℕ, true, Some, IfSome, IsSome, OnOk, is_some, length, slice_get};
-ghost use Rattle.hk_rights.specs.Rights.{HasAll, IsRightsWord, all_rights, a0_right};
+ghost use Rattle.std.specs.Prelude.{◌≡◌, ◌⊎◌, false, ◌↔◌, IsTrue, ◌<◌, ◌+◌, ◌^◌, ℕ, true, Some, IfSome, IsSome, OnOk, is_some, length, slice_get, slice_index_or, []};
+ghost use Rattle.hk_rights.specs.Rights.{HasAll, IsRightsWord, all_rights, has, env_right, a0_right};
 ghost use Rattle.hk_model.specs.Walking.{reduced_rights};
 ghost use Rattle.hk_model.specs.Merging.{merged_rights};
 ghost use Rattle.hk_model.specs.Targets.{PROCEDURE};
 ghost use Rattle.hk_model.specs.declared.names.Name.{Name as NameOf};
 ghost use Rattle.hk_bound.specs.Taking.{Slots, Old, MadeBy, Has, Right as RightOf, Amplifies, Follows, type_of};
 ghost use Rattle.hk_bound.specs.Each.{Among, Each};
-ghost use Rattle.hk_bound.specs.Columns.{name_at, proc_at, opening_entries, opening_params, object_count, thing_count, width_of, cell, CellFollows, Finds};
-ghost use Rattle.hk_bound.specs.Forms.{entry_form, Holds, IsFirst};
-ghost use Rattle.hk_bound.specs.Rules.{IsKnown, IsHeldAs, env_in, stores_in, taking_of, OpensWithEnv, StoredWithEnv, ListedWithEnv, Offered, EntryRule, EntriesRule, FormRule, ParamRule, ParamsRule, TypeRule, MergeRule, MergesRule, ObjectRule, Passes, share_made, HasTakings, through_in, joined_cells, CellRule, PassedRule, StoredRule, OpensWith, SlotRule, MadeRule, ProcessRule};
+ghost use Rattle.hk_bound.specs.Columns.{name_at, proc_at, opening_entries, opening_params, object_count, thing_count, width_of, cell, covers, CellFollows, Finds};
+ghost use Rattle.hk_bound.specs.Forms.{entry_form, Holds, IsFirst, AreSorted};
+ghost use Rattle.hk_bound.specs.Rules.{IsKnown, IsHeldAs, env_in, stores_in, taking_of, OpensWithEnv, StoredWithEnv, ListedWithEnv, Offered, EntryRule, EntriesRule, FormRule, ParamRule, ParamsRule, TypeRule, MergeRule, MergesRule, ObjectRule, Passes, share_made, HasTakings, through_in, joined_cells, CellRule, PassedRule, AreStored, passes_all, StoredRule, OpensWith, SlotRule, MadeRule, OwnRule};
 
-use crate::forms::{Form, entry_form, made_form, param_form, place_of};
+use crate::forms::{Form, entry_form, made_form, param_form, place_of, start_of};
 use crate::opening::{entries_of, is_general, is_listed, object_count, params_of, type_of};
-use crate::rows::{Rows, covers, joined};
+use crate::rows::{Rows, cell_at, covers, joined};
 use hk_model::{Entry, Name, NoMemory, Param, Task, World};
 use hk_rights::{Right, Rights};
 
@@ -34,6 +34,8 @@ pub(crate) struct Gap {
 pub(crate) struct Table<'a> {
     pub world: &'a World,
     pub forms: &'a [Form],
+    /// The objects of each type of the opening, by the type's name.
+    pub kinds: &'a [Vec<usize>],
     pub rows: &'a Rows,
 }
 
@@ -78,6 +80,26 @@ fn merged_rights(by: Rights, give: Rights) -> Rights
     give.without(Rights::SPECIAL).union(special)
 }
 
+// Whether nothing more passes through more rights: what passes asks for no others than these.
+fn passes_all(by: &Option<Rights>) -> bool
+    ensures { result ≡ passes_all by.now }
+{
+    match by {
+        None => false,
+        Some(by) => by.has(Right::UNCONF) && by.has(Right::ENV),
+    }
+}
+
+// Whether a cell has what passes to it of another one through these rights.
+fn is_passed(mine: Option<Rights>, theirs: Option<Rights>, by: Rights) -> bool
+    ensures { result ≡ true → (rights : ℕ) → theirs ≡ Some rights → has rights env_right ≡ true → covers mine (reduced_rights by rights) ≡ true }
+{
+    match theirs {
+        None => true,
+        Some(rights) => !rights.has(Right::ENV) || covers(mine, reduced_rights(by, rights)),
+    }
+}
+
 // A cell with the rights of another besides.
 fn joined_cells(cell: Option<Rights>, more: Option<Rights>) -> Option<Rights>
     ensures { result ≡ joined_cells cell more }
@@ -89,8 +111,8 @@ fn joined_cells(cell: Option<Rights>, more: Option<Rights>) -> Option<Rights>
 }
 
 impl<'a> Table<'a> {
-    // How many columns stand for things.
-    fn thing_count(&self) -> usize
+    /// How many columns stand for things.
+    pub(crate) fn thing_count(&self) -> usize
         ensures value { result ≡ thing_count self.now.world.now }
         ensures small { result < 2 ^ 32 }
     {
@@ -106,6 +128,7 @@ impl<'a> Table<'a> {
 
     // The column of a template.
     fn form_column(&self, form: &Form) -> Option<usize>
+        requires { AreSorted self.now.forms.now }
         ensures found { IfSome result (λ column. (place : ℕ) × IsFirst self.now.forms.now form.now place × (column ≡ thing_count self.now.world.now + place)) }
         ensures some { Holds self.now.forms.now form.now → IsSome result }
     {
@@ -117,7 +140,8 @@ impl<'a> Table<'a> {
 
     // The column that an entry counts for, and its rights there.
     fn held(&self, entry: &Entry) -> Option<(usize, Rights)>
-        requires { IfSome (entry_form entry.now) (Holds self.now.forms.now) }
+        requires sorted { AreSorted self.now.forms.now }
+        requires there { IfSome (entry_form entry.now) (Holds self.now.forms.now) }
         ensures { IsHeldAs self.now.world.now self.now.forms.now entry.now result }
     {
         if let Entry::Held(cap) = entry {
@@ -132,8 +156,8 @@ impl<'a> Table<'a> {
         }
     }
 
-    // Whether a process has ENV for a column.
-    fn has_env(&self, process: usize, column: usize) -> bool
+    /// Whether a process has ENV for a column.
+    pub(crate) fn has_env(&self, process: usize, column: usize) -> bool
         ensures { result ≡ env_in (cell self.now.rows.now process column) }
     {
         match self.rows.get(process, column) {
@@ -142,8 +166,8 @@ impl<'a> Table<'a> {
         }
     }
 
-    // Whether a process may put entries into the list of an object.
-    fn stores(&self, process: usize, name: usize) -> bool
+    /// Whether a process may put entries into the list of an object.
+    pub(crate) fn stores(&self, process: usize, name: usize) -> bool
         ensures { result ≡ stores_in (type_of self.now.world.now (name_at name)) (cell self.now.rows.now process name) }
     {
         match self.rows.get(process, name) {
@@ -281,6 +305,7 @@ impl<'a> Table<'a> {
 
     // A template that a process has.
     fn offer_form(&self, process: usize, form: &Form, gaps: &mut Vec<Gap>) -> Result<(), NoMemory>
+        requires sorted { AreSorted self.now.forms.now }
         requires process { process < length self.now.world.now.tasks }
         requires holds { Holds self.now.forms.now form.now }
         requires follows { Follows self.now.world.now (Amplifies (Slots (proc_at process)) form.now.of form.now.check form.now.give) }
@@ -367,8 +392,8 @@ impl<'a> Table<'a> {
         Ok(())
     }
 
-    // What a merge with one template gives to a process for an object.
-    fn merge(
+    /// What a merge with one template gives to a process for an object.
+    pub(crate) fn merge(
         &self,
         process: usize,
         name: usize,
@@ -419,14 +444,23 @@ impl<'a> Table<'a> {
         requires cell { cell self.now.rows.now process name ≡ Some by }
         ensures { OnOk result (Finds self.now.world.now self.now.forms.now self.now.rows.now (MergesRule self.now.world.now self.now.forms.now self.now.rows.now process name by) gaps.old.items gaps.new.items) }
     {
-        for place in 0..self.forms.len() {
+        let of = type_of(self.world, name);
+        for place in start_of(self.forms, of)..self.forms.len() {
+            if self.forms[place].of != of {
+                return Ok(());
+            }
             self.merge(process, name, by, place, gaps)?;
         }
         Ok(())
     }
 
-    // All that a process gets by what it has for one object of the opening.
-    fn object_gaps(&self, process: usize, name: usize, gaps: &mut Vec<Gap>) -> Result<(), NoMemory>
+    /// All that a process gets by what it has for one object of the opening.
+    pub(crate) fn object_gaps(
+        &self,
+        process: usize,
+        name: usize,
+        gaps: &mut Vec<Gap>,
+    ) -> Result<(), NoMemory>
         requires known { IsKnown self.now.world.now self.now.forms.now self.now.rows.now }
         requires process { process < length self.now.world.now.tasks }
         requires name { name < object_count self.now.world.now }
@@ -442,8 +476,8 @@ impl<'a> Table<'a> {
         Ok(())
     }
 
-    // Whether one of two processes has what the other makes.
-    fn share_made(&self, process: usize, other: usize) -> bool
+    /// Whether one of two processes has what the other makes.
+    pub(crate) fn share_made(&self, process: usize, other: usize) -> bool
         requires process { process < length self.now.world.now.tasks }
         requires other { other < length self.now.world.now.tasks }
         ensures { result ≡ share_made self.now.world.now self.now.rows.now process other }
@@ -453,8 +487,8 @@ impl<'a> Table<'a> {
             || self.rows.get(other, count + process).is_some()
     }
 
-    // The rights through which a process takes from an object into which another stores.
-    fn through_object(&self, process: usize, other: usize, name: usize) -> Option<Rights>
+    /// The rights through which a process takes from an object into which another stores.
+    pub(crate) fn through_object(&self, process: usize, other: usize, name: usize) -> Option<Rights>
         ensures { result ≡ through_in (type_of self.now.world.now (name_at name)) (cell self.now.rows.now process name) (cell self.now.rows.now other name) }
     {
         if !self.stores(other, name) {
@@ -466,39 +500,45 @@ impl<'a> Table<'a> {
         }
     }
 
-    // The rights through which a process takes what another stores, of all objects.
-    fn through_objects(&self, process: usize, other: usize) -> Option<Rights>
+    // The rights through which a process takes what another stores, of the objects into which that one
+    // stores, up to where nothing more could pass.
+    fn through_objects(&self, process: usize, other: usize, names: &[usize]) -> Option<Rights>
         requires known { IsKnown self.now.world.now self.now.forms.now self.now.rows.now }
         requires process { process < length self.now.world.now.tasks }
+        requires names { AreStored self.now.world.now self.now.rows.now other names.now }
         ensures passes { IfSome result (λ by. Passes self.now.world.now self.now.forms.now process other by) }
-        ensures all { HasTakings self.now.world.now self.now.rows.now process other (object_count self.now.world.now) result }
+        ensures all { HasTakings self.now.world.now self.now.rows.now process other (λ name. name < object_count self.now.world.now) result }
     {
         let mut by = None;
-        for name in 0..object_count(self.world) {
-            by = joined_cells(by, self.through_object(process, other, name));
+        for name in names {
+            by = joined_cells(by, self.through_object(process, other, *name));
+            if passes_all(&by) {
+                return by;
+            }
         }
         by
     }
 
     // The rights through which a process takes what another stores: all where one of them has what the
     // other makes.
-    fn through(&self, process: usize, other: usize) -> Option<Rights>
+    fn through(&self, process: usize, other: usize, names: &[usize]) -> Option<Rights>
         requires known { IsKnown self.now.world.now self.now.forms.now self.now.rows.now }
         requires process { process < length self.now.world.now.tasks }
         requires other { other < length self.now.world.now.tasks }
+        requires names { AreStored self.now.world.now self.now.rows.now other names.now }
         ensures passes { IfSome result (λ by. Passes self.now.world.now self.now.forms.now process other by) }
         ensures made { share_made self.now.world.now self.now.rows.now process other ≡ true → result ≡ Some all_rights }
-        ensures all { share_made self.now.world.now self.now.rows.now process other ≡ false → HasTakings self.now.world.now self.now.rows.now process other (object_count self.now.world.now) result }
+        ensures all { share_made self.now.world.now self.now.rows.now process other ≡ false → HasTakings self.now.world.now self.now.rows.now process other (λ name. name < object_count self.now.world.now) result }
     {
         if self.share_made(process, other) {
             Some(Rights::all())
         } else {
-            self.through_objects(process, other)
+            self.through_objects(process, other, names)
         }
     }
 
-    // What a process takes of one thing that another stores.
-    fn take_cell(
+    /// What a process takes of one thing that another stores.
+    pub(crate) fn take_cell(
         &self,
         process: usize,
         other: usize,
@@ -528,8 +568,34 @@ impl<'a> Table<'a> {
         Ok(())
     }
 
-    // What a process takes of all that another stores, through these rights.
-    fn take_row(
+    // The same, where the rows of the two are at hand.
+    fn take_at(
+        &self,
+        process: usize,
+        other: usize,
+        by: Rights,
+        column: usize,
+        mine: &[Option<Rights>],
+        theirs: &[Option<Rights>],
+        gaps: &mut Vec<Gap>,
+    ) -> Result<(), NoMemory>
+        requires known { IsKnown self.now.world.now self.now.forms.now self.now.rows.now }
+        requires process { process < length self.now.world.now.tasks }
+        requires passes { Passes self.now.world.now self.now.forms.now process other by }
+        requires column { column < width_of self.now.world.now self.now.forms.now }
+        requires mine { mine.now ≡ slice_index_or self.now.rows.now process [] }
+        requires theirs { theirs.now ≡ slice_index_or self.now.rows.now other [] }
+        ensures { OnOk result (Finds self.now.world.now self.now.forms.now self.now.rows.now (CellRule self.now.rows.now process other by column) gaps.old.items gaps.new.items) }
+    {
+        if is_passed(cell_at(mine, column), cell_at(theirs, column), by) {
+            return Ok(());
+        }
+        self.take_cell(process, other, by, column, gaps)?;
+        Ok(())
+    }
+
+    /// What a process takes of all that another stores, through these rights.
+    pub(crate) fn take_row(
         &self,
         process: usize,
         other: usize,
@@ -541,20 +607,29 @@ impl<'a> Table<'a> {
         requires passes { Passes self.now.world.now self.now.forms.now process other by }
         ensures { OnOk result (Finds self.now.world.now self.now.forms.now self.now.rows.now (PassedRule self.now.world.now self.now.forms.now self.now.rows.now process other by) gaps.old.items gaps.new.items) }
     {
+        let mine = self.rows.row(process);
+        let theirs = self.rows.row(other);
         for column in 0..self.width() {
-            self.take_cell(process, other, by, column, gaps)?;
+            self.take_at(process, other, by, column, mine, theirs, gaps)?;
         }
         Ok(())
     }
 
-    // What a process takes of what another stores.
-    fn take_stored(&self, process: usize, other: usize, gaps: &mut Vec<Gap>) -> Result<(), NoMemory>
+    /// What a process takes of what another stores, by the objects into which that one stores.
+    pub(crate) fn take_stored(
+        &self,
+        process: usize,
+        other: usize,
+        names: &[usize],
+        gaps: &mut Vec<Gap>,
+    ) -> Result<(), NoMemory>
         requires known { IsKnown self.now.world.now self.now.forms.now self.now.rows.now }
         requires process { process < length self.now.world.now.tasks }
         requires other { other < length self.now.world.now.tasks }
+        requires names { AreStored self.now.world.now self.now.rows.now other names.now }
         ensures { OnOk result (Finds self.now.world.now self.now.forms.now self.now.rows.now (StoredRule self.now.world.now self.now.forms.now self.now.rows.now process other) gaps.old.items gaps.new.items) }
     {
-        let Some(by) = self.through(process, other) else {
+        let Some(by) = self.through(process, other, names) else {
             return Ok(());
         };
         self.take_row(process, other, by, gaps)?;
@@ -612,8 +687,13 @@ impl<'a> Table<'a> {
         }
     }
 
-    // All rights for what one process makes, where another has it; a process has what it makes itself.
-    fn made_gap(&self, process: usize, maker: usize, gaps: &mut Vec<Gap>) -> Result<(), NoMemory>
+    /// All rights for what one process makes, where another has it; a process has what it makes itself.
+    pub(crate) fn made_gap(
+        &self,
+        process: usize,
+        maker: usize,
+        gaps: &mut Vec<Gap>,
+    ) -> Result<(), NoMemory>
         requires known { IsKnown self.now.world.now self.now.forms.now self.now.rows.now }
         requires process { process < length self.now.world.now.tasks }
         requires maker { maker < length self.now.world.now.tasks }
@@ -657,20 +737,8 @@ impl<'a> Table<'a> {
         Ok(())
     }
 
-    // What a process takes of what others store.
-    fn others_gaps(&self, process: usize, gaps: &mut Vec<Gap>) -> Result<(), NoMemory>
-        requires known { IsKnown self.now.world.now self.now.forms.now self.now.rows.now }
-        requires process { process < length self.now.world.now.tasks }
-        ensures { OnOk result (Finds self.now.world.now self.now.forms.now self.now.rows.now ((q : ℕ) → q < length self.now.world.now.tasks → StoredRule self.now.world.now self.now.forms.now self.now.rows.now process q) gaps.old.items gaps.new.items) }
-    {
-        for other in 0..self.world.tasks().len() {
-            self.take_stored(process, other, gaps)?;
-        }
-        Ok(())
-    }
-
-    /// All gaps of a process.
-    pub(crate) fn process_gaps(
+    /// All gaps of a process by what it has itself.
+    pub(crate) fn own_gaps(
         &self,
         process: usize,
         task: &Task,
@@ -679,12 +747,11 @@ impl<'a> Table<'a> {
         requires known { IsKnown self.now.world.now self.now.forms.now self.now.rows.now }
         requires process { process < length self.now.world.now.tasks }
         requires task { slice_get self.now.world.now.tasks process ≡ Some task.now }
-        ensures { OnOk result (Finds self.now.world.now self.now.forms.now self.now.rows.now (ProcessRule self.now.world.now self.now.forms.now self.now.rows.now process) gaps.old.items gaps.new.items) }
+        ensures { OnOk result (Finds self.now.world.now self.now.forms.now self.now.rows.now (OwnRule self.now.world.now self.now.forms.now self.now.rows.now process) gaps.old.items gaps.new.items) }
     {
         self.opening_gaps(process, task, gaps)?;
         self.made_gaps(process, gaps)?;
         self.objects_gaps(process, gaps)?;
-        self.others_gaps(process, gaps)?;
         Ok(())
     }
 }

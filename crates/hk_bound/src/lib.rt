@@ -3,10 +3,12 @@
 #![tactic(auto)]
 
 mod bounding;
+mod closing;
 mod forms;
 mod gaps;
 mod opening;
 mod rows;
+mod spreading;
 #[cfg(test)]
 mod tests;
 

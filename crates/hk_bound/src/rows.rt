@@ -46,6 +46,16 @@ pub(crate) fn joined(cell: Option<Rights>, rights: Rights) -> Option<Rights>
     }
 }
 
+/// The cell of a row at a column, none outside the row.
+pub(crate) fn cell_at(row: &[Option<Rights>], column: usize) -> Option<Rights>
+    ensures { result ≡ slice_index_or row.now column None }
+{
+    match row.get(column) {
+        None => None,
+        Some(cell) => *cell,
+    }
+}
+
 impl Rows {
     /// Rows of cells with nothing.
     pub(crate) fn new(alloc: Global, count: usize, width: usize) -> Result<Rows, NoMemory>
@@ -68,6 +78,16 @@ impl Rows {
                 None => None,
                 Some(cell) => *cell,
             },
+        }
+    }
+
+    /// The cells of a process, none outside the rows.
+    pub(crate) fn row(&self, process: usize) -> &[Option<Rights>]
+        ensures { result.now ≡ slice_index_or self.now process [] }
+    {
+        match self.rows.get(process) {
+            None => &[],
+            Some(row) => row.as_slice(),
         }
     }
 

@@ -1,4 +1,4 @@
-use Rattle.std.proofs.Common.{◌≡◌, ℕ, ◌+◌, List, [], ◌∷◌, length, length-append, arith, subst, sym, ap}
+use Rattle.std.proofs.Common.{ℕ, [], ◌∷◌, length, length-append, arith, subst, sym, ap}
 use Rattle.std.specs.Prelude.{IfSome, slice_get}
 use Rattle.hk_bound.specs.Columns.{proc_at}
 use Rattle.hk_bound.specs.Listed.{IsBoundOf}

@@ -1,5 +1,5 @@
-use Rattle.std.proofs.Common.{◌<◌, ◌≤◌, arith}
-use Rattle.hk_bound.specs.Columns.{proc_at, object_count}
+use Rattle.std.proofs.Common.{arith}
+use Rattle.hk_bound.specs.Columns.{proc_at}
 use Rattle.hk_bound.proofs.Exact.{listing_none, listing_all}
 use Rattle.hk_bound.proofs.bounding.bound_of.Goals as goal
 

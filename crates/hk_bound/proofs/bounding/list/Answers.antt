@@ -1,4 +1,4 @@
-use Rattle.std.proofs.Common.{◌≡◌, ◌∙◌, ◌+◌, List, subst, sym}
+use Rattle.std.proofs.Common.{◌∙◌, ◌+◌, List, subst, sym}
 use Rattle.std.proofs.lemmas.Bool.{true≢false}
 use Rattle.hk_model.specs.declared.names.Name.{Name}
 use Rattle.hk_bound.specs.Columns.{proc_at}

@@ -1,11 +1,9 @@
-use Rattle.std.proofs.Common.{◌≡◌, ◌∙◌, subst, sym, ap, List}
+use Rattle.std.proofs.Common.{◌∙◌, subst, ap}
 use Rattle.hk_model.specs.declared.names.Name.{Name}
-use Rattle.hk_model.specs.declared.entries.Entry.{Entry}
-use Rattle.hk_model.specs.declared.entries.Param.{Param}
 use Rattle.hk_bound.specs.declared.forms.Form.{Form}
 use Rattle.hk_bound.specs.Columns.{opening_entries, opening_params}
 use Rattle.hk_bound.specs.Forms.{HaveEntryForms, HaveParamForms, Holds}
-use Rattle.hk_bound.proofs.EachLemmas.{entry_forms_stay, param_forms_stay, keeps_then}
+use Rattle.hk_bound.proofs.EachLemmas.{entry_forms_stay, param_forms_stay}
 use Rattle.hk_bound.proofs.forms.add_object.Goals as goal
 
 pub returns-in_ok-add-clause-holds : goal.returns-in_ok-add-clause-holds

@@ -1,4 +1,4 @@
-use Rattle.std.proofs.Common.{◌≡◌, ◌-◌, ◌<◌, ◌≤◌, length, get_or, Option, Some, None, IfSome, MatchOption, Bor}
+use Rattle.std.proofs.Common.{◌≡◌, ◌-◌, ◌<◌, ◌≤◌, length, get_or, Option, Some, None, MatchOption, Bor}
 use Rattle.std.specs.Prelude.{ℕ}
 use Rattle.hk_model.specs.declared.world.Born.{Born}
 use Rattle.hk_model.specs.WorldValue.{WorldValue}

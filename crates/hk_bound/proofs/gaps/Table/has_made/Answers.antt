@@ -1,6 +1,6 @@
 use Rattle.std.proofs.Common.{◌≡◌, ◌∙◌, ℕ, ◌+◌, Some, ap, subst, sym}
 use Rattle.hk_bound.specs.Taking.{Slots, MadeBy, Has, Follows, made_has}
-use Rattle.hk_bound.specs.Columns.{proc_at, cell, object_count}
+use Rattle.hk_bound.specs.Columns.{proc_at, cell}
 use Rattle.hk_bound.proofs.gaps.Table.has_made.Goals as goal
 
 pub returns-then-maker-process-clause-had : goal.returns-then-maker-process-clause-had

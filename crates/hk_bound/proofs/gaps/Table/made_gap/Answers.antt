@@ -1,4 +1,4 @@
-use Rattle.std.proofs.Common.{◌≡◌, ℕ, ◌+◌, ap, subst, sym}
+use Rattle.std.proofs.Common.{ℕ, ◌+◌, ap, subst, sym}
 use Rattle.hk_bound.specs.Taking.{Slots}
 use Rattle.hk_bound.specs.Columns.{proc_at, CellFollows}
 use Rattle.hk_bound.proofs.Sources.{made_follows}

@@ -1,7 +1,5 @@
-use Rattle.std.proofs.Common.{◌<◌, ◌≤◌, ℕ, arith}
-use Rattle.hk_bound.specs.Columns.{object_count}
 use Rattle.hk_bound.specs.Rules.{MadeRule}
-use Rattle.hk_bound.proofs.FindsLemmas.{finds_number, finds_more}
+use Rattle.hk_bound.proofs.FindsLemmas.{finds_number}
 use Rattle.hk_bound.proofs.gaps.Table.made_gaps.Goals as goal
 
 pub loop-maker-preserved : goal.loop-maker-preserved

@@ -1,4 +1,4 @@
-use Rattle.std.proofs.Common.{◌≡◌, ◌∙◌, refl, ap, subst, sym}
+use Rattle.std.proofs.Common.{◌∙◌, refl, ap, subst, sym}
 use Rattle.hk_model.specs.declared.names.Name.{Name}
 use Rattle.hk_rights.specs.Rights.{env_right, a0_right}
 use Rattle.hk_bound.specs.declared.forms.Form.{Form}

@@ -1,5 +1,5 @@
-use Rattle.std.proofs.Common.{◌≡◌, ◌∙◌, ℕ, ◌+◌, length, Option, Some, true, refl, get_or, ap, subst, sym, arith}
-use Rattle.std.specs.Prelude.{slice_get, IsTrue}
+use Rattle.std.proofs.Common.{◌≡◌, ◌∙◌, ℕ, ◌+◌, length, Some, true, refl, get_or, ap, subst, sym, arith}
+use Rattle.std.specs.Prelude.{slice_get}
 use Rattle.std.proofs.lemmas.Bool.{true≢false}
 use Rattle.std.proofs.lemmas.Option.{slice_get_read}
 use Rattle.std.proofs.lemmas.Grind.{common_steps}
@@ -7,8 +7,8 @@ use Rattle.hk_rights.specs.Rights.{has, HasAll}
 use Rattle.hk_model.specs.Merging.{merged_rights}
 use Rattle.std.proofs.Common.{rules}
 use Rattle.hk_bound.specs.declared.forms.Form.{Form}
-use Rattle.hk_bound.specs.Taking.{Slots, type_of}
-use Rattle.hk_bound.specs.Columns.{proc_at, name_at, cell, thing_count, CellFollows}
+use Rattle.hk_bound.specs.Taking.{Slots}
+use Rattle.hk_bound.specs.Columns.{proc_at, cell, CellFollows}
 use Rattle.hk_bound.specs.Rules.{env_in, MergeRule, Offered}
 use Rattle.hk_bound.proofs.FindsLemmas.{finds_none, finds_more}
 use Rattle.hk_bound.proofs.Sources.{merge_follows, word_right, same_some}

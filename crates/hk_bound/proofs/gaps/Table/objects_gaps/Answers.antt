@@ -1,4 +1,4 @@
-use Rattle.std.proofs.Common.{◌<◌, ◌≤◌, ℕ, arith}
+use Rattle.std.proofs.Common.{◌<◌, ℕ, arith}
 use Rattle.hk_bound.specs.Columns.{object_count}
 use Rattle.hk_bound.specs.Rules.{ObjectRule}
 use Rattle.hk_bound.proofs.FindsLemmas.{finds_number, finds_more}

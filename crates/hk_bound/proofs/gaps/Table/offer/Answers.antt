@@ -1,7 +1,7 @@
-use Rattle.std.proofs.Common.{◌≡◌, ◌∙◌, List, Option, subst, sym, ap}
+use Rattle.std.proofs.Common.{◌∙◌, List, Option, subst, sym, ap}
 use Rattle.std.specs.Prelude.{ℕ}
 use Rattle.hk_bound.specs.declared.gaps.Gap.{Gap}
-use Rattle.hk_bound.specs.Columns.{Finds, covers, cell}
+use Rattle.hk_bound.specs.Columns.{Finds, covers}
 use Rattle.hk_bound.specs.Rules.{Offered}
 use Rattle.hk_bound.proofs.FindsLemmas.{finds_push}
 use Rattle.hk_bound.proofs.gaps.Table.offer.Goals as goal

@@ -1,4 +1,4 @@
-use Rattle.std.proofs.Common.{◌≡◌, ◌<◌, ℕ, true}
+use Rattle.std.proofs.Common.{ℕ}
 use Rattle.std.specs.Prelude.{IsTrue}
 use Rattle.hk_model.specs.declared.entries.Entry.{Entry}
 use Rattle.hk_rights.specs.Rights.{has, env_right}

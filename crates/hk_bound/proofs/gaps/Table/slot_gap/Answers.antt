@@ -1,4 +1,4 @@
-use Rattle.std.proofs.Common.{◌≡◌, subst, sym}
+use Rattle.std.proofs.Common.{subst}
 use Rattle.hk_model.specs.Places.{SlotOf}
 use Rattle.hk_model.proofs.NamesGiven.{IsBelow}
 use Rattle.hk_bound.specs.Taking.{Slots}

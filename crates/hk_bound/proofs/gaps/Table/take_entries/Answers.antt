@@ -1,9 +1,8 @@
-use Rattle.std.proofs.Common.{◌≡◌, ◌∙◌, List, length, refl, subst, sym, ap}
-use Rattle.std.specs.Prelude.{Some}
+use Rattle.std.proofs.Common.{◌≡◌, List, length, refl, subst}
 use Rattle.std.proofs.lemmas.Option.{slice_get_read}
 use Rattle.hk_model.specs.declared.entries.Entry.{Entry}
 use Rattle.hk_bound.specs.declared.gaps.Taking.{Taking}
-use Rattle.hk_bound.specs.Each.{Each, EachBelow}
+use Rattle.hk_bound.specs.Each.{Each}
 use Rattle.hk_bound.specs.Rules.{EntryRule, EntriesRule}
 use Rattle.hk_bound.proofs.FindsLemmas.{finds_item, finds_end, finds_more}
 use Rattle.hk_bound.proofs.gaps.Table.take_entries.Goals as goal

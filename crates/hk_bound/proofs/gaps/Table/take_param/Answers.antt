@@ -1,7 +1,7 @@
-use Rattle.std.proofs.Common.{◌≡◌, ◌∙◌, Option, Some, subst, sym}
+use Rattle.std.proofs.Common.{◌∙◌, Option, subst, sym}
 use Rattle.std.specs.Prelude.{IfSome}
 use Rattle.hk_bound.specs.declared.forms.Form.{Form}
-use Rattle.hk_bound.specs.Forms.{Holds, param_form}
+use Rattle.hk_bound.specs.Forms.{Holds}
 use Rattle.hk_bound.proofs.Sources.{param_follows}
 use Rattle.hk_bound.proofs.gaps.Table.take_param.Goals as goal
 

@@ -1,10 +1,9 @@
-use Rattle.std.proofs.Common.{◌≡◌, ◌∙◌, List, length, refl, subst, sym, ap}
+use Rattle.std.proofs.Common.{◌≡◌, ◌∙◌, List, length, refl, subst, sym}
 use Rattle.std.specs.Prelude.{Some, slice_get}
 use Rattle.std.proofs.lemmas.Option.{slice_get_read}
 use Rattle.hk_model.specs.declared.entries.Param.{Param}
 use Rattle.hk_rights.specs.Rights.{a0_right}
-use Rattle.hk_bound.specs.Each.{Each, EachBelow}
-use Rattle.hk_bound.specs.Columns.{opening_params}
+use Rattle.hk_bound.specs.Each.{Each}
 use Rattle.hk_bound.specs.Rules.{ParamRule, ParamsRule}
 use Rattle.hk_bound.proofs.FindsLemmas.{finds_item, finds_end, finds_more}
 use Rattle.hk_bound.proofs.gaps.Table.take_params.Goals as goal

@@ -1,4 +1,4 @@
-use Rattle.std.proofs.Common.{◌≡◌, ℕ, subst, sym, ◌∙◌}
+use Rattle.std.proofs.Common.{ℕ, subst, sym, ◌∙◌}
 use Rattle.hk_bound.specs.Rules.{Passes}
 use Rattle.hk_bound.proofs.Sources.{made_passes}
 use Rattle.hk_bound.proofs.gaps.Table.through.Goals as goal

@@ -1,5 +1,0 @@
-use Rattle.hk_bound.proofs.Filling.{Filled}
-use Rattle.hk_bound.proofs.bounding.settle.Given as goal
-
-abbrev pub invariant-loop-gap : goal.invariant-loop-gap
-invariant-loop-gap l = Filled l.world l.forms l.fn.rows l.rows l.gap-index

@@ -1,0 +1,11 @@
+use Rattle.std.proofs.Common.{[], refl, subst, sym}
+use Rattle.hk_bound.specs.Columns.{AreGaps}
+use Rattle.hk_bound.proofs.Filling.{no_gaps}
+use Rattle.hk_bound.proofs.closing.pass_cells.Goals as goal
+
+pub fill_all-requires-clause-gaps : goal.fill_all-requires-clause-gaps
+fill_all-requires-clause-gaps c =
+    let w = c.args.world.now in
+    let forms = c.args.forms.now in
+    let rows = c.args.rows.now in
+    subst (AreGaps w forms rows) (sym c.deref.ensures.value) (c.loop-cell.invariant (no_gaps w forms rows [] refl))

@@ -1,0 +1,15 @@
+use Rattle.std.proofs.Common.{◌≤◌}
+use Rattle.hk_bound.specs.Filled.{AreFilling, AreWays}
+use Rattle.hk_bound.specs.Weights.{rows_weight}
+use Rattle.hk_bound.proofs.Filling.{left}
+use Rattle.hk_bound.proofs.closing.take_up_all.Given as goal
+
+abbrev pub invariant-cells : goal.invariant-cells
+invariant-cells l = record {
+  filling : AreFilling l.world l.forms l.rows l.grown.items;
+  no_less : rows_weight l.fn.rows ≤ rows_weight l.rows;
+  ways : AreWays l.world l.forms l.ways;
+}
+
+abbrev pub decreases-cells : goal.decreases-cells
+decreases-cells l = left l.world l.forms l.rows l.grown.items

@@ -1,0 +1,370 @@
+// All that the processes of a world can come to have: a worklist of cells that have grown, and looks
+// over all rules that see whether anything is missing.
+
+ghost use Rattle.std.specs.Prelude.{◌≡◌, ◌<◌, ◌≤◌, [], IfOk, OnOk, length};
+ghost use Rattle.hk_model.specs.WorldValue.{IsWorld};
+ghost use Rattle.hk_bound.specs.Columns.{AreGaps, Finds};
+ghost use Rattle.hk_bound.specs.Forms.{AreForms};
+ghost use Rattle.hk_bound.specs.Rules.{IsKnown, AreStored, OwnRules, StoredFrom, StoredRules, AllRules};
+ghost use Rattle.hk_bound.specs.Weights.{rows_weight};
+ghost use Rattle.hk_bound.specs.Each.{Each};
+ghost use Rattle.hk_bound.specs.Filled.{IsWithin, AreFilling, AreWays, Fills, FillsAll, AddsStored};
+ghost use Rattle.hk_bound.specs.Listed.{AreExact};
+
+use crate::forms::Form;
+use crate::gaps::{Gap, Table};
+use crate::opening::{object_count, type_of};
+use crate::rows::{Rows, covers};
+use crate::spreading::Grown;
+use hk_model::{NoMemory, World};
+use hk_rights::Rights;
+use std::alloc::Global;
+
+// The objects of each type of the opening, by the type's name.
+fn kinds(alloc: Global, world: &World) -> Result<Vec<Vec<usize>>, NoMemory> {
+    let mut kinds: Vec<Vec<usize>> = Vec::new(alloc);
+    for _ in 0..object_count(world) {
+        kinds.push(Vec::new(alloc))?;
+    }
+    for name in 0..object_count(world) {
+        if let Some(names) = kinds.get_mut(type_of(world, name).0 as usize) {
+            names.push(name)?;
+        }
+    }
+    Ok(kinds)
+}
+
+// The rights of a cell with others besides.
+fn united(cell: Option<Rights>, rights: Rights) -> Rights {
+    match cell {
+        None => rights,
+        Some(old) => old.union(rights),
+    }
+}
+
+// Whether a cell has no other rights than these.
+fn is_latest(cell: Option<Rights>, rights: Rights) -> bool {
+    match cell {
+        None => false,
+        Some(now) => rights.contains(now),
+    }
+}
+
+// Adds the rights of a gap to its cell, which then waits to be taken up, unless it has them.
+fn fill(rows: &mut Rows, gap: &Gap, grown: &mut Vec<Grown>) -> Result<(), NoMemory>
+    requires process { gap.now.process < length rows.old }
+    ensures { OnOk result (Fills gap.now rows.old rows.new grown.old.items grown.new.items) }
+{
+    if covers(rows.get(gap.process, gap.column), gap.rights) {
+        return Ok(());
+    }
+    let rights = united(rows.get(gap.process, gap.column), gap.rights);
+    rows.join(gap.process, gap.column, gap.rights);
+    grown.push(Grown {
+        process: gap.process,
+        column: gap.column,
+        rights,
+    })?;
+    Ok(())
+}
+
+// Adds the rights of gaps to their cells.
+fn fill_all(
+    world: &World,
+    forms: &[Form],
+    rows: &mut Rows,
+    gaps: &[Gap],
+    grown: &mut Vec<Grown>,
+) -> Result<(), NoMemory>
+    requires filling { AreFilling world.now forms.now rows.old grown.old.items }
+    requires gaps { AreGaps world.now forms.now rows.old gaps.now }
+    ensures all { OnOk result (FillsAll world.now forms.now rows.old rows.new grown.old.items grown.new.items) }
+    ensures more { OnOk result (0 < length gaps.now → rows_weight rows.old < rows_weight rows.new) }
+{
+    for gap in gaps {
+        fill(rows, gap, grown)?;
+    }
+    Ok(())
+}
+
+// Gives what comes of a cell that has grown. Where it has grown again, its later entry was taken up.
+fn take_up(
+    alloc: Global,
+    world: &World,
+    forms: &[Form],
+    kinds: &[Vec<usize>],
+    cell: &Grown,
+    rows: &mut Rows,
+    ways: &mut Rows,
+    grown: &mut Vec<Grown>,
+) -> Result<(), NoMemory>
+    requires world { IsWorld world.now }
+    requires forms { AreForms world.now forms.now }
+    requires cell { IsWithin world.now forms.now cell.now }
+    requires filling { AreFilling world.now forms.now rows.old grown.old.items }
+    requires ways { AreWays world.now forms.now ways.old }
+    ensures filled { OnOk result (FillsAll world.now forms.now rows.old rows.new grown.old.items grown.new.items) }
+    ensures ways { OnOk result (AreWays world.now forms.now ways.new) }
+{
+    if !is_latest(rows.get(cell.process, cell.column), cell.rights) {
+        return Ok(());
+    }
+    let mut gaps = Vec::new(alloc);
+    let table = Table {
+        world,
+        forms,
+        kinds,
+        rows: &*rows,
+    };
+    table.take_up(cell, ways, &mut gaps)?;
+    fill_all(world, forms, rows, &gaps, grown)?;
+    Ok(())
+}
+
+// Gives another process what it takes of cells that have grown.
+fn pass_cells(
+    alloc: Global,
+    world: &World,
+    forms: &[Form],
+    kinds: &[Vec<usize>],
+    other: usize,
+    cells: &[Grown],
+    rows: &mut Rows,
+    ways: &Rows,
+    grown: &mut Vec<Grown>,
+) -> Result<(), NoMemory>
+    requires world { IsWorld world.now }
+    requires forms { AreForms world.now forms.now }
+    requires other { other < length world.now.tasks }
+    requires cells { Each (IsWithin world.now forms.now) cells.now }
+    requires filling { AreFilling world.now forms.now rows.old grown.old.items }
+    requires ways { AreWays world.now forms.now ways.now }
+    ensures { OnOk result (FillsAll world.now forms.now rows.old rows.new grown.old.items grown.new.items) }
+{
+    let mut gaps = Vec::new(alloc);
+    let table = Table {
+        world,
+        forms,
+        kinds,
+        rows: &*rows,
+    };
+    for cell in cells {
+        table.pass_to(other, cell.process, cell.column, ways, &mut gaps)?;
+    }
+    fill_all(world, forms, rows, &gaps, grown)?;
+    Ok(())
+}
+
+// Gives all processes what they take of cells that have grown.
+fn pass_on(
+    alloc: Global,
+    world: &World,
+    forms: &[Form],
+    kinds: &[Vec<usize>],
+    cells: &[Grown],
+    rows: &mut Rows,
+    ways: &Rows,
+    grown: &mut Vec<Grown>,
+) -> Result<(), NoMemory>
+    requires world { IsWorld world.now }
+    requires forms { AreForms world.now forms.now }
+    requires cells { Each (IsWithin world.now forms.now) cells.now }
+    requires filling { AreFilling world.now forms.now rows.old grown.old.items }
+    requires ways { AreWays world.now forms.now ways.now }
+    ensures { OnOk result (FillsAll world.now forms.now rows.old rows.new grown.old.items grown.new.items) }
+{
+    for other in 0..world.tasks().len() {
+        pass_cells(alloc, world, forms, kinds, other, cells, rows, ways, grown)?;
+    }
+    Ok(())
+}
+
+// Takes up cells that have grown.
+fn take_up_cells(
+    alloc: Global,
+    world: &World,
+    forms: &[Form],
+    kinds: &[Vec<usize>],
+    cells: &[Grown],
+    rows: &mut Rows,
+    ways: &mut Rows,
+    grown: &mut Vec<Grown>,
+) -> Result<(), NoMemory>
+    requires world { IsWorld world.now }
+    requires forms { AreForms world.now forms.now }
+    requires cells { Each (IsWithin world.now forms.now) cells.now }
+    requires filling { AreFilling world.now forms.now rows.old grown.old.items }
+    requires ways { AreWays world.now forms.now ways.old }
+    ensures filled { OnOk result (FillsAll world.now forms.now rows.old rows.new grown.old.items grown.new.items) }
+    ensures ways { OnOk result (AreWays world.now forms.now ways.new) }
+{
+    for cell in cells {
+        take_up(alloc, world, forms, kinds, cell, rows, ways, grown)?;
+    }
+    Ok(())
+}
+
+// The number of cells before those at the end that are all of one process, one of these at least.
+fn before_last(grown: &[Grown]) -> usize
+    requires { 0 < length grown.now }
+    ensures { result < length grown.now }
+{
+    let last = grown.len() - 1;
+    let process = grown[last].process;
+    for back in 0..last {
+        let start = last - back;
+        if grown[start - 1].process != process {
+            return start;
+        }
+    }
+    0
+}
+
+// Takes up the cells that have grown, until none is left: always those at the end that are of one
+// process together, so that others take them in the order of their columns.
+fn take_up_all(
+    alloc: Global,
+    world: &World,
+    forms: &[Form],
+    kinds: &[Vec<usize>],
+    rows: &mut Rows,
+    ways: &mut Rows,
+    grown: &mut Vec<Grown>,
+) -> Result<(), NoMemory>
+    requires world { IsWorld world.now }
+    requires forms { AreForms world.now forms.now }
+    requires filling { AreFilling world.now forms.now rows.old grown.old.items }
+    requires ways { AreWays world.now forms.now ways.old }
+    ensures filling { OnOk result (AreFilling world.now forms.now rows.new grown.new.items) }
+    ensures no_less { OnOk result (rows_weight rows.old ≤ rows_weight rows.new) }
+    ensures ways { OnOk result (AreWays world.now forms.now ways.new) }
+{
+    'cells: while !grown.is_empty() {
+        let start = before_last(grown);
+        let cells = grown.split_off(start)?;
+        pass_on(alloc, world, forms, kinds, &cells, rows, ways, grown)?;
+        take_up_cells(alloc, world, forms, kinds, &cells, rows, ways, grown)?;
+    }
+    Ok(())
+}
+
+// Adds an object to those into which a process stores, if it is one.
+fn add_stored(
+    table: &Table,
+    process: usize,
+    name: usize,
+    names: &mut Vec<usize>,
+) -> Result<(), NoMemory>
+    ensures { OnOk result (AddsStored table.now.world.now table.now.rows.now process name names.old.items names.new.items) }
+{
+    if table.stores(process, name) {
+        names.push(name)?;
+    }
+    Ok(())
+}
+
+// The objects into which a process stores.
+fn stored_names(alloc: Global, table: &Table, process: usize) -> Result<Vec<usize>, NoMemory>
+    ensures { IfOk result (λ names. AreStored table.now.world.now table.now.rows.now process names.items) }
+{
+    let mut names = Vec::new(alloc);
+    for name in 0..object_count(table.world) {
+        add_stored(table, process, name, &mut names)?;
+    }
+    Ok(names)
+}
+
+// What processes take of what one stores.
+fn stored_gaps(
+    alloc: Global,
+    table: &Table,
+    other: usize,
+    gaps: &mut Vec<Gap>,
+) -> Result<(), NoMemory>
+    requires known { IsKnown table.now.world.now table.now.forms.now table.now.rows.now }
+    requires other { other < length table.now.world.now.tasks }
+    ensures { OnOk result (Finds table.now.world.now table.now.forms.now table.now.rows.now (StoredFrom table.now.world.now table.now.forms.now table.now.rows.now other) gaps.old.items gaps.new.items) }
+{
+    let names = stored_names(alloc, table, other)?;
+    for process in 0..table.world.tasks().len() {
+        table.take_stored(process, other, &names, gaps)?;
+    }
+    Ok(())
+}
+
+// What processes get by what they have themselves.
+fn all_own_gaps(table: &Table, gaps: &mut Vec<Gap>) -> Result<(), NoMemory>
+    requires known { IsKnown table.now.world.now table.now.forms.now table.now.rows.now }
+    ensures { OnOk result (Finds table.now.world.now table.now.forms.now table.now.rows.now (OwnRules table.now.world.now table.now.forms.now table.now.rows.now) gaps.old.items gaps.new.items) }
+{
+    for (process, task) in table.world.tasks().iter().enumerate() {
+        table.own_gaps(process, task, gaps)?;
+    }
+    Ok(())
+}
+
+// What processes take of what others store.
+fn all_stored_gaps(alloc: Global, table: &Table, gaps: &mut Vec<Gap>) -> Result<(), NoMemory>
+    requires known { IsKnown table.now.world.now table.now.forms.now table.now.rows.now }
+    ensures { OnOk result (Finds table.now.world.now table.now.forms.now table.now.rows.now (StoredRules table.now.world.now table.now.forms.now table.now.rows.now) gaps.old.items gaps.new.items) }
+{
+    for other in 0..table.world.tasks().len() {
+        stored_gaps(alloc, table, other, gaps)?;
+    }
+    Ok(())
+}
+
+// All that the rules give and the rows lack, of all processes.
+fn missing(alloc: Global, table: &Table) -> Result<Vec<Gap>, NoMemory>
+    requires known { IsKnown table.now.world.now table.now.forms.now table.now.rows.now }
+    ensures { IfOk result (λ gaps. Finds table.now.world.now table.now.forms.now table.now.rows.now (AllRules table.now.world.now table.now.forms.now table.now.rows.now) [] gaps.items) }
+{
+    let mut gaps = Vec::new(alloc);
+    all_own_gaps(table, &mut gaps)?;
+    all_stored_gaps(alloc, table, &mut gaps)?;
+    Ok(gaps)
+}
+
+// What the rows lack, by a look over all rules.
+fn look(
+    alloc: Global,
+    world: &World,
+    forms: &[Form],
+    kinds: &[Vec<usize>],
+    rows: &Rows,
+) -> Result<Vec<Gap>, NoMemory>
+    requires known { IsKnown world.now forms.now rows.now }
+    ensures { IfOk result (λ gaps. Finds world.now forms.now rows.now (AllRules world.now forms.now rows.now) [] gaps.items) }
+{
+    let table = Table {
+        world,
+        forms,
+        kinds,
+        rows,
+    };
+    missing(alloc, &table)
+}
+
+/// All that the processes can come to have. The first look finds what they open with. Each cell that
+/// grows waits, and is taken up once with the rights that it has then. The last look finds nothing.
+pub(crate) fn closed_rows(alloc: Global, world: &World, forms: &[Form]) -> Result<Rows, NoMemory>
+    requires world { IsWorld world.now }
+    requires forms { AreForms world.now forms.now }
+    ensures { IfOk result (λ rows. AreExact world.now rows) }
+{
+    let count = world.tasks().len();
+    let kinds = kinds(alloc, world)?;
+    let mut rows = Rows::new(alloc, count, object_count(world) + count + forms.len())?;
+    let mut ways = Rows::new(alloc, count, count)?;
+    let mut grown = Vec::new(alloc);
+    'looks: loop {
+        let gaps = look(alloc, world, forms, &kinds, &rows)?;
+        if gaps.is_empty() {
+            return Ok(rows);
+        }
+        fill_all(world, forms, &mut rows, &gaps, &mut grown)?;
+        take_up_all(
+            alloc, world, forms, &kinds, &mut rows, &mut ways, &mut grown,
+        )?;
+    }
+}
