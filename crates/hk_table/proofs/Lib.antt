@@ -9,3 +9,5 @@ pub mod PartReads
 pub mod WalkSteps
 pub mod QueueWalks
 pub mod InOrder
+pub mod SlotWrites
+pub mod StackMoves

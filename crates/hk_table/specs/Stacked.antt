@@ -1,5 +1,5 @@
 -- The live incarnations, from the stacks of the processes. docs/RULES.md, "Objects, incarnations, processes".
-use Rattle.std.specs.Prelude.{◌≡◌, ℕ, zero, suc, ◌+◌, ◌-◌, ◌<◌, false, List, [], ◌∷◌, ◌++◌, length, replicate, Option, Some, None, slice_get, slice_index_or}
+use Rattle.std.specs.Prelude.{◌≡◌, ℕ, zero, suc, ◌+◌, ◌-◌, ◌<◌, false, List, [], ◌∷◌, ◌++◌, length, replicate, Option, Some, None, slice_get, slice_set, slice_index_or}
 use Rattle.std.specs.BTreeMap.{insert_entry}
 use Rattle.hk_model.specs.declared.names.Inc.{Inc}
 use Rattle.hk_model.specs.declared.names.Proc.{Proc}
@@ -10,6 +10,7 @@ use Rattle.hk_model.specs.declared.world.Task.{Task}
 use Rattle.hk_model.specs.Limits.{slot_limit}
 use Rattle.hk_model.specs.State.{inc_cmp}
 use Rattle.hk_spaces.specs.declared.stack.StackFrame.{StackFrame}
+use Rattle.hk_spaces.specs.Slots.{with_top}
 
 -- the stacks by process, the base of each first, and the number that the next incarnation takes
 pub record Stacked : Type 0 where
@@ -63,3 +64,7 @@ top_of fs = slice_get fs (length fs - 1)
 abbrev pub slots_of : Option StackFrame → List Entry
 slots_of None = []
 slots_of (Some f) = f.space
+
+-- the stacks with an entry in a slot of the top frame of a process
+abbrev pub with_top_of : List (List StackFrame) → ℕ → ℕ → Entry → List (List StackFrame)
+with_top_of stacks q slot entry = slice_set stacks q (with_top (slice_index_or stacks q []) slot entry)

@@ -19,9 +19,11 @@ mod queued;
 mod reads;
 mod shown;
 mod shows;
+mod slots;
 mod stacks;
 mod table;
 mod targets;
+mod templates;
 mod walks;
 mod words;
 

@@ -3,9 +3,10 @@
 //! An incarnation is a frame of its process's stack, and the frame below it is its caller. So the current incarnation of a
 //! process is found without a search.
 
-ghost use Rattle.std.specs.Prelude.{◌≡◌, ◌≤◌, ◌+◌, ◌-◌, ◌++◌, ◌∷◌, [], IfOk, length, option_copied, replicate, slice_index_or};
+ghost use Rattle.std.specs.Prelude.{◌≡◌, ◌<◌, ◌≤◌, ◌+◌, ◌-◌, ◌++◌, ◌∷◌, [], IfOk, length, option_copied, replicate, slice_index_or};
 ghost use Rattle.hk_model.specs.declared.entries.Entry.TheVariants.{Empty};
-ghost use Rattle.hk_table.specs.Stacked.{base_frame, base_stacks, top_of, slots_of, AreNumbered};
+ghost use Rattle.hk_spaces.specs.Slots.{with_top};
+ghost use Rattle.hk_table.specs.Stacked.{base_frame, base_stacks, top_of, slots_of, with_top_of, AreNumbered};
 
 use hk_model::{Entries, Entry, Inc, NoMemory, Proc, Slot, World};
 use hk_spaces::{Space, Stack, StackFrame};
@@ -57,6 +58,26 @@ fn base_stack(alloc: Global, inc: Inc, entries: &Entries) -> Result<Stack, NoMem
     Ok(stack)
 }
 
+// Writes an entry into a slot of the top frame of a stack, if it has one.
+fn put_top(stack: &mut Stack, slot: Slot, entry: Entry)
+    requires { slot.0 < 64 }
+    ensures { stack.new ≡ with_top stack.old slot.0 entry }
+{
+    if stack.depth() > 0 {
+        stack.set_top(slot, entry);
+    }
+}
+
+// Writes an entry into a slot of the top frame of a process.
+fn put_top_of(all: &mut Vec<Stack>, at: usize, slot: Slot, entry: Entry)
+    requires { slot.0 < 64 }
+    ensures { all.new.items ≡ with_top_of all.old.items at slot.0 entry }
+{
+    if at < all.len() {
+        put_top(&mut all[at], slot, entry);
+    }
+}
+
 impl Stacks {
     /// The stacks as a world opens: process k has the base incarnation k. NoMemory is want of memory.
     pub(crate) fn open(alloc: Global, world: &World) -> Result<Stacks, NoMemory>
@@ -103,6 +124,15 @@ impl Stacks {
             Some(frame) => frame.space.as_slice(),
             None => &[],
         }
+    }
+
+    /// Writes an entry into a slot of the top frame of a process, if it has one.
+    pub(crate) fn set_top(&mut self, proc: Proc, slot: Slot, entry: Entry)
+        requires { slot.0 < 64 }
+        ensures value { self.new ≡ record self.old { stacks = with_top_of self.old.stacks proc.0 slot.0 entry } }
+        ensures numbered { AreNumbered self.old.stacks self.old.next }
+    {
+        put_top_of(&mut self.all, proc.0 as usize, slot, entry);
     }
 
     /// The number that the next incarnation takes.
