@@ -11,3 +11,4 @@ pub mod QueueWalks
 pub mod InOrder
 pub mod SlotWrites
 pub mod StackMoves
+pub mod QueueSteps

@@ -44,21 +44,21 @@ current_stays ps proc run q there =
     (λ (other : q ≡ proc.0 → ⊥). ap (λ (p : Process). p.current) (run_other ps proc run q other))
     (cases_eq q proc.0)
 
-same_proc : (p q : Proc) → p.0 ≡ q.0 → p ≡ q
+pub same_proc : (p q : Proc) → p.0 ≡ q.0 → p ≡ q
 same_proc p q e = ap (λ (n : ℕ). let r : Proc = record { 0 = n } in r) e
 
 -- who is first in a list is in it, and who is behind is
-first_queued : (first : Proc) (rest : List Proc) → is_queued first (first ∷ rest) ≡ true
+pub first_queued : (first : Proc) (rest : List Proc) → is_queued first (first ∷ rest) ≡ true
 first_queued first rest = let e : (first.0 == first.0) ≡ true = grind (arith, nat_tests) in rw e refl
 
-behind_queued : (proc first : Proc) (rest : List Proc) → is_queued proc rest ≡ true → is_queued proc (first ∷ rest) ≡ true
+pub behind_queued : (proc first : Proc) (rest : List Proc) → is_queued proc rest ≡ true → is_queued proc (first ∷ rest) ≡ true
 behind_queued proc first rest h = rw h (either (proc.0 == first.0)) where
   either : (b : Bool) → (b || true) ≡ true
   either true = refl
   either false = refl
 
 -- the first of a list, and the rest
-split_first : (procs : List Proc) (first : Proc) → Some first ≡ slice_get procs 0 → procs ≡ first ∷ drop 1 procs
+pub split_first : (procs : List Proc) (first : Proc) → Some first ≡ slice_get procs 0 → procs ≡ first ∷ drop 1 procs
 split_first [] first e = absurd (cc)
 split_first (p ∷ procs) first e = let same : p ≡ first = cc in ap (λ (q : Proc). q ∷ procs) same
 
