@@ -12,3 +12,4 @@ pub mod InOrder
 pub mod SlotWrites
 pub mod StackMoves
 pub mod QueueSteps
+pub mod RunMoves

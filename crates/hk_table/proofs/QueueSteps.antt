@@ -145,6 +145,17 @@ yield_move slots q r ps proc h idle e = subst (λ (v : Queued). IsMove slots q v
   waiting_once = h.waiting_once;
 })
 
+-- a process that runs waits in no list
+pub stray_move : (slots : List (Option (Name × Body))) (q : Queued) (ps : List Process) (proc : Proc) (run : ProcessState) → AreQueued slots q ps → IsIdle q proc → IsMove slots q q proc run
+stray_move slots q ps proc run h idle = record {
+  processes = refl;
+  many = refl;
+  ready = λ p in'. inr (in_other p proc q.ready in' idle.unready, in');
+  waiting = λ s p in'. inr (in_other p proc (waiters q s) in' (idle.awake s (waiters_past q s p in')), in');
+  ready_once = h.ready_once;
+  waiting_once = h.waiting_once;
+}
+
 -- who waits at a slot after the list of one was changed
 waiters_here : (q : Queued) (s k : ℕ) (procs : List Proc) → s < length q.waiting → k ≡ s → slice_index_or (set q.waiting s procs) k [] ≡ procs
 waiters_here q s k procs low same = ap (λ (m : ℕ). slice_index_or (set q.waiting s procs) m []) same ∙ get_or-set_same q.waiting s procs [] low
@@ -162,7 +173,7 @@ wait_move slots q r ps proc s n h idle low named e = subst (λ (v : Queued). IsM
   ready = λ p in'. inr (in_other p proc q.ready in' idle.unready, in');
   waiting = λ k p in'.
       ⊎_elim (λ (same : k ≡ s).
-      ⊎_elim (λ (here : p.0 ≡ proc.0). inl (here, n, ap (λ (m : ℕ). name_at slots m) same ∙ named, refl))
+      ⊎_elim (λ (here : p.0 ≡ proc.0). inl (here, (n, ap (λ (m : ℕ). name_at slots m) same ∙ named, refl)))
       (λ (before : is_queued p (waiters q s) ≡ true).
       inr (in_other p proc (waiters q s) before (idle.awake s low), ap (λ (m : ℕ). is_queued p (waiters q m)) same ∙ before))
       (queued_end p proc (waiters q s) (ap (is_queued p) (sym (waiters_here q s k (waiters q s ++ proc ∷ []) low same)) ∙ in')))

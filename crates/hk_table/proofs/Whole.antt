@@ -44,6 +44,12 @@ name_at-whole ps ws s = ap (option_map (λ (e : Name × Object). e.0)) (place-wh
 pub apart-whole : (ps : List (Option (Name × Body))) (ws : List (List Proc)) → AreApart ps → AreApart (whole ps ws)
 apart-whole ps ws apart i j n a b = apart i j n (sym (name_at-whole ps ws i) ∙ a) (sym (name_at-whole ps ws j) ∙ b)
 
+-- a slot with a name is one of all
+pub named_low : (ps : List (Option (Name × Body))) (s m : ℕ) (n : Name) → length ps ≡ m → name_at ps s ≡ Some n → s < m
+named_low [] s m n size named = absurd (cc)
+named_low (p ∷ ps) zero m n size named = omega (arith, size)
+named_low (p ∷ ps) (suc s) m n size named = let h = named_low ps s (length ps) n refl named in omega (arith, h, size)
+
 -- a slot written
 pub whole-set : (ps : List (Option (Name × Body))) (ws : List (List Proc)) (s : ℕ) (p : Option (Name × Body))
     → whole (set ps s p) ws ≡ set (whole ps ws) s (with_waiters p (slice_index_or ws s []))

@@ -3,3 +3,4 @@ pub mod Stacked
 pub mod Joined
 pub mod Born
 pub mod Giving
+pub mod Woken

@@ -17,6 +17,7 @@ mod parts;
 mod processors;
 mod queued;
 mod reads;
+mod semaphores;
 mod shown;
 mod shows;
 mod slots;
