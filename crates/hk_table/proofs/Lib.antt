@@ -13,3 +13,4 @@ pub mod SlotWrites
 pub mod StackMoves
 pub mod QueueSteps
 pub mod RunMoves
+pub mod FramePushes

@@ -13,7 +13,7 @@ use Rattle.hk_objects.proofs.Standing.{name_at_change}
 use Rattle.hk_queues.specs.Queued.{Queued}
 use Rattle.hk_walk.specs.Remembered.{Remembered}
 use Rattle.hk_walk.specs.Walks.{seen, AreRight}
-use Rattle.hk_walk.proofs.Kept.{right_same}
+use Rattle.hk_walk.proofs.Kept.{right_same, right_none}
 use Rattle.hk_table.specs.Whole.{whole, whole_object}
 use Rattle.hk_table.specs.Stacked.{Stacked}
 use Rattle.hk_table.specs.Joined.{AreQueued, IsJoined}
@@ -47,6 +47,23 @@ part_joined objects new q ps st w s f same h e = subst (λ (v : Shelf). IsJoined
   stacked = h.stacked;
   current = h.current;
   right = right_same (seen objects.slots) (seen (change objects.slots s f)) (lists_stay objects.slots s f same) w.pairs h.right;
+})
+
+-- the same of a part that walks go by, where none is remembered
+pub part_forgot : (objects new : Shelf) (q : Queued) (ps : List Process) (st : Stacked) (w forgot : Remembered) (s : ℕ) (f : Body → Body) → IsJoined objects q ps st w
+    → new ≡ record objects { slots = change objects.slots s f } → forgot ≡ record w { pairs = [] } → IsJoined new q ps st forgot
+part_forgot objects new q ps st w forgot s f h e none = subst (λ (v : Shelf). IsJoined v q ps st forgot) (sym e) (record {
+  queued = record {
+    lists = h.queued.lists;
+    all = h.queued.all;
+    ready = h.queued.ready;
+    waiting = λ k proc in'. let v = h.queued.waiting k proc in' in (v.0, name_at_change objects.slots s f k ∙ v.1, v.2);
+    ready_once = h.queued.ready_once;
+    waiting_once = h.queued.waiting_once;
+  };
+  stacked = h.stacked;
+  current = h.current;
+  right = subst (λ (v : Remembered). AreRight (seen (change objects.slots s f)) v.pairs) (sym none) (right_none (seen (change objects.slots s f)));
 })
 
 pub part_told : (objects new : Shelf) (q : Queued) (ps : List Process) (st : Stacked) (first_new : Name) (events limit s : ℕ) (n : Name) (f : Body → Body) (g : Object → Object)

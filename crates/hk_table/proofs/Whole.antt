@@ -92,6 +92,12 @@ module _ (ps : List (Option (Name × Body))) (ws : List (List Proc)) (s : ℕ) (
   pub words_inside : (at : ℕ) → at < length (object_in (standing (whole ps ws)) n).words → IfSome (place ps s) (λ e. at < length e.1.words)
   words_inside at low = subst (λ (p : Option (Name × Body)). IfSome p (λ e. at < length e.1.words)) (sym there.1) (subst (λ (o : Object). at < length o.words) found low)
 
+  -- what holds of a number of the object holds of what stands in its slot
+  pub holds_inside : (f : Body → ℕ) (g : Object → ℕ) → ((b : Body) (procs : List Proc) → g (whole_object b procs) ≡ f b) → (P : ℕ → Type 0)
+      → P (g (object_in (standing (whole ps ws)) n)) → IfSome (place ps s) (λ e. P (f e.1))
+  holds_inside f g same P h =
+      subst (λ (p : Option (Name × Body)). IfSome p (λ e. P (f e.1))) (sym there.1) (subst P (ap g found ∙ same there.0 (slice_index_or ws s [])) h)
+
   -- the waiters
   pub waiters_read : slice_index_or ws s [] ≡ (object_in (standing (whole ps ws)) n).waiters
   waiters_read = sym (ap (λ (o : Object). o.waiters) found)

@@ -4,3 +4,4 @@ pub mod Joined
 pub mod Born
 pub mod Giving
 pub mod Woken
+pub mod Additions

@@ -12,6 +12,7 @@
 
 mod born;
 mod finding;
+mod lists;
 mod opening;
 mod parts;
 mod processors;
