@@ -3,7 +3,7 @@ use Rattle.std.proofs.Common.{◌≡◌, ◌≢◌, ℕ, zero, suc, ◌+◌, ◌
 use Rattle.std.specs.Prelude.{slice_get, slice_set, slice_index_or, count_by, filter, not, cond}
 use Rattle.std.specs.Map.{lookup, set_value, remove_entry}
 use Rattle.std.specs.BTreeMap.{insert_entry}
-use Rattle.std.proofs.lemmas.Bool.{cases_eq, cases_lt}
+use Rattle.std.proofs.lemmas.List.Sums.{sum_by-cons}
 use Rattle.std.proofs.lemmas.Bool.Decides.{nat_tests}
 use Rattle.hk_model.specs.declared.names.Inc.{Inc}
 use Rattle.hk_model.specs.declared.names.Proc.{Proc}
@@ -28,10 +28,14 @@ insert_comm n m o w [] apart = grind (arith, nat_tests)
 insert_comm n m o w (e ∷ es) apart = grind (arith, nat_tests, insert_comm n m o w es apart)
 
 -- how many there are of a kind
+count-cons : (p : Inc × Incarnation → Bool) (e : Inc × Incarnation) (es : Ones) → count_by p (e ∷ es) ≡ cond (p e) 1 0 + count_by p es
+count-cons p e es = sum_by-cons (λ (x : Inc × Incarnation). cond {A = ℕ} (p x) 1 0) e es
+
 count-insert : (p : Inc × Incarnation → Bool) (n : Inc) (o : Incarnation) (es : Ones) → lookup (same_inc n) es ≡ None
     → count_by p (insert_entry inc_cmp es n o) ≡ cond (p (n, o)) 1 0 + count_by p es
 count-insert p n o [] absent = grind (arith, nat_tests)
-count-insert p n o (e ∷ es) absent = grind (arith, nat_tests, count-insert p n o es)
+count-insert p n o (e ∷ es) absent =
+    grind (arith, nat_tests, count-insert p n o es, count-cons p (n, o) (e ∷ es), count-cons p e es, count-cons p e (insert_entry inc_cmp es n o))
 
 -- without those of a kind that it is of
 filter-insert : (p : Inc × Incarnation → Bool) (n : Inc) (o : Incarnation) (es : Ones) → lookup (same_inc n) es ≡ None → p (n, o) ≡ false
@@ -96,7 +100,7 @@ last_caller caller (g ∷ h ∷ fs) f e =
     last_caller (Some g.inc) (h ∷ fs) f (sym (ap (slice_get (g ∷ h ∷ fs)) k) ∙ e)
 
 -- how many frames a process has
-count_frames : (q : ℕ) (proc : Proc) (caller : Option Inc) (fs : List StackFrame) (es : Ones)
+pub count_frames : (q : ℕ) (proc : Proc) (caller : Option Inc) (fs : List StackFrame) (es : Ones)
     → ((i j : ℕ) (f g : StackFrame) → slice_get fs i ≡ Some f → slice_get fs j ≡ Some g → f.inc.0 ≡ g.inc.0 → i ≡ j)
     → ((k : ℕ) (f : StackFrame) → slice_get fs k ≡ Some f → lookup (same_inc f.inc) es ≡ None)
     → count_by (λ (e : Inc × Incarnation). e.1.proc.0 == q) (live_with proc caller fs es)

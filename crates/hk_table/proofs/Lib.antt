@@ -14,3 +14,6 @@ pub mod StackMoves
 pub mod QueueSteps
 pub mod RunMoves
 pub mod FramePushes
+pub mod FrameMoves
+pub mod CallMoves
+pub mod Targets

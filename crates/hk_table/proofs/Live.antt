@@ -18,7 +18,7 @@ abbrev Ones : Type 0
 Ones = List (Inc × Incarnation)
 
 -- found again after another was put in
-lookup-insert_same : (n : Inc) (o : Incarnation) (es : Ones) → lookup (same_inc n) (insert_entry inc_cmp es n o) ≡ Some o
+pub lookup-insert_same : (n : Inc) (o : Incarnation) (es : Ones) → lookup (same_inc n) (insert_entry inc_cmp es n o) ≡ Some o
 lookup-insert_same n o [] = grind (arith, nat_tests)
 lookup-insert_same n o (e ∷ es) = grind (arith, nat_tests, lookup-insert_same n o es)
 

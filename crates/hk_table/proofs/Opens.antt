@@ -125,15 +125,20 @@ opened_queues slots q ps tasks all ready waiting processes = record {
 }
 
 pub opened_joined : (objects : Shelf) (q : Queued) (ps : List Process) (st : Stacked) (w : Remembered) (tasks : List Task) → AreQueued objects.slots q ps → ps ≡ all_ready 0 tasks
-    → st.stacks ≡ base_stacks 0 tasks
+    → st.stacks ≡ base_stacks 0 tasks → st.next.0 ≡ length tasks
     → w ≡ record { capacity = 256; pairs = [] } → IsJoined objects q ps st w
-opened_joined objects q ps st w tasks queued processes stacks none = record {
+opened_joined objects q ps st w tasks queued processes stacks next none = record {
   queued = queued;
   stacked = ap (λ (s : List (List StackFrame)). length s) stacks ∙ as_many_stacks 0 tasks ∙ sym (ap (λ (p : List Process). length p) processes ∙ as_many_ready 0 tasks);
   current = λ n low.
       let inside : n < length tasks = omega (arith, ap (λ (p : List Process). length p) processes, as_many_ready 0 tasks) in
       subst (λ (s : List (List StackFrame)). IsCurrent s (process_at ps n).current n) (sym stacks)
       (subst (λ (p : List Process). IsCurrent (base_stacks 0 tasks) (process_at p n).current n) (sym processes) (base_current tasks n inside));
+  known = λ n low.
+      let inside : n < length tasks = omega (arith, ap (λ (p : List Process). length p) processes, as_many_ready 0 tasks) in
+      let is : (process_at ps n).current.0 ≡ 0 + n =
+      ap (λ (p : List Process). (process_at p n).current.0) processes ∙ ap (λ (p : Process). p.current.0) (opened_at 0 tasks n inside) in
+      omega (arith, is, next, inside);
   right = subst (λ (v : Remembered). AreRight (seen objects.slots) v.pairs) (sym none) (right_none (seen objects.slots));
 }
 

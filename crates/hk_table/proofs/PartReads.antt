@@ -46,6 +46,7 @@ part_joined objects new q ps st w s f same h e = subst (λ (v : Shelf). IsJoined
   };
   stacked = h.stacked;
   current = h.current;
+  known = h.known;
   right = right_same (seen objects.slots) (seen (change objects.slots s f)) (lists_stay objects.slots s f same) w.pairs h.right;
 })
 
@@ -63,6 +64,7 @@ part_forgot objects new q ps st w forgot s f h e none = subst (λ (v : Shelf). I
   };
   stacked = h.stacked;
   current = h.current;
+  known = h.known;
   right = subst (λ (v : Remembered). AreRight (seen (change objects.slots s f)) v.pairs) (sym none) (right_none (seen (change objects.slots s f)));
 })
 

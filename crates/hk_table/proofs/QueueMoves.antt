@@ -23,7 +23,7 @@ use Rattle.hk_walk.specs.Remembered.{Remembered}
 use Rattle.hk_table.specs.Stacked.{Stacked}
 use Rattle.hk_table.specs.Joined.{AreOnce, AreQueued, IsCurrent, IsJoined}
 
-abbrev ended : Process
+abbrev pub ended : Process
 ended = record { run = Ended; current = record { 0 = 0 } }
 
 -- what the processes do after one of them does something else
@@ -106,5 +106,8 @@ module _ (objects : Shelf) (q r : Queued) (ps : List Process) (st : Stacked) (w 
         current = λ n low.
             let inside : n < length ps = omega (arith, many) in
             subst (λ (inc : Inc). IsCurrent st.stacks inc n) (sym (current_stays ps first (Running cpu) n inside)) (h.current n inside);
+        known = λ n low.
+            let inside : n < length ps = omega (arith, many) in
+            subst (λ (inc : Inc). inc.0 < st.next.0) (sym (current_stays ps first (Running cpu) n inside)) (h.known n inside);
         right = h.right;
       }

@@ -117,6 +117,9 @@ run_joined objects q r ps st w proc run low h m =
       current = λ n inside'.
           let inside : n < length ps = omega (arith, many) in
           subst (λ (inc : Inc). IsCurrent st.stacks inc n) (sym (current_stays ps proc run n inside)) (h.current n inside);
+      known = λ n inside'.
+          let inside : n < length ps = omega (arith, many) in
+          subst (λ (inc : Inc). inc.0 < st.next.0) (sym (current_stays ps proc run n inside)) (h.known n inside);
       right = h.right;
     }
 

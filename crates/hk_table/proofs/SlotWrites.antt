@@ -164,6 +164,22 @@ top_many fs slot entry = by (top_of fs) where
   by None = refl
   by (Some f) = length-set fs (length fs - 1) (with_slot f slot entry)
 
+-- an entry past the slots changes nothing
+set-past : (es : List Entry) (k : ℕ) (x : Entry) → length es ≤ k → set es k x ≡ es
+set-past [] k x past = refl
+set-past (e ∷ es) zero x past = absurd (omega arith)
+set-past (e ∷ es) (suc k) x past = ap (λ (rest : List Entry). e ∷ rest) (set-past es k x (omega arith))
+
+set-frame : (fs : List StackFrame) (k : ℕ) (f g : StackFrame) → slice_get fs k ≡ Some f → g ≡ f → set fs k g ≡ fs
+set-frame [] k f g here same = refl
+set-frame (x ∷ fs) zero f g here same = let e : x ≡ f = cc in ap (λ (y : StackFrame). y ∷ fs) (same ∙ sym e)
+set-frame (x ∷ fs) (suc k) f g here same = ap (λ (rest : List StackFrame). x ∷ rest) (set-frame fs k f g here same)
+
+pub past_top : (fs : List StackFrame) (slot : ℕ) (entry : Entry) (f : StackFrame) → slice_get fs (length fs - 1) ≡ Some f → length f.space ≤ slot → fs ≡ with_top fs slot entry
+past_top fs slot entry f here past =
+    sym (ap (λ (o : Option StackFrame). with_changed fs (length fs - 1) o slot entry) here
+    ∙ set-frame fs (length fs - 1) f (with_slot f slot entry) here (ap (λ (es : List Entry). record f { space = es }) (set-past f.space slot entry past)))
+
 -- of a list in one place: a fact of all places holds after the change
 placed_put : {Y : Type 0} (part : List StackFrame → Y) (stacks : List (List StackFrame)) (q : ℕ) (fs : List StackFrame) → part fs ≡ part (slice_index_or stacks q [])
     → (p : ℕ) → part (slice_index_or (set stacks q fs) p []) ≡ part (slice_index_or stacks p [])

@@ -32,11 +32,12 @@ slot_none (x ∷ es) zero past = absurd (omega arith)
 slot_none (x ∷ es) (suc at) past = slot_none es at (omega arith)
 
 pub stacks_joined : (objects : Shelf) (q : Queued) (ps : List Process) (st new : Stacked) (w : Remembered) → SameFrames st.stacks new.stacks → length new.stacks ≡ length st.stacks
-    → IsJoined objects q ps st w → IsJoined objects q ps new w
-stacks_joined objects q ps st new w same many h = record {
+    → new.next ≡ st.next → IsJoined objects q ps st w → IsJoined objects q ps new w
+stacks_joined objects q ps st new w same many next h = record {
   queued = h.queued;
   stacked = many ∙ h.stacked;
   current = λ n low. current_same st.stacks new.stacks (process_at ps n).current n same (h.current n low);
+  known = λ n low. subst (λ (inc : Inc). (process_at ps n).current.0 < inc.0) (sym next) (h.known n low);
   right = h.right;
 }
 
@@ -45,7 +46,7 @@ pub slot_joined : (objects : Shelf) (q : Queued) (ps : List Process) (st new : S
 slot_joined objects q ps st new w proc slot entry h e =
     subst (λ (v : Stacked). IsJoined objects q ps v w) (sym e)
     (stacks_joined objects q ps st (record st { stacks = with_top_of st.stacks proc.0 slot entry }) w (top_same st.stacks proc.0 slot entry)
-    (length-set st.stacks proc.0 (with_top (slice_index_or st.stacks proc.0 []) slot entry)) h)
+    (length-set st.stacks proc.0 (with_top (slice_index_or st.stacks proc.0 []) slot entry)) refl h)
 
 pub slot_told : (objects : Shelf) (q : Queued) (ps : List Process) (st new : Stacked) (first_new : Name) (events limit : ℕ) (proc : Proc) (slot : ℕ) (entry : Entry)
     → AreNumbered st.stacks st.next → IsCurrent st.stacks (process_at ps proc.0).current proc.0

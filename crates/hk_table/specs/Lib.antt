@@ -5,3 +5,4 @@ pub mod Born
 pub mod Giving
 pub mod Woken
 pub mod Additions
+pub mod Returns

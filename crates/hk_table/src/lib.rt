@@ -12,9 +12,11 @@
 
 mod born;
 mod finding;
+mod frames;
 mod lists;
 mod opening;
 mod parts;
+mod procedures;
 mod processors;
 mod queued;
 mod reads;

@@ -6,7 +6,7 @@ ghost use Rattle.hk_model.specs.Refusing.{item_at};
 
 use crate::finding::slot_of;
 use crate::parts::Parts;
-use hk_model::{Entry, Name, NoMemory, Refusal};
+use hk_model::{Entry, Name, NoMemory, Param, Refusal};
 
 impl Parts {
     /// The type of an object.
@@ -75,6 +75,17 @@ impl Parts {
     {
         match slot_of(&self.objects, name) {
             Some(slot) => self.objects.entries(slot),
+            None => &[],
+        }
+    }
+
+    /// The parameter templates of an object.
+    pub(crate) fn params(&self, name: Name) -> &[Param]
+        ensures value { result.now ≡ (object self.now name).params }
+        ensures few { length result.now ≤ 8 }
+    {
+        match slot_of(&self.objects, name) {
+            Some(slot) => self.objects.params(slot),
             None => &[],
         }
     }

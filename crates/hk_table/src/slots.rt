@@ -40,7 +40,7 @@ impl Parts {
     /// Writes an entry into a slot of the current incarnation of a process.
     pub(crate) fn set_slot(&mut self, proc: Proc, at: usize, entry: Entry)
         requires proc { proc.0 < length self.old.processes }
-        requires at { at < 64 }
+        requires at { at < 256 }
         ensures { self.new ≡ put_slot self.old (process self.old proc).current at entry }
     {
         self.stacks.set_top(proc, Slot(at as u8), entry);
