@@ -16,4 +16,4 @@ pub mod RunMoves
 pub mod FramePushes
 pub mod FrameMoves
 pub mod CallMoves
-pub mod Targets
+pub mod TargetLemmas

@@ -49,9 +49,9 @@ impl Parts {
         Ok(())
     }
 
-    // The current incarnation of a process goes, and its caller goes on: the slot there that takes what is returned. None
-    // exactly where there is no caller; then the process ends.
-    fn go_back(&mut self, proc: Proc) -> Option<Slot>
+    /// The current incarnation of a process goes, and its caller goes on: the slot there that takes what is returned. None
+    /// exactly where there is no caller; then the process ends.
+    pub(crate) fn go_back(&mut self, proc: Proc) -> Option<Slot>
         requires { is_running (process self.old proc).run ≡ true }
         ensures { GoesBack self.old proc (process self.old proc).current result self.new }
     {

@@ -66,7 +66,7 @@ impl Parts {
     }
 
     /// Enter: a new incarnation, with the merged parameters and what the procedure holds.
-    #[tactic(auto, using(crate::proofs::Targets::target_lives), unfolding(hk_model::specs::Rule::enter_procedure))]
+    #[tactic(auto, using(crate::proofs::TargetLemmas::target_lives), unfolding(hk_model::specs::Rule::enter_procedure))]
     pub(crate) fn enter(
         &mut self,
         alloc: Global,
