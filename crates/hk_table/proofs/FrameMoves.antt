@@ -49,10 +49,10 @@ past_none [] h e = cc
 past_none (x ∷ fs) h e = past_none fs h e
 
 -- the stack of a process, where one was changed
-stack_here : (stacks : List (List StackFrame)) (q p : ℕ) (fs : List StackFrame) → q < length stacks → p ≡ q → slice_index_or (set stacks q fs) p [] ≡ fs
+pub stack_here : (stacks : List (List StackFrame)) (q p : ℕ) (fs : List StackFrame) → q < length stacks → p ≡ q → slice_index_or (set stacks q fs) p [] ≡ fs
 stack_here stacks q p fs low same = ap (λ (m : ℕ). slice_index_or (set stacks q fs) m []) same ∙ get_or-set_same stacks q fs [] low
 
-stack_there : (stacks : List (List StackFrame)) (q p : ℕ) (fs : List StackFrame) → (p ≡ q → ⊥) → slice_index_or (set stacks q fs) p [] ≡ slice_index_or stacks p []
+pub stack_there : (stacks : List (List StackFrame)) (q p : ℕ) (fs : List StackFrame) → (p ≡ q → ⊥) → slice_index_or (set stacks q fs) p [] ≡ slice_index_or stacks p []
 stack_there stacks q p fs other = get_or-set_other stacks q p fs [] other
 
 -- a frame comes
@@ -106,8 +106,8 @@ module _ (stacks : List (List StackFrame)) (next : Inc) (q : ℕ) (f : StackFram
 -- a frame goes
 module _ (old : List (List StackFrame)) (next : Inc) (q : ℕ) (fs : List StackFrame) (f : StackFrame) (numbered : AreNumbered old next)
     (split : slice_index_or old q [] ≡ fs ++ f ∷ []) where
-  low : q < length old
-  low = some old q split where
+  pub split_low : q < length old
+  split_low = some old q split where
     some : (xs : List (List StackFrame)) (k : ℕ) → slice_index_or xs k [] ≡ fs ++ f ∷ [] → k < length xs
     some [] k e = absurd (nothing fs e) where
       nothing : (ys : List StackFrame) → [] ≡ ys ++ f ∷ [] → ⊥
@@ -120,7 +120,7 @@ module _ (old : List (List StackFrame)) (next : Inc) (q : ℕ) (fs : List StackF
   was_there p k h e =
       ⊎_elim (λ (same : p ≡ q).
       ap (λ (m : ℕ). frame_at old m k) same ∙ ap (λ (xs : List StackFrame). slice_get xs k) split
-      ∙ first_ones fs f k h (sym (ap (λ (xs : List StackFrame). slice_get xs k) (stack_here old q p fs low same)) ∙ e))
+      ∙ first_ones fs f k h (sym (ap (λ (xs : List StackFrame). slice_get xs k) (stack_here old q p fs split_low same)) ∙ e))
       (λ (other : p ≡ q → ⊥). sym (ap (λ (xs : List StackFrame). slice_get xs k) (stack_there old q p fs other)) ∙ e) (cases_eq p q)
 
   pub pop_numbered : AreNumbered (set old q fs) next
@@ -135,19 +135,19 @@ module _ (old : List (List StackFrame)) (next : Inc) (q : ℕ) (fs : List StackF
   pub gone_number : IsFree (set old q fs) f.inc
   gone_number p k h e same =
       let w = numbered.apart p q k (length fs) h f (was_there p k h e) last_one same in
-      past_none fs h (sym (ap (λ (xs : List StackFrame). slice_get xs (length fs)) (stack_here old q p fs low w.0)) ∙ sym (ap (frame_at (set old q fs) p) w.1) ∙ e)
+      past_none fs h (sym (ap (λ (xs : List StackFrame). slice_get xs (length fs)) (stack_here old q p fs split_low w.0)) ∙ sym (ap (frame_at (set old q fs) p) w.1) ∙ e)
 
   again : set (set old q fs) q (slice_index_or (set old q fs) q [] ++ f ∷ []) ≡ old
   again =
-      ap (λ (xs : List StackFrame). set (set old q fs) q (xs ++ f ∷ [])) (stack_here old q q fs low refl)
+      ap (λ (xs : List StackFrame). set (set old q fs) q (xs ++ f ∷ [])) (stack_here old q q fs split_low refl)
       ∙ set-set old q fs (fs ++ f ∷ []) ∙ ap (set old q) (sym split) ∙ set-get_or old q []
 
   -- what was live: what still is, and the incarnation that has gone
-  were : live_from 0 old ≡ insert_entry inc_cmp (live_from 0 (set old q fs)) f.inc (incarnation_of (record { 0 = q }) (caller_at None fs (length fs)) f)
+  pub were : live_from 0 old ≡ insert_entry inc_cmp (live_from 0 (set old q fs)) f.inc (incarnation_of (record { 0 = q }) (caller_at None fs (length fs)) f)
   were =
-      sym (ap (live_from 0) again) ∙ pushed (set old q fs) q f (let e = length-set old q fs in omega (arith, e, low)) gone_number
+      sym (ap (live_from 0) again) ∙ pushed (set old q fs) q f (let e = length-set old q fs in omega (arith, e, split_low)) gone_number
       ∙ ap (λ (xs : List StackFrame). insert_entry inc_cmp (live_from 0 (set old q fs)) f.inc (incarnation_of (record { 0 = q }) (caller_at None xs (length xs)) f))
-      (stack_here old q q fs low refl)
+      (stack_here old q q fs split_low refl)
 
   pub pop_live : remove_entry (same_inc f.inc) (live_from 0 old) ≡ live_from 0 (set old q fs)
   pop_live =
@@ -182,7 +182,7 @@ module _ (old : List (List StackFrame)) (next : Inc) (q : ℕ) (fs : List StackF
     by (Some g) e = absurd (cc)
 
   pub pop_below : top_of (slice_index_or (set old q fs) q []) ≡ top_of fs
-  pop_below = ap top_of (stack_here old q q fs low refl)
+  pop_below = ap top_of (stack_here old q q fs split_low refl)
 
   pub pop_many : length (set old q fs) ≡ length old
   pop_many = length-set old q fs

@@ -38,7 +38,7 @@ count-insert p n o (e ∷ es) absent =
     grind (arith, nat_tests, count-insert p n o es, count-cons p (n, o) (e ∷ es), count-cons p e es, count-cons p e (insert_entry inc_cmp es n o))
 
 -- without those of a kind that it is of
-filter-insert : (p : Inc × Incarnation → Bool) (n : Inc) (o : Incarnation) (es : Ones) → lookup (same_inc n) es ≡ None → p (n, o) ≡ false
+pub filter-insert : (p : Inc × Incarnation → Bool) (n : Inc) (o : Incarnation) (es : Ones) → lookup (same_inc n) es ≡ None → p (n, o) ≡ false
     → filter p (insert_entry inc_cmp es n o) ≡ filter p es
 filter-insert p n o [] absent out = grind (arith, nat_tests)
 filter-insert p n o (e ∷ es) absent out = grind (arith, nat_tests, filter-insert p n o es)

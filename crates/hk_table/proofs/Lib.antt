@@ -17,3 +17,4 @@ pub mod FramePushes
 pub mod FrameMoves
 pub mod CallMoves
 pub mod TargetLemmas
+pub mod EndMoves

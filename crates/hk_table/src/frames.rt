@@ -2,7 +2,7 @@
 
 ghost use Rattle.std.specs.Prelude.{◌≡◌, ◌<◌, ◌^◌, true, length, OnOk, OnErr};
 ghost use Rattle.hk_model.specs.State.{incarnation, process};
-ghost use Rattle.hk_model.specs.Processors.{is_running};
+ghost use Rattle.hk_model.specs.Processors.{is_running, ended};
 ghost use Rattle.hk_model.specs.Rule.{depth, enter, called_incarnation, leave_to};
 ghost use Rattle.hk_table.specs.Returns.{without_one, GoesBack};
 
@@ -69,5 +69,14 @@ impl Parts {
                 None
             }
         }
+    }
+
+    /// Ends a process, with all its incarnations.
+    pub(crate) fn end(&mut self, proc: Proc)
+        requires { is_running (process self.old proc).run ≡ true }
+        ensures { self.new ≡ ended self.old proc }
+    {
+        self.stacks.clear(proc);
+        self.processes.set_run(proc, ProcessState::Ended);
     }
 }

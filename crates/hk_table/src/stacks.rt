@@ -106,6 +106,25 @@ fn pop_off(all: &mut Vec<Stack>, at: usize) -> Option<Slot>
     }
 }
 
+// Takes all frames of a stack.
+fn empty_out(stack: &mut Stack)
+    ensures { stack.new ≡ [] }
+{
+    let depth = stack.depth();
+    for _k in 0..depth {
+        stack.pop();
+    }
+}
+
+// Takes all frames of a process.
+fn empty_at(all: &mut Vec<Stack>, at: usize)
+    ensures { all.new.items ≡ slice_set all.old.items at [] }
+{
+    if at < all.len() {
+        empty_out(&mut all[at]);
+    }
+}
+
 impl Stacks {
     /// The stacks as a world opens: process k has the base incarnation k. NoMemory is want of memory.
     pub(crate) fn open(alloc: Global, world: &World) -> Result<Stacks, NoMemory>
@@ -206,6 +225,14 @@ impl Stacks {
         ensures numbered { AreNumbered self.old.stacks self.old.next }
     {
         pop_off(&mut self.all, proc.0 as usize)
+    }
+
+    /// Takes all frames of a process.
+    pub(crate) fn clear(&mut self, proc: Proc)
+        ensures value { self.new ≡ record self.old { stacks = slice_set self.old.stacks proc.0 [] } }
+        ensures numbered { AreNumbered self.old.stacks self.old.next }
+    {
+        empty_at(&mut self.all, proc.0 as usize);
     }
 
     /// The number that the next incarnation takes.
