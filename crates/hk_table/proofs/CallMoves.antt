@@ -148,6 +148,7 @@ module _ (objects : Shelf) (q : Queued) (ps : List Process) (st : Stacked) (w : 
   given inc here e = by (top_of (slice_index_or now.stacks proc.0 [])) refl e where
     still : AreNumbered now.stacks st.next
     still = subst (λ (s : List (List StackFrame)). AreNumbered s st.next) (sym gone) (pop_numbered st.stacks st.next proc.0 fs f numbered split)
+
     by : (o : Option StackFrame) → top_of (slice_index_or now.stacks proc.0 []) ≡ o → Some inc ≡ option_map (λ (g : StackFrame). g.inc) o → inc.0 < st.next.0
     by None is e = absurd (cc)
     by (Some g) is e =

@@ -135,6 +135,7 @@ cleared_current old next q p inc h current =
       by : (o : Option StackFrame) → IsCurrentOf old inc o → IsCurrentOf (set old q []) inc o
       by None none = λ r k g e same. none r k g (was_there old q r k g e).0 same
       by (Some g) same = same
+
       here : (o : Option StackFrame) → top_of (slice_index_or old q []) ≡ o → IsCurrentOf old inc o → (r k : ℕ) (g : StackFrame) → frame_at (set old q []) r k ≡ Some g
           → g.inc.0 ≡ inc.0 → ⊥
       here None e none = λ r k g there same. none r k g (was_there old q r k g there).0 same

@@ -197,6 +197,7 @@ caller_none (x ∷ fs) e = absurd (some (top_of (x ∷ fs)) (top_there x fs) e) 
       let w = top_there y fs in
       let k : length (x ∷ y ∷ fs) - 1 ≡ suc (length (y ∷ fs) - 1) = omega arith in
       (w.0, ap (slice_get (x ∷ y ∷ fs)) k ∙ w.1)
+
   some : (o : Option StackFrame) → ((g : StackFrame) × (o ≡ Some g)) → None ≡ option_map (λ (g : StackFrame). g.inc) o → ⊥
   some None w e = cc
   some (Some g) w e = cc

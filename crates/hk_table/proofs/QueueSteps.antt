@@ -55,9 +55,11 @@ unqueued_same p proc xs same = ap (λ (q : Proc). is_queued q xs) (sym (same_pro
 once_end : (proc : Proc) (xs : List Proc) → AreOnce xs → is_queued proc xs ≡ false → AreOnce (xs ++ proc ∷ [])
 once_end proc [] once out = (refl, tt)
 once_end proc (x ∷ xs) once out =
-    let apart : (proc.0 == x.0 ≡ false) × (is_queued proc xs ≡ false) = or_false (proc.0 == x.0) (is_queued proc xs) out in
-    (bool_false (is_queued x (xs ++ proc ∷ [])) (λ in'. ⊎_elim (λ (same : x.0 ≡ proc.0). not_same proc.0 x.0 apart.0 (sym same))
-    (λ (behind : is_queued x xs ≡ true). let e : false ≡ true = sym once.0 ∙ behind in absurd (cc)) (queued_end x proc xs in')), once_end proc xs once.1 apart.1)
+    let apart : (proc.0 == x.0 ≡ false) × (is_queued proc xs ≡ false) = or_false (proc.0 == x.0) (is_queued proc xs) out in (
+      bool_false (is_queued x (xs ++ proc ∷ [])) (λ in'. ⊎_elim (λ (same : x.0 ≡ proc.0). not_same proc.0 x.0 apart.0 (sym same))
+          (λ (behind : is_queued x xs ≡ true). let e : false ≡ true = sym once.0 ∙ behind in absurd (cc)) (queued_end x proc xs in')),
+      once_end proc xs once.1 apart.1,
+    )
 
 -- a process that runs is in no list
 pub idle_running : (slots : List (Option (Name × Body))) (q : Queued) (ps : List Process) (proc : Proc) → AreQueued slots q ps → is_running (process_at ps proc.0).run ≡ true → IsIdle q proc
@@ -213,10 +215,10 @@ module _ (slots : List (Option (Name × Body))) (q m : Queued) (ps : List Proces
       let w = h.waiting s first waits in
       let low : first.0 < length ps = known ps first.0 w.0 w.2 in
       omega (arith, low, h.all) where
-    known : (ps : List Process) (k : ℕ) (n : Name) → (process_at ps k).run ≡ Waiting n → k < length ps
-    known [] k n e = absurd (cc)
-    known (p ∷ ps) zero n e = omega arith
-    known (p ∷ ps) (suc k) n e = let h = known ps k n e in omega (arith, h)
+        known : (ps : List Process) (k : ℕ) (n : Name) → (process_at ps k).run ≡ Waiting n → k < length ps
+        known [] k n e = absurd (cc)
+        known (p ∷ ps) zero n e = omega arith
+        known (p ∷ ps) (suc k) n e = let h = known ps k n e in omega (arith, h)
 
   pub woken_within : first.0 < length ps
   woken_within = omega (arith, woken_known, h.all)

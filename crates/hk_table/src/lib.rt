@@ -3,8 +3,8 @@
 //!
 //! Its state is that of the rule table, told from its parts. The files are by subject: `stacks` has the name spaces of the calls, `table` these with the objects and the queues,
 //! `born` and `opening` the state in which a world opens, `processors` the dispatch and what a processor runs,
-//! `finding` and `reads` the objects by name, `walks` and `targets` the tests that the calls share, `words` the calls on words, `queued`,
-//! `shown` and `shows` the state as plain data.
+//! `finding` and `reads` the objects by name, `walks` and `targets` the tests that the calls share, `frames` the incarnations that come and go.
+//! The calls: `words`, `lists`, `slots`, `templates`, `semaphores` and `procedures`. The state as plain data: `queued`, `shown` and `shows`.
 //!
 //! What is not in a list of objects or frames is found by its number: nothing here grows with the number of objects,
 //! incarnations or processes but the opening and the state as plain data.
@@ -32,3 +32,6 @@ mod walks;
 mod words;
 
 pub use table::Table;
+
+#[cfg(test)]
+mod tests;
