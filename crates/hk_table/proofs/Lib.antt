@@ -18,3 +18,6 @@ pub mod FrameMoves
 pub mod CallMoves
 pub mod TargetLemmas
 pub mod EndMoves
+pub mod Makings
+pub mod Restricted
+pub mod KeptMeets

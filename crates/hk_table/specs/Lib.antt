@@ -6,3 +6,4 @@ pub mod Giving
 pub mod Woken
 pub mod Additions
 pub mod Returns
+pub mod Settled

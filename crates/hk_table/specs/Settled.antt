@@ -1,0 +1,18 @@
+-- The slots and counts that tell a state's objects. docs/RULES.md, "Objects that vanish".
+use Rattle.std.specs.Prelude.{◌≡◌, ℕ, List, Option, Some, slice_index}
+use Rattle.hk_model.specs.declared.names.Name.{Name}
+use Rattle.hk_model.specs.declared.names.Proc.{Proc}
+use Rattle.hk_model.specs.State.{State}
+use Rattle.hk_model.specs.Keeping.{outer_names}
+use Rattle.hk_objects.specs.declared.body.Body.{Body}
+use Rattle.hk_objects.specs.Slots.{standing, name_at}
+use Rattle.hk_reclaim.specs.Naming.{times}
+use Rattle.hk_reclaim.specs.Tally.{Tally}
+use Rattle.hk_table.specs.Whole.{whole}
+
+-- the objects are those in the slots with who waits there, and each is counted from outside as often as the slots of live incarnations and the waiting
+-- processes name it
+pub record Tells (s : State) (slots : List (Option (Name × Body))) (waiting : List (List Proc)) (t : Tally) : Type 0 where
+  pub objects : s.objects ≡ standing (whole slots waiting)
+  pub first_new : s.first_new ≡ t.first_new
+  pub outside : (k : ℕ) (n : Name) → name_at slots k ≡ Some n → slice_index t.outside k ≡ times n (outer_names s)
