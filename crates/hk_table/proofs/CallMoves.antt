@@ -1,6 +1,6 @@
 -- What a call and a return are to the parts of a table, and to the state that they tell.
-use Rattle.std.proofs.Common.{◌≡◌, ℕ, zero, suc, ◌+◌, ◌-◌, ◌<◌, ◌≤◌, Bool, true, false, cond, List, [], ◌∷◌, ◌++◌, length, set, Option, Some, None, refl, sym, ap, ◌∙◌, subst, arith, ⊎_elim, option_map}
-use Rattle.std.specs.Prelude.{slice_get, slice_set, slice_index_or}
+use Rattle.std.proofs.Common.{◌≡◌, ℕ, ◌-◌, ◌<◌, ◌≤◌, Bool, true, false, cond, List, [], ◌∷◌, ◌++◌, length, set, Option, Some, None, refl, sym, ap, ◌∙◌, subst, arith, ⊎_elim, option_map}
+use Rattle.std.specs.Prelude.{slice_set, slice_index_or}
 use Rattle.std.specs.Map.{lookup, remove_entry}
 use Rattle.std.specs.Option.{unwrap_or}
 use Rattle.std.specs.BTreeMap.{insert_entry}
@@ -13,28 +13,26 @@ use Rattle.hk_model.specs.declared.names.Slot.{Slot}
 use Rattle.hk_model.specs.declared.entries.Entry.{Entry}
 use Rattle.hk_model.specs.declared.objects.Incarnation.{Incarnation}
 use Rattle.hk_model.specs.declared.objects.Process.{Process}
-use Rattle.hk_model.specs.declared.objects.ProcessState.{ProcessState}
 use Rattle.hk_model.specs.declared.objects.ProcessState.TheVariants.{Ended}
-use Rattle.hk_model.specs.State.{State, inc_cmp, same_inc, no_incarnation, incarnation, process, put_process}
+use Rattle.hk_model.specs.State.{State, inc_cmp, same_inc, no_incarnation, incarnation, process}
 use Rattle.hk_model.specs.Processors.{is_running}
 use Rattle.hk_model.specs.Rule.{enter, called_incarnation}
-use Rattle.hk_objects.specs.declared.body.Body.{Body}
 use Rattle.hk_objects.specs.Shelf.{Shelf}
-use Rattle.hk_queues.specs.Queued.{Queued, waiters, is_queued}
+use Rattle.hk_queues.specs.Queued.{Queued}
 use Rattle.hk_running.specs.Runners.{process_at, with_run, with_current}
 use Rattle.hk_running.proofs.RunnerLemmas.{set_same, set_other}
 use Rattle.hk_spaces.specs.declared.stack.StackFrame.{StackFrame}
 use Rattle.hk_walk.specs.Remembered.{Remembered}
-use Rattle.hk_table.specs.Stacked.{Stacked, caller_at, incarnation_of, live_from, frame_at, top_of, slots_of, with_frame, Pops, AreNumbered}
-use Rattle.hk_table.specs.Joined.{AreQueued, IsCurrentOf, IsCurrent, IsJoined}
-use Rattle.hk_table.specs.Returns.{without_one, GoesBack}
+use Rattle.hk_table.specs.Stacked.{Stacked, caller_at, incarnation_of, live_from, frame_at, top_of, slots_of, with_frame, AreNumbered}
+use Rattle.hk_table.specs.Joined.{IsCurrentOf, IsCurrent, IsJoined}
+use Rattle.hk_table.specs.Returns.{GoesBack}
 use Rattle.hk_table.proofs.Opens.{told}
 use Rattle.hk_table.proofs.Live.{live_one, current_slots, no_frame}
 use Rattle.hk_table.proofs.FramePushes.{pushed, last_caller}
-use Rattle.hk_table.proofs.FrameMoves.{push_current_other, push_current, free_number, pop_live, pop_found, pop_was_current, pop_current_other, pop_current, pop_none, pop_below, pop_many, pop_numbered}
+use Rattle.hk_table.proofs.FrameMoves.{push_current_other, push_current, free_number, pop_live, pop_found, pop_was_current, pop_current_other, pop_current, pop_none, pop_below, pop_numbered}
 use Rattle.hk_table.proofs.FrameMoves.{caller_none, caller_some}
 use Rattle.hk_table.proofs.QueueMoves.{ended}
-use Rattle.hk_table.proofs.QueueSteps.{idle_running, runs_within, run_joined, stray_move}
+use Rattle.hk_table.proofs.QueueSteps.{idle_running, run_joined, stray_move}
 
 -- what another current incarnation leaves
 run_kept : (ps : List Process) (proc : Proc) (inc : Inc) (n : ℕ) → proc.0 < length ps → (process_at (with_current ps proc inc) n).run ≡ (process_at ps n).run

@@ -1,5 +1,5 @@
 -- The entries of the objects of the state are those in the slots, whoever waits.
-use Rattle.std.proofs.Common.{◌≡◌, ℕ, zero, suc, Bool, true, false, cond, List, [], ◌∷◌, set, map, Option, Some, None, refl, ap, ◌∙◌, sym, arith, option_map}
+use Rattle.std.proofs.Common.{◌≡◌, ℕ, zero, suc, Bool, true, false, cond, List, [], ◌∷◌, map, Option, Some, None, refl, ap, ◌∙◌, sym, arith, option_map}
 use Rattle.std.specs.Map.{lookup}
 use Rattle.std.specs.Option.{unwrap_or}
 use Rattle.std.specs.BTreeMap.{insert_entry}
@@ -8,11 +8,11 @@ use Rattle.hk_model.specs.declared.names.Name.{Name}
 use Rattle.hk_model.specs.declared.names.Proc.{Proc}
 use Rattle.hk_model.specs.declared.entries.Entry.{Entry}
 use Rattle.hk_model.specs.declared.objects.Object.{Object}
-use Rattle.hk_model.specs.State.{State, object, no_object, name_cmp, same_name}
+use Rattle.hk_model.specs.State.{object, no_object, name_cmp, same_name}
 use Rattle.hk_objects.specs.declared.body.Body.{Body}
-use Rattle.hk_objects.specs.Slots.{placed, standing, place, change}
+use Rattle.hk_objects.specs.Slots.{standing, change}
 use Rattle.hk_walk.specs.Walks.{seen, shown_at}
-use Rattle.hk_table.specs.Whole.{whole, with_waiters}
+use Rattle.hk_table.specs.Whole.{whole}
 use Rattle.hk_table.proofs.Whole.{object_in}
 
 -- each object stands where what is read of it stands

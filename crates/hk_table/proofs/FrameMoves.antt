@@ -1,21 +1,20 @@
 -- The stacks where a frame comes or goes.
-use Rattle.std.proofs.Common.{◌≡◌, ◌≢◌, ℕ, zero, suc, ◌+◌, ◌-◌, ◌<◌, ◌≤◌, ◌==◌, ◌⊎◌, inl, inr, Bool, true, false, List, [], ◌∷◌, ◌++◌, length, set, get_or, Option, Some, None, refl, sym, ap, ◌∙◌, subst, arith, ⊎_elim}
+use Rattle.std.proofs.Common.{◌≡◌, ℕ, zero, suc, ◌+◌, ◌-◌, ◌<◌, ◌==◌, ◌⊎◌, inl, inr, Bool, true, false, List, [], ◌∷◌, ◌++◌, length, set, Option, Some, None, refl, sym, ap, ◌∙◌, subst, arith, ⊎_elim}
 use Rattle.std.proofs.Common.{get_or-set_same, get_or-set_other, option_map}
-use Rattle.std.specs.Prelude.{slice_get, slice_set, slice_index_or, count_by, cond}
+use Rattle.std.specs.Prelude.{slice_get, slice_index_or, count_by, cond}
 use Rattle.std.specs.Map.{lookup, remove_entry}
 use Rattle.std.specs.BTreeMap.{insert_entry}
-use Rattle.std.proofs.lemmas.List.{length-set, length-append, set-set, set-get_or, get_or_past}
+use Rattle.std.proofs.lemmas.List.{length-set, length-append, set-set, set-get_or}
 use Rattle.std.proofs.lemmas.Bool.{cases_eq}
 use Rattle.std.proofs.lemmas.Bool.Decides.{nat_tests}
 use Rattle.hk_model.specs.declared.names.Inc.{Inc}
-use Rattle.hk_model.specs.declared.names.Proc.{Proc}
 use Rattle.hk_model.specs.declared.names.Slot.{Slot}
 use Rattle.hk_model.specs.declared.objects.Incarnation.{Incarnation}
 use Rattle.hk_model.specs.State.{inc_cmp, same_inc}
 use Rattle.hk_spaces.specs.declared.stack.StackFrame.{StackFrame}
-use Rattle.hk_table.specs.Stacked.{Stacked, caller_at, incarnation_of, live_with, live_from, frame_at, top_of, with_frame, Pops, AreNumbered}
+use Rattle.hk_table.specs.Stacked.{Stacked, caller_at, incarnation_of, live_from, frame_at, top_of, Pops, AreNumbered}
 use Rattle.hk_table.specs.Joined.{IsCurrentOf, IsCurrent}
-use Rattle.hk_table.proofs.Live.{no_frame, live_one, lookup-insert_same}
+use Rattle.hk_table.proofs.Live.{no_frame, lookup-insert_same}
 use Rattle.hk_table.proofs.FramePushes.{IsFree, pushed, remove-insert, last_caller, count_frames}
 
 abbrev Ones : Type 0

@@ -1,7 +1,7 @@
 -- One more frame on the stack of a process, among the live incarnations.
-use Rattle.std.proofs.Common.{◌≡◌, ◌≢◌, ℕ, zero, suc, ◌+◌, ◌-◌, ◌<◌, ◌≤◌, ◌==◌, Bool, true, false, List, [], ◌∷◌, ◌++◌, length, set, take, get_or, Option, Some, None, refl, sym, ap, ◌∙◌, subst, arith, ⊎_elim}
-use Rattle.std.specs.Prelude.{slice_get, slice_set, slice_index_or, count_by, filter, not, cond}
-use Rattle.std.specs.Map.{lookup, set_value, remove_entry}
+use Rattle.std.proofs.Common.{◌≡◌, ℕ, zero, suc, ◌+◌, ◌-◌, ◌<◌, ◌==◌, Bool, true, false, List, [], ◌∷◌, ◌++◌, length, set, Option, Some, None, refl, sym, ap, ◌∙◌, arith}
+use Rattle.std.specs.Prelude.{slice_get, slice_index_or, count_by, filter, cond}
+use Rattle.std.specs.Map.{lookup, remove_entry}
 use Rattle.std.specs.BTreeMap.{insert_entry}
 use Rattle.std.proofs.lemmas.List.Sums.{sum_by-cons}
 use Rattle.std.proofs.lemmas.Bool.Decides.{nat_tests}
@@ -11,7 +11,7 @@ use Rattle.hk_model.specs.declared.objects.Incarnation.{Incarnation}
 use Rattle.hk_model.specs.State.{inc_cmp, same_inc}
 use Rattle.hk_spaces.specs.declared.stack.StackFrame.{StackFrame}
 use Rattle.hk_table.specs.Stacked.{caller_at, incarnation_of, live_with, live_from, frame_at}
-use Rattle.hk_table.proofs.Live.{IsNoneOf, live-none, no_frame}
+use Rattle.hk_table.proofs.Live.{IsNoneOf, live-none}
 
 abbrev Ones : Type 0
 Ones = List (Inc × Incarnation)

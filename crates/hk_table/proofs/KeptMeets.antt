@@ -1,8 +1,8 @@
 -- What is kept and what is reached in the slots is what is kept and rooted in the state that they tell.
-use Rattle.std.proofs.Common.{◌≡◌, ◌≢◌, ℕ, zero, suc, ◌+◌, ◌-◌, ◌<◌, ◌≤◌, ◌⊎◌, inl, inr, Bool, true, false, cond, ◌||◌, ◌&&◌, List, [], ◌∷◌, ◌++◌, length, map, Option, Some, None, refl, sym, ap, ◌∙◌, subst, arith}
+use Rattle.std.proofs.Common.{◌≡◌, ◌≢◌, ℕ, zero, suc, ◌+◌, ◌<◌, ◌⊎◌, inl, inr, Bool, true, false, cond, ◌||◌, ◌&&◌, List, [], ◌∷◌, ◌++◌, map, Option, Some, None, refl, sym, ap, ◌∙◌, subst, arith}
 use Rattle.std.proofs.Common.{⊎_elim, option_map}
-use Rattle.std.specs.Prelude.{nat_lt, is_some, slice_index, slice_index_or, filter}
-use Rattle.std.specs.List.{list_any, flat_map}
+use Rattle.std.specs.Prelude.{nat_lt, is_some, slice_index, slice_index_or}
+use Rattle.std.specs.List.{list_any}
 use Rattle.std.specs.Map.{lookup}
 use Rattle.std.specs.BTreeMap.{insert_entry}
 use Rattle.std.proofs.lemmas.Bool.{cases_eq, and_from, and_parts}
@@ -14,14 +14,13 @@ use Rattle.hk_model.specs.declared.names.Proc.{Proc}
 use Rattle.hk_model.specs.declared.objects.Object.{Object}
 use Rattle.hk_model.specs.State.{State, name_cmp, same_name}
 use Rattle.hk_model.specs.Keeping.{object_names, outer_names, is_among, is_opening, stands, members, supports, AreKept, AreRooted, kept_objects, rooted_objects}
-use Rattle.hk_model.specs.Keeping as keeping
 use Rattle.hk_model.proofs.Keeping.{of_set, inner}
 use Rattle.hk_model.proofs.KeepingLemmas.{kept_is, rooted_is}
 use Rattle.hk_objects.specs.declared.body.Body.{Body}
 use Rattle.hk_objects.specs.Slots.{standing, place, name_at, AreApart}
 use Rattle.hk_objects.proofs.Standing.{lookup-place, lookup-absent, apart_tail}
 use Rattle.hk_reclaim.specs.Naming.{names_in, names_of, times}
-use Rattle.hk_reclaim.specs.Kept.{IsRoot, IsNamedIn, IsSupported, IsKept, IsClosed, IsReached, only}
+use Rattle.hk_reclaim.specs.Kept.{IsRoot, IsNamedIn, IsKept, IsReached, only}
 use Rattle.hk_reclaim.specs.Tally.{Tally}
 use Rattle.hk_reclaim.proofs.Counting.{times_none, times-cons, same_names}
 use Rattle.hk_table.specs.Whole.{whole, whole_object, with_waiters}

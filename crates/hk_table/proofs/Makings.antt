@@ -1,7 +1,7 @@
 -- One more object in the slots of a table.
-use Rattle.std.proofs.Common.{◌≡◌, ◌≢◌, ℕ, zero, suc, ◌+◌, ◌<◌, ◌⊎◌, inl, inr, Bool, true, false, List, [], ◌∷◌, length, map, set, Option, Some, None, refl, sym, ap, ◌∙◌, subst, arith, ⊎_elim, option_map}
+use Rattle.std.proofs.Common.{◌≡◌, ◌≢◌, ℕ, suc, ◌+◌, ◌<◌, ◌⊎◌, inl, inr, true, List, [], ◌∷◌, length, map, set, Option, Some, None, refl, sym, ap, ◌∙◌, subst, arith, ⊎_elim, option_map}
 use Rattle.std.proofs.Common.{get_or-set_other}
-use Rattle.std.specs.Prelude.{nat_lt, slice_set, slice_index_or}
+use Rattle.std.specs.Prelude.{slice_set, slice_index_or}
 use Rattle.std.specs.Map.{lookup}
 use Rattle.std.specs.Option.{unwrap_or}
 use Rattle.std.specs.BTreeMap.{insert_entry}
@@ -13,7 +13,7 @@ use Rattle.hk_model.specs.declared.names.Proc.{Proc}
 use Rattle.hk_model.specs.declared.entries.Entry.{Entry}
 use Rattle.hk_model.specs.declared.objects.Object.{Object}
 use Rattle.hk_model.specs.declared.objects.Process.{Process}
-use Rattle.hk_model.specs.State.{State, name_cmp, same_name, object, no_object}
+use Rattle.hk_model.specs.State.{name_cmp, same_name, object, no_object}
 use Rattle.hk_model.specs.Rule.{plain_object, add_beside, has_room}
 use Rattle.hk_objects.specs.declared.body.Body.{Body}
 use Rattle.hk_objects.specs.Shelf.{Shelf, new_body}
@@ -97,9 +97,12 @@ made_joined objects new q ps st w s n b free low fresh h e = record {
     waiting = λ k p in'.
         let v = h.queued.waiting k p in' in
         let other : k ≢ s =
-        λ same. let f : None ≡ Some v.0 = sym (ap (option_map (λ (e : Name × Body). e.0)) free) ∙ ap (name_at objects.slots) (sym same) ∙ v.1 in cc in
-        (v.0, ap (λ (slots : List (Option (Name × Body))). name_at slots k) e ∙ ap (option_map (λ (e : Name × Body). e.0)) (get_or-set_other objects.slots s k (Some (n, b)) None other)
-        ∙ v.1, v.2);
+        λ same. let f : None ≡ Some v.0 = sym (ap (option_map (λ (e : Name × Body). e.0)) free) ∙ ap (name_at objects.slots) (sym same) ∙ v.1 in cc in (
+          v.0,
+          ap (λ (slots : List (Option (Name × Body))). name_at slots k) e ∙ ap (option_map (λ (e : Name × Body). e.0)) (get_or-set_other objects.slots s k (Some (n, b)) None other)
+              ∙ v.1,
+          v.2,
+        );
     ready_once = h.queued.ready_once;
     waiting_once = h.queued.waiting_once;
   };

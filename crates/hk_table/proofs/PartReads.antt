@@ -1,11 +1,10 @@
 -- The parts of an object of the state, read and written in its slot.
-use Rattle.std.proofs.Common.{◌≡◌, ℕ, ◌+◌, ◌<◌, List, [], ◌∷◌, length, set, Option, Some, None, IfSome, refl, ap, ◌∙◌, sym, subst, Result, Ok, Err, option_map}
-use Rattle.std.specs.Prelude.{slice_index_or}
+use Rattle.std.proofs.Common.{◌≡◌, ℕ, List, [], Option, Some, IfSome, ap, ◌∙◌, sym, subst}
 use Rattle.hk_model.specs.declared.names.Name.{Name}
 use Rattle.hk_model.specs.declared.names.Proc.{Proc}
 use Rattle.hk_model.specs.declared.objects.Object.{Object}
 use Rattle.hk_model.specs.declared.objects.Process.{Process}
-use Rattle.hk_model.specs.State.{State, object, put_object, no_object}
+use Rattle.hk_model.specs.State.{object, put_object, no_object}
 use Rattle.hk_objects.specs.declared.body.Body.{Body}
 use Rattle.hk_objects.specs.Shelf.{Shelf}
 use Rattle.hk_objects.specs.Slots.{standing, place, name_at, AreApart, change}
@@ -16,7 +15,7 @@ use Rattle.hk_walk.specs.Walks.{seen, AreRight}
 use Rattle.hk_walk.proofs.Kept.{right_same, right_none}
 use Rattle.hk_table.specs.Whole.{whole, whole_object}
 use Rattle.hk_table.specs.Stacked.{Stacked}
-use Rattle.hk_table.specs.Joined.{AreQueued, IsJoined}
+use Rattle.hk_table.specs.Joined.{IsJoined}
 use Rattle.hk_table.proofs.Opens.{told}
 use Rattle.hk_table.proofs.Whole.{object_in, part_read, part_written, missing_read, missing_stays}
 use Rattle.hk_table.proofs.EntryLists.{lists_stay}

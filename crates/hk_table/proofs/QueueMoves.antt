@@ -1,7 +1,7 @@
 -- What keeps the queues and the processes together.
-use Rattle.std.proofs.Common.{◌≡◌, ℕ, zero, suc, ◌+◌, ◌-◌, ◌<◌, ◌≤◌, ◌==◌, ◌||◌, Bool, true, false, List, [], ◌∷◌, ◌++◌, length, set, drop, Option, Some, None, refl, sym, ap, ◌∙◌}
+use Rattle.std.proofs.Common.{◌≡◌, ℕ, ◌<◌, ◌==◌, ◌||◌, Bool, true, false, List, [], ◌∷◌, length, drop, Some, refl, sym, ap, ◌∙◌}
 use Rattle.std.proofs.Common.{subst, arith, ⊎_elim}
-use Rattle.std.specs.Prelude.{slice_get, slice_set, slice_index_or}
+use Rattle.std.specs.Prelude.{slice_get}
 use Rattle.std.proofs.lemmas.List.{length-set}
 use Rattle.std.proofs.lemmas.Bool.{cases_eq}
 use Rattle.std.proofs.lemmas.Bool.Decides.{nat_tests}
@@ -12,16 +12,13 @@ use Rattle.hk_model.specs.declared.names.Cpu.{Cpu}
 use Rattle.hk_model.specs.declared.objects.Process.{Process}
 use Rattle.hk_model.specs.declared.objects.ProcessState.{ProcessState}
 use Rattle.hk_model.specs.declared.objects.ProcessState.TheVariants.{Ready, Running, Waiting, Ended}
-use Rattle.hk_objects.specs.declared.body.Body.{Body}
 use Rattle.hk_objects.specs.Shelf.{Shelf}
-use Rattle.hk_objects.specs.Slots.{name_at}
 use Rattle.hk_queues.specs.Queued.{Queued, waiters, is_queued}
 use Rattle.hk_running.specs.Runners.{process_at, with_run}
 use Rattle.hk_running.proofs.RunnerLemmas.{set_same, set_other}
-use Rattle.hk_spaces.specs.declared.stack.StackFrame.{StackFrame}
 use Rattle.hk_walk.specs.Remembered.{Remembered}
 use Rattle.hk_table.specs.Stacked.{Stacked}
-use Rattle.hk_table.specs.Joined.{AreOnce, AreQueued, IsCurrent, IsJoined}
+use Rattle.hk_table.specs.Joined.{AreOnce, IsCurrent, IsJoined}
 
 abbrev pub ended : Process
 ended = record { run = Ended; current = record { 0 = 0 } }

@@ -1,5 +1,5 @@
 -- What becomes of the queues where a process waits, is woken or yields.
-use Rattle.std.proofs.Common.{◌≡◌, ◌≢◌, ℕ, zero, suc, ◌+◌, ◌-◌, ◌<◌, ◌≤◌, ◌==◌, ◌||◌, ◌⊎◌, inl, inr, Bool, true, false, List, [], ◌∷◌, ◌++◌, length, set, drop, Option, Some, None, refl, sym, ap, ◌∙◌}
+use Rattle.std.proofs.Common.{◌≡◌, ℕ, zero, suc, ◌<◌, ◌==◌, ◌||◌, ◌⊎◌, inl, inr, Bool, true, false, List, [], ◌∷◌, ◌++◌, length, set, drop, Option, Some, refl, sym, ap, ◌∙◌}
 use Rattle.std.proofs.Common.{subst, arith, ⊎_elim, get_or-set_same, get_or-set_other}
 use Rattle.std.specs.Prelude.{slice_get, slice_set, slice_index_or}
 use Rattle.std.proofs.lemmas.List.{length-set}
@@ -9,7 +9,7 @@ use Rattle.hk_model.specs.declared.names.Name.{Name}
 use Rattle.hk_model.specs.declared.names.Proc.{Proc}
 use Rattle.hk_model.specs.declared.objects.Process.{Process}
 use Rattle.hk_model.specs.declared.objects.ProcessState.{ProcessState}
-use Rattle.hk_model.specs.declared.objects.ProcessState.TheVariants.{Ready, Running, Waiting, Ended}
+use Rattle.hk_model.specs.declared.objects.ProcessState.TheVariants.{Ready, Waiting}
 use Rattle.hk_model.specs.declared.names.Inc.{Inc}
 use Rattle.hk_model.specs.Processors.{is_running}
 use Rattle.hk_objects.specs.declared.body.Body.{Body}

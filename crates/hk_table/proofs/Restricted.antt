@@ -1,5 +1,5 @@
 -- The objects by rising name, where only some of those in the slots are kept.
-use Rattle.std.proofs.Common.{◌≡◌, ◌≢◌, ℕ, zero, suc, ◌+◌, ◌<◌, ◌≤◌, Bool, true, false, cond, List, [], ◌∷◌, length, map, Option, Some, None, refl, ap, ◌∙◌, sym, subst, arith, ⊎_elim}
+use Rattle.std.proofs.Common.{◌≡◌, ◌≢◌, suc, ◌<◌, ◌≤◌, Bool, true, false, cond, List, [], ◌∷◌, map, Option, Some, None, refl, ap, ◌∙◌, sym, subst, arith, ⊎_elim}
 use Rattle.std.proofs.lemmas.Bool.{cases_eq, cases_lt}
 use Rattle.std.proofs.lemmas.Map.Entries.{option_filter}
 use Rattle.std.specs.Ordering.{match_ordering}
@@ -9,7 +9,7 @@ use Rattle.std.specs.Map.{lookup}
 use Rattle.std.specs.BTreeMap.{insert_entry}
 use Rattle.hk_model.specs.declared.names.Name.{Name}
 use Rattle.hk_model.specs.State.{name_cmp, same_name}
-use Rattle.hk_objects.specs.Slots.{placed, standing, place, name_at, AreApart}
+use Rattle.hk_objects.specs.Slots.{placed, standing, AreApart}
 use Rattle.hk_objects.proofs.Standing.{lookup-absent, apart_tail}
 
 module _ {X : Type 0} where
@@ -41,9 +41,9 @@ module _ {X : Type 0} where
       ⊎_elim
       (λ (low : n.0 < m.0). let k : match_ordering (name_cmp n m) a b c ≡ a = grind (arith, nat_tests) in subst P (sym k) (l low))
       (λ (high : m.0 ≤ n.0). ⊎_elim
-        (λ (same : n.0 ≡ m.0). let k : match_ordering (name_cmp n m) a b c ≡ b = grind (arith, nat_tests) in subst P (sym k) (e same))
-        (λ (other : n.0 ≢ m.0). let k : match_ordering (name_cmp n m) a b c ≡ c = grind (arith, nat_tests) in subst P (sym k) (g (omega arith)))
-        (cases_eq n.0 m.0))
+      (λ (same : n.0 ≡ m.0). let k : match_ordering (name_cmp n m) a b c ≡ b = grind (arith, nat_tests) in subst P (sym k) (e same))
+      (λ (other : n.0 ≢ m.0). let k : match_ordering (name_cmp n m) a b c ≡ c = grind (arith, nat_tests) in subst P (sym k) (g (omega arith)))
+      (cases_eq n.0 m.0))
       (cases_lt n.0 m.0)
 
   pub there : (n : Name) (e : Name × X) (es : List (Name × X)) → n.0 ≡ e.0.0 → lookup (same_name n) (e ∷ es) ≡ None → ⊥
@@ -53,14 +53,14 @@ module _ {X : Type 0} where
   elsewhere n e es high absent = let k : same_name n e.0 ≡ false = grind (arith, nat_tests) in subst (λ (b : Bool). cond b (Some e.1) (lookup (same_name n) es) ≡ None) k absent
 
   past_cases : (b c : Bool) (n : Name) (o : X) (e : Name × X) (xs ys : List (Name × X)) → e.0.0 < n.0 → ys ≡ cond b (insert_entry name_cmp xs n o) xs
-    → cond c (e ∷ ys) ys ≡ cond b (insert_entry name_cmp (cond c (e ∷ xs) xs) n o) (cond c (e ∷ xs) xs)
+      → cond c (e ∷ ys) ys ≡ cond b (insert_entry name_cmp (cond c (e ∷ xs) xs) n o) (cond c (e ∷ xs) xs)
   past_cases true true n o e xs ys high h = grind (arith, nat_tests)
   past_cases true false n o e xs ys high h = h
   past_cases false true n o e xs ys high h = ap (λ zs. e ∷ zs) h
   past_cases false false n o e xs ys high h = h
 
   past : (p : Name × X → Bool) (n : Name) (o : X) (e : Name × X) (xs ys : List (Name × X)) → e.0.0 < n.0 → ys ≡ cond (p (n, o)) (insert_entry name_cmp xs n o) xs
-    → cond (p e) (e ∷ ys) ys ≡ cond (p (n, o)) (insert_entry name_cmp (cond (p e) (e ∷ xs) xs) n o) (cond (p e) (e ∷ xs) xs)
+      → cond (p e) (e ∷ ys) ys ≡ cond (p (n, o)) (insert_entry name_cmp (cond (p e) (e ∷ xs) xs) n o) (cond (p e) (e ∷ xs) xs)
   past p n o e xs ys high h = past_cases (p (n, o)) (p e) n o e xs ys high h
 
   kept_one : (b : Bool) (e : Name × X) (xs : List (Name × X)) → placed (cond b (Some e) None) xs ≡ cond b (insert_entry name_cmp xs e.0 e.1) xs
@@ -79,7 +79,7 @@ module _ {X : Type 0} where
   rising_insert n o (e ∷ es) h =
       let rest : Rising (insert_entry name_cmp es n o) = rising_insert n o es h.1 in
       three n e.0 (λ xs. Rising xs) ((n, o) ∷ e ∷ es) ((e.0, o) ∷ es) (e ∷ insert_entry name_cmp es n o)
-        (λ low. ((low, above_more n e.0 es low h.0), h)) (λ _. h) (λ high. (above_insert e.0 n o es high h.0, rest))
+      (λ low. ((low, above_more n e.0 es low h.0), h)) (λ _. h) (λ high. (above_insert e.0 n o es high h.0, rest))
 
   pub rising_standing : (ps : List (Option (Name × X))) → Rising (standing ps)
   rising_standing [] = tt
@@ -87,17 +87,17 @@ module _ {X : Type 0} where
   rising_standing (Some e ∷ ps) = rising_insert e.0 e.1 (standing ps) (rising_standing ps)
 
   filter_insert : (p : Name × X → Bool) (n : Name) (o : X) (es : List (Name × X)) → Rising es → lookup (same_name n) es ≡ None
-    → filter p (insert_entry name_cmp es n o) ≡ cond (p (n, o)) (insert_entry name_cmp (filter p es) n o) (filter p es)
+      → filter p (insert_entry name_cmp es n o) ≡ cond (p (n, o)) (insert_entry name_cmp (filter p es) n o) (filter p es)
   filter_insert p n o [] h absent = refl
   filter_insert p n o (e ∷ es) h absent =
       three n e.0 (λ xs. filter p xs ≡ cond (p (n, o)) (insert_entry name_cmp (filter p (e ∷ es)) n o) (filter p (e ∷ es)))
-        ((n, o) ∷ e ∷ es) ((e.0, o) ∷ es) (e ∷ insert_entry name_cmp es n o)
-        (λ low.
-          let above : Above n (filter p (e ∷ es)) = above_filter p n (e ∷ es) (low, above_more n e.0 es low h.0) in
-          ap (λ (xs : List (Name × X)). cond (p (n, o)) xs (filter p (e ∷ es))) (sym (insert_first n o (filter p (e ∷ es)) above)))
-        (λ same. absurd (there n e es same absent))
-        (λ high. past p n o e (filter p es) (filter p (insert_entry name_cmp es n o)) high
-          (filter_insert p n o es h.1 (elsewhere n e es high absent)))
+      ((n, o) ∷ e ∷ es) ((e.0, o) ∷ es) (e ∷ insert_entry name_cmp es n o)
+      (λ low.
+      let above : Above n (filter p (e ∷ es)) = above_filter p n (e ∷ es) (low, above_more n e.0 es low h.0) in
+      ap (λ (xs : List (Name × X)). cond (p (n, o)) xs (filter p (e ∷ es))) (sym (insert_first n o (filter p (e ∷ es)) above)))
+      (λ same. absurd (there n e es same absent))
+      (λ high. past p n o e (filter p es) (filter p (insert_entry name_cmp es n o)) high
+      (filter_insert p n o es h.1 (elsewhere n e es high absent)))
 
   -- the kept ones of the slots, by rising name
   pub standing_kept : (p : Name × X → Bool) (ps : List (Option (Name × X))) → AreApart ps → standing (map (option_filter p) ps) ≡ filter p (standing ps)

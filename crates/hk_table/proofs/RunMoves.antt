@@ -1,26 +1,21 @@
 -- What the state tells after a process waits, is woken or yields.
-use Rattle.std.proofs.Common.{◌≡◌, ℕ, ◌+◌, ◌<◌, true, false, List, [], ◌∷◌, ◌++◌, length, set, drop, Option, Some, None, refl, sym, ap, ◌∙◌, subst, Result, Ok}
-use Rattle.std.specs.Prelude.{slice_get, slice_set, slice_index_or}
+use Rattle.std.proofs.Common.{◌≡◌, ℕ, ◌<◌, List, [], ◌∷◌, ◌++◌, length, drop, Some, None, refl, sym, ap, ◌∙◌, subst, Ok}
+use Rattle.std.specs.Prelude.{slice_get, slice_set}
 use Rattle.hk_model.specs.declared.names.Name.{Name}
 use Rattle.hk_model.specs.declared.names.Proc.{Proc}
-use Rattle.hk_model.specs.declared.calls.Answer.{Answer}
 use Rattle.hk_model.specs.declared.calls.Answer.TheVariants.{Done}
-use Rattle.hk_model.specs.declared.calls.Refusal.{Refusal}
 use Rattle.hk_model.specs.declared.objects.Object.{Object}
 use Rattle.hk_model.specs.declared.objects.Process.{Process}
-use Rattle.hk_model.specs.declared.objects.ProcessState.{ProcessState}
 use Rattle.hk_model.specs.declared.objects.ProcessState.TheVariants.{Ready, Waiting}
-use Rattle.hk_model.specs.State.{State, object, process, put_object, put_process, no_object}
+use Rattle.hk_model.specs.State.{State, object, process, put_object, put_process}
 use Rattle.hk_model.specs.Rule.{Outcome, token_given, yielded}
-use Rattle.hk_objects.specs.declared.body.Body.{Body}
 use Rattle.hk_objects.specs.Shelf.{Shelf}
-use Rattle.hk_objects.specs.Slots.{standing, name_at, AreApart}
+use Rattle.hk_objects.specs.Slots.{name_at, AreApart}
 use Rattle.hk_queues.specs.Queued.{Queued, waiters}
-use Rattle.hk_running.specs.Runners.{process_at, with_run}
-use Rattle.hk_table.specs.Whole.{whole}
+use Rattle.hk_running.specs.Runners.{with_run}
 use Rattle.hk_table.specs.Stacked.{Stacked}
 use Rattle.hk_table.proofs.Opens.{told}
-use Rattle.hk_table.proofs.Whole.{list_written, waiters_read, missing_read}
+use Rattle.hk_table.proofs.Whole.{list_written, waiters_read}
 use Rattle.hk_table.proofs.PartReads.{missing_told}
 
 module _ (objects : Shelf) (q : Queued) (ps : List Process) (st : Stacked) (first_new : Name) (events limit : ℕ) where

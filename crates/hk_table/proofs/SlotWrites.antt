@@ -1,20 +1,18 @@
 -- An entry written into a slot of the top frame of a process.
-use Rattle.std.proofs.Common.{◌≡◌, ◌≢◌, ℕ, zero, suc, ◌+◌, ◌-◌, ◌<◌, ◌≤◌, List, [], ◌∷◌, length, set, Option, Some, None, refl, sym, ap, ◌∙◌, subst, arith, ⊎_elim, option_map}
-use Rattle.std.proofs.Common.{get_or-set_same, get_or-set_other}
+use Rattle.std.proofs.Common.{◌≡◌, ℕ, zero, suc, ◌+◌, ◌-◌, ◌<◌, ◌≤◌, List, [], ◌∷◌, length, set, Option, Some, None, refl, sym, ap, ◌∙◌, subst, arith, option_map}
 use Rattle.std.specs.Prelude.{slice_get, slice_set, slice_index_or, Bool, true, false, cond}
 use Rattle.std.specs.Map.{lookup, set_value}
 use Rattle.std.specs.BTreeMap.{insert_entry}
 use Rattle.std.proofs.lemmas.List.{set-get_or, length-set}
-use Rattle.std.proofs.lemmas.Bool.{cases_eq, cases_lt}
 use Rattle.std.proofs.lemmas.Bool.Decides.{nat_tests}
 use Rattle.hk_model.specs.declared.names.Inc.{Inc}
 use Rattle.hk_model.specs.declared.names.Proc.{Proc}
 use Rattle.hk_model.specs.declared.entries.Entry.{Entry}
 use Rattle.hk_model.specs.declared.objects.Incarnation.{Incarnation}
-use Rattle.hk_model.specs.State.{inc_cmp, same_inc, no_incarnation}
+use Rattle.hk_model.specs.State.{inc_cmp, same_inc}
 use Rattle.hk_spaces.specs.declared.stack.StackFrame.{StackFrame}
 use Rattle.hk_spaces.specs.Slots.{with_slot, with_changed, with_top}
-use Rattle.hk_table.specs.Stacked.{caller_at, incarnation_of, live_with, live_from, frame_at, top_of, slots_of, with_top_of, AreNumbered}
+use Rattle.hk_table.specs.Stacked.{caller_at, incarnation_of, live_with, live_from, frame_at, top_of, with_top_of, AreNumbered}
 use Rattle.hk_table.specs.Joined.{IsCurrentOf, IsCurrent}
 use Rattle.hk_table.proofs.Live.{IsNoneOf, no_frame, live_one, current_one, incarnation_or_none}
 

@@ -1,5 +1,5 @@
 -- What a change of a stack is to the parts of a table, and to the state that they tell.
-use Rattle.std.proofs.Common.{◌≡◌, ℕ, zero, suc, ◌+◌, ◌<◌, ◌≤◌, List, [], ◌∷◌, length, set, get_or, Option, Some, None, refl, sym, ap, ◌∙◌, subst, arith}
+use Rattle.std.proofs.Common.{◌≡◌, ℕ, zero, suc, ◌<◌, ◌≤◌, List, [], ◌∷◌, length, get_or, refl, sym, ap, ◌∙◌, subst, arith}
 use Rattle.std.specs.Prelude.{slice_index_or}
 use Rattle.std.proofs.lemmas.List.{length-set}
 use Rattle.hk_model.specs.declared.names.Name.{Name}
@@ -7,15 +7,14 @@ use Rattle.hk_model.specs.declared.names.Proc.{Proc}
 use Rattle.hk_model.specs.declared.names.Inc.{Inc}
 use Rattle.hk_model.specs.declared.entries.Entry.{Entry}
 use Rattle.hk_model.specs.declared.entries.Entry.TheVariants.{Empty}
-use Rattle.hk_model.specs.declared.objects.Incarnation.{Incarnation}
 use Rattle.hk_model.specs.declared.objects.Process.{Process}
-use Rattle.hk_model.specs.State.{State, process, put_slot}
+use Rattle.hk_model.specs.State.{process, put_slot}
 use Rattle.hk_objects.specs.Shelf.{Shelf}
 use Rattle.hk_queues.specs.Queued.{Queued}
 use Rattle.hk_running.specs.Runners.{process_at}
 use Rattle.hk_walk.specs.Remembered.{Remembered}
 use Rattle.hk_spaces.specs.Slots.{with_top}
-use Rattle.hk_table.specs.Stacked.{Stacked, live_from, with_top_of, AreNumbered}
+use Rattle.hk_table.specs.Stacked.{Stacked, with_top_of, AreNumbered}
 use Rattle.hk_table.specs.Joined.{IsCurrent, IsJoined}
 use Rattle.hk_table.proofs.Opens.{told}
 use Rattle.hk_table.proofs.SlotWrites.{SameFrames, current_same, top_same, top_put}

@@ -1,14 +1,14 @@
 -- What a walk or a target has shown.
-use Rattle.std.proofs.Common.{◌≡◌, ℕ, ◌<◌, Bool, List, [], ◌∷◌, length, Result, Ok, Err, refl, sym, arith}
+use Rattle.std.proofs.Common.{◌≡◌, ℕ, ◌<◌, Bool, List, [], ◌∷◌, length, Result, Ok, Err, refl, arith}
 use Rattle.hk_model.specs.declared.names.Inc.{Inc}
 use Rattle.hk_model.specs.declared.names.Name.{Name}
 use Rattle.hk_model.specs.declared.entries.Cap.{Cap}
 use Rattle.hk_model.specs.declared.entries.Entry.{Entry}
 use Rattle.hk_model.specs.declared.calls.Refusal.{Refusal}
-use Rattle.hk_model.specs.State.{State, incarnation, object}
-use Rattle.hk_model.specs.Refusing.{◌>>=◌, ◌>>◌, unless, allowed, item_at}
-use Rattle.hk_model.specs.Walking.{walk, walk_on, held}
-use Rattle.hk_model.specs.Targets.{target, last_step}
+use Rattle.hk_model.specs.State.{State, incarnation}
+use Rattle.hk_model.specs.Refusing.{◌>>=◌, item_at}
+use Rattle.hk_model.specs.Walking.{walk, walk_on}
+use Rattle.hk_model.specs.Targets.{target}
 
 some_there : {B : Type 0} (es : List Entry) (at step : ℕ) (f : Entry → Result B Refusal) (x : B) → Ok x ≡ (item_at es at step >>= f) → 0 < length es
 some_there [] at step f x e = absurd (cc)

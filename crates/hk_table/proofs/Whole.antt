@@ -1,5 +1,5 @@
 -- What a change of a slot, or of a list of those who wait, is to the objects of the state.
-use Rattle.std.proofs.Common.{◌≡◌, ◌≢◌, ℕ, zero, suc, ◌+◌, ◌<◌, Bool, true, false, cond, List, [], ◌∷◌, length, get_or, set, map, replicate, Option, Some, None, IfSome, refl, ap}
+use Rattle.std.proofs.Common.{◌≡◌, ℕ, zero, suc, ◌<◌, Bool, true, false, cond, List, [], ◌∷◌, length, set, map, replicate, Option, Some, None, IfSome, refl, ap}
 use Rattle.std.proofs.Common.{◌∙◌, sym, subst, arith, option_map}
 use Rattle.std.specs.Prelude.{slice_index_or}
 use Rattle.std.specs.Map.{lookup, set_value}

@@ -1,5 +1,5 @@
 -- Who is woken at a semaphore. docs/RULES.md, "What each call does".
-use Rattle.std.specs.Prelude.{◌≡◌, Bool, true, false, List, [], Ok}
+use Rattle.std.specs.Prelude.{◌≡◌, Bool, true, false, [], Ok}
 use Rattle.hk_model.specs.declared.names.Name.{Name}
 use Rattle.hk_model.specs.declared.calls.Answer.TheVariants.{Done}
 use Rattle.hk_model.specs.State.{State, object}

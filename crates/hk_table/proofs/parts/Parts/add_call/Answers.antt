@@ -1,5 +1,5 @@
-use Rattle.std.proofs.Common.{◌≡◌, ◌<◌, ◌∙◌, length, sym, subst, arith}
-use Rattle.hk_model.specs.State.{State, incarnation, process}
+use Rattle.std.proofs.Common.{◌<◌, length, sym, subst, arith}
+use Rattle.hk_model.specs.State.{State}
 use Rattle.hk_model.specs.Rule.{depth}
 use Rattle.hk_table.proofs.FrameMoves.{depth_is}
 use Rattle.hk_table.proofs.CallMoves.{call_joined, call_told}

@@ -1,4 +1,4 @@
-use Rattle.std.proofs.Common.{◌≡◌, ◌<◌, true, length, sym, subst, arith, None}
+use Rattle.std.proofs.Common.{◌≡◌, true, sym, subst}
 use Rattle.hk_model.specs.State.{State, process}
 use Rattle.hk_model.specs.Processors.{is_running}
 use Rattle.hk_running.specs.Runners.{process_at}

@@ -1,4 +1,4 @@
-use Rattle.std.proofs.Common.{◌≡◌, ◌<◌, ℕ, Some, true, length, sym, subst, arith, ap}
+use Rattle.std.proofs.Common.{◌≡◌, ℕ, Some, true, sym, subst, arith, ap}
 use Rattle.hk_model.specs.State.{State}
 use Rattle.hk_model.specs.Rule.{has_room}
 use Rattle.hk_objects.specs.Shelf.{Shelf, new_body}

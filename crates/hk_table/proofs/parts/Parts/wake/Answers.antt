@@ -1,4 +1,4 @@
-use Rattle.std.proofs.Common.{◌≡◌, ◌<◌, List, length, refl, sym, subst, arith, ◌∙◌, ap}
+use Rattle.std.proofs.Common.{◌<◌, List, length, refl, sym, subst, arith}
 use Rattle.hk_model.specs.declared.objects.Process.{Process}
 use Rattle.hk_model.specs.declared.objects.ProcessState.TheVariants.{Ready}
 use Rattle.hk_queues.specs.Queued.{Queued}
