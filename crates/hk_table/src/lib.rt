@@ -15,6 +15,7 @@ mod finding;
 mod frames;
 mod lists;
 mod making;
+mod objects;
 mod opening;
 mod parts;
 mod procedures;
