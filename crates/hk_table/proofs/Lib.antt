@@ -21,3 +21,4 @@ pub mod EndMoves
 pub mod Makings
 pub mod Restricted
 pub mod KeptMeets
+pub mod Wanting

@@ -11,6 +11,8 @@
 #![tactic(auto)]
 
 mod born;
+mod calls;
+mod creating;
 mod finding;
 mod frames;
 mod lists;
