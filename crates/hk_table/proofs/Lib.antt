@@ -22,3 +22,4 @@ pub mod Makings
 pub mod Restricted
 pub mod KeptMeets
 pub mod Wanting
+pub mod FrameNames

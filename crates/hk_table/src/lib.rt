@@ -15,6 +15,7 @@ mod calls;
 mod creating;
 mod finding;
 mod frames;
+mod laws;
 mod lists;
 mod making;
 mod objects;

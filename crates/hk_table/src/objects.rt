@@ -104,7 +104,13 @@ impl Parts {
     }
 
     /// A new object where there is room, and a capability for it in a slot.
-    pub(crate) fn add_object(&mut self, proc: Proc, slot: usize, new: NewObject, rights: Rights) -> Answer
+    pub(crate) fn add_object(
+        &mut self,
+        proc: Proc,
+        slot: usize,
+        new: NewObject,
+        rights: Rights,
+    ) -> Answer
         requires known { proc.0 < length self.old.processes }
         requires slot { slot < 64 }
         requires room { has_room self.old.objects ≡ true }
