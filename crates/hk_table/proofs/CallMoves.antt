@@ -1,5 +1,6 @@
 -- What a call and a return are to the parts of a table, and to the state that they tell.
-use Rattle.std.proofs.Common.{◌≡◌, ℕ, ◌-◌, ◌<◌, ◌≤◌, Bool, true, false, cond, List, [], ◌∷◌, ◌++◌, length, set, Option, Some, None, refl, sym, ap, ◌∙◌, subst, arith, ⊎_elim, option_map}
+use Rattle.std.proofs.Common.{◌≡◌, ℕ, ◌-◌, ◌<◌, ◌≤◌, Bool, true, false, cond, List, [], ◌∷◌, ◌++◌}
+use Rattle.std.proofs.Common.{length, set, Option, Some, None, refl, sym, ap, ◌∙◌, subst, arith, ⊎_elim, option_map}
 use Rattle.std.specs.Prelude.{slice_set, slice_index_or}
 use Rattle.std.specs.Map.{lookup, remove_entry}
 use Rattle.std.specs.Option.{unwrap_or}
@@ -29,7 +30,8 @@ use Rattle.hk_table.specs.Returns.{GoesBack}
 use Rattle.hk_table.proofs.Opens.{told}
 use Rattle.hk_table.proofs.Live.{live_one, current_slots, no_frame}
 use Rattle.hk_table.proofs.FramePushes.{pushed, last_caller}
-use Rattle.hk_table.proofs.FrameMoves.{push_current_other, push_current, free_number, pop_live, pop_found, pop_was_current, pop_current_other, pop_current, pop_none, pop_below, pop_numbered}
+use Rattle.hk_table.proofs.FrameMoves.{push_current_other, push_current, free_number, pop_live, pop_found}
+use Rattle.hk_table.proofs.FrameMoves.{pop_was_current, pop_current_other, pop_current, pop_none, pop_below, pop_numbered}
 use Rattle.hk_table.proofs.FrameMoves.{caller_none, caller_some}
 use Rattle.hk_table.proofs.QueueMoves.{ended}
 use Rattle.hk_table.proofs.QueueSteps.{idle_running, run_joined, stray_move}

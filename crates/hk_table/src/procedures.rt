@@ -3,9 +3,9 @@
 ghost use Rattle.std.specs.Prelude.{◌≡◌, ◌<◌, ◌≤◌, ◌+◌, ◌^◌, true, length, map, IfOk};
 ghost use Rattle.hk_model.specs.State.{incarnation, process};
 ghost use Rattle.hk_model.specs.Processors.{is_running};
-ghost use Rattle.hk_model.specs.Rule.{slots_at, type_held, argument, enter_procedure, leave, returned_cap, leave_to};
+ghost use Rattle.hk_model.specs.Rule.{slots_at, type_held, argument, enter_procedure, leave, returned_cap};
 ghost use Rattle.hk_table.specs.Giving.{Answers, Gives};
-ghost use Rattle.hk_table.specs.Returns.{without_one};
+ghost use Rattle.hk_table.specs.Returns.{returned_with};
 
 use crate::parts::Parts;
 use hk_calls::{Stop, Wanted, slot_at};
@@ -120,7 +120,7 @@ impl Parts {
     fn return_with(&mut self, proc: Proc, cap: Option<Cap>)
         requires known { proc.0 < length self.old.processes }
         requires runs { is_running (process self.old proc).run ≡ true }
-        ensures { let inc = (process self.old proc).current in self.new ≡ leave_to (without_one self.old inc) proc (incarnation self.old inc).caller (incarnation self.old inc).into.0 cap }
+        ensures { self.new ≡ returned_with self.old proc (process self.old proc).current cap }
     {
         let Some(into) = self.go_back(proc) else {
             return;

@@ -7,7 +7,7 @@ ghost use Rattle.hk_model.specs.State.{object, process, put_object, put_process}
 ghost use Rattle.hk_model.specs.Processors.{is_running};
 ghost use Rattle.hk_model.specs.Rule.{take_token, give_token, token_given, yielded};
 ghost use Rattle.hk_table.specs.Giving.{Answers};
-ghost use Rattle.hk_table.specs.Woken.{Wakes};
+ghost use Rattle.hk_table.specs.Woken.{Wakes, waited};
 
 use crate::finding::slot_of;
 use crate::parts::Parts;
@@ -39,7 +39,7 @@ impl Parts {
     // A process that runs waits at a semaphore, behind the others.
     fn wait(&mut self, proc: Proc, name: Name)
         requires { is_running (process self.old proc).run ≡ true }
-        ensures { self.new ≡ put_process (put_object self.old name (record (object self.old name) { waiters = (object self.old name).waiters ++ proc ∷ [] })) proc (record (process self.old proc) { run = Waiting name }) }
+        ensures { self.new ≡ waited self.old proc name }
     {
         match slot_of(&self.objects, name) {
             Some(slot) => {
