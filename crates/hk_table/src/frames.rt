@@ -3,11 +3,11 @@
 ghost use Rattle.std.specs.Prelude.{◌≡◌, ◌<◌, ◌^◌, true, length, OnOk, OnErr};
 ghost use Rattle.hk_model.specs.State.{incarnation, process};
 ghost use Rattle.hk_model.specs.Processors.{is_running, ended};
-ghost use Rattle.hk_model.specs.Rule.{depth, enter, called_incarnation, leave_to};
-ghost use Rattle.hk_table.specs.Returns.{without_one, GoesBack};
+ghost use Rattle.hk_model.specs.Rule.{depth, enter, called_incarnation};
+ghost use Rattle.hk_table.specs.Returns.{GoesBack};
 
 use crate::parts::Parts;
-use hk_model::{Cap, Entry, Name, NoMemory, Proc, ProcessState, Slot};
+use hk_model::{Name, NoMemory, Proc, ProcessState, Slot};
 use hk_spaces::{Space, StackFrame};
 
 impl Parts {

@@ -1,9 +1,8 @@
 //! The calls on semaphores, P and V, and Yield.
 
-ghost use Rattle.std.specs.Prelude.{◌≡◌, ◌<◌, ◌∷◌, ◌++◌, [], true, length, Ok};
+ghost use Rattle.std.specs.Prelude.{◌≡◌, ◌<◌, [], true, length};
 ghost use Rattle.hk_model.specs.declared.calls.Answer.TheVariants.{Done};
-ghost use Rattle.hk_model.specs.declared.objects.ProcessState.TheVariants.{Waiting};
-ghost use Rattle.hk_model.specs.State.{object, process, put_object, put_process};
+ghost use Rattle.hk_model.specs.State.{object, process, put_object};
 ghost use Rattle.hk_model.specs.Processors.{is_running};
 ghost use Rattle.hk_model.specs.Rule.{take_token, give_token, token_given, yielded};
 ghost use Rattle.hk_table.specs.Giving.{Answers};
