@@ -1,6 +1,6 @@
 //! Slots, and what stands in them.
 
-ghost use Rattle.std.specs.Prelude.{◌≡◌};
+ghost use Rattle.std.specs.Prelude.{◌≡◌, ◌<◌, IfOk};
 ghost use Rattle.hk_model.specs.declared.entries.Entry.TheVariants.{Form};
 ghost use Rattle.hk_model.specs.Targets.{slot_at};
 ghost use Rattle.hk_model.specs.Rule.{looked};
@@ -12,7 +12,8 @@ use hk_model::{Entry, Refusal, Slot, Template};
 ///
 /// `Range` where it is not below 64.
 pub fn slot_at(slot: Slot, step: u8) -> Result<usize, Refusal>
-    ensures { result ≡ slot_at slot step }
+    ensures value { result ≡ slot_at slot step }
+    ensures low { IfOk result (λ at. at < 64) }
 {
     let at = usize::from(slot.0);
     if at < SLOT_LIMIT {

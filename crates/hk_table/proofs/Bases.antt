@@ -1,11 +1,10 @@
 -- The stacks as a world opens.
-use Rattle.std.proofs.Common.{◌≡◌, ℕ, zero, suc, ◌+◌, ◌-◌, ◌<◌, ◌≤◌, List, [], ◌∷◌, ◌++◌, length, get_or, set, take, replicate, Option, Some, None, refl, sym, ap, ◌∙◌, subst}
+use Rattle.std.proofs.Common.{◌≡◌, ℕ, zero, suc, ◌+◌, ◌-◌, ◌<◌, ◌≤◌, List, [], ◌∷◌, ◌++◌, length, get_or, set, take, replicate, Some, refl, sym, ap, ◌∙◌, subst}
 use Rattle.std.proofs.Common.{arith, append_assoc}
-use Rattle.std.specs.Prelude.{slice_get, slice_index_or}
 use Rattle.std.specs.Ordering.{nat_cmp}
 use Rattle.std.specs.declared.cmp.Ordering.TheVariants.{Less}
 use Rattle.std.specs.BTreeMap.{insert_entry}
-use Rattle.std.proofs.lemmas.List.{set_at, take_all, take_more, length-take-le, length-append, length-replicate}
+use Rattle.std.proofs.lemmas.List.{set_at, take_all, take_more, length-take-le}
 use Rattle.std.proofs.lemmas.Bool.Decides.{nat_tests}
 use Rattle.hk_model.specs.declared.names.Inc.{Inc}
 use Rattle.hk_model.specs.declared.entries.Entry.{Entry}
@@ -16,7 +15,7 @@ use Rattle.hk_model.specs.State.{inc_cmp}
 use Rattle.hk_model.specs.Opening.{bases, base_of}
 use Rattle.hk_spaces.specs.Slots.{empty_slots}
 use Rattle.hk_spaces.specs.declared.stack.StackFrame.{StackFrame}
-use Rattle.hk_table.specs.Stacked.{live_with, live_from, frame_at, AreNumbered, base_frame, base_stacks}
+use Rattle.hk_table.specs.Stacked.{live_from, frame_at, AreNumbered, base_frame, base_stacks}
 
 -- the first entries of a name space, and nothing behind them
 pub begun : (space : List Entry) → space ≡ empty_slots → space ≡ take 0 [] ++ replicate (64 - 0) Empty

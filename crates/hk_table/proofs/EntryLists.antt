@@ -1,5 +1,5 @@
 -- The entries of the objects of the state are those in the slots, whoever waits.
-use Rattle.std.proofs.Common.{◌≡◌, ℕ, zero, suc, Bool, true, false, cond, List, [], ◌∷◌, set, map, Option, Some, None, refl, ap, ◌∙◌, sym, arith, option_map}
+use Rattle.std.proofs.Common.{◌≡◌, ℕ, zero, suc, Bool, true, false, cond, List, [], ◌∷◌, map, Option, Some, None, refl, ap, ◌∙◌, sym, arith, option_map}
 use Rattle.std.specs.Map.{lookup}
 use Rattle.std.specs.Option.{unwrap_or}
 use Rattle.std.specs.BTreeMap.{insert_entry}
@@ -8,22 +8,22 @@ use Rattle.hk_model.specs.declared.names.Name.{Name}
 use Rattle.hk_model.specs.declared.names.Proc.{Proc}
 use Rattle.hk_model.specs.declared.entries.Entry.{Entry}
 use Rattle.hk_model.specs.declared.objects.Object.{Object}
-use Rattle.hk_model.specs.State.{State, object, no_object, name_cmp, same_name}
+use Rattle.hk_model.specs.State.{object, no_object, name_cmp, same_name}
 use Rattle.hk_objects.specs.declared.body.Body.{Body}
-use Rattle.hk_objects.specs.Slots.{placed, standing, place, change}
+use Rattle.hk_objects.specs.Slots.{standing, change}
 use Rattle.hk_walk.specs.Walks.{seen, shown_at}
-use Rattle.hk_table.specs.Whole.{whole, with_waiters}
+use Rattle.hk_table.specs.Whole.{whole}
 use Rattle.hk_table.proofs.Whole.{object_in}
 
 -- each object stands where what is read of it stands
-abbrev read : {A B : Type 0} → (A → B) → Name × A → Name × B
+abbrev pub read : {A B : Type 0} → (A → B) → Name × A → Name × B
 read f e = (e.0, f e.1)
 
-insert-read : {A B : Type 0} (f : A → B) (es : List (Name × A)) (n : Name) (o : A) → map (read f) (insert_entry name_cmp es n o) ≡ insert_entry name_cmp (map (read f) es) n (f o)
+pub insert-read : {A B : Type 0} (f : A → B) (es : List (Name × A)) (n : Name) (o : A) → map (read f) (insert_entry name_cmp es n o) ≡ insert_entry name_cmp (map (read f) es) n (f o)
 insert-read f [] n o = refl
 insert-read f (e ∷ es) n o = grind (arith, nat_tests, insert-read f es n o)
 
-standing-read : {A B : Type 0} (f : A → B) (ps : List (Option (Name × A))) → standing (map (option_map (read f)) ps) ≡ map (read f) (standing ps)
+pub standing-read : {A B : Type 0} (f : A → B) (ps : List (Option (Name × A))) → standing (map (option_map (read f)) ps) ≡ map (read f) (standing ps)
 standing-read f [] = refl
 standing-read f (None ∷ ps) = standing-read f ps
 standing-read {A} {B} f (Some e ∷ ps) = ap (λ (es : List (Name × B)). insert_entry name_cmp es e.0 (f e.1)) (standing-read f ps) ∙ sym (insert-read f (standing ps) e.0 e.1)
@@ -47,7 +47,7 @@ of_one : (o : Option Object) → (unwrap_or o no_object).entries ≡ unwrap_or (
 of_one None = refl
 of_one (Some o) = refl
 
-read-whole : (ps : List (Option (Name × Body))) (ws : List (List Proc)) → map (option_map (read (λ (o : Object). o.entries))) (whole ps ws) ≡ map entries_at ps
+pub read-whole : (ps : List (Option (Name × Body))) (ws : List (List Proc)) → map (option_map (read (λ (o : Object). o.entries))) (whole ps ws) ≡ map entries_at ps
 read-whole [] ws = refl
 read-whole (None ∷ ps) [] = ap (λ (es : List (Option (Name × List Entry))). None ∷ es) (read-whole ps [])
 read-whole (Some e ∷ ps) [] = ap (λ (es : List (Option (Name × List Entry))). Some (e.0, e.1.entries) ∷ es) (read-whole ps [])

@@ -1,5 +1,5 @@
 -- The objects and incarnations, put in by rising number from the last on.
-use Rattle.std.proofs.Common.{◌≡◌, ℕ, zero, suc, ◌+◌, ◌-◌, ◌<◌, ◌≤◌, true, List, [], ◌∷◌, length, get_or, drop, Option, Some, None, IfSome, refl, sym, ap, ◌∙◌, subst, arith}
+use Rattle.std.proofs.Common.{◌≡◌, ℕ, zero, suc, ◌-◌, ◌<◌, ◌≤◌, true, List, [], ◌∷◌, length, drop, Option, Some, None, IfSome, refl, sym, ap, ◌∙◌, arith}
 use Rattle.std.proofs.Common.{option_map}
 use Rattle.std.specs.Prelude.{slice_get, slice_index_or}
 use Rattle.std.specs.BTreeMap.{insert_entry}
@@ -9,10 +9,10 @@ use Rattle.hk_model.specs.declared.names.Proc.{Proc}
 use Rattle.hk_model.specs.declared.objects.Object.{Object}
 use Rattle.hk_model.specs.declared.objects.Incarnation.{Incarnation}
 use Rattle.hk_model.specs.declared.objects.Process.{Process}
-use Rattle.hk_model.specs.declared.objects.ProcessState.TheVariants.{Ready, Ended}
+use Rattle.hk_model.specs.declared.objects.ProcessState.TheVariants.{Ready}
 use Rattle.hk_model.specs.State.{name_cmp, inc_cmp}
 use Rattle.hk_objects.specs.declared.body.Body.{Body}
-use Rattle.hk_objects.specs.Slots.{placed, standing, place, name_at}
+use Rattle.hk_objects.specs.Slots.{standing, place, name_at}
 use Rattle.hk_queues.specs.Queued.{Queued, is_queued}
 use Rattle.hk_running.specs.Runners.{process_at}
 use Rattle.hk_spaces.specs.declared.stack.StackFrame.{StackFrame}

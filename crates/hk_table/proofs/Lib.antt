@@ -9,3 +9,17 @@ pub mod PartReads
 pub mod WalkSteps
 pub mod QueueWalks
 pub mod InOrder
+pub mod SlotWrites
+pub mod StackMoves
+pub mod QueueSteps
+pub mod RunMoves
+pub mod FramePushes
+pub mod FrameMoves
+pub mod CallMoves
+pub mod TargetLemmas
+pub mod EndMoves
+pub mod Makings
+pub mod Restricted
+pub mod KeptMeets
+pub mod Wanting
+pub mod FrameNames

@@ -1,5 +1,5 @@
 -- What a frame is among the live incarnations.
-use Rattle.std.proofs.Common.{◌≡◌, ◌≢◌, ℕ, zero, suc, ◌+◌, ◌-◌, ◌<◌, ◌≤◌, List, [], ◌∷◌, length, Option, Some, None, refl, sym, ap, ◌∙◌, subst, arith}
+use Rattle.std.proofs.Common.{◌≡◌, ℕ, zero, suc, ◌+◌, ◌-◌, List, [], ◌∷◌, length, Option, Some, None, refl, sym, ap, ◌∙◌, arith}
 use Rattle.std.specs.Prelude.{slice_get, slice_index_or}
 use Rattle.std.specs.Map.{lookup}
 use Rattle.std.specs.Option.{unwrap_or}
@@ -7,7 +7,6 @@ use Rattle.std.specs.BTreeMap.{insert_entry}
 use Rattle.std.proofs.lemmas.Bool.Decides.{nat_tests}
 use Rattle.hk_model.specs.declared.names.Inc.{Inc}
 use Rattle.hk_model.specs.declared.names.Proc.{Proc}
-use Rattle.hk_model.specs.declared.entries.Entry.{Entry}
 use Rattle.hk_model.specs.declared.objects.Incarnation.{Incarnation}
 use Rattle.hk_model.specs.State.{inc_cmp, same_inc, no_incarnation}
 use Rattle.hk_spaces.specs.declared.stack.StackFrame.{StackFrame}
@@ -18,7 +17,7 @@ abbrev Ones : Type 0
 Ones = List (Inc × Incarnation)
 
 -- found again after another was put in
-lookup-insert_same : (n : Inc) (o : Incarnation) (es : Ones) → lookup (same_inc n) (insert_entry inc_cmp es n o) ≡ Some o
+pub lookup-insert_same : (n : Inc) (o : Incarnation) (es : Ones) → lookup (same_inc n) (insert_entry inc_cmp es n o) ≡ Some o
 lookup-insert_same n o [] = grind (arith, nat_tests)
 lookup-insert_same n o (e ∷ es) = grind (arith, nat_tests, lookup-insert_same n o es)
 

@@ -1,5 +1,5 @@
 -- The objects as a world opens.
-use Rattle.std.proofs.Common.{◌≡◌, ◌≢◌, ℕ, zero, suc, ◌+◌, ◌<◌, ◌≤◌, List, [], ◌∷◌, ◌++◌, length, get_or, set, take, map, replicate, Option, Some, None, IsSome, IfSome, refl, sym}
+use Rattle.std.proofs.Common.{◌≡◌, ℕ, zero, suc, ◌+◌, ◌<◌, ◌≤◌, List, [], ◌∷◌, ◌++◌, length, get_or, set, take, map, replicate, Option, Some, None, IsSome, refl, sym}
 use Rattle.std.proofs.Common.{ap, ◌∙◌, subst, arith, append_assoc, option_map, get_or-set_same}
 use Rattle.std.specs.Ordering.{nat_cmp}
 use Rattle.std.specs.declared.cmp.Ordering.TheVariants.{Greater}
@@ -15,7 +15,7 @@ use Rattle.hk_model.specs.declared.world.Born.{Born}
 use Rattle.hk_model.specs.State.{name_cmp, no_object}
 use Rattle.hk_model.specs.Opening.{numbered, object_of}
 use Rattle.hk_objects.specs.declared.body.Body.{Body}
-use Rattle.hk_objects.specs.Slots.{placed, standing, place, name_at, AreApart, change}
+use Rattle.hk_objects.specs.Slots.{standing, place, name_at, change}
 use Rattle.hk_objects.specs.Shelf.{Shelf, new_body}
 use Rattle.hk_objects.proofs.Standing.{standing_make}
 use Rattle.hk_walk.specs.Walks.{shown, shown_at}

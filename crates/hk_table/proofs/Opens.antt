@@ -1,15 +1,13 @@
 -- The queues as a world opens, and the parts of a table joined.
-use Rattle.std.proofs.Common.{◌≡◌, ℕ, zero, suc, ◌+◌, ◌-◌, ◌<◌, ◌≤◌, ◌==◌, ◌||◌, Bool, true, false, List, [], ◌∷◌, ◌++◌, length, get_or, take, map, replicate, Option, Some, None}
+use Rattle.std.proofs.Common.{◌≡◌, ℕ, zero, suc, ◌+◌, ◌-◌, ◌<◌, ◌≤◌, ◌==◌, ◌||◌, Bool, true, false, List, [], ◌∷◌, ◌++◌, length, get_or, take, map, replicate, Option, Some}
 use Rattle.std.proofs.Common.{refl, sym, ap, ◌∙◌, subst, arith}
 use Rattle.std.specs.Prelude.{slice_get, slice_index_or}
 use Rattle.std.specs.List.{list_any}
 use Rattle.std.proofs.lemmas.List.{length-replicate, length-take-le, take_more}
 use Rattle.std.proofs.lemmas.Bool.Decides.{nat_tests}
 use Rattle.hk_model.specs.declared.names.Name.{Name}
-use Rattle.hk_model.specs.declared.names.Inc.{Inc}
 use Rattle.hk_model.specs.declared.names.Proc.{Proc}
 use Rattle.hk_model.specs.declared.entries.Entry.{Entry}
-use Rattle.hk_model.specs.declared.objects.Object.{Object}
 use Rattle.hk_model.specs.declared.objects.Process.{Process}
 use Rattle.hk_model.specs.declared.objects.ProcessState.TheVariants.{Ready}
 use Rattle.hk_model.specs.declared.world.Task.{Task}
@@ -20,7 +18,7 @@ use Rattle.hk_model.specs.Processors.{is_running}
 use Rattle.hk_model.specs.Opening.{all_ready, proc_numbers, bases, opening, object_of}
 use Rattle.hk_objects.specs.declared.body.Body.{Body}
 use Rattle.hk_objects.specs.Shelf.{Shelf}
-use Rattle.hk_objects.specs.Slots.{standing, name_at}
+use Rattle.hk_objects.specs.Slots.{standing}
 use Rattle.hk_table.specs.Born.{named}
 use Rattle.hk_running.specs.Runners.{process_at}
 use Rattle.hk_queues.specs.Queued.{Queued, IsIdle, waiters, is_queued}
@@ -125,15 +123,20 @@ opened_queues slots q ps tasks all ready waiting processes = record {
 }
 
 pub opened_joined : (objects : Shelf) (q : Queued) (ps : List Process) (st : Stacked) (w : Remembered) (tasks : List Task) → AreQueued objects.slots q ps → ps ≡ all_ready 0 tasks
-    → st.stacks ≡ base_stacks 0 tasks
+    → st.stacks ≡ base_stacks 0 tasks → st.next.0 ≡ length tasks
     → w ≡ record { capacity = 256; pairs = [] } → IsJoined objects q ps st w
-opened_joined objects q ps st w tasks queued processes stacks none = record {
+opened_joined objects q ps st w tasks queued processes stacks next none = record {
   queued = queued;
   stacked = ap (λ (s : List (List StackFrame)). length s) stacks ∙ as_many_stacks 0 tasks ∙ sym (ap (λ (p : List Process). length p) processes ∙ as_many_ready 0 tasks);
   current = λ n low.
       let inside : n < length tasks = omega (arith, ap (λ (p : List Process). length p) processes, as_many_ready 0 tasks) in
       subst (λ (s : List (List StackFrame)). IsCurrent s (process_at ps n).current n) (sym stacks)
       (subst (λ (p : List Process). IsCurrent (base_stacks 0 tasks) (process_at p n).current n) (sym processes) (base_current tasks n inside));
+  known = λ n low.
+      let inside : n < length tasks = omega (arith, ap (λ (p : List Process). length p) processes, as_many_ready 0 tasks) in
+      let is : (process_at ps n).current.0 ≡ 0 + n =
+      ap (λ (p : List Process). (process_at p n).current.0) processes ∙ ap (λ (p : Process). p.current.0) (opened_at 0 tasks n inside) in
+      omega (arith, is, next, inside);
   right = subst (λ (v : Remembered). AreRight (seen objects.slots) v.pairs) (sym none) (right_none (seen objects.slots));
 }
 

@@ -1,11 +1,10 @@
 -- The parts of an object of the state, read and written in its slot.
-use Rattle.std.proofs.Common.{◌≡◌, ℕ, ◌+◌, ◌<◌, List, [], ◌∷◌, length, set, Option, Some, None, IfSome, refl, ap, ◌∙◌, sym, subst, Result, Ok, Err, option_map}
-use Rattle.std.specs.Prelude.{slice_index_or}
+use Rattle.std.proofs.Common.{◌≡◌, ℕ, List, [], Option, Some, IfSome, ap, ◌∙◌, sym, subst}
 use Rattle.hk_model.specs.declared.names.Name.{Name}
 use Rattle.hk_model.specs.declared.names.Proc.{Proc}
 use Rattle.hk_model.specs.declared.objects.Object.{Object}
 use Rattle.hk_model.specs.declared.objects.Process.{Process}
-use Rattle.hk_model.specs.State.{State, object, put_object, no_object}
+use Rattle.hk_model.specs.State.{object, put_object, no_object}
 use Rattle.hk_objects.specs.declared.body.Body.{Body}
 use Rattle.hk_objects.specs.Shelf.{Shelf}
 use Rattle.hk_objects.specs.Slots.{standing, place, name_at, AreApart, change}
@@ -13,10 +12,10 @@ use Rattle.hk_objects.proofs.Standing.{name_at_change}
 use Rattle.hk_queues.specs.Queued.{Queued}
 use Rattle.hk_walk.specs.Remembered.{Remembered}
 use Rattle.hk_walk.specs.Walks.{seen, AreRight}
-use Rattle.hk_walk.proofs.Kept.{right_same}
+use Rattle.hk_walk.proofs.Kept.{right_same, right_none}
 use Rattle.hk_table.specs.Whole.{whole, whole_object}
 use Rattle.hk_table.specs.Stacked.{Stacked}
-use Rattle.hk_table.specs.Joined.{AreQueued, IsJoined}
+use Rattle.hk_table.specs.Joined.{IsJoined}
 use Rattle.hk_table.proofs.Opens.{told}
 use Rattle.hk_table.proofs.Whole.{object_in, part_read, part_written, missing_read, missing_stays}
 use Rattle.hk_table.proofs.EntryLists.{lists_stay}
@@ -46,7 +45,26 @@ part_joined objects new q ps st w s f same h e = subst (λ (v : Shelf). IsJoined
   };
   stacked = h.stacked;
   current = h.current;
+  known = h.known;
   right = right_same (seen objects.slots) (seen (change objects.slots s f)) (lists_stay objects.slots s f same) w.pairs h.right;
+})
+
+-- the same of a part that walks go by, where none is remembered
+pub part_forgot : (objects new : Shelf) (q : Queued) (ps : List Process) (st : Stacked) (w forgot : Remembered) (s : ℕ) (f : Body → Body) → IsJoined objects q ps st w
+    → new ≡ record objects { slots = change objects.slots s f } → forgot ≡ record w { pairs = [] } → IsJoined new q ps st forgot
+part_forgot objects new q ps st w forgot s f h e none = subst (λ (v : Shelf). IsJoined v q ps st forgot) (sym e) (record {
+  queued = record {
+    lists = h.queued.lists;
+    all = h.queued.all;
+    ready = h.queued.ready;
+    waiting = λ k proc in'. let v = h.queued.waiting k proc in' in (v.0, name_at_change objects.slots s f k ∙ v.1, v.2);
+    ready_once = h.queued.ready_once;
+    waiting_once = h.queued.waiting_once;
+  };
+  stacked = h.stacked;
+  current = h.current;
+  known = h.known;
+  right = subst (λ (v : Remembered). AreRight (seen (change objects.slots s f)) v.pairs) (sym none) (right_none (seen (change objects.slots s f)));
 })
 
 pub part_told : (objects new : Shelf) (q : Queued) (ps : List Process) (st : Stacked) (first_new : Name) (events limit s : ℕ) (n : Name) (f : Body → Body) (g : Object → Object)

@@ -1,7 +1,7 @@
 -- What keeps the queues and the processes together.
-use Rattle.std.proofs.Common.{◌≡◌, ℕ, zero, suc, ◌+◌, ◌-◌, ◌<◌, ◌≤◌, ◌==◌, ◌||◌, Bool, true, false, List, [], ◌∷◌, ◌++◌, length, set, drop, Option, Some, None, refl, sym, ap, ◌∙◌}
+use Rattle.std.proofs.Common.{◌≡◌, ℕ, ◌<◌, ◌==◌, ◌||◌, Bool, true, false, List, [], ◌∷◌, length, drop, Some, refl, sym, ap, ◌∙◌}
 use Rattle.std.proofs.Common.{subst, arith, ⊎_elim}
-use Rattle.std.specs.Prelude.{slice_get, slice_set, slice_index_or}
+use Rattle.std.specs.Prelude.{slice_get}
 use Rattle.std.proofs.lemmas.List.{length-set}
 use Rattle.std.proofs.lemmas.Bool.{cases_eq}
 use Rattle.std.proofs.lemmas.Bool.Decides.{nat_tests}
@@ -12,18 +12,15 @@ use Rattle.hk_model.specs.declared.names.Cpu.{Cpu}
 use Rattle.hk_model.specs.declared.objects.Process.{Process}
 use Rattle.hk_model.specs.declared.objects.ProcessState.{ProcessState}
 use Rattle.hk_model.specs.declared.objects.ProcessState.TheVariants.{Ready, Running, Waiting, Ended}
-use Rattle.hk_objects.specs.declared.body.Body.{Body}
 use Rattle.hk_objects.specs.Shelf.{Shelf}
-use Rattle.hk_objects.specs.Slots.{name_at}
 use Rattle.hk_queues.specs.Queued.{Queued, waiters, is_queued}
 use Rattle.hk_running.specs.Runners.{process_at, with_run}
 use Rattle.hk_running.proofs.RunnerLemmas.{set_same, set_other}
-use Rattle.hk_spaces.specs.declared.stack.StackFrame.{StackFrame}
 use Rattle.hk_walk.specs.Remembered.{Remembered}
 use Rattle.hk_table.specs.Stacked.{Stacked}
-use Rattle.hk_table.specs.Joined.{AreOnce, AreQueued, IsCurrent, IsJoined}
+use Rattle.hk_table.specs.Joined.{AreOnce, IsCurrent, IsJoined}
 
-abbrev ended : Process
+abbrev pub ended : Process
 ended = record { run = Ended; current = record { 0 = 0 } }
 
 -- what the processes do after one of them does something else
@@ -44,21 +41,21 @@ current_stays ps proc run q there =
     (λ (other : q ≡ proc.0 → ⊥). ap (λ (p : Process). p.current) (run_other ps proc run q other))
     (cases_eq q proc.0)
 
-same_proc : (p q : Proc) → p.0 ≡ q.0 → p ≡ q
+pub same_proc : (p q : Proc) → p.0 ≡ q.0 → p ≡ q
 same_proc p q e = ap (λ (n : ℕ). let r : Proc = record { 0 = n } in r) e
 
 -- who is first in a list is in it, and who is behind is
-first_queued : (first : Proc) (rest : List Proc) → is_queued first (first ∷ rest) ≡ true
+pub first_queued : (first : Proc) (rest : List Proc) → is_queued first (first ∷ rest) ≡ true
 first_queued first rest = let e : (first.0 == first.0) ≡ true = grind (arith, nat_tests) in rw e refl
 
-behind_queued : (proc first : Proc) (rest : List Proc) → is_queued proc rest ≡ true → is_queued proc (first ∷ rest) ≡ true
+pub behind_queued : (proc first : Proc) (rest : List Proc) → is_queued proc rest ≡ true → is_queued proc (first ∷ rest) ≡ true
 behind_queued proc first rest h = rw h (either (proc.0 == first.0)) where
   either : (b : Bool) → (b || true) ≡ true
   either true = refl
   either false = refl
 
 -- the first of a list, and the rest
-split_first : (procs : List Proc) (first : Proc) → Some first ≡ slice_get procs 0 → procs ≡ first ∷ drop 1 procs
+pub split_first : (procs : List Proc) (first : Proc) → Some first ≡ slice_get procs 0 → procs ≡ first ∷ drop 1 procs
 split_first [] first e = absurd (cc)
 split_first (p ∷ procs) first e = let same : p ≡ first = cc in ap (λ (q : Proc). q ∷ procs) same
 
@@ -106,5 +103,8 @@ module _ (objects : Shelf) (q r : Queued) (ps : List Process) (st : Stacked) (w 
         current = λ n low.
             let inside : n < length ps = omega (arith, many) in
             subst (λ (inc : Inc). IsCurrent st.stacks inc n) (sym (current_stays ps first (Running cpu) n inside)) (h.current n inside);
+        known = λ n low.
+            let inside : n < length ps = omega (arith, many) in
+            subst (λ (inc : Inc). inc.0 < st.next.0) (sym (current_stays ps first (Running cpu) n inside)) (h.known n inside);
         right = h.right;
       }

@@ -1,7 +1,6 @@
 -- The steps of a walk in a table.
-use Rattle.std.proofs.Common.{◌≡◌, ℕ, zero, suc, ◌<◌, ◌≤◌, List, [], ◌∷◌, length, get_or, Option, Some, None, refl, ap, ◌∙◌, sym, subst, Result, Ok, Err, arith}
-use Rattle.std.specs.Prelude.{slice_get, slice_index_or}
-use Rattle.hk_model.specs.declared.names.Inc.{Inc}
+use Rattle.std.proofs.Common.{◌≡◌, ℕ, zero, suc, ◌<◌, ◌≤◌, List, [], ◌∷◌, length, get_or, refl, ap, ◌∙◌, sym, Result, Ok, Err, arith}
+use Rattle.std.specs.Prelude.{slice_index_or}
 use Rattle.hk_model.specs.declared.names.Proc.{Proc}
 use Rattle.hk_model.specs.declared.names.Name.{Name}
 use Rattle.hk_model.specs.declared.entries.Cap.{Cap}
@@ -10,15 +9,15 @@ use Rattle.hk_model.specs.declared.entries.Entry.TheVariants.{Empty, Held, Form}
 use Rattle.hk_model.specs.declared.calls.Refusal.{Refusal}
 use Rattle.hk_model.specs.declared.calls.Refusal.TheVariants as refused
 use Rattle.hk_model.specs.declared.objects.Process.{Process}
-use Rattle.hk_model.specs.State.{State, incarnation, process, object}
-use Rattle.hk_model.specs.Refusing.{◌>>=◌, ◌>>◌, item_at}
-use Rattle.hk_model.specs.Walking.{walk, walk_on, held}
+use Rattle.hk_model.specs.State.{State, incarnation, process}
+use Rattle.hk_model.specs.Refusing.{item_at}
+use Rattle.hk_model.specs.Walking.{walk_on, held}
 use Rattle.hk_objects.specs.Shelf.{Shelf}
 use Rattle.hk_queues.specs.Queued.{Queued}
 use Rattle.hk_running.specs.Runners.{process_at}
 use Rattle.hk_walk.specs.Walks.{seen}
 use Rattle.hk_walk.proofs.Kept.{walk_same}
-use Rattle.hk_table.specs.Stacked.{Stacked, live_from, top_of, slots_of, AreNumbered}
+use Rattle.hk_table.specs.Stacked.{Stacked, top_of, slots_of, AreNumbered}
 use Rattle.hk_table.specs.Joined.{IsCurrent}
 use Rattle.hk_table.proofs.Opens.{told}
 use Rattle.hk_table.proofs.Live.{current_slots}

@@ -1,5 +1,5 @@
 -- What a change of a slot, or of a list of those who wait, is to the objects of the state.
-use Rattle.std.proofs.Common.{◌≡◌, ◌≢◌, ℕ, zero, suc, ◌+◌, ◌<◌, Bool, true, false, cond, List, [], ◌∷◌, length, get_or, set, map, replicate, Option, Some, None, IfSome, refl, ap}
+use Rattle.std.proofs.Common.{◌≡◌, ℕ, zero, suc, ◌<◌, Bool, true, false, cond, List, [], ◌∷◌, length, set, map, replicate, Option, Some, None, IfSome, refl, ap}
 use Rattle.std.proofs.Common.{◌∙◌, sym, subst, arith, option_map}
 use Rattle.std.specs.Prelude.{slice_index_or}
 use Rattle.std.specs.Map.{lookup, set_value}
@@ -44,6 +44,12 @@ name_at-whole ps ws s = ap (option_map (λ (e : Name × Object). e.0)) (place-wh
 pub apart-whole : (ps : List (Option (Name × Body))) (ws : List (List Proc)) → AreApart ps → AreApart (whole ps ws)
 apart-whole ps ws apart i j n a b = apart i j n (sym (name_at-whole ps ws i) ∙ a) (sym (name_at-whole ps ws j) ∙ b)
 
+-- a slot with a name is one of all
+pub named_low : (ps : List (Option (Name × Body))) (s m : ℕ) (n : Name) → length ps ≡ m → name_at ps s ≡ Some n → s < m
+named_low [] s m n size named = absurd (cc)
+named_low (p ∷ ps) zero m n size named = omega (arith, size)
+named_low (p ∷ ps) (suc s) m n size named = let h = named_low ps s (length ps) n refl named in omega (arith, h, size)
+
 -- a slot written
 pub whole-set : (ps : List (Option (Name × Body))) (ws : List (List Proc)) (s : ℕ) (p : Option (Name × Body))
     → whole (set ps s p) ws ≡ set (whole ps ws) s (with_waiters p (slice_index_or ws s []))
@@ -85,6 +91,12 @@ module _ (ps : List (Option (Name × Body))) (ws : List (List Proc)) (s : ℕ) (
 
   pub words_inside : (at : ℕ) → at < length (object_in (standing (whole ps ws)) n).words → IfSome (place ps s) (λ e. at < length e.1.words)
   words_inside at low = subst (λ (p : Option (Name × Body)). IfSome p (λ e. at < length e.1.words)) (sym there.1) (subst (λ (o : Object). at < length o.words) found low)
+
+  -- what holds of a number of the object holds of what stands in its slot
+  pub holds_inside : (f : Body → ℕ) (g : Object → ℕ) → ((b : Body) (procs : List Proc) → g (whole_object b procs) ≡ f b) → (P : ℕ → Type 0)
+      → P (g (object_in (standing (whole ps ws)) n)) → IfSome (place ps s) (λ e. P (f e.1))
+  holds_inside f g same P h =
+      subst (λ (p : Option (Name × Body)). IfSome p (λ e. P (f e.1))) (sym there.1) (subst P (ap g found ∙ same there.0 (slice_index_or ws s [])) h)
 
   -- the waiters
   pub waiters_read : slice_index_or ws s [] ≡ (object_in (standing (whole ps ws)) n).waiters

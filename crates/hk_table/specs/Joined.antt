@@ -39,11 +39,12 @@ pub record AreQueued (slots : List (Option (Name × Body))) (q : Queued) (ps : L
   pub ready_once : AreOnce q.ready
   pub waiting_once : (s : ℕ) → AreOnce (waiters q s)
 
--- the parts of a table: each process has its queue and its stack, and what is remembered of walks is right
+-- the parts of a table: each process has its queue and its stack, the number of its current incarnation was given, and what is remembered of walks is right
 pub record IsJoined (objects : Shelf) (q : Queued) (ps : List Process) (st : Stacked) (w : Remembered) : Type 0 where
   pub queued : AreQueued objects.slots q ps
   pub stacked : length st.stacks ≡ length ps
   pub current : (n : ℕ) → n < length ps → IsCurrent st.stacks (process_at ps n).current n
+  pub known : (n : ℕ) → n < length ps → (process_at ps n).current.0 < st.next.0
   pub right : AreRight (seen objects.slots) w.pairs
 
 -- the numbers that objects and incarnations take next never run out: an event takes one of each at most, and a world opens

@@ -3,3 +3,7 @@ pub mod Stacked
 pub mod Joined
 pub mod Born
 pub mod Giving
+pub mod Woken
+pub mod Additions
+pub mod Returns
+pub mod Settled

@@ -1,8 +1,9 @@
 -- The live incarnations, from the stacks of the processes. docs/RULES.md, "Objects, incarnations, processes".
-use Rattle.std.specs.Prelude.{◌≡◌, ℕ, zero, suc, ◌+◌, ◌-◌, ◌<◌, false, List, [], ◌∷◌, ◌++◌, length, replicate, Option, Some, None, slice_get, slice_index_or}
+use Rattle.std.specs.Prelude.{◌≡◌, ℕ, zero, suc, ◌+◌, ◌-◌, ◌<◌, false, List, [], ◌∷◌, ◌++◌, length, replicate, Option, Some, None, slice_get, slice_set, slice_index_or}
 use Rattle.std.specs.BTreeMap.{insert_entry}
 use Rattle.hk_model.specs.declared.names.Inc.{Inc}
 use Rattle.hk_model.specs.declared.names.Proc.{Proc}
+use Rattle.hk_model.specs.declared.names.Slot.{Slot}
 use Rattle.hk_model.specs.declared.entries.Entry.{Entry}
 use Rattle.hk_model.specs.declared.entries.Entry.TheVariants.{Empty}
 use Rattle.hk_model.specs.declared.objects.Incarnation.{Incarnation}
@@ -10,6 +11,7 @@ use Rattle.hk_model.specs.declared.world.Task.{Task}
 use Rattle.hk_model.specs.Limits.{slot_limit}
 use Rattle.hk_model.specs.State.{inc_cmp}
 use Rattle.hk_spaces.specs.declared.stack.StackFrame.{StackFrame}
+use Rattle.hk_spaces.specs.Slots.{with_top}
 
 -- the stacks by process, the base of each first, and the number that the next incarnation takes
 pub record Stacked : Type 0 where
@@ -63,3 +65,16 @@ top_of fs = slice_get fs (length fs - 1)
 abbrev pub slots_of : Option StackFrame → List Entry
 slots_of None = []
 slots_of (Some f) = f.space
+
+-- the stacks with an entry in a slot of the top frame of a process
+abbrev pub with_top_of : List (List StackFrame) → ℕ → ℕ → Entry → List (List StackFrame)
+with_top_of stacks q slot entry = slice_set stacks q (with_top (slice_index_or stacks q []) slot entry)
+
+-- a frame more on the stack of a process, which has the next number
+abbrev pub with_frame : Stacked → ℕ → StackFrame → Stacked
+with_frame st q f = record { stacks = slice_set st.stacks q (slice_index_or st.stacks q [] ++ f ∷ []); next = record { 0 = st.next.0 + 1 } }
+
+-- the top frame of a process has gone, and this slot takes what it returns; or there was none
+abbrev pub Pops : List (List StackFrame) → ℕ → Option Slot → List (List StackFrame) → Type 0
+Pops old q None new = (slice_index_or old q [] ≡ []) × (new ≡ old)
+Pops old q (Some into) new = (fs : List StackFrame) × (f : StackFrame) × (slice_index_or old q [] ≡ fs ++ f ∷ []) × (f.into ≡ into) × (new ≡ slice_set old q fs)

@@ -16,8 +16,8 @@ use hk_model::{Born, Entries, Kind, Name, NoMemory, Params, Words};
 use hk_objects::{Objects, SlotNo};
 use std::alloc::Global;
 
-// One more object of a table that has room.
-fn make(objects: &mut Objects, of: Name, words: Words, entries: Entries) -> SlotNo
+/// One more object of a table that has room, and the slot in which it stands.
+pub(crate) fn make(objects: &mut Objects, of: Name, words: Words, entries: Entries) -> SlotNo
     requires room { length (standing objects.old.slots) < 65536 }
     requires next { objects.old.next.0 < 2 ^ 63 }
     ensures slot { result.0 < length objects.old.slots }

@@ -22,10 +22,13 @@ fn slot_on<L: Ledger>(objects: &Objects, name: Name, blank: Blank) -> Option<Slo
 }
 
 /// The slot of the object of a name. None exactly where no object has the name.
+#[tactic(auto, using(crate::proofs::Whole::named_low))]
 pub(crate) fn slot_of(objects: &Objects, name: Name) -> Option<SlotNo>
     ensures found { IfSome result (λ slot. name_at objects.now.slots slot.0 ≡ Some name) }
     ensures none { IfNone result ((k : ℕ) → name_at objects.now.slots k ≡ Some name → ⊥) }
     ensures apart { AreApart objects.now.slots }
+    ensures low { IfSome result (λ slot. slot.0 < 65536) }
 {
+    let _next = objects.next_name(); // so that the check knows how many slots there are
     slot_on::<Brand>(objects, name, Blank::new(1))
 }

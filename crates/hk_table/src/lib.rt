@@ -1,28 +1,46 @@
 //! The table kernel: objects in slots, the stacks of the processes, and lists of processes by index
 //! (`docs/RULES.md`, "The table of the calls").
 //!
-//! Its state is that of the rule table, told from its parts. The files are by subject: `stacks` has the name spaces of the calls, `table` these with the objects and the queues,
-//! `born` and `opening` the state in which a world opens, `processors` the dispatch and what a processor runs,
-//! `finding` and `reads` the objects by name, `walks` and `targets` the tests that the calls share, `words` the calls on words, `queued`,
-//! `shown` and `shows` the state as plain data.
+//! Its state is that of the rule table, told from its parts. The files are by subject: `stacks` has the name spaces of the
+//! calls, `table` these with the objects and the queues, `born` and `opening` the state in which a world opens, `processors`
+//! the dispatch and what a processor runs, `finding` and `reads` the objects by name, `walks` and `targets` the tests that the
+//! calls share, `frames` the incarnations that come and go, `making` and `objects` what is made.
+//! The calls: `words`, `lists`, `slots`, `templates`, `semaphores`, `procedures` and `creating`; `calls` hands each to its row.
+//! The state as plain data: `queued`, `shown` and `shows`. What vanishes: `settling`, over slots and counts alone, since the
+//! calls do not count yet; `laws` says what the counts from outside are to be.
 //!
 //! What is not in a list of objects or frames is found by its number: nothing here grows with the number of objects,
 //! incarnations or processes but the opening and the state as plain data.
 #![tactic(auto)]
 
 mod born;
+mod calls;
+mod creating;
 mod finding;
+mod frames;
+mod laws;
+mod lists;
+mod making;
+mod objects;
 mod opening;
 mod parts;
+mod procedures;
 mod processors;
 mod queued;
 mod reads;
+mod semaphores;
+mod settling;
 mod shown;
 mod shows;
+mod slots;
 mod stacks;
 mod table;
 mod targets;
+mod templates;
 mod walks;
 mod words;
 
 pub use table::Table;
+
+#[cfg(test)]
+mod tests;

@@ -1,12 +1,12 @@
 //! The parts of an object, by its name. Of a name that no object has, they are those of an object with nothing in it.
 
-ghost use Rattle.std.specs.Prelude.{◌≡◌, ◌<◌, ◌≤◌, IfOk, length, slice_set};
+ghost use Rattle.std.specs.Prelude.{◌≡◌, ◌<◌, ◌≤◌, ◌∷◌, ◌++◌, [], IfOk, OnOk, OnErr, length, slice_set};
 ghost use Rattle.hk_model.specs.State.{object, put_object};
 ghost use Rattle.hk_model.specs.Refusing.{item_at};
 
 use crate::finding::slot_of;
 use crate::parts::Parts;
-use hk_model::{Name, Refusal};
+use hk_model::{Entry, Name, NoMemory, Param, Refusal};
 
 impl Parts {
     /// The type of an object.
@@ -50,6 +50,83 @@ impl Parts {
     {
         if let Some(slot) = slot_of(&self.objects, name) {
             self.objects.put(slot, at, word);
+        }
+    }
+
+    /// One more word of an object. NoMemory is want of memory, and changes nothing.
+    pub(crate) fn push_word(&mut self, name: Name, word: u32) -> Result<(), NoMemory>
+        requires { length (object self.old name).words < 4096 }
+        ensures ok { OnOk result (self.new ≡ put_object self.old name (record (object self.old name) { words = (object self.old name).words ++ word ∷ [] })) }
+        ensures err { OnErr result (self.new ≡ self.old) }
+    {
+        match slot_of(&self.objects, name) {
+            Some(slot) => {
+                self.objects.add(slot, word)?;
+                Ok(())
+            }
+            None => Ok(()),
+        }
+    }
+
+    /// The entries of an object.
+    pub(crate) fn entries(&self, name: Name) -> &[Entry]
+        ensures value { result.now ≡ (object self.now name).entries }
+        ensures few { length result.now ≤ 256 }
+    {
+        match slot_of(&self.objects, name) {
+            Some(slot) => self.objects.entries(slot),
+            None => &[],
+        }
+    }
+
+    /// The parameter templates of an object.
+    pub(crate) fn params(&self, name: Name) -> &[Param]
+        ensures value { result.now ≡ (object self.now name).params }
+        ensures few { length result.now ≤ 8 }
+    {
+        match slot_of(&self.objects, name) {
+            Some(slot) => self.objects.params(slot),
+            None => &[],
+        }
+    }
+
+    /// The entry at an index of an object.
+    ///
+    /// `Range` where the object has no such entry.
+    pub(crate) fn entry_at(&self, name: Name, at: u32, step: u8) -> Result<Entry, Refusal>
+        ensures value { result ≡ item_at (object self.now name).entries at step }
+        ensures inside { IfOk result (λ _. at < length (object self.now name).entries) }
+    {
+        match self.entries(name).get(at as usize) {
+            Some(entry) => Ok(*entry),
+            None => Err(Refusal::Range { step }),
+        }
+    }
+
+    /// Writes an entry of an object, over another. No walk is remembered then.
+    pub(crate) fn set_entry(&mut self, name: Name, at: u32, entry: Entry)
+        requires { at < length (object self.old name).entries }
+        ensures { self.new ≡ put_object self.old name (record (object self.old name) { entries = slice_set (object self.old name).entries at entry }) }
+    {
+        if let Some(slot) = slot_of(&self.objects, name) {
+            self.objects.set_entry(slot, at, entry);
+            self.walker.forget();
+        }
+    }
+
+    /// One more entry of an object. No walk is remembered then. NoMemory is want of memory, and changes nothing.
+    pub(crate) fn push_entry(&mut self, name: Name, entry: Entry) -> Result<(), NoMemory>
+        requires { length (object self.old name).entries < 256 }
+        ensures ok { OnOk result (self.new ≡ put_object self.old name (record (object self.old name) { entries = (object self.old name).entries ++ entry ∷ [] })) }
+        ensures err { OnErr result (self.new ≡ self.old) }
+    {
+        match slot_of(&self.objects, name) {
+            Some(slot) => {
+                self.objects.append(slot, entry)?;
+                self.walker.forget();
+                Ok(())
+            }
+            None => Ok(()),
         }
     }
 }

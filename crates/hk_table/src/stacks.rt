@@ -3,9 +3,11 @@
 //! An incarnation is a frame of its process's stack, and the frame below it is its caller. So the current incarnation of a
 //! process is found without a search.
 
-ghost use Rattle.std.specs.Prelude.{◌≡◌, ◌≤◌, ◌+◌, ◌-◌, ◌++◌, ◌∷◌, [], IfOk, length, option_copied, replicate, slice_index_or};
+ghost use Rattle.std.specs.Prelude.{◌≡◌, ◌<◌, ◌≤◌, ◌+◌, ◌-◌, ◌++◌, ◌∷◌, ◌^◌, [], IfOk, OnOk, OnErr, length, option_copied, option_map, replicate, slice_set, slice_index_or};
 ghost use Rattle.hk_model.specs.declared.entries.Entry.TheVariants.{Empty};
-ghost use Rattle.hk_table.specs.Stacked.{base_frame, base_stacks, top_of, slots_of, AreNumbered};
+ghost use Rattle.hk_spaces.specs.declared.stack.StackFrame.{StackFrame};
+ghost use Rattle.hk_spaces.specs.Slots.{with_top};
+ghost use Rattle.hk_table.specs.Stacked.{base_frame, base_stacks, top_of, slots_of, with_top_of, with_frame, Pops, AreNumbered};
 
 use hk_model::{Entries, Entry, Inc, NoMemory, Proc, Slot, World};
 use hk_spaces::{Space, Stack, StackFrame};
@@ -57,6 +59,72 @@ fn base_stack(alloc: Global, inc: Inc, entries: &Entries) -> Result<Stack, NoMem
     Ok(stack)
 }
 
+// Writes an entry into a slot of the top frame of a stack, if it has one and that has such a slot.
+fn put_top(stack: &mut Stack, slot: Slot, entry: Entry)
+    ensures { stack.new ≡ with_top stack.old slot.0 entry }
+{
+    let depth = stack.depth();
+    if depth == 0 {
+        return;
+    }
+    let slots = stack.frame(depth - 1).space.as_slice().len();
+    if (slot.0 as usize) < slots {
+        stack.set_top(slot, entry);
+    }
+}
+
+// Writes an entry into a slot of the top frame of a process.
+fn put_top_of(all: &mut Vec<Stack>, at: usize, slot: Slot, entry: Entry)
+    ensures { all.new.items ≡ with_top_of all.old.items at slot.0 entry }
+{
+    if at < all.len() {
+        put_top(&mut all[at], slot, entry);
+    }
+}
+
+// Puts a frame on top of the stack of a process.
+fn push_on(all: &mut Vec<Stack>, at: usize, frame: StackFrame) -> Result<(), NoMemory>
+    requires at { at < length all.old.items }
+    requires depth { length (slice_index_or all.old.items at []) < 64 }
+    ensures ok { OnOk result (all.new.items ≡ slice_set all.old.items at (slice_index_or all.old.items at [] ++ frame ∷ [])) }
+    ensures err { OnErr result (all.new.items ≡ all.old.items) }
+{
+    all[at].push(frame)?;
+    Ok(())
+}
+
+// Takes the top frame of a process: the slot below that takes what it returns. None exactly where there is none.
+fn pop_off(all: &mut Vec<Stack>, at: usize) -> Option<Slot>
+    ensures { Pops all.old.items at result all.new.items }
+{
+    if at >= all.len() {
+        return None;
+    }
+    match all[at].pop() {
+        Some(frame) => Some(frame.into),
+        None => None,
+    }
+}
+
+// Takes all frames of a stack.
+fn empty_out(stack: &mut Stack)
+    ensures { stack.new ≡ [] }
+{
+    let depth = stack.depth();
+    for _k in 0..depth {
+        stack.pop();
+    }
+}
+
+// Takes all frames of a process.
+fn empty_at(all: &mut Vec<Stack>, at: usize)
+    ensures { all.new.items ≡ slice_set all.old.items at [] }
+{
+    if at < all.len() {
+        empty_out(&mut all[at]);
+    }
+}
+
 impl Stacks {
     /// The stacks as a world opens: process k has the base incarnation k. NoMemory is want of memory.
     pub(crate) fn open(alloc: Global, world: &World) -> Result<Stacks, NoMemory>
@@ -103,6 +171,68 @@ impl Stacks {
             Some(frame) => frame.space.as_slice(),
             None => &[],
         }
+    }
+
+    /// Writes an entry into a slot of the top frame of a process, if it has one.
+    pub(crate) fn set_top(&mut self, proc: Proc, slot: Slot, entry: Entry)
+        ensures value { self.new ≡ record self.old { stacks = with_top_of self.old.stacks proc.0 slot.0 entry } }
+        ensures numbered { AreNumbered self.old.stacks self.old.next }
+    {
+        put_top_of(&mut self.all, proc.0 as usize, slot, entry);
+    }
+
+    /// How many frames a process has.
+    pub(crate) fn depth(&self, proc: Proc) -> usize
+        ensures value { result ≡ length (slice_index_or self.now.stacks proc.0 []) }
+        ensures numbered { AreNumbered self.now.stacks self.now.next }
+    {
+        match self.all.as_slice().get(proc.0 as usize) {
+            Some(stack) => stack.depth(),
+            None => 0,
+        }
+    }
+
+    /// The number of the top frame of a process. None exactly where it has no frame.
+    pub(crate) fn top_number(&self, proc: Proc) -> Option<Inc>
+        ensures { result ≡ option_map (λ (f : StackFrame). f.inc) (top_of (slice_index_or self.now.stacks proc.0 [])) }
+    {
+        match self.top(proc) {
+            Some(frame) => Some(frame.inc),
+            None => None,
+        }
+    }
+
+    /// Puts a frame with the next number on top of the stack of a process. NoMemory is want of memory, and changes nothing.
+    pub(crate) fn push(&mut self, proc: Proc, frame: StackFrame) -> Result<(), NoMemory>
+        requires proc { proc.0 < length self.old.stacks }
+        requires depth { length (slice_index_or self.old.stacks proc.0 []) < 64 }
+        requires number { frame.inc ≡ self.old.next }
+        requires next { self.old.next.0 < 2 ^ 63 }
+        ensures ok { OnOk result (self.new ≡ with_frame self.old proc.0 frame) }
+        ensures err { OnErr result (self.new ≡ self.old) }
+        ensures numbered { AreNumbered self.old.stacks self.old.next }
+    {
+        push_on(&mut self.all, proc.0 as usize, frame)?;
+        self.next = Inc(self.next.0 + 1);
+        Ok(())
+    }
+
+    /// Takes the top frame of a process: the slot below that takes what it returns. None exactly where there is none; then
+    /// nothing changes.
+    pub(crate) fn pop(&mut self, proc: Proc) -> Option<Slot>
+        ensures popped { Pops self.old.stacks proc.0 result self.new.stacks }
+        ensures next { self.new.next ≡ self.old.next }
+        ensures numbered { AreNumbered self.old.stacks self.old.next }
+    {
+        pop_off(&mut self.all, proc.0 as usize)
+    }
+
+    /// Takes all frames of a process.
+    pub(crate) fn clear(&mut self, proc: Proc)
+        ensures value { self.new ≡ record self.old { stacks = slice_set self.old.stacks proc.0 [] } }
+        ensures numbered { AreNumbered self.old.stacks self.old.next }
+    {
+        empty_at(&mut self.all, proc.0 as usize);
     }
 
     /// The number that the next incarnation takes.

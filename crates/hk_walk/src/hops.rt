@@ -20,8 +20,8 @@ fn local_rights(rights: Rights) -> Rights
     rights.without(Rights::ENV)
 }
 
-// What is left of rights that were obtained through a capability with the rights `by`.
-fn reduced_rights(by: Rights, rights: Rights) -> Rights
+/// What is left of rights that were obtained through a capability with the rights `by`.
+pub fn reduced_rights(by: Rights, rights: Rights) -> Rights
     ensures { result ≡ reduced_rights by rights }
 {
     let kept = if by.has(Right::UNCONF) {

@@ -1,5 +1,5 @@
 use Rattle.std.proofs.Common.{arith, ◌<◌, length}
-use Rattle.hk_table.proofs.ObjectsOpened.{born_added, born_room, born_next}
+use Rattle.hk_table.proofs.ObjectsOpened.{born_added, born_room}
 use Rattle.hk_table.proofs.born.objects_of.Goals as goal
 
 pub add_born-requires-clause-room : goal.add_born-requires-clause-room

@@ -1,5 +1,4 @@
-use Rattle.std.proofs.Common.{◌≡◌, ◌<◌, ◌∙◌, ap, arith, length, List}
-use Rattle.hk_model.specs.declared.names.Proc.{Proc}
+use Rattle.std.proofs.Common.{◌<◌, ◌∙◌, ap, arith, length}
 use Rattle.hk_queues.specs.Queued.{Queued}
 use Rattle.hk_table.proofs.Opens.{next_idle, next_queued}
 use Rattle.hk_table.proofs.opening.all_queued.Goals as goal

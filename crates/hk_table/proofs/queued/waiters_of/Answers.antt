@@ -1,4 +1,4 @@
-use Rattle.std.proofs.Common.{◌∙◌, sym, subst, length, Option, Some, List}
+use Rattle.std.proofs.Common.{◌∙◌, sym, subst, length, Option, Some}
 use Rattle.hk_model.specs.declared.names.Proc.{Proc}
 use Rattle.hk_queues.specs.Queued.{waiters}
 use Rattle.hk_table.proofs.QueueWalks.{IsRead, read_proc, read_more, read_smaller, read_all}

@@ -1,5 +1,4 @@
-use Rattle.std.proofs.Common.{◌∙◌, ap, sym, arith, List}
-use Rattle.hk_model.specs.declared.entries.Entry.{Entry}
+use Rattle.std.proofs.Common.{arith}
 use Rattle.hk_table.proofs.Bases.{begun, one_more_read}
 use Rattle.hk_table.proofs.stacks.space_of.Goals as goal
 

@@ -1,7 +1,7 @@
-use Rattle.std.proofs.Common.{◌≡◌, ◌<◌, List, Ok, Err, length, sym, subst, ◌∙◌, ap}
+use Rattle.std.proofs.Common.{◌<◌, List, length, sym, subst, ◌∙◌, ap}
 use Rattle.hk_model.specs.declared.entries.Entry.{Entry}
 use Rattle.hk_model.specs.Refusing.{item_at}
-use Rattle.hk_model.specs.State.{State, incarnation, process}
+use Rattle.hk_model.specs.State.{State}
 use Rattle.hk_table.proofs.WalkSteps.{item_some, item_none, slots_told}
 use Rattle.hk_table.proofs.parts.Parts.first_entry.Goals as goal
 

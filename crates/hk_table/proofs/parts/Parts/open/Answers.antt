@@ -1,4 +1,4 @@
-use Rattle.std.proofs.Common.{◌∙◌, ◌≡◌, ◌+◌, ◌++◌, ap, map, replicate, length, sym, refl, List, subst, ◌≤◌, arith}
+use Rattle.std.proofs.Common.{◌∙◌, ◌+◌, ◌++◌, ap, map, replicate, length, List, subst, ◌≤◌, arith}
 use Rattle.hk_model.specs.declared.world.Born.{Born}
 use Rattle.hk_model.specs.declared.world.Task.{Task}
 use Rattle.hk_model.specs.Opening.{all_ready, proc_numbers, object_of}
@@ -14,7 +14,7 @@ invariant_of-result c =
     (c.in_ok-queues.ensures.all ∙ ap (λ (ts : List Task). length ts) c.tasks_of-tasks.ensures.value)
     (c.in_ok-queues.ensures.ready ∙ ap (proc_numbers 0) c.tasks_of-tasks.ensures.value) c.in_ok-queues.ensures.waiting
     (c.in_ok-processes.ensures.state ∙ ap (all_ready 0) c.tasks_of-tasks.ensures.value))
-    (c.in_ok-processes.ensures.state ∙ ap (all_ready 0) c.tasks_of-tasks.ensures.value) c.in_ok-stacks.ensures.stacks c.in_ok-walker.ensures
+    (c.in_ok-processes.ensures.state ∙ ap (all_ready 0) c.tasks_of-tasks.ensures.value) c.in_ok-stacks.ensures.stacks c.in_ok-stacks.ensures.next c.in_ok-walker.ensures
 
 pub returns-clause-numbers : goal.returns-clause-numbers
 returns-clause-numbers c = (

@@ -1,0 +1,25 @@
+use Rattle.std.proofs.Common.{◌<◌, length, sym, subst, arith}
+use Rattle.hk_model.specs.State.{State}
+use Rattle.hk_model.specs.Rule.{depth}
+use Rattle.hk_table.proofs.FrameMoves.{depth_is}
+use Rattle.hk_table.proofs.CallMoves.{call_joined, call_told}
+use Rattle.hk_table.proofs.parts.Parts.add_call.Goals as goal
+
+pub push-requires-clause-depth : goal.push-requires-clause-depth
+push-requires-clause-depth c =
+    subst (λ m. m < 64) (depth_is c.self.inside.stacks.stacks c.self.inside.stacks.next c.args.proc.0 c.depth-deep.ensures.numbered)
+    (subst (λ (s : State). depth s c.args.proc < 64) (sym c.self.view_is) c.requires.depth)
+
+pub invariant_of-self-2 : goal.invariant_of-self-2
+invariant_of-self-2 c =
+    call_joined c.self.inside.objects c.self.inside.queues c.self.inside.processes c.set_current.new.self c.self.inside.stacks c.push.new.self c.self.inside.walker c.args.proc _
+    c.next-inc.result (subst (λ (s : State). c.args.proc.0 < length s.processes) (sym c.self.view_is) c.requires.known) c.self.invariant c.depth-deep.ensures.numbered
+    c.next-inc.ensures c.next-inc.ensures c.in_ok-push.ensures.ok c.set_current.ensures
+
+pub returns-clause-ok : goal.returns-clause-ok
+returns-clause-ok c =
+    let known : c.args.proc.0 < length c.self.inside.processes = subst (λ (s : State). c.args.proc.0 < length s.processes) (sym c.self.view_is) c.requires.known in
+    let low : c.args.proc.0 < length c.self.inside.stacks.stacks = omega (arith, c.self.invariant.stacked, known) in
+    call_told c.self.inside.objects c.self.inside.queues c.self.inside.processes c.set_current.new.self c.self.inside.stacks c.push.new.self c.self.inside.first_new
+    c.self.inside.events c.self.inside.limit c.args.self.now c.args.proc c.args.procedure c.args.into c.args.confined c.args.space c.next-inc.result c.self.view_is low
+    c.depth-deep.ensures.numbered (c.self.invariant.current c.args.proc.0 known) c.requires.lives c.next-inc.ensures c.in_ok-push.ensures.ok c.set_current.ensures

@@ -1,0 +1,24 @@
+-- The slots and counts that tell a state's objects. docs/RULES.md, "Objects that vanish".
+use Rattle.std.specs.Prelude.{◌≡◌, ℕ, List, Option, Some, slice_index}
+use Rattle.hk_model.specs.declared.names.Name.{Name}
+use Rattle.hk_model.specs.declared.names.Proc.{Proc}
+use Rattle.hk_model.specs.State.{State}
+use Rattle.hk_model.specs.Keeping.{outer_names}
+use Rattle.hk_objects.specs.declared.body.Body.{Body}
+use Rattle.hk_objects.specs.Slots.{standing, name_at}
+use Rattle.hk_reclaim.specs.Naming.{times, named_in}
+use Rattle.hk_reclaim.specs.Tally.{Tally}
+use Rattle.hk_spaces.specs.declared.stack.StackFrame.{StackFrame}
+use Rattle.std.specs.List.{sum_by}
+use Rattle.hk_table.specs.Whole.{whole}
+
+-- the objects are those in the slots with who waits there, and each is counted from outside as often as the slots of live incarnations and the waiting
+-- processes name it
+pub record Tells (s : State) (slots : List (Option (Name × Body))) (waiting : List (List Proc)) (t : Tally) : Type 0 where
+  pub objects : s.objects ≡ standing (whole slots waiting)
+  pub first_new : s.first_new ≡ t.first_new
+  pub outside : (k : ℕ) (n : Name) → name_at slots k ≡ Some n → slice_index t.outside k ≡ times n (outer_names s)
+
+-- how often the slots of all frames name an object
+abbrev pub frame_namings : Name → List (List StackFrame) → ℕ
+frame_namings n stacks = sum_by (λ (fs : List StackFrame). sum_by (λ (f : StackFrame). times n (named_in f.space)) fs) stacks

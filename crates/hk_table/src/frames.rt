@@ -1,0 +1,82 @@
+//! The incarnations of calls: how many a process has, one more, and one that goes (`docs/RULES.md`, "Calls of procedures").
+
+ghost use Rattle.std.specs.Prelude.{◌≡◌, ◌<◌, ◌^◌, true, length, OnOk, OnErr};
+ghost use Rattle.hk_model.specs.State.{incarnation, process};
+ghost use Rattle.hk_model.specs.Processors.{is_running, ended};
+ghost use Rattle.hk_model.specs.Rule.{depth, enter, called_incarnation};
+ghost use Rattle.hk_table.specs.Returns.{GoesBack};
+
+use crate::parts::Parts;
+use hk_model::{Name, NoMemory, Proc, ProcessState, Slot};
+use hk_spaces::{Space, StackFrame};
+
+impl Parts {
+    /// How many incarnations a process has.
+    pub(crate) fn depth(&self, proc: Proc) -> usize
+        ensures { result ≡ depth self.now proc }
+    {
+        self.stacks.depth(proc)
+    }
+
+    /// One more incarnation, which is the current one of its process: that of a call of this procedure. NoMemory is want of
+    /// memory, and changes nothing.
+    pub(crate) fn add_call(
+        &mut self,
+        proc: Proc,
+        procedure: Name,
+        into: Slot,
+        confined: bool,
+        space: Space,
+    ) -> Result<(), NoMemory>
+        requires known { proc.0 < length self.old.processes }
+        requires lives { 0 < length (incarnation self.old (process self.old proc).current).slots }
+        requires depth { depth self.old proc < 64 }
+        requires next { self.old.next_inc.0 < 2 ^ 63 }
+        ensures ok { OnOk result (self.new ≡ enter self.old (called_incarnation proc procedure (process self.old proc).current into confined space)) }
+        ensures err { OnErr result (self.new ≡ self.old) }
+    {
+        let _deep = self.stacks.depth(proc);
+        let inc = self.stacks.next();
+        let frame = StackFrame {
+            space,
+            inc,
+            into,
+            confined,
+            procedure: Some(procedure),
+        };
+        self.stacks.push(proc, frame)?;
+        self.processes.set_current(proc, inc);
+        Ok(())
+    }
+
+    /// The current incarnation of a process goes, and its caller goes on: the slot there that takes what is returned. None
+    /// exactly where there is no caller; then the process ends.
+    pub(crate) fn go_back(&mut self, proc: Proc) -> Option<Slot>
+        requires { is_running (process self.old proc).run ≡ true }
+        ensures { GoesBack self.old proc (process self.old proc).current result self.new }
+    {
+        let Some(into) = self.stacks.pop(proc) else {
+            self.processes.set_run(proc, ProcessState::Ended);
+            return None;
+        };
+        match self.stacks.top_number(proc) {
+            Some(caller) => {
+                self.processes.set_current(proc, caller);
+                Some(into)
+            }
+            None => {
+                self.processes.set_run(proc, ProcessState::Ended);
+                None
+            }
+        }
+    }
+
+    /// Ends a process, with all its incarnations.
+    pub(crate) fn end(&mut self, proc: Proc)
+        requires { is_running (process self.old proc).run ≡ true }
+        ensures { self.new ≡ ended self.old proc }
+    {
+        self.stacks.clear(proc);
+        self.processes.set_run(proc, ProcessState::Ended);
+    }
+}
