@@ -4,3 +4,6 @@
 mod processes;
 
 pub use processes::Processes;
+
+#[cfg(test)]
+mod tests;
