@@ -6,7 +6,7 @@ use Rattle.hk_top.proofs.outputs.traced.Goals as goal
 pub returns-in-Legal : goal.returns-in-Legal
 returns-in-Legal c =
     let told : IfOk c.chains.result (λ due. (due.status ≡ 0) × (due.text ≡ traced_text c.args.audit.now c.args.line)) =
-        rw (c.world-world.ensures, c.lines-lines.ensures) at c.chains.ensures in
+    rw (c.world-world.ensures, c.lines-lines.ensures) at c.chains.ensures in
     legal_due c.args.audit.now (traced_text c.args.audit.now c.args.line) c.world-world.result.now c.lines-lines.result.now c.end.result c.in_ok-found.found
     c.chains.result c.world-world.ensures c.lines-lines.ensures c.end.ensures c.in_ok-found.ensures c.in-Legal.is c.laws.ensures told
 
