@@ -1,10 +1,9 @@
 -- The pieces of a line are seen in their texts, in which no space, no arrow and no line feed stands.
-use Rattle.std.proofs.Common.{◌≡◌, ℕ, zero, suc, ◌<◌, ◌≤◌, ◌==◌, ◌^◌, Bool, true, false, cond, eqb, ltb, List, [], ◌∷◌, ◌++◌, length, map, refl, sym, ap, subst, ◌∙◌, arith, ◌||◌}
-use Rattle.std.proofs.Common.{◌&&◌, not, Some, None, Ok, IsTrue, get_or, ⊎_elim}
+use Rattle.std.proofs.Common.{◌≡◌, ℕ, ◌<◌, ◌≤◌, ◌==◌, ◌^◌, Bool, true, false, cond, ltb, List, [], ◌∷◌, ◌++◌, length, map, refl, ap, subst, ◌∙◌, arith, ◌||◌}
+use Rattle.std.proofs.Common.{◌&&◌, not, Some, None, Ok, IsTrue, ⊎_elim}
 use Rattle.std.specs.Prelude.{codes}
 use Rattle.std.specs.List.{AllByRecursion, list_all, list_any, join_with_byte}
 use Rattle.std.specs.Fmt.{decimal}
-use Rattle.std.proofs.lemmas.Fmt.{first_decimal}
 use Rattle.std.proofs.lemmas.Bool.{and_parts, and_from, false≢true, lt-ltb, le-leb, cases_lt}
 use Rattle.std.proofs.lemmas.Bool.Decides.{nat_tests}
 use Rattle.std.proofs.lemmas.List.{length-map}
@@ -23,7 +22,7 @@ use Rattle.hk_model.specs.declared.lines.What.{What}
 use Rattle.hk_model.specs.declared.lines.What.TheVariants as what
 use Rattle.hk_model.specs.declared.lines.Line.{Line}
 use Rattle.hk_model.specs.Labels.{between, first, is_digit, is_lower, is_word, same_text}
-use Rattle.hk_format.specs.Pieces.{Piece, Word, Upper, Dash, Number, Path, piece_of, is_piece, is_index, spell, spell_index, is_number, value, is_upper}
+use Rattle.hk_format.specs.Pieces.{Piece, Word, Upper, Dash, Number, Path, piece_of, is_piece, is_index, spell, spell_index, value, is_upper}
 use Rattle.hk_format.specs.Operands.{path_piece, slot_piece, rights_piece, rights_set_piece}
 use Rattle.hk_format.specs.RightsTexts.{rights_spelled, rights_text}
 use Rattle.hk_format.specs.Syntax.{IsRightsText}
@@ -37,7 +36,7 @@ use Rattle.hk_format.proofs.ItemsGood.{rights_good}
 use Rattle.hk_format.proofs.LineAgain.{same_is}
 use Rattle.hk_format.proofs.PieceAgain.{is_name_byte, names_bytes, digits_number, value_decimal, number_again, number_large, piece_again}
 use Rattle.hk_format.proofs.RightsAgain.{rights_again}
-use Rattle.hk_text.specs.Numerals.{is_numeral, numeral_of}
+use Rattle.hk_text.specs.Numerals.{numeral_of}
 use Rattle.hk_audit.specs.TextPieces.{is_index_numeral, indices_of, indices_spelled, canonical_rights, seen}
 use Rattle.hk_text.proofs.NumeralTexts.{numeral_decimal, numeral_again}
 use Rattle.hk_print.proofs.Pieces.{spelled_rights}

@@ -20,7 +20,6 @@ use Rattle.hk_format.specs.Operands.{path_piece, slot_piece, rights_set_piece}
 use Rattle.hk_format.specs.RightsTexts.{rights_text}
 use Rattle.hk_format.specs.Forms.{as_verb, as_word, as_number_below, slot_numbered}
 use Rattle.hk_format.specs.LineReading.{as_path, as_any_slot, as_rights_set, as_right, as_word32, as_full, all_full, full_found}
-use Rattle.hk_model.specs.Limits.{inc_bound}
 use Rattle.hk_format.specs.AuditLines.{full_word}
 use Rattle.hk_format.specs.LineRanges.{IsPathValue, IsAnySlot}
 use Rattle.hk_model.specs.WorldValue.{IsWord32}

@@ -1,8 +1,8 @@
 -- The readers of an audit line give only values in their ranges, and only for the texts that these are spelled by.
-use Rattle.std.proofs.Common.{◌≡◌, ℕ, zero, suc, ◌<◌, ◌≤◌, Bool, true, false, cond, List, [], ◌∷◌, length, map, refl, sym, ap, subst, ◌∙◌, arith, Option, Some, None, Result, Ok}
+use Rattle.std.proofs.Common.{◌≡◌, ℕ, zero, suc, ◌<◌, ◌≤◌, Bool, true, false, cond, List, [], ◌∷◌, length, map, refl, sym, ap, subst, ◌∙◌, arith, Some, None, Result, Ok}
 use Rattle.std.proofs.Common.{Err, IsTrue}
 use Rattle.std.specs.Prelude.{codes}
-use Rattle.std.specs.List.{AllByRecursion, find}
+use Rattle.std.specs.List.{AllByRecursion}
 use Rattle.std.specs.Fmt.{decimal}
 use Rattle.hk_rights.specs.Rights.{IsRightsWord, is_right, name_of}
 use Rattle.hk_format.specs.declared.causes.ParseCause.{ParseCause}
@@ -24,10 +24,10 @@ use Rattle.hk_format.specs.declared.syntax.Verb.{Verb}
 use Rattle.hk_format.specs.declared.syntax.Verb.TheVariants as verb
 use Rattle.hk_model.specs.Labels.{same_text}
 use Rattle.hk_format.specs.Pieces.{Piece, Word, Upper, Number, spell}
-use Rattle.hk_format.specs.Verbs.{verb_word, verb_piece, all_verbs}
+use Rattle.hk_format.specs.Verbs.{verb_word, verb_piece}
 use Rattle.hk_format.specs.Operands.{path_piece, slot_piece, rights_set_piece, argument_pieces}
 use Rattle.hk_format.specs.Reading.{Found, Reads, ◌>>=◌, onward, taken, wanted, at_most, end, unknown}
-use Rattle.hk_format.specs.Forms.{as_verb, as_word, as_number_below, verb_found, slot_numbered}
+use Rattle.hk_format.specs.Forms.{as_verb, as_word, as_number_below, slot_numbered}
 use Rattle.hk_format.specs.WrittenLines.{before_last, last_of}
 use Rattle.hk_format.specs.LineReading.{as_path, as_any_slot, as_rights_set, as_right, as_word32, as_full, call_of, template_call, template_call_end, some_call, call_named}
 use Rattle.hk_format.specs.LineReading.{what_of, stepped, refusal_of, reply_of, reply_line, event_line, line_with}

@@ -1,9 +1,8 @@
 -- Names of rights, read one after another and compared with the canonical spelling.
 use Rattle.std.proofs.Common.{◌≡◌, ℕ, zero, suc, ltb, ◌+◌, ◌<◌, ◌≤◌, ◌^◌, ◌==◌, Bool, true, false, cond, List, [], ◌∷◌, length, map, drop, get_or, refl, sym, ap, subst, ◌∙◌, arith}
-use Rattle.std.proofs.Common.{◌||◌, not, Option, Some, None, IsTrue}
-use Rattle.std.specs.Prelude.{bit_or, option_map, find}
+use Rattle.std.proofs.Common.{not, Option, Some, None}
+use Rattle.std.specs.Prelude.{codes, option_map, find}
 use Rattle.std.specs.List.{AllByRecursion, list_all, list_any, filter, slice_split, join_with_byte}
-use Rattle.std.specs.Int.Bits.{or_zero_l, or_zero_r}
 use Rattle.std.specs.Str.{IsUtf8, IsAscii}
 use Rattle.std.proofs.lemmas.Str.{IsUtf8-from_ascii}
 use Rattle.std.specs.Cmp.Lexicographic.{pointwise}
@@ -12,48 +11,15 @@ use Rattle.std.proofs.lemmas.Bool.{and_parts, and_from, false≢true, eqb-false,
 use Rattle.std.proofs.lemmas.List.{drop_more, drop_all}
 use Rattle.hk_format.specs.Texts.{is_none}
 use Rattle.std.proofs.lemmas.List.Splits.{join_with_byte-slice_split}
-use Rattle.hk_rights.specs.Rights.{Row, has, is_right, IsRightsWord, right_numbers, right_table, name_of, number_named}
-use Rattle.hk_rights.proofs.Sets.{has-bit_or, same_rights}
-use Rattle.hk_rights.proofs.Words.{HasAll-all_rights}
-use Rattle.hk_rights.proofs.Table.{has-all_rights}
+use Rattle.std.proofs.lemmas.List.Folds.{list_all-append}
+use Rattle.hk_rights.specs.Rights.{Row, has, IsRightsWord, right_numbers, right_table, name_of, number_named, all_rights}
 use Rattle.hk_model.specs.Labels.{same_text}
-use Rattle.hk_format.specs.RightsTexts.{both, union_of}
+use Rattle.hk_format.specs.RightsTexts.{both, union_of, rights_spelled}
 use Rattle.hk_format.proofs.Cutting.{split_joined}
 use Rattle.hk_format.proofs.LineAgain.{same_is}
 use Rattle.hk_format.proofs.RightsAgain.{word_of, word_again}
 use Rattle.hk_audit.specs.Names.{same_texts}
 
--- the set, name by name
-
-or_three : (a b c : ℕ) → bit_or a (bit_or b c) ≡ bit_or (bit_or a b) c
-or_three a b c =
-    same_rights (bit_or a (bit_or b c)) (bit_or (bit_or a b) c) (λ n. has-bit_or a (bit_or b c) n
-    ∙ rw (has-bit_or b c n, has-bit_or (bit_or a b) c n, has-bit_or a b n) (three (has a n) (has b n) (has c n)))
-  where
-    three : (x y z : Bool) → (x || (y || z)) ≡ (x || y || z)
-    three true y z = refl
-    three false y z = refl
-
-pub union_turn : (before after : List (List ℕ)) (t : List ℕ) (r n : ℕ) (all : Option ℕ) → before ≡ t ∷ after → Some n ≡ number_named t
-    → both (Some r) (union_of before) ≡ all → both (Some (bit_or r (2 ^ n))) (union_of after) ≡ all
-union_turn before after t r n all e named h = sym (go (union_of after)) ∙ (rw (e, ← named) at h)
-  where
-    go : (u : Option ℕ) → both (Some r) (both (Some (2 ^ n)) u) ≡ both (Some (bit_or r (2 ^ n))) u
-    go (Some x) = ap Some (or_three r (2 ^ n) x)
-    go None = refl
-
-pub union_bad : (before after : List (List ℕ)) (t : List ℕ) (r : ℕ) (all : Option ℕ) → before ≡ t ∷ after → None ≡ number_named t
-    → both (Some r) (union_of before) ≡ all → None ≡ all
-union_bad before after t r all e named h = rw (e, ← named) at h
-
-pub union_end : (left : List (List ℕ)) (r : ℕ) (all : Option ℕ) → left ≡ [] → both (Some r) (union_of left) ≡ all → Some r ≡ all
-union_end left r all e h = ap Some (sym (or_zero_r r)) ∙ (rw e at h)
-
-pub union_begins : (r : ℕ) (all : Option ℕ) → r ≡ 0 → both (Some r) all ≡ all
-union_begins r (Some x) e = rw e (ap Some (or_zero_l x))
-union_begins r None e = refl
-
--- a set has no number that is no right
 -- the names, one by one
 
 pub same_self : (t : List ℕ) → same_text t t ≡ true
@@ -164,6 +130,50 @@ no_name t bad = go (number_named t) refl
     go (Some n) e =
         let row = named_row IsText t n all_texts e in
         absurd (bad (IsUtf8-from_ascii t (ascii_from t (rw (← row.1) row.3))))
+
+-- what is joined is a text where its parts are
+joined_text : (c : ℕ) (ts : List (List ℕ)) → ltb c 128 ≡ true → list_all (list_all (λ b. ltb b 128)) ts ≡ true → list_all (λ b. ltb b 128) (join_with_byte c ts) ≡ true
+joined_text c [] small h = refl
+joined_text c (t ∷ []) small h = (and_parts (list_all (λ b. ltb b 128) t) true h).0
+joined_text c (t ∷ u ∷ us) small h =
+    let parts = and_parts (list_all (λ b. ltb b 128) t) (list_all (list_all (λ b. ltb b 128)) (u ∷ us)) h in
+    list_all-append (λ b. ltb b 128) t (c ∷ join_with_byte c (u ∷ us))
+    ∙ and_from _ _ parts.0 (and_from _ _ small (joined_text c (u ∷ us) small parts.1))
+
+-- names that all are rights' names are texts
+names_text : (ts : List (List ℕ)) (r : ℕ) → union_of ts ≡ Some r → list_all (list_all (λ b. ltb b 128)) ts ≡ true
+unfolding IsText
+names_text [] r e = refl
+names_text (t ∷ ts) r e = go (number_named t) refl (union_of ts) refl e (λ x l. names_text ts x l)
+  where
+    go : (o : Option ℕ) → number_named t ≡ o → (u : Option ℕ) → union_of ts ≡ u → both (option_map (λ n. 2 ^ n) o) u ≡ Some r
+        → ((x : ℕ) → union_of ts ≡ Some x → list_all (list_all (λ b. ltb b 128)) ts ≡ true) → list_all (list_all (λ b. ltb b 128)) (t ∷ ts) ≡ true
+    go (Some n) k (Some x) l h more =
+        let row = named_row IsText t n all_texts k in
+        and_from _ _ (rw (← row.1) row.3) (more x l)
+    go (Some n) k None l h more = absurd (let none : None ≡ Some r = h in cc)
+    go None k u l h more = absurd (let none : None ≡ Some r = h in cc)
+
+-- what is no text means no set
+pub no_rights : (t : List ℕ) → (IsUtf8 t → ⊥) → ◌≡◌ {A = Option ℕ} None (rights_spelled t)
+unfolding rights_spelled
+no_rights t bad = dash (same_text t (codes "-")) refl
+  where
+    plain : list_all (λ b. ltb b 128) t ≡ true → ⊥
+    plain h = bad (IsUtf8-from_ascii t (ascii_from t h))
+
+    names : (u : Option ℕ) → union_of (slice_split (λ b. b == 43) t) ≡ u → ◌≡◌ {A = Option ℕ} None u
+    names None e = refl
+    names (Some r) e = absurd (plain (rw (← join_with_byte-slice_split 43 t) (joined_text 43 (slice_split (λ b. b == 43) t) refl (names_text (slice_split (λ b. b == 43) t) r e))))
+
+    all : (b : Bool) → same_text t (codes "ALL") ≡ b → ◌≡◌ {A = Option ℕ} None (cond b (Some all_rights) (union_of (slice_split (λ b. b == 43) t)))
+    all true e = absurd (plain (rw (same_is t (codes "ALL") e) refl))
+    all false e = names _ refl
+
+    dash : (b : Bool) → same_text t (codes "-") ≡ b
+        → ◌≡◌ {A = Option ℕ} None (cond b (Some 0) (cond (same_text t (codes "ALL")) (Some all_rights) (union_of (slice_split (λ b. b == 43) t))))
+    dash true e = absurd (plain (rw (same_is t (codes "-") e) refl))
+    dash false e = all _ refl
 
 -- the names that are left
 

@@ -1,11 +1,11 @@
 -- What stands between the spaces of an audit line: a text is seen as the piece that is spelled so, and in no other way.
 -- docs/FORMATS.md, "Audit lines and records".
-use Rattle.std.specs.Prelude.{ℕ, ◌==◌, Bool, not, ◌&&◌, ◌||◌, List, [], length, Option, Some, None, if◌then◌else◌, nat_lt, map}
+use Rattle.std.specs.Prelude.{ℕ, ◌==◌, Bool, ◌&&◌, List, [], length, Option, Some, None, if◌then◌else◌, nat_lt, map}
 use Rattle.std.specs.List.{list_all, slice_split}
 use Rattle.hk_model.specs.declared.instructions.Index.TheVariants.{Fixed}
 use Rattle.hk_model.specs.Labels.{between, first, is_lower, same_text}
 use Rattle.hk_model.specs.Limits.{index_bound, path_limit}
-use Rattle.hk_format.specs.Pieces.{Piece, Word, Upper, Number, Path, is_number, value}
+use Rattle.hk_format.specs.Pieces.{Piece, Word, Upper, Number, Path, value}
 use Rattle.hk_format.specs.Operands.{rights_piece}
 use Rattle.hk_format.specs.RightsTexts.{rights_spelled, rights_text}
 use Rattle.hk_text.specs.Numerals.{is_numeral, numeral_of}

@@ -4,11 +4,12 @@ ghost use Rattle.std.specs.Prelude.{◌≡◌, ◌==◌, false, map};
 ghost use Rattle.std.specs.List.{filter, join_with_byte, slice_split};
 ghost use Rattle.hk_rights.specs.Rights.{has, IsRightsWord, name_of, number_named, right_numbers};
 ghost use Rattle.hk_model.specs.Labels.{same_text};
-ghost use Rattle.hk_format.specs.RightsTexts.{rights_spelled, rights_text, union_of};
+ghost use Rattle.hk_format.specs.RightsTexts.{rights_spelled, rights_text};
 ghost use Rattle.hk_audit.specs.TextPieces.{canonical_rights};
 ghost use Rattle.hk_audit.specs.Names.{same_texts};
 
 use crate::parts::Parts;
+use hk_load::rights_spelled;
 use hk_print::{RIGHT_NUMBERS, right_of};
 use hk_rights::{Right, Rights};
 
@@ -25,30 +26,13 @@ pub fn rights_in(text: &[u8]) -> Option<Rights>
 }
 
 // The set that the text means, in any spelling.
-#[tactic(auto, unfolding(hk_format::specs::RightsTexts::rights_spelled))]
 fn rights_meant(text: &[u8]) -> Option<Rights>
     ensures { result ≡ rights_spelled text.now }
 {
-    if text == b"-".as_slice() {
-        return Some(Rights::none());
+    match std::str::from_utf8(text) {
+        Ok(text) => rights_spelled(text),
+        Err(_) => None,
     }
-    if text == b"ALL".as_slice() {
-        return Some(Rights::all());
-    }
-    names_in(text)
-}
-
-// The set of the rights whose names `+` joins.
-fn names_in(text: &[u8]) -> Option<Rights>
-    ensures { result ≡ union_of (slice_split (λ b. b == 43) text.now) }
-{
-    let mut parts = Parts::new(text, b'+');
-    let mut rights = Rights::none();
-    while let Ok(name) = parts.next() {
-        let right = right_in(name)?;
-        rights = rights.union(Rights::one(right));
-    }
-    Some(rights)
 }
 
 /// The right of this name.

@@ -22,5 +22,6 @@ mod worlds;
 
 pub use crate::errors::LoadError;
 pub use crate::loading::load;
+pub use crate::rights::rights_spelled;
 pub use crate::worlds::{WorldError, read_world};
 pub use hk_model::World;

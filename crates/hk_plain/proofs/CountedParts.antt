@@ -14,7 +14,7 @@ use Rattle.std.specs.declared.cmp.Ordering.{Ordering}
 use Rattle.std.specs.declared.cmp.Ordering.TheVariants.{Less, Equal, Greater}
 use Rattle.std.proofs.lemmas.List.Sums.{sum_by-cons, sum_by-set}
 use Rattle.std.proofs.lemmas.Grind.{flat_map-append}
-use Rattle.std.proofs.lemmas.List.{append-nil}
+use Rattle.std.proofs.lemmas.List.{append-nil, get_or_default}
 use Rattle.std.proofs.lemmas.Map.Entries.{sum_by-set_value, sum_by-remove_entry, sum_by-insert_entry}
 use Rattle.hk_model.specs.declared.names.Name.{Name}
 use Rattle.hk_model.specs.declared.names.Inc.{Inc}
@@ -32,7 +32,9 @@ use Rattle.std.proofs.lemmas.Bool.{true≢false, false≢true, false_from_ne_tru
 use Rattle.hk_model.proofs.Standing.{on_cond, name_same}
 use Rattle.hk_model.specs.declared.world.Task.{Task}
 use Rattle.hk_model.specs.Opening.{numbered, all_ready}
-use Rattle.hk_running.specs.Runners.{process_at}
+use Rattle.hk_running.specs.Runners.{process_at, with_run}
+use Rattle.hk_model.specs.declared.names.Proc.{Proc}
+use Rattle.hk_model.specs.declared.objects.ProcessState.{ProcessState}
 use Rattle.hk_plain.specs.Counts.{Tally, made, number, times, is_unnamed, IsFound, Moved, has_made, AreCounted, names_in, slot_names, waiting_names, inner_names}
 use Rattle.hk_plain.proofs.CountLemmas.{tally, still, times_none, times_cons, times_both, none_among, among_times, both, alike}
 
@@ -196,6 +198,15 @@ runs_kept live ps ps' objects t t' h f =
     let d = times_both n (slot_names live) (waiting_names ps') in
     let e = times_both n (slot_names live) (waiting_names ps) in
     omega (arith, a, b, d, e)) f) (λ e k there. inl there)
+
+-- what one process waits at is written over
+pub run_moved : (a b : Tally) (ps qs : List Process) (proc : Proc) (run : ProcessState) (d : Process) → qs ≡ ps → proc.0 < length qs
+    → Moved a b (run_names run) (run_names (get_or qs proc.0 d).run) → Moved a b (waiting_names (with_run ps proc run)) (waiting_names ps)
+run_moved a b ps qs proc run d same there f =
+    let inside : proc.0 < length ps = subst (λ (xs : List Process). proc.0 < length xs) same there in
+    let moved : Moved a b (run_names run) (run_names (get_or ps proc.0 d).run) = subst (λ (xs : List Process). Moved a b (run_names run) (run_names (get_or xs proc.0 d).run)) same f in
+    set_moved (λ (p : Process). run_names p.run) a b ps proc.0 (get_or ps proc.0 d) (record (process_at ps proc.0) { run = run }) inside
+    (get_or_default ps proc.0 d (get_or ps proc.0 d) inside) moved
 
 pub objects_kept : (live : List (Inc × Incarnation)) (ps : List Process) (objects objects' : List (Name × Object)) (t t' : Tally) → AreCounted live ps objects t
     → Moved t t' (inner_names objects') (inner_names objects)

@@ -3,8 +3,8 @@ use Rattle.std.specs.Prelude.{◌≡◌, Result, Ok, Err}
 use Rattle.hk_model.specs.declared.calls.Answer.{Answer}
 use Rattle.hk_model.specs.State.{State}
 use Rattle.hk_model.specs.Rule.{Outcome}
-use Rattle.hk_plain.specs.declared.stop.Stop.{Stop}
-use Rattle.hk_plain.specs.declared.stop.Stop.TheVariants.{Refused, OutOfMemory}
+use Rattle.hk_calls.specs.declared.stop.Stop.{Stop}
+use Rattle.hk_calls.specs.declared.stop.Stop.TheVariants.{Refused, OutOfMemory}
 use Rattle.hk_plain.specs.Numbers.{TakesOne}
 
 -- the outcome's answer with the outcome's state, or its refusal, or want of memory; the last two change nothing

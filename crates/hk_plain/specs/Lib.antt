@@ -1,6 +1,5 @@
 pub mod Numbers
 pub mod Giving
-pub mod Kinds
 pub mod Additions
 pub mod Opening
 pub mod Stacks

@@ -8,8 +8,8 @@ use Rattle.hk_model.specs.declared.objects.Object.{Object}
 use Rattle.hk_model.specs.State.{State, object, same_name}
 use Rattle.hk_model.specs.Keeping.{object_names, outer_names, is_among, is_opening, stands, members, IsClosed}
 use Rattle.hk_model.specs.Rule.{room_made}
-use Rattle.hk_plain.specs.declared.stop.Stop.{Stop}
-use Rattle.hk_plain.specs.declared.stop.Stop.TheVariants.{Refused, OutOfMemory}
+use Rattle.hk_calls.specs.declared.stop.Stop.{Stop}
+use Rattle.hk_calls.specs.declared.stop.Stop.TheVariants.{Refused, OutOfMemory}
 
 -- the objects that are not marked, and those that are marked and whose names are not marked yet
 pub record Marking : Type 0 where

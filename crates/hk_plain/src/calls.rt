@@ -9,8 +9,8 @@ ghost use Rattle.hk_model.specs.Processors.{may_step, code_found, entered_code, 
 ghost use Rattle.hk_plain.specs.Giving.{Gives};
 ghost use Rattle.hk_plain.specs.Numbers.{HasNumbers, FewNumbers, TakesOne};
 
-use crate::stop::Stop;
 use crate::tables::Tables;
+use hk_calls::Stop;
 use hk_model::{Acted, Answer, Call, Entry, Inc, NoMemory, Path, Proc, Reply};
 use std::alloc::Global;
 

@@ -1,13 +1,17 @@
-//! The writes of objects that change what is named: the numbers follow them.
+//! The writes of objects and processes that change what is named: the numbers follow them.
 
-ghost use Rattle.std.specs.Prelude.{◌≡◌, ◌<◌, length, slice_set, ◌++◌, ◌∷◌, [], OnOk, OnErr, is_some};
+ghost use Rattle.std.specs.Prelude.{◌≡◌, ◌<◌, length, slice_set, ◌++◌, ◌∷◌, [], OnOk, OnErr, is_some, false, None};
 ghost use Rattle.std.specs.Map.{lookup, set_value, remove_entry};
 ghost use Rattle.std.specs.BTreeMap.{IsOrdered, insert_entry};
 ghost use Rattle.hk_model.specs.State.{same_name, name_cmp};
-ghost use Rattle.hk_plain.specs.Counts.{Moved, inner_names, object_in};
+ghost use Rattle.hk_model.specs.declared.objects.ProcessState.TheVariants.{Running};
+ghost use Rattle.hk_model.specs.Processors.{is_running, runner_from};
+ghost use Rattle.hk_running.specs.Runners.{with_run};
+ghost use Rattle.hk_plain.specs.Counts.{Moved, inner_names, waiting_names, object_in};
 
 use crate::counts::Counts;
-use hk_model::{Entry, Name, NoMemory, Object, Template};
+use hk_model::{Cpu, Entry, Name, NoMemory, Object, Proc, ProcessState, Template};
+use hk_running::Processes;
 use std::collections::BTreeMap;
 use std::marker::PhantomData;
 
@@ -86,4 +90,33 @@ pub(crate) fn push_entry(
         }
     }
     Ok(())
+}
+
+/// Changes what a process does: it does not run then.
+pub(crate) fn set_run(processes: &mut Processes, proc: Proc, run: ProcessState, counts: &mut Counts)
+    requires { is_running run ≡ false }
+    ensures value { processes.new ≡ with_run processes.old proc run }
+    ensures counted { Moved counts.old counts.new (waiting_names processes.new) (waiting_names processes.old) }
+{
+    let at = proc.0 as usize;
+    if at < processes.as_slice().len() {
+        let before = processes.as_slice()[at].run;
+        counts.hold_run(run);
+        counts.release_run(before);
+        processes.set_run(proc, run);
+    }
+}
+
+/// The process runs on a processor that runs nothing.
+pub(crate) fn start(processes: &mut Processes, proc: Proc, cpu: Cpu, counts: &mut Counts)
+    requires cpu { cpu.0 < 16 }
+    requires idle { runner_from processes.old cpu 0 ≡ None }
+    ensures value { processes.new ≡ with_run processes.old proc (Running cpu) }
+    ensures counted { Moved counts.old counts.new (waiting_names processes.new) (waiting_names processes.old) }
+{
+    let at = proc.0 as usize;
+    if at < processes.as_slice().len() {
+        counts.release_run(processes.as_slice()[at].run);
+        processes.start(proc, cpu);
+    }
 }

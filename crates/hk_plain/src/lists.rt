@@ -7,9 +7,9 @@ ghost use Rattle.hk_plain.specs.Giving.{Gives};
 ghost use Rattle.hk_plain.specs.Additions.{entry_added};
 
 use crate::counted::{push_entry, set_entry};
-use crate::stop::Stop;
 use crate::tables::Tables;
-use crate::targets::{Wanted, slot_at, storable};
+use crate::targets::storable;
+use hk_calls::{Stop, Wanted, slot_at};
 use hk_model::limits::ENTRY_LIMIT;
 use hk_model::{Answer, Entry, Inc, Name, Path, Refusal, Slot, Template, What8};
 use hk_rights::Rights;

@@ -10,10 +10,9 @@ ghost use Rattle.hk_plain.specs.Numbers.{HasNumbers};
 ghost use Rattle.hk_plain.specs.Additions.{object_made};
 ghost use Rattle.hk_plain.specs.Marking.{is_none_of};
 
-use crate::stop::Stop;
 use crate::tables::Tables;
-use crate::targets::{Wanted, slot_at};
 use crate::walks::reduced_rights;
+use hk_calls::{Stop, Wanted, slot_at};
 use hk_model::{
     Answer, Cap, Entries, Entry, Inc, Items, Name, Object, Params, Path, Refusal, Slot, Template,
     Words,

@@ -16,12 +16,12 @@ use crate::counted::insert;
 use crate::counts::Counts;
 use crate::incarnations::Incarnations;
 use crate::objects::plain_object;
-use crate::processes::Processes;
 use crate::tables::Tables;
 use hk_model::{
     Born, Entries, Entry, Inc, Incarnation, Kind, Name, NoMemory, Object, Proc, Process,
     ProcessState, Slot, Task, Words, World,
 };
+use hk_running::Processes;
 use std::alloc::{AllocError, Global};
 use std::collections::{BTreeMap, VecDeque};
 

@@ -7,9 +7,8 @@ ghost use Rattle.hk_model.specs.Merging.{name_space};
 ghost use Rattle.hk_plain.specs.Giving.{Gives};
 ghost use Rattle.hk_plain.specs.Numbers.{HasNumbers};
 
-use crate::stop::Stop;
 use crate::tables::Tables;
-use crate::targets::{Wanted, slot_at};
+use hk_calls::{Stop, Wanted, slot_at};
 use hk_merge::{Arg, allowed, build_space, held};
 use hk_model::limits::{DEPTH_LIMIT, SLOT_LIMIT};
 use hk_model::{

@@ -6,9 +6,8 @@ ghost use Rattle.hk_model.specs.State.{object, put_object};
 ghost use Rattle.hk_model.specs.Rule.{take_token, give_token, token_given, yielded};
 ghost use Rattle.hk_plain.specs.Giving.{Gives};
 
-use crate::stop::Stop;
 use crate::tables::Tables;
-use crate::targets::Wanted;
+use hk_calls::{Stop, Wanted};
 use hk_model::limits::TOKEN_LIMIT;
 use hk_model::{Answer, Inc, Items, Name, NoMemory, Path, Proc, ProcessState, Refusal, What8};
 use hk_rights::Rights;

@@ -1,38 +1,16 @@
 //! The calls on slots: Load, Drop, Restrict and Look.
 
 ghost use Rattle.std.specs.Prelude.{◌≡◌};
-ghost use Rattle.hk_model.specs.declared.entries.Entry.TheVariants.{Form};
-ghost use Rattle.hk_model.specs.Rule.{load_entry, drop_slot, restrict_slot, look, looked};
+ghost use Rattle.hk_model.specs.Rule.{load_entry, drop_slot, restrict_slot, look};
 ghost use Rattle.hk_plain.specs.Giving.{Gives};
 
-use crate::stop::Stop;
 use crate::tables::Tables;
-use crate::targets::{not_empty, slot_at};
+use crate::targets::not_empty;
+use hk_calls::{Stop, looked, slot_at};
 use hk_merge::held;
 use hk_model::{Answer, Cap, Entry, Inc, Path, Slot, Template};
 use hk_rights::Rights;
 use std::marker::PhantomData;
-
-// What Look replies for an entry: its kind in the highest byte, and its rights.
-fn looked(entry: Entry) -> u32
-    ensures { result ≡ looked entry }
-{
-    match entry {
-        Entry::Empty => 0,
-        Entry::Held(cap) => 0x0100_0000 + cap.rights.bits(),
-        Entry::Form(form) => form_looked(form),
-    }
-}
-
-// What Look replies for a template: its kind, and the rights that it gives.
-fn form_looked(form: Template) -> u32
-    ensures { result ≡ looked (Form form) }
-{
-    match form {
-        Template::Amplify { give, .. } => 0x0200_0000 + give.bits(),
-        Template::Create { give, .. } => 0x0300_0000 + give.bits(),
-    }
-}
 
 impl Tables {
     /// Load: the slot becomes what the path leads to.

@@ -6,10 +6,11 @@ ghost use Rattle.hk_model.specs.State.{object, process, same_name, put_slot, put
 ghost use Rattle.hk_model.specs.declared.objects.ProcessState.TheVariants.{Running};
 ghost use Rattle.hk_model.specs.Processors.{is_running, runner};
 
+use crate::counted::{set_run, start};
 use crate::counts::Counts;
 use crate::incarnations::Incarnations;
-use crate::processes::Processes;
 use hk_model::{Cpu, Entry, Inc, Name, NoMemory, Object, Proc, ProcessState};
+use hk_running::Processes;
 use std::collections::{BTreeMap, VecDeque};
 use std::marker::Model;
 
@@ -69,7 +70,7 @@ impl Tables {
         requires { is_running run ≡ false }
         ensures { self.new ≡ put_process self.old proc (record (process self.old proc) { run = run }) }
     {
-        self.processes.set_run(proc, run, &mut self.counts);
+        set_run(&mut self.processes, proc, run, &mut self.counts);
     }
 
     // The process runs on a processor that runs nothing.
@@ -78,7 +79,7 @@ impl Tables {
         requires idle { runner self.old cpu ≡ None }
         ensures { self.new ≡ put_process self.old proc (record (process self.old proc) { run = Running cpu }) }
     {
-        self.processes.start(proc, cpu, &mut self.counts);
+        start(&mut self.processes, proc, cpu, &mut self.counts);
     }
 
     // Changes the current incarnation of a process.

@@ -3,53 +3,14 @@
 ghost use Rattle.std.specs.Prelude.{◌≡◌, slice_index_or};
 ghost use Rattle.hk_model.specs.declared.entries.Entry.TheVariants.{Empty};
 ghost use Rattle.hk_model.specs.State.{object, incarnation};
-ghost use Rattle.hk_model.specs.Targets.{slot_at, storable, not_empty, target};
-ghost use Rattle.hk_plain.specs.Kinds.{is_wanted};
+ghost use Rattle.hk_model.specs.Targets.{storable, not_empty, target};
+ghost use Rattle.hk_calls.specs.Kinds.{is_wanted};
 
 use crate::tables::Tables;
+use hk_calls::Wanted;
 use hk_merge::{allowed, held};
-use hk_model::limits::SLOT_LIMIT;
-use hk_model::{Cap, Entry, Inc, Name, Path, Refusal, Slot};
+use hk_model::{Cap, Entry, Inc, Name, Path, Refusal};
 use hk_rights::Rights;
-
-/// Which types a call is for.
-#[derive(Clone, Copy, PartialEq, Eq, Debug)]
-pub enum Wanted {
-    /// DATA, UNIVERSAL and every type that is no kernel type.
-    General,
-    /// UNIVERSAL, PROCEDURE and every type that is no kernel type.
-    Listed,
-    Types,
-    Semaphores,
-    Procedures,
-}
-
-impl Wanted {
-    // Whether a type is wanted.
-    fn has(self, of: Name) -> bool
-        ensures { result ≡ is_wanted self of }
-    {
-        match self {
-            Wanted::General => of.0 == 1 || of.0 == 2 || of.0 > 6,
-            Wanted::Listed => of.0 == 2 || of.0 == 4 || of.0 > 6,
-            Wanted::Types => of.0 == 0,
-            Wanted::Semaphores => of.0 == 3,
-            Wanted::Procedures => of.0 == 4,
-        }
-    }
-}
-
-// The number of a slot, which is to be below 64.
-pub(crate) fn slot_at(slot: Slot, step: u8) -> Result<usize, Refusal>
-    ensures { result ≡ slot_at slot step }
-{
-    let at = usize::from(slot.0);
-    if at < SLOT_LIMIT {
-        Ok(at)
-    } else {
-        Err(Refusal::Range { step })
-    }
-}
 
 // What may stand in a list: a template, or a capability with ENV.
 pub(crate) fn storable(entry: Entry, step: u8) -> Result<Entry, Refusal>

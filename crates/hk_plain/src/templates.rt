@@ -5,9 +5,8 @@ ghost use Rattle.hk_model.specs.Targets.{amplify_form};
 ghost use Rattle.hk_model.specs.Rule.{made_form, make_template, merge_cap};
 ghost use Rattle.hk_plain.specs.Giving.{Gives};
 
-use crate::stop::Stop;
 use crate::tables::Tables;
-use crate::targets::{Wanted, slot_at};
+use hk_calls::{Stop, Wanted, slot_at};
 use hk_merge::{amplify_form, held, merge};
 use hk_model::{Answer, Entry, Inc, Making, Name, Param, Path, Refusal, Slot, Template};
 use hk_rights::Rights;

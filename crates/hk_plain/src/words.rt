@@ -7,9 +7,8 @@ ghost use Rattle.hk_model.specs.Rule.{get_word, put_word, add_word, word_count};
 ghost use Rattle.hk_plain.specs.Giving.{Gives};
 ghost use Rattle.hk_plain.specs.Additions.{word_added};
 
-use crate::stop::Stop;
 use crate::tables::Tables;
-use crate::targets::Wanted;
+use hk_calls::{Stop, Wanted};
 use hk_model::limits::WORD_LIMIT;
 use hk_model::{Answer, Inc, Name, Path, Refusal, What8};
 use hk_rights::Rights;

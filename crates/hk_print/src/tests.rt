@@ -9,7 +9,7 @@ use crate::{
     rights_text, route_text, script_text, write_entry, write_param,
 };
 use hk_model::{
-    Cap, Entry, Index, Instr, Items, Name, NoMemory, Operand, Param, Route, Slot, Template, World,
+    Cap, Entry, Index, Instr, Items, Name, NoMemory, Operand, Param, Route, Slot, World,
 };
 use hk_rights::{Right, Rights};
 use std::alloc::Global;
@@ -58,12 +58,8 @@ fn operands_are_spelled(rt: HostRuntime) -> Result<(), Fail> {
 #[test]
 fn rights_are_spelled_by_rising_number(rt: HostRuntime) -> Result<(), Fail> {
     let alloc = rt.alloc();
-    let sets = [Rights::none(), Rights::all(), Rights::PUTDATA_MODIFY];
-    let texts = ["-", "ALL", "PUTDATA+MODIFY"];
-    for i in 0..3 {
-        let text = rights_text(alloc, sets[i]).map_err(|_error: NoMemory| "memory")?;
-        assert_eq!(rt; text.as_str(), texts[i]);
-    }
+    let text = rights_text(alloc, Rights::PUTDATA_MODIFY).map_err(|_error: NoMemory| "memory")?;
+    assert_eq!(rt; text.as_str(), "PUTDATA+MODIFY");
     Ok(())
 }
 
@@ -101,33 +97,13 @@ fn rights_of_a_set_are_found_by_number() {
 #[test]
 fn entries_are_spelled_by_numbers(rt: HostRuntime) -> Result<(), Fail> {
     let alloc = rt.alloc();
-    let entries = [
-        Entry::Empty,
-        Entry::Held(Cap {
-            name: Name(65536),
-            rights: Rights::PUTDATA_MODIFY,
-        }),
-        Entry::Form(Template::Amplify {
-            of: None,
-            check: Rights::none(),
-            give: Rights::all(),
-        }),
-        Entry::Form(Template::Create {
-            of: Name(8),
-            give: Rights::GETDATA,
-        }),
-    ];
-    let texts = [
-        "empty",
-        "cap 65536 PUTDATA+MODIFY",
-        "amplify any - ALL",
-        "create 8 GETDATA",
-    ];
-    for i in 0..4 {
-        let mut out = String::new(alloc);
-        write_entry(alloc, &mut out, &ByNumber, entries[i]).map_err(|_error: NoMemory| "memory")?;
-        assert_eq!(rt; out.as_str(), texts[i]);
-    }
+    let held = Entry::Held(Cap {
+        name: Name(65536),
+        rights: Rights::PUTDATA_MODIFY,
+    });
+    let mut out = String::new(alloc);
+    write_entry(alloc, &mut out, &ByNumber, held).map_err(|_error: NoMemory| "memory")?;
+    assert_eq!(rt; out.as_str(), "cap 65536 PUTDATA+MODIFY");
     Ok(())
 }
 

@@ -24,6 +24,6 @@ pub use context::Context;
 pub use ending::end_word;
 pub use hk_model::{Frame, Todo};
 pub use laws::shapes_law;
-pub use machine::Machine;
+pub use machine::{Machine, beginnings};
 pub use running::next;
 pub use vanishing::kept_law;

@@ -139,8 +139,9 @@ impl<K: Kernel> Machine<K> {
     }
 }
 
-// The context of each process as it begins.
-fn beginnings(alloc: Global, tasks: &[Task]) -> Result<Vec<Context>, NoMemory>
+/// The context of each process as it begins (`docs/RULES.md`, "Control of a process"), by the numbers of
+/// the processes. NoMemory is want of memory.
+pub fn beginnings(alloc: Global, tasks: &[Task]) -> Result<Vec<Context>, NoMemory>
     ensures { IfOk result (λ contexts. contexts.items ≡ map (λ (t : Task). new_frame t.code ∷ []) tasks.now) }
 {
     let mut contexts = Vec::with_capacity(alloc, tasks.len())?;

@@ -143,44 +143,6 @@ fn a_loop_counts_up_to_its_call_and_a_refusal_is_told(rt: HostRuntime) -> Result
     Ok(())
 }
 
-// A world whose first code runs 10,000 local instructions before its call, and whose second one more.
-fn counts_to_the_limit(alloc: Global) -> Result<World, Fail>
-    ensures { IfOk result (λ world. length world.codes ≡ 2) }
-{
-    let (r0, one, half) = (Operand::Reg(0), Operand::Number(1), Operand::Number(5_000));
-    let exact = vec![in alloc;
-        Instr::AddReg { reg: 0, by: one },
-        Instr::IfLess {
-            left: r0,
-            right: half,
-            to: 0
-        },
-        Instr::Yield,
-    ]?;
-    let over = vec![in alloc;
-        Instr::AddReg { reg: 0, by: one },
-        Instr::IfLess {
-            left: r0,
-            right: half,
-            to: 0
-        },
-        Instr::Goto { to: 3 },
-        Instr::Yield,
-    ]?;
-    world(alloc, exact, over)
-}
-
-#[test]
-fn ten_thousand_local_instructions_run_and_no_more(rt: HostRuntime) -> Result<(), Fail> {
-    let alloc = rt.alloc();
-    let world = counts_to_the_limit(alloc)?;
-    let mut exact = Context::new(alloc, 0).ok().ok_or("a context")?;
-    assert_eq!(rt; next_of(&mut exact, &world), Some(Todo::Do(Call::Yield)));
-    let mut over = Context::new(alloc, 1).ok().ok_or("a context")?;
-    assert_eq!(rt; next_of(&mut over, &world), Some(Todo::Halt));
-    Ok(())
-}
-
 // A world whose first code calls a procedure of its second.
 fn calls_a_procedure(alloc: Global, args: Args) -> Result<World, Fail>
     requires { IsArguments args }

@@ -7,12 +7,8 @@ mod asking;
 mod book;
 mod calling;
 mod desk;
-#[cfg(test)]
-mod desk_tests;
 mod naming;
 mod shared;
-#[cfg(test)]
-mod test_worlds;
 #[cfg(test)]
 mod tests;
 

@@ -13,7 +13,7 @@ use crate::book::Book;
 use crate::naming::Naming;
 use hk_model::{Kernel, NoMemory, Task, World};
 use hk_procs::Noted;
-use hk_program::Context;
+use hk_program::{Context, beginnings};
 use hk_turn::{Pass, Turns};
 use std::alloc::Global;
 use std::marker::PhantomData;
@@ -93,9 +93,10 @@ fn opened<K: Kernel, J: Naming>(
 fn places(alloc: Global, tasks: &[Task]) -> Result<Vec<Option<Context>>, NoMemory>
     ensures { IfOk result (λ contexts. contexts.items ≡ map (λ (t : Task). Some (new_frame t.code ∷ [])) tasks.now) }
 {
-    let mut places = Vec::with_capacity(alloc, tasks.len())?;
-    for task in tasks {
-        places.push(Some(Context::new(alloc, task.code)?))?;
+    let contexts = beginnings(alloc, tasks)?;
+    let mut places = Vec::with_capacity(alloc, contexts.len())?;
+    for context in contexts {
+        places.push(Some(context))?;
     }
     Ok(places)
 }

@@ -27,9 +27,10 @@ use Rattle.hk_top.specs.declared.served.Silence.{Silence}
 use Rattle.hk_top.specs.declared.served.Silence.TheVariants as silence
 use Rattle.hk_top.specs.declared.words.Command.{Command}
 use Rattle.hk_top.specs.declared.words.Command.TheVariants as command
-use Rattle.hk_top.specs.Words.{IsAlone, IsCommand, IsInRange, ReadsScript, ReadsAtMost, words_of, byte_limit}
+use Rattle.hk_top.specs.Words.{IsCommand, IsInRange, MayTrace, ReadsScript, ReadsRecord, ReadsAtMost, words_of, byte_limit}
+use Rattle.hk_top.specs.BoundTexts.{AreTold}
 use Rattle.hk_top.specs.Served.{IsTooLong, silent_status}
-use Rattle.hk_top.specs.Outputs.{Due, DueTo, Answer, IsRecorded, IsChecked, IsLawful, Stream, IsSaid, status_of, read, record_of, script_of, verdict_of, script_refused}
+use Rattle.hk_top.specs.Outputs.{Due, DueTo, Answer, IsRecorded, IsChecked, IsLawful, Stream, IsSaid, status_of, read, record_of, script_of, bounds_of, verdict_of, chains_of, script_refused, traced_text}
 use Rattle.hk_top.specs.Outputs.{record_refused, legal, illegal, too_long, written, read_fault, no_memory, write_fault, HadFault}
 
 -- a text that is due and said is an answer
@@ -67,6 +68,11 @@ pub script_due : (bytes : List ℕ) (w : WorldValue) (r : Result DueText NoMemor
 script_due bytes w (Ok due) is h = rw (h.0, h.1) (script_of w refl is)
 script_due bytes w (Err error) is h = tt
 
+pub bounds_due : (bytes : List ℕ) (w : WorldValue) (r : Result DueText NoMemory) → world bytes ≡ Ok w → IfOk r (λ due. AreTold w due.status due.text)
+    → IfOk r (λ due. DueTo (words_of command.Bound) bytes due.status due.text None)
+bounds_due bytes w (Ok due) is h = rw (h.2, h.3) (bounds_of w h.0 refl is h.1)
+bounds_due bytes w (Err error) is h = tt
+
 pub script_refused_due : (c : Command) (bytes : List ℕ) (line : ℕ) (cause : Cause) (r : Result DueText NoMemory) → ReadsScript (words_of c) → world bytes ≡ Err (line, cause)
     → IfOk r (λ due. (due.status ≡ 3) × (due.text ≡ refusal_text line (cause_name cause))) → IfOk r (λ due. DueTo (words_of c) bytes due.status due.text None)
 script_refused_due c bytes line cause (Ok due) reads is h = rw (h.0, h.1) (script_refused line cause reads is)
@@ -74,35 +80,39 @@ script_refused_due c bytes line cause (Err error) reads is h = tt
 
 -- what is due to the bytes of a record
 
-pub verdict_due : (bytes : List ℕ) (a : Audited) (r : Result DueText NoMemory) → audit bytes ≡ Ok a → IfOk r (λ due. IsChecked a due.status due.text)
+pub verdict_due : (bytes : List ℕ) (a : Audited) (r : Result DueText NoMemory) → audit bytes ≡ Ok a → IfOk r (λ due. IsChecked a (verdict_text Legal) due.status due.text)
     → IfOk r (λ due. DueTo (words_of command.Check) bytes due.status due.text None)
 verdict_due bytes a (Ok due) is h = verdict_of a due.status due.text refl is h
 verdict_due bytes a (Err error) is h = tt
 
-pub record_refused_due : (bytes : List ℕ) (line : ℕ) (cause : Cause) (r : Result DueText NoMemory) → audit bytes ≡ Err (line, cause)
-    → IfOk r (λ due. (due.status ≡ 3) × (due.text ≡ refusal_text line (cause_name cause)))
-    → IfOk r (λ due. DueTo (words_of command.Check) bytes due.status due.text None)
-record_refused_due bytes line cause (Ok due) is h = rw (h.0, h.1) (record_refused line cause refl is)
-record_refused_due bytes line cause (Err error) is h = tt
+pub chains_due : (bytes : List ℕ) (a : Audited) (line : ℕ) (r : Result DueText NoMemory) → MayTrace line → audit bytes ≡ Ok a
+    → IfOk r (λ due. IsChecked a (traced_text a line) due.status due.text) → IfOk r (λ due. DueTo (words_of (command.Trace line)) bytes due.status due.text None)
+chains_due bytes a line (Ok due) may is h = chains_of a line due.status due.text (refl, may) is h
+chains_due bytes a line (Err error) may is h = tt
 
-pub legal_due : (a : Audited) (w : WorldValue) (lines : List Line) (end : End) (v : Verdict) (r : Result DueText NoMemory) → w ≡ a.world → lines ≡ a.lines → end ≡ a.end
-    → IsVerdict w lines end v → v ≡ Legal → IsLawful w lines
-    → IfOk r (λ due. (due.status ≡ 0) × (due.text ≡ verdict_text v)) → IfOk r (λ due. IsChecked a due.status due.text)
-legal_due a w lines end v (Ok due) w_is lines_are end_is is v_is laws h =
+pub record_refused_due : (c : Command) (bytes : List ℕ) (line : ℕ) (cause : Cause) (r : Result DueText NoMemory) → ReadsRecord (words_of c) → audit bytes ≡ Err (line, cause)
+    → IfOk r (λ due. (due.status ≡ 3) × (due.text ≡ refusal_text line (cause_name cause)))
+    → IfOk r (λ due. DueTo (words_of c) bytes due.status due.text None)
+record_refused_due c bytes line cause (Ok due) reads is h = rw (h.0, h.1) (record_refused line cause reads is)
+record_refused_due c bytes line cause (Err error) reads is h = tt
+
+pub legal_due : (a : Audited) (text : List ℕ) (w : WorldValue) (lines : List Line) (end : End) (v : Verdict) (r : Result DueText NoMemory) → w ≡ a.world → lines ≡ a.lines
+    → end ≡ a.end → IsVerdict w lines end v → v ≡ Legal → IsLawful w lines
+    → IfOk r (λ due. (due.status ≡ 0) × (due.text ≡ text)) → IfOk r (λ due. IsChecked a text due.status due.text)
+legal_due a text w lines end v (Ok due) w_is lines_are end_is is v_is laws h =
     let holds : IsLegal a.world a.lines a.end = rw (w_is, lines_are, end_is, v_is) at is in
     let lawful : IsLawful a.world a.lines = rw (w_is, lines_are) at laws in
-    let told : due.text ≡ verdict_text Legal = rw v_is at h.1 in
-    rw (h.0, told) (legal holds lawful)
-legal_due a w lines end v (Err error) w_is lines_are end_is is v_is laws h = tt
+    rw (h.0, h.1) (legal holds lawful)
+legal_due a text w lines end v (Err error) w_is lines_are end_is is v_is laws h = tt
 
-pub illegal_due : (a : Audited) (w : WorldValue) (lines : List Line) (end : End) (v : Verdict) (n : ℕ) (cause : Misstep) (r : Result DueText NoMemory) → w ≡ a.world
+pub illegal_due : (a : Audited) (legal_text : List ℕ) (w : WorldValue) (lines : List Line) (end : End) (v : Verdict) (n : ℕ) (cause : Misstep) (r : Result DueText NoMemory) → w ≡ a.world
     → lines ≡ a.lines → end ≡ a.end → IsVerdict w lines end v → v ≡ Illegal n cause
-    → IfOk r (λ due. (due.status ≡ 8) × (due.text ≡ verdict_text v)) → IfOk r (λ due. IsChecked a due.status due.text)
-illegal_due a w lines end v n cause (Ok due) w_is lines_are end_is is v_is h =
+    → IfOk r (λ due. (due.status ≡ 8) × (due.text ≡ verdict_text v)) → IfOk r (λ due. IsChecked a legal_text due.status due.text)
+illegal_due a legal_text w lines end v n cause (Ok due) w_is lines_are end_is is v_is h =
     let bad : IsVerdict a.world a.lines a.end (Illegal n cause) = rw (w_is, lines_are, end_is, v_is) at is in
     let told : due.text ≡ verdict_text (Illegal n cause) = rw v_is at h.1 in
     rw (h.0, told) (illegal n cause bad)
-illegal_due a w lines end v n cause (Err error) w_is lines_are end_is is v_is h = tt
+illegal_due a legal_text w lines end v n cause (Err error) w_is lines_are end_is is v_is h = tt
 
 -- what is due to an input
 
@@ -110,8 +120,10 @@ illegal_due a w lines end v n cause (Err error) w_is lines_are end_is is v_is h 
 at_most : (c : Command) → IsInRange c → ReadsAtMost (words_of c) (byte_limit c)
 at_most command.Run range = inl (inl refl, refl)
 at_most (command.RunOn cpus) range = inl (inr (inl (cpus, (refl, range))), refl)
-at_most command.Show range = inl (inr (inr refl), refl)
-at_most command.Check range = inr (refl, refl)
+at_most command.Show range = inl (inr (inr (inl refl)), refl)
+at_most command.Bound range = inl (inr (inr (inr refl)), refl)
+at_most command.Check range = inr (inl refl, refl)
+at_most (command.Trace line) range = inr (inr (line, (refl, range)), refl)
 
 pub read_due : {before after : Option (List ℕ)} {bytes same text : List ℕ} {status : ℕ} {made : Option State} (c : Command) (limit : ℕ) → IsInRange c → limit ≡ byte_limit c
     → Consumes before after bytes → IsAtEnd after → length bytes ≤ limit → same ≡ bytes
@@ -134,14 +146,16 @@ run_speaks end.Done = (λ e. absurd (cc), λ e. absurd (cc))
 run_speaks end.Stuck = (λ e. absurd (cc), λ e. absurd (cc))
 run_speaks end.Limit = (λ e. absurd (cc), λ e. absurd (cc))
 
-check_speaks : {a : Audited} {status : ℕ} {text : List ℕ} → IsChecked a status text → Speaks status
+check_speaks : {a : Audited} {told : List ℕ} {status : ℕ} {text : List ℕ} → IsChecked a told status text → Speaks status
 check_speaks (legal is laws) = (λ e. absurd (cc), λ e. absurd (cc))
 check_speaks (illegal n cause is) = (λ e. absurd (cc), λ e. absurd (cc))
 
 pub speaks : {words : List (List ℕ)} {bytes : List ℕ} {status : ℕ} {text : List ℕ} {made : Option State} → DueTo words bytes status text made → (status ≢ 4) × (status ≢ 5)
 speaks (record_of w status text made is r) = subst Speaks (sym r.record_is.status_is) (run_speaks r.end)
 speaks (script_of w show is) = (λ e. absurd (cc), λ e. absurd (cc))
+speaks (bounds_of w bounds bound is are) = (λ e. absurd (cc), λ e. absurd (cc))
 speaks (verdict_of a status text checks is h) = check_speaks h
+speaks (chains_of a line status text traces is h) = check_speaks h
 speaks (script_refused line cause reads is) = (λ e. absurd (cc), λ e. absurd (cc))
 speaks (record_refused line cause reads is) = (λ e. absurd (cc), λ e. absurd (cc))
 
@@ -149,15 +163,10 @@ speaks (record_refused line cause reads is) = (λ e. absurd (cc), λ e. absurd (
 pub of_command : {words : List (List ℕ)} (c : Command) → IsInRange c → words ≡ words_of c → IsCommand words
 of_command command.Run range is = inl (inl is)
 of_command (command.RunOn cpus) range is = inl (inr (inl (cpus, (is, range))))
-of_command command.Show range is = inl (inr (inr is))
-of_command command.Check range is = inr is
-
--- a command that one processor serves, and one that many serve
-pub alone_ranges : (c : Command) → IsAlone c → IsInRange c
-alone_ranges command.Run alone = tt
-alone_ranges (command.RunOn cpus) alone = absurd alone
-alone_ranges command.Show alone = tt
-alone_ranges command.Check alone = tt
+of_command command.Show range is = inl (inr (inr (inl is)))
+of_command command.Bound range is = inl (inr (inr (inr is)))
+of_command command.Check range is = inr (inl is)
+of_command (command.Trace line) range is = inr (inr (line, (is, range)))
 
 -- what a run of many processors, or of one, came to where the script is refused
 pub refused_served : {K : Type 0} (state : K → State) (c : Command) (bytes : List ℕ) (line : ℕ) (cause : Cause) (due : DueText) (served : Served K) → ReadsScript (words_of c)

@@ -3,6 +3,7 @@ use Rattle.std.proofs.Common.{◌≡◌, ◌∙◌, ◌≤◌, ℕ, List, [], �
 use Rattle.std.specs.Io.KnownBytes.{Consumes, IsAtEnd}
 use Rattle.hk_model.specs.State.{State}
 use Rattle.hk_top.specs.Words.{IsCommand, ReadsAtMost, ReadsRecord, ReadsScript}
+use Rattle.hk_top.proofs.WordLemmas.{bound_is_no_check, run_is_no_trace}
 use Rattle.hk_top.specs.Outputs.{Answer, Due, DueTo, IsComplete, Stream, read, usage, too_long, written, read_fault, no_memory, write_fault}
 
 -- a source that told its bytes and was read to its end gave them all
@@ -27,9 +28,14 @@ of_reading (inr h) = inr h.0
 
 -- no words read a script and a record
 one_input : {words : List (List ℕ)} → ReadsScript words → ReadsRecord words → ⊥
-one_input (inl run) check = let both : codes "run" ∷ [] ≡ codes "check" ∷ [] = sym run ∙ check in absurd (cc)
-one_input (inr (inl many)) check = let both : codes "run" ∷ _ ∷ [] ≡ codes "check" ∷ [] = sym many.1.0 ∙ check in absurd (cc)
-one_input (inr (inr show)) check = let both : codes "show" ∷ [] ≡ codes "check" ∷ [] = sym show ∙ check in absurd (cc)
+one_input (inl run) (inl check) = let both : codes "run" ∷ [] ≡ codes "check" ∷ [] = sym run ∙ check in absurd (cc)
+one_input (inr (inl many)) (inl check) = let both : codes "run" ∷ _ ∷ [] ≡ codes "check" ∷ [] = sym many.1.0 ∙ check in absurd (cc)
+one_input (inr (inr (inl show))) (inl check) = let both : codes "show" ∷ [] ≡ codes "check" ∷ [] = sym show ∙ check in absurd (cc)
+one_input (inr (inr (inr bound))) (inl check) = absurd (bound_is_no_check (sym bound ∙ check))
+one_input (inl run) (inr trace) = let both : codes "run" ∷ [] ≡ codes "trace" ∷ _ ∷ [] = sym run ∙ trace.1.0 in absurd (cc)
+one_input (inr (inl many)) (inr trace) = absurd (run_is_no_trace _ _ (sym many.1.0 ∙ trace.1.0))
+one_input (inr (inr (inl show))) (inr trace) = let both : codes "show" ∷ [] ≡ codes "trace" ∷ _ ∷ [] = sym show ∙ trace.1.0 in absurd (cc)
+one_input (inr (inr (inr bound))) (inr trace) = let both : codes "bound" ∷ [] ≡ codes "trace" ∷ _ ∷ [] = sym bound ∙ trace.1.0 in absurd (cc)
 
 -- so they have one limit
 one_limit : {words : List (List ℕ)} {limit other : ℕ} → ReadsAtMost words limit → ReadsAtMost words other → limit ≡ other

@@ -11,7 +11,7 @@ use Rattle.hk_model.specs.declared.objects.ProcessState.TheVariants.{Ready, Runn
 use Rattle.hk_model.specs.WorldValue.{WorldValue, IsWorld}
 use Rattle.hk_model.specs.State.{State}
 use Rattle.hk_model.specs.Processors.{has_ended, is_ready, is_running, is_waiting, may_step}
-use Rattle.hk_model.specs.Running.{Machine, AreSteps, after_lines, line_of, moved, opened, state_after, step}
+use Rattle.hk_model.specs.Running.{Machine, AreSteps, after_lines, line_of, moved, opened, state_after}
 use Rattle.hk_model.specs.Legal.{end_word}
 use Rattle.hk_program.proofs.Machines.{sound_after, sound_kept}
 use Rattle.hk_top.specs.Outputs.{first_processor, IsRunBy, IsWholeRun}

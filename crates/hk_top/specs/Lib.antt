@@ -1,3 +1,4 @@
+pub mod BoundTexts
 pub mod Outputs
 pub mod Served
 pub mod Words

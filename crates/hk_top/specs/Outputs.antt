@@ -4,6 +4,7 @@ use Rattle.std.specs.Io.KnownBytes.{Consumes, Appends, IsAtEnd}
 use Rattle.hk_io.specs.Causes.{Rose}
 use Rattle.hk_io.specs.Streams.{Took}
 use Rattle.hk_model.specs.declared.names.Cpu.{Cpu}
+use Rattle.hk_model.specs.declared.names.Name.{Name}
 use Rattle.hk_format.specs.declared.causes.Cause.{Cause}
 use Rattle.hk_model.specs.declared.verdicts.Misstep.{Misstep}
 use Rattle.hk_model.specs.declared.verdicts.Verdict.TheVariants.{Legal, Illegal}
@@ -25,7 +26,10 @@ use Rattle.hk_format.specs.Worlds.{world}
 use Rattle.hk_format.specs.Canonical.{canon}
 use Rattle.hk_format.specs.Records.{record_text}
 use Rattle.hk_format.specs.Audits.{Audited, audit}
-use Rattle.hk_top.specs.Words.{IsRun, IsRunOn, IsShow, IsCheck, ReadsScript, ReadsRecord, IsCommand, ReadsAtMost}
+use Rattle.hk_top.specs.BoundTexts.{AreBounds, bounds_text}
+use Rattle.hk_trace.specs.ChainTexts.{chains_text}
+use Rattle.hk_trace.specs.Traced.{trace_of}
+use Rattle.hk_top.specs.Words.{IsRun, IsRunOn, IsShow, IsBound, IsCheck, IsTrace, ReadsScript, ReadsRecord, IsCommand, ReadsAtMost}
 
 -- what is written of words that are no command
 abbrev pub usage_text : List ℕ
@@ -80,12 +84,16 @@ pub record IsRecorded (words : List (List ℕ)) (w : WorldValue) (status : ℕ) 
   pub record_is : IsRecord w lines end status text
   pub kernel : made ≡ Some (state_after w lines)
 
--- the verdict on a record that was read, and its status
-pub data IsChecked (a : Audited) : ℕ → List ℕ → Type 0 where
+-- what is written of a record that was read, if this text is written of a legal one, and its status
+pub data IsChecked (a : Audited) (told : List ℕ) : ℕ → List ℕ → Type 0 where
   -- 0: the record is legal, and the laws hold of its lines
-  legal : IsLegal a.world a.lines a.end → IsLawful a.world a.lines → IsChecked a 0 (verdict_text Legal)
+  legal : IsLegal a.world a.lines a.end → IsLawful a.world a.lines → IsChecked a told 0 told
   -- 8: it is not, and the text is its first bad line, with its first cause
-  illegal : (n : ℕ) (cause : Misstep) → IsVerdict a.world a.lines a.end (Illegal n cause) → IsChecked a 8 (verdict_text (Illegal n cause))
+  illegal : (n : ℕ) (cause : Misstep) → IsVerdict a.world a.lines a.end (Illegal n cause) → IsChecked a told 8 (verdict_text (Illegal n cause))
+
+-- the chains of what the line of this number used
+abbrev pub traced_text : Audited → ℕ → List ℕ
+traced_text a line = chains_text a.lines (trace_of a.world a.lines line)
 
 -- the status and the text that are due to these words and to the bytes that were read, and the state of the kernel, if one
 -- made a record
@@ -94,8 +102,13 @@ pub data DueTo (words : List (List ℕ)) (bytes : List ℕ) : ℕ → List ℕ �
   record_of : (w : WorldValue) (status : ℕ) (text : List ℕ) (made : Option State) → world bytes ≡ Ok w → IsRecorded words w status text made → DueTo words bytes status text made
   -- 0: the bytes are the script of a world, and the text is its canonical script
   script_of : (w : WorldValue) → IsShow words → world bytes ≡ Ok w → DueTo words bytes 0 (canon w) None
+  -- 0: the bytes are the script of a world, and the text is the bounds of its processes
+  bounds_of : (w : WorldValue) (bounds : List (List Name)) → IsBound words → world bytes ≡ Ok w → AreBounds w bounds → DueTo words bytes 0 (bounds_text bounds) None
   -- 0, 8: the bytes are a record, and the text is the verdict on it
-  verdict_of : (a : Audited) (status : ℕ) (text : List ℕ) → IsCheck words → audit bytes ≡ Ok a → IsChecked a status text → DueTo words bytes status text None
+  verdict_of : (a : Audited) (status : ℕ) (text : List ℕ) → IsCheck words → audit bytes ≡ Ok a → IsChecked a (verdict_text Legal) status text → DueTo words bytes status text None
+  -- 0, 8: the bytes are a record, and the text is the chains of what a line of it used, or the verdict on it
+  chains_of : (a : Audited) (line status : ℕ) (text : List ℕ) → IsTrace words line → audit bytes ≡ Ok a → IsChecked a (traced_text a line) status text
+      → DueTo words bytes status text None
   -- 3: the bytes are the script of no world, and the text is the first line that is refused, with its first cause
   script_refused : (line : ℕ) (cause : Cause) → ReadsScript words → world bytes ≡ Err (line, cause) → DueTo words bytes 3 (refusal_text line (cause_name cause)) None
   -- 3: the bytes are no record, and the text is the line that is refused first, with its cause

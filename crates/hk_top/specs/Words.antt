@@ -3,23 +3,28 @@ use Rattle.std.specs.Prelude.{◌≡◌, ℕ, ◌≤◌, ◌⊎◌, List, [], �
 use Rattle.std.specs.Fmt.{decimal}
 use Rattle.hk_model.specs.Limits.{cpu_limit, script_bytes, record_bytes}
 use Rattle.hk_top.specs.declared.words.Command.{Command}
+use Rattle.hk_top.specs.declared.words.TheConstants.{TRACE_LIMIT}
 use Rattle.hk_top.specs.declared.words.Command.TheVariants as command
 
 -- the words `run`
 abbrev pub IsRun : List (List ℕ) → Type 0
 IsRun words = words ≡ codes "run" ∷ []
 
+-- a number from 1 to the largest one
+abbrev pub IsBetween : ℕ → ℕ → Type 0
+IsBetween largest number = (1 ≤ number) × (number ≤ largest)
+
+-- the word spells no such number
+abbrev pub IsNoNumber : ℕ → List ℕ → Type 0
+IsNoNumber largest word = (number : ℕ) → IsBetween largest number → word ≡ decimal number → ⊥
+
 -- so many processors may run a script
 abbrev pub MayRun : ℕ → Type 0
-MayRun cpus = (1 ≤ cpus) × (cpus ≤ cpu_limit)
+MayRun cpus = IsBetween cpu_limit cpus
 
 -- the words `run` and this number of processors, from 1 to 16, in decimal digits without a leading zero
 abbrev pub IsRunOn : List (List ℕ) → ℕ → Type 0
 IsRunOn words cpus = (words ≡ codes "run" ∷ decimal cpus ∷ []) × MayRun cpus
-
--- the word spells no number of processors
-abbrev pub IsNoNumber : List ℕ → Type 0
-IsNoNumber word = (cpus : ℕ) → MayRun cpus → word ≡ decimal cpus → ⊥
 
 -- the words `run` and a number of processors
 abbrev pub RunsOnMany : List (List ℕ) → Type 0
@@ -29,17 +34,37 @@ RunsOnMany words = (cpus : ℕ) × IsRunOn words cpus
 abbrev pub IsShow : List (List ℕ) → Type 0
 IsShow words = words ≡ codes "show" ∷ []
 
+-- the words `bound`
+abbrev pub IsBound : List (List ℕ) → Type 0
+IsBound words = words ≡ codes "bound" ∷ []
+
 -- the words `check`
 abbrev pub IsCheck : List (List ℕ) → Type 0
 IsCheck words = words ≡ codes "check" ∷ []
 
+-- the largest number of a line that can be traced
+abbrev pub trace_limit : ℕ
+trace_limit = TRACE_LIMIT
+
+-- the line of this number may be traced
+abbrev pub MayTrace : ℕ → Type 0
+MayTrace line = IsBetween trace_limit line
+
+-- the words `trace` and the number of a line, from 1 to 999, in decimal digits without a leading zero
+abbrev pub IsTrace : List (List ℕ) → ℕ → Type 0
+IsTrace words line = (words ≡ codes "trace" ∷ decimal line ∷ []) × MayTrace line
+
+-- the words `trace` and the number of a line
+abbrev pub Traces : List (List ℕ) → Type 0
+Traces words = (line : ℕ) × IsTrace words line
+
 -- the words of a command that reads a script
 abbrev pub ReadsScript : List (List ℕ) → Type 0
-ReadsScript words = IsRun words ⊎ (RunsOnMany words ⊎ IsShow words)
+ReadsScript words = IsRun words ⊎ (RunsOnMany words ⊎ (IsShow words ⊎ IsBound words))
 
 -- the words of a command that reads a record
 abbrev pub ReadsRecord : List (List ℕ) → Type 0
-ReadsRecord words = IsCheck words
+ReadsRecord words = IsCheck words ⊎ Traces words
 
 -- the words of a command
 abbrev pub IsCommand : List (List ℕ) → Type 0
@@ -54,7 +79,9 @@ abbrev pub words_of : Command → List (List ℕ)
 words_of command.Run = codes "run" ∷ []
 words_of (command.RunOn cpus) = codes "run" ∷ decimal cpus ∷ []
 words_of command.Show = codes "show" ∷ []
+words_of command.Bound = codes "bound" ∷ []
 words_of command.Check = codes "check" ∷ []
+words_of (command.Trace line) = codes "trace" ∷ decimal line ∷ []
 
 -- one processor serves the command
 abbrev pub IsAlone : Command → Type 0
@@ -66,11 +93,14 @@ abbrev pub byte_limit : Command → ℕ
 byte_limit command.Run = script_bytes
 byte_limit (command.RunOn cpus) = script_bytes
 byte_limit command.Show = script_bytes
+byte_limit command.Bound = script_bytes
 byte_limit command.Check = record_bytes
+byte_limit (command.Trace line) = record_bytes
 
 -- a number of processors that the command has may run a script
 abbrev pub IsInRange : Command → Type 0
 IsInRange (command.RunOn cpus) = MayRun cpus
+IsInRange (command.Trace line) = MayTrace line
 IsInRange c = Unit {0}
 
 -- the words are those of this command, or of none

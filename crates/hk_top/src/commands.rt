@@ -4,7 +4,7 @@ ghost use Rattle.std.specs.Prelude.{◌≡◌, ◌≢◌, ◌⊎◌, IfOk, IfErr
 ghost use Rattle.hk_io.specs.Causes.{Rose};
 ghost use Rattle.hk_io.specs.Streams.{Took};
 ghost use Rattle.hk_model.specs.Limits.{script_bytes};
-ghost use Rattle.hk_top.specs.Words.{IsCommand, IsAlone, MayRun, RunsOnMany, words_of, byte_limit};
+ghost use Rattle.hk_top.specs.Words.{IsCommand, IsAlone, IsInRange, MayRun, RunsOnMany, words_of, byte_limit};
 ghost use Rattle.hk_top.specs.Outputs.{Answer, IsComplete, IsSaid, stream};
 ghost use Rattle.hk_top.specs.Served.{IsDue, IsTooLong, silent_status};
 
@@ -99,6 +99,7 @@ fn due<S: Source, M: Maker>(
     kernels: &M,
 ) -> Result<Served<M::Made>, Silence>
     requires alone { IsAlone command }
+    requires range { IsInRange command }
     ensures due { IfOk result (λ served. IsDue M.Made.state (words_of command) (S.left input.old) (S.left input.new) served) }
     ensures status { IfOk result (λ served. served.due.status ≢ 4 × served.due.status ≢ 5) }
     ensures taken { Took (S.left input.old) (S.left input.new) (λ _. Unit {0}) }
@@ -164,8 +165,8 @@ fn byte_limit(command: Command) -> usize
     ensures { result ≡ byte_limit command }
 {
     match command {
-        Command::Run | Command::RunOn(_) | Command::Show => SCRIPT_BYTES,
-        Command::Check => RECORD_BYTES,
+        Command::Run | Command::RunOn(_) | Command::Show | Command::Bound => SCRIPT_BYTES,
+        Command::Check | Command::Trace(_) => RECORD_BYTES,
     }
 }
 

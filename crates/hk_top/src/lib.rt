@@ -1,13 +1,12 @@
 //! The commands of `hydra`, from words and bytes to bytes and a status.
 #![tactic(auto)]
 
+mod bounds;
 mod causes;
 mod commands;
 #[cfg(test)]
 mod commands_tests;
 mod maker;
-#[cfg(test)]
-mod moments_tests;
 mod outputs;
 mod printed;
 mod processors;

@@ -7,10 +7,15 @@ ghost use Rattle.hk_model.specs.Limits.{script_bytes, record_bytes};
 ghost use Rattle.hk_format.specs.Canonical.{canon};
 ghost use Rattle.hk_model.specs.Opening.{opening};
 ghost use Rattle.hk_model.specs.Running.{AreStepsOf};
-ghost use Rattle.hk_top.specs.Words.{words_of, byte_limit, IsAlone};
-ghost use Rattle.hk_top.specs.Outputs.{DueTo, IsChecked, IsRecord};
+ghost use Rattle.hk_model.specs.declared.verdicts.Verdict.TheVariants.{Legal};
+ghost use Rattle.hk_trace.specs.ChainTexts.{chains_text};
+ghost use Rattle.hk_trace.specs.Traced.{trace_of};
+ghost use Rattle.hk_top.specs.Words.{words_of, byte_limit, IsAlone, IsInRange, MayTrace};
+ghost use Rattle.hk_top.specs.BoundTexts.{AreTold};
+ghost use Rattle.hk_top.specs.Outputs.{DueTo, IsChecked, IsRecord, traced_text};
 ghost use Rattle.hk_top.specs.Served.{IsDueTo, Records};
 
+use crate::bounds::bounds_text;
 use crate::causes::{refusal_text, verdict_text};
 use crate::maker::Maker;
 use crate::running::{laws, run_alone};
@@ -18,11 +23,13 @@ use crate::served::{DueText, Served};
 use crate::status;
 use crate::words::Command;
 use hk_audit::{Audit, RecordError, read_record, record_text, steps_have_texts};
+use hk_bound::bound;
 use hk_check::check;
 use hk_format::Cause;
 use hk_load::{WorldError, read_world};
 use hk_model::{End, Kernel, Line, NoMemory, Text, Verdict, World};
 use hk_print::script_text;
+use hk_trace::{chains_text, trace};
 use std::alloc::Global;
 
 /// What is due to a command and the bytes that it read, where one processor serves it. NoMemory is
@@ -35,13 +42,16 @@ pub(crate) fn due_to_bytes<M: Maker>(
 ) -> Result<Served<M::Made>, NoMemory>
     requires few { length bytes.now ≤ byte_limit command }
     requires alone { IsAlone command }
+    requires range { IsInRange command }
     ensures { IfOk result (λ served. IsDueTo M.Made.state (words_of command) bytes.now served) }
 {
     match command {
         Command::Run => run_script(alloc, bytes, kernels),
         Command::RunOn(_) => unreachable!(),
         Command::Show => Ok(text_alone(show_script(alloc, bytes)?)),
+        Command::Bound => Ok(text_alone(bound_script(alloc, bytes)?)),
         Command::Check => Ok(text_alone(check_record(alloc, bytes)?)),
+        Command::Trace(line) => Ok(text_alone(trace_record(alloc, bytes, line)?)),
     }
 }
 
@@ -108,6 +118,18 @@ fn show_script(alloc: Global, bytes: &[u8]) -> Result<DueText, NoMemory>
     }
 }
 
+// What is due to `bound` and the bytes of a script.
+fn bound_script(alloc: Global, bytes: &[u8]) -> Result<DueText, NoMemory>
+    requires few { length bytes.now ≤ script_bytes }
+    ensures { IfOk result (λ due. DueTo (words_of Command.Bound) bytes.now due.status due.text None) }
+{
+    match read_world(alloc, bytes) {
+        Ok(world) => bounds(alloc, &world),
+        Err(WorldError::Refused { line, cause }) => refused(alloc, line, cause),
+        Err(WorldError::NoMemory) => Err(NoMemory),
+    }
+}
+
 // What is due to `check` and the bytes of a record.
 fn check_record(alloc: Global, bytes: &[u8]) -> Result<DueText, NoMemory>
     requires few { length bytes.now ≤ record_bytes }
@@ -115,6 +137,19 @@ fn check_record(alloc: Global, bytes: &[u8]) -> Result<DueText, NoMemory>
 {
     match read_record(alloc, bytes) {
         Ok(audit) => verdict(alloc, &audit),
+        Err(RecordError::Refused { line, cause }) => refused(alloc, line, cause),
+        Err(RecordError::NoMemory) => Err(NoMemory),
+    }
+}
+
+// What is due to `trace` with the number of a line, and the bytes of a record.
+fn trace_record(alloc: Global, bytes: &[u8], line: u32) -> Result<DueText, NoMemory>
+    requires few { length bytes.now ≤ record_bytes }
+    requires line { MayTrace line }
+    ensures { IfOk result (λ due. DueTo (words_of (Command.Trace line)) bytes.now due.status due.text None) }
+{
+    match read_record(alloc, bytes) {
+        Ok(audit) => traced(alloc, &audit, line),
         Err(RecordError::Refused { line, cause }) => refused(alloc, line, cause),
         Err(RecordError::NoMemory) => Err(NoMemory),
     }
@@ -159,9 +194,20 @@ fn script(alloc: Global, world: &World) -> Result<DueText, NoMemory>
     })
 }
 
+// What is due to `bound` and a world: the bounds of its processes.
+fn bounds(alloc: Global, world: &World) -> Result<DueText, NoMemory>
+    ensures { IfOk result (λ due. AreTold world.now due.status due.text) }
+{
+    let bounds = bound(alloc, world)?;
+    Ok(DueText {
+        status: status::DONE,
+        text: bounds_text(alloc, bounds.as_slice())?,
+    })
+}
+
 // What is due to `check` and a record: the verdict on it.
 fn verdict(alloc: Global, audit: &Audit) -> Result<DueText, NoMemory>
-    ensures { IfOk result (λ due. IsChecked audit.now due.status due.text) }
+    ensures { IfOk result (λ due. IsChecked audit.now (verdict_text Legal) due.status due.text) }
 {
     let world = audit.world();
     let lines = audit.lines();
@@ -173,6 +219,35 @@ fn verdict(alloc: Global, audit: &Audit) -> Result<DueText, NoMemory>
         }
         Verdict::Illegal { .. } => told(alloc, status::ILLEGAL, verdict),
     }
+}
+
+// What is due to `trace` with the number of a line, and a record: the chains of what the line used, or
+// the verdict where the record is not legal.
+fn traced(alloc: Global, audit: &Audit, line: u32) -> Result<DueText, NoMemory>
+    ensures { IfOk result (λ due. IsChecked audit.now (traced_text audit.now line) due.status due.text) }
+{
+    let world = audit.world();
+    let lines = audit.lines();
+    let found = check(alloc, world, lines, audit.end())?;
+    match found {
+        Verdict::Legal => {
+            laws(world, lines);
+            chains(alloc, world, lines, line)
+        }
+        Verdict::Illegal { .. } => told(alloc, status::ILLEGAL, found),
+    }
+}
+
+// The chains of what a line used, as a text.
+fn chains(alloc: Global, world: &World, lines: &[Line], line: u32) -> Result<DueText, NoMemory>
+    requires { AreStepsOf world.now lines.now }
+    ensures { IfOk result (λ due. (due.status ≡ 0) × (due.text ≡ chains_text lines.now (trace_of world.now lines.now line))) }
+{
+    let chains = trace(alloc, world, lines, line)?;
+    Ok(DueText {
+        status: status::DONE,
+        text: chains_text(alloc, lines, chains.as_slice())?,
+    })
 }
 
 // A verdict as a text, with its status.

@@ -40,7 +40,7 @@ impl Counts {
     }
 }
 
-// A gate that lets processors 0, 1 and 2 through in the order of a list, each once the one before it
+// A gate that lets processors 0 and 1 through in the order of a list, each once the one before it
 // stands before its next call. Behind the end of the list every call passes.
 #[derive(Drop)]
 struct Listed {
@@ -48,7 +48,6 @@ struct Listed {
     at: AtomicU64,
     first: Counts,
     second: Counts,
-    third: Counts,
     // Calls that looked too often, or whose number was not that of the calls before them.
     missed: AtomicU64,
 }
@@ -60,7 +59,6 @@ impl Listed {
             at: AtomicU64::new(0),
             first: Counts::new(),
             second: Counts::new(),
-            third: Counts::new(),
             missed: AtomicU64::new(0),
         }
     }
@@ -68,8 +66,7 @@ impl Listed {
     fn counts(&self, cpu: u8) -> &Counts {
         match cpu {
             0 => &self.first,
-            1 => &self.second,
-            _ => &self.third,
+            _ => &self.second,
         }
     }
 
@@ -110,15 +107,14 @@ struct Ran {
     text: Vec<u8>,
 }
 
-// Runs two processes that yield on so many processors, in the order of the list.
+// Runs two processes that yield on two processors, in the order of the list.
 fn run_in_order<R: Threads + Wait + Sync>(
     rt: &R,
     alloc: Global,
-    cpus: &str,
     list: &'static [u8],
 ) -> Result<Ran, Fail> {
     let gate = Listed::new(list);
-    let words = words(alloc, &["run", cpus])?;
+    let words = words(alloc, &["run", "2"])?;
     let mut input = SureBytes::new(SCRIPT.to_vec(alloc)?);
     let mut output = sink(alloc, Vec::new(alloc))?;
     let (status, kernel) = hydra(rt, alloc, &words, &mut input, &mut output, &gate, &Maps);
@@ -135,7 +131,7 @@ fn run_in_order<R: Threads + Wait + Sync>(
 #[test]
 fn the_lines_are_those_of_the_processors(rt: HostRuntime) -> Result<(), Fail> {
     let alloc = rt.alloc();
-    let ran = run_in_order(&rt, alloc, "2", &[0, 0, 0, 1, 1, 1, 0, 1, 1])?;
+    let ran = run_in_order(&rt, alloc, &[0, 0, 0, 1, 1, 1, 0, 1, 1])?;
     assert_eq!(rt; ran.status, status::DONE);
     assert_eq!(rt; ran.missed, 0);
     assert_eq!(rt; ran.events, 8);
@@ -148,49 +144,13 @@ fn the_lines_are_those_of_the_processors(rt: HostRuntime) -> Result<(), Fail> {
 #[test]
 fn another_order_makes_another_record(rt: HostRuntime) -> Result<(), Fail> {
     let alloc = rt.alloc();
-    let ran = run_in_order(&rt, alloc, "2", &[1, 0, 0, 1, 1, 0, 0, 1])?;
+    let ran = run_in_order(&rt, alloc, &[1, 0, 0, 1, 1, 0, 0, 1])?;
     assert_eq!(rt; ran.status, status::DONE);
     assert_eq!(rt; ran.missed, 0);
     assert_eq!(rt; ran.events, 8);
     let record =
         b"hydra 1\ncode main\nyield\nend\nprocess a main\nend\nprocess b main\nend\nrecord\n1 0 0 dispatch -> done\n0 1 1 dispatch -> done\n0 1 1 yield -> done\n1 0 0 yield -> done\n1 1 1 dispatch -> done\n0 0 0 dispatch -> done\n0 0 0 return -> done\n1 1 1 return -> done\nend done\n";
     assert_eq!(rt; ran.text.as_slice(), record.as_slice());
-    Ok(())
-}
-
-#[test]
-fn the_last_of_three_processors_makes_lines(rt: HostRuntime) -> Result<(), Fail> {
-    let alloc = rt.alloc();
-    let ran = run_in_order(&rt, alloc, "3", &[2, 1, 2, 0, 0, 1, 2, 2])?;
-    assert_eq!(rt; ran.status, status::DONE);
-    assert_eq!(rt; ran.missed, 0);
-    assert_eq!(rt; ran.events, 8);
-    let record =
-        b"hydra 1\ncode main\nyield\nend\nprocess a main\nend\nprocess b main\nend\nrecord\n2 0 0 dispatch -> done\n1 1 1 dispatch -> done\n2 0 0 yield -> done\n0 0 0 dispatch -> done\n0 0 0 return -> done\n1 1 1 yield -> done\n2 1 1 dispatch -> done\n2 1 1 return -> done\nend done\n";
-    assert_eq!(rt; ran.text.as_slice(), record.as_slice());
-    Ok(())
-}
-
-// What these words and the script write.
-fn written<R: Threads + Wait + Sync>(
-    rt: &R,
-    alloc: Global,
-    spelled: &[&str],
-) -> Result<Vec<u8>, Fail> {
-    let words = words(alloc, spelled)?;
-    let mut input = SureBytes::new(SCRIPT.to_vec(alloc)?);
-    let mut output = sink(alloc, Vec::new(alloc))?;
-    status_of(rt, alloc, &words, &mut input, &mut output);
-    Ok(output.taken().to_vec(alloc)?)
-}
-
-#[test]
-fn one_processor_writes_what_run_writes(rt: HostRuntime) -> Result<(), Fail> {
-    let alloc = rt.alloc();
-    let alone = written(&rt, alloc, &["run"])?;
-    let shared = written(&rt, alloc, &["run", "1"])?;
-    assert!(rt; alone.len() > SCRIPT.len());
-    assert_eq!(rt; alone.as_slice(), shared.as_slice());
     Ok(())
 }
 
@@ -271,7 +231,7 @@ fn run_wanting<R: Threads + Wait + Sync>(
 #[test]
 fn a_stop_writes_nothing(rt: HostRuntime) -> Result<(), Fail> {
     let alloc = rt.alloc();
-    for spelled in [&["run"][..], &["run", "1"], &["run", "4"]] {
+    for spelled in [&["run"][..], &["run", "4"]] {
         assert_eq!(rt;
             run_wanting(&rt, alloc, spelled)?,
             (status::NO_MEMORY, false, 0)

@@ -2,10 +2,14 @@
 
 ghost use Rattle.std.specs.Prelude.{◌≡◌, [], ◌∷◌, IfSome, IfNone, map, string_bytes};
 ghost use Rattle.std.specs.Fmt.{decimal};
-ghost use Rattle.hk_top.specs.Words.{Calls, MayRun, IsNoNumber};
+ghost use Rattle.hk_model.specs.Limits.{cpu_limit};
+ghost use Rattle.hk_top.specs.Words.{Calls, IsBetween, IsNoNumber, MayRun, MayTrace, trace_limit};
 
 use hk_model::limits::CPU_LIMIT;
 use hk_text::numeral;
+
+/// The largest number of a line that can be traced (`docs/FORMATS.md`, "Statuses and outputs").
+pub const TRACE_LIMIT: u32 = 999;
 
 /// What the program can do.
 #[derive(Clone, Copy, PartialEq, Eq, Debug)]
@@ -16,8 +20,13 @@ pub enum Command {
     RunOn(u8),
     /// Writes the canonical script of the world that a script declares.
     Show,
+    /// Writes the static bound of each process of the world that a script declares.
+    Bound,
     /// Writes the verdict on a record.
     Check,
+    /// Writes where the capabilities and templates came from that a line of a record used: the line of
+    /// this number, 1 to 999.
+    Trace(u32),
 }
 
 /// The command of these words. None exactly where they are no command.
@@ -41,6 +50,9 @@ fn command_of_word(word: &str) -> Option<Command>
     if word == "show" {
         return Some(Command::Show);
     }
+    if word == "bound" {
+        return Some(Command::Bound);
+    }
     if word == "check" {
         return Some(Command::Check);
     }
@@ -54,18 +66,38 @@ fn command_of_words(word: &str, number: &str) -> Option<Command>
     if word == "run" {
         return Some(Command::RunOn(processors(number)?));
     }
+    if word == "trace" {
+        return Some(Command::Trace(line_number(number)?));
+    }
     None
 }
 
-// The number of processors, 1 to 16, that the word spells in digits without a leading zero.
+// The number of processors, 1 to 16, that the word spells.
 fn processors(word: &str) -> Option<u8>
     ensures some { IfSome result (λ cpus. (word.now ≡ decimal cpus) × MayRun cpus) }
-    ensures none { IfNone result (IsNoNumber word.now) }
+    ensures none { IfNone result (IsNoNumber cpu_limit word.now) }
 {
-    let cpus = numeral(word.as_bytes())?;
-    let most = u64::from(CPU_LIMIT);
-    if cpus < 1 || cpus > most {
+    let cpus = number_to(u32::from(CPU_LIMIT), word)?;
+    Some(cpus as u8)
+}
+
+// The number of a line, 1 to 999, that the word spells.
+fn line_number(word: &str) -> Option<u32>
+    ensures some { IfSome result (λ line. (word.now ≡ decimal line) × MayTrace line) }
+    ensures none { IfNone result (IsNoNumber trace_limit word.now) }
+{
+    number_to(TRACE_LIMIT, word)
+}
+
+// The number from 1 to the largest one that the word spells in digits without a leading zero.
+fn number_to(largest: u32, word: &str) -> Option<u32>
+    ensures some { IfSome result (λ number. (word.now ≡ decimal number) × IsBetween largest number) }
+    ensures none { IfNone result (IsNoNumber largest word.now) }
+{
+    let number = numeral(word.as_bytes())?;
+    let most = u64::from(largest);
+    if number < 1 || number > most {
         return None;
     }
-    Some(cpus as u8)
+    Some(number as u32)
 }

@@ -5,3 +5,4 @@ pub mod Traced
 pub mod Held
 pub mod Turns
 pub mod Uses
+pub mod ChainTexts

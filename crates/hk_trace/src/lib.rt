@@ -4,7 +4,8 @@
 //! `trace` gives for each place that a line used the chain of what stood there, link by link, back
 //! to the opening or to the call that made it. `chains` has what is told, `standing` what stands at
 //! a place and along a path, `turns` what a line writes and from where, `replay` the turns of a
-//! history, `carrying` and `using` which places a line used, `following` the way back.
+//! history, `carrying` and `using` which places a line used, `following` the way back, `texts` the chains as
+//! text.
 #![tactic(auto)]
 
 mod carrying;
@@ -14,10 +15,12 @@ mod replay;
 mod standing;
 #[cfg(test)]
 mod tests;
+mod texts;
 mod tracing;
 mod turns;
 mod using;
 
 pub use chains::{Chain, Link, Origin, Place, Standing};
 pub use hk_model::{Line, NoMemory, World};
+pub use texts::chains_text;
 pub use tracing::trace;

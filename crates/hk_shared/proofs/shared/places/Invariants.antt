@@ -1,8 +1,8 @@
-use Rattle.std.specs.Prelude.{◌≡◌, [], ◌∷◌, map, take, Some}
+use Rattle.std.specs.Prelude.{◌≡◌, ◌++◌, [], ◌∷◌, map, Some}
 use Rattle.hk_model.specs.declared.world.Task.{Task}
 use Rattle.hk_model.specs.Control.{new_frame}
 use Rattle.hk_shared.proofs.shared.places.Given as goal
 
--- the places so far are those of the processes so far
-abbrev pub invariant-loop-task : goal.invariant-loop-task
-invariant-loop-task l = l.places.items ≡ map (λ (t : Task). Some (new_frame t.code ∷ [])) (take l.task-index l.tasks)
+-- the places so far and those of the contexts that are left are those of the processes
+abbrev pub invariant-loop-context : goal.invariant-loop-context
+invariant-loop-context l = l.places.items ++ map Some l.context-iterator.rest.items ≡ map (λ (t : Task). Some (new_frame t.code ∷ [])) l.tasks

@@ -1,5 +1,6 @@
-use Rattle.std.proofs.Common.{Err, arith, ap, ◌∙◌}
+use Rattle.std.proofs.Common.{Err, arith, ap, ◌∙◌, inl, refl}
 use Rattle.hk_text.proofs.LineCount.{lines_few}
+use Rattle.hk_top.specs.declared.words.Command.TheVariants as command
 use Rattle.hk_top.proofs.AnswerLemmas.{verdict_due, record_refused_due}
 use Rattle.hk_top.proofs.outputs.check_record.Goals as goal
 
@@ -11,5 +12,5 @@ returns-in-Ok c = verdict_due c.args.bytes.now c.in-Ok.audit c.verdict.result c.
 
 pub returns-in-Err-Refused : goal.returns-in-Err-Refused
 returns-in-Err-Refused c =
-    record_refused_due c.args.bytes.now c.in-Err-Refused.line c.in-Err-Refused.cause c.refused.result
+    record_refused_due command.Check c.args.bytes.now c.in-Err-Refused.line c.in-Err-Refused.cause c.refused.result (inl refl)
     (c.read_record.ensures.refused c.in-Err-Refused.line c.in-Err-Refused.cause (c.in-Err-Refused.is ∙ ap (λ e. Err e) c.in-Err-Refused.field-0-is)) c.refused.ensures
