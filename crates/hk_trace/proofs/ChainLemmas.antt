@@ -169,7 +169,8 @@ uses_traced w lines steps law line = by line.what
     by what.Dispatch = refl
     by what.Halt = refl
     by (what.Call c) =
-        map_twice (chain_found (turns_of w (opened w) lines)) (told_use (state_after w lines)) (filter (is_used (state_after w lines) c line.reply) (looked_at (state_after w lines) line.inc c))
+        map_twice (chain_found (turns_of w (opened w) lines)) (told_use (state_after w lines))
+        (filter (is_used (state_after w lines) c line.reply) (looked_at (state_after w lines) line.inc c))
         ∙ map_kept (λ l. chain_found (turns_of w (opened w) lines) (told_use (state_after w lines) l)) (chain_after w lines) (is_used (state_after w lines) c line.reply)
         (looked_at (state_after w lines) line.inc c)
         (λ l e. same_chain w lines steps law l

@@ -34,7 +34,8 @@ along_held s p [] = refl
 along_held s p (at ∷ rest) = rw (name_held_at s p) (ap (λ (l : List (Option Standing)). held_at s p ∷ l) (along_held s (next_place s p at) rest))
 
 -- from the first step on
-pub begins_last : (s : State) (inc : Inc) (path : List ℕ) → 0 < length path → held_last s (held_at s (SlotOf inc (slice_index path 0))) (drop 1 path) ≡ held_at s (walk_end s inc path)
+pub begins_last : (s : State) (inc : Inc) (path : List ℕ) → 0 < length path
+    → held_last s (held_at s (SlotOf inc (slice_index path 0))) (drop 1 path) ≡ held_at s (walk_end s inc path)
 begins_last s inc [] h = absurd (omega arith)
 begins_last s inc (at ∷ rest) h = rw (drop_one at rest) (last_held s (SlotOf inc at) rest)
   where
@@ -55,6 +56,7 @@ pub at_end_begins : (s : State) (inc : Inc) (path : List ℕ) (at : ℕ) (held :
     → held_last s held (drop 1 path) ≡ held_at s (walk_end s inc path)
 at_end_begins s inc path at held some e h = rw (h, e) (begins_last s inc path some)
 
-pub along_begins : (s : State) (inc : Inc) (path : List ℕ) (at : ℕ) (held : Option Standing) (name : Name) (all : List (Option Standing)) → 0 < length path → at ≡ slice_index path 0
+pub along_begins : (s : State) (inc : Inc) (path : List ℕ) (at : ℕ) (held : Option Standing) (name : Name) (all : List (Option Standing)) → 0 < length path
+    → at ≡ slice_index path 0
     → held ≡ held_at s (SlotOf inc at) → name ≡ name_held held → all ≡ held ∷ [] → all ++ held_along s name (drop 1 path) ≡ map (held_at s) (passed s inc path)
 along_begins s inc path at held name all some e h g k = rw (k, g, h, e) (begins_along s inc path some)

@@ -1,5 +1,5 @@
 -- Worked rows of the traces of lines.
-use Rattle.std.specs.Prelude.{◌≡◌, ℕ, ◌+◌, List, [], ◌∷◌, length, refl}
+use Rattle.std.specs.Prelude.{◌≡◌, ℕ, ◌+◌, List, [], ◌∷◌, refl}
 use Rattle.hk_model.specs.declared.entries.Entry.{Entry}
 use Rattle.hk_rights.specs.Rights.{GETDATA, PUTDATA, ADDDATA, LOAD, COPY, MODIFY, ENV, UNCONF, A0, first_missing, right_numbers, right_table}
 use Rattle.hk_model.specs.Opening.{opening}
@@ -7,7 +7,6 @@ use Rattle.hk_model.specs.Control.{next, next_from, after}
 use Rattle.hk_model.specs.Rule.{get_word, put_word, add_word, load_entry, restrict_slot, create_object, merge_cap, enter_procedure, leave}
 use Rattle.hk_model.specs.Keeping.{kept_objects}
 use Rattle.hk_model.specs.Running.{AreStepsOf, opened, step}
-use Rattle.hk_trace.specs.declared.chains.Place.{Place}
 use Rattle.hk_trace.specs.declared.chains.Place.TheVariants.{SlotOf, EntryOf}
 use Rattle.hk_trace.specs.declared.chains.Standing.{Standing}
 use Rattle.hk_trace.specs.declared.chains.Link.{Link}

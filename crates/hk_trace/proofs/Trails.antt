@@ -54,7 +54,8 @@ back_came turns n p links whole t o from some few there e came h =
     let g = one_back turns n p some in
     let k = source_is turns n p t o some few there e ∙ came in
     let longer : joined (links ++ record { line = n; from = from } ∷ []) (trail turns (n - 1) from.place) ≡ joined links (trail_by n (source.Came from) (trail turns (n - 1)) p)
-    = ap (λ (l : List Link). let x : Trail = record { links = l; origin = (trail turns (n - 1) from.place).origin } in x) (append_assoc links (record { line = n; from = from } ∷ []) (trail turns (n - 1) from.place).links) in
+    = ap (λ (l : List Link). let x : Trail = record { links = l; origin = (trail turns (n - 1) from.place).origin } in x)
+    (append_assoc links (record { line = n; from = from } ∷ []) (trail turns (n - 1) from.place).links) in
     longer ∙ (sym (ap (joined links) (g ∙ ap (λ (f : Source). trail_by n f (trail turns (n - 1)) p) k)) ∙ h)
 
 pub back_made : (turns : List Turn) (n : ℕ) (p : Place) (links : List Link) (whole : Trail) (t : Turn) (o : Source) → 0 < n → n ≤ length turns

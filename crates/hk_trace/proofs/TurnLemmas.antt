@@ -44,7 +44,9 @@ module _ (s : State) (inc : Inc) where
   list_at name k (e ∷ es) (suc i) = let h : k + suc i ≡ (k + 1) + i = omega arith in rw h (list_at name (k + 1) es i)
 
   from_first : (name : Name) (i : ℕ) → slice_index_or (held_list name 0 (object s name).entries) i None ≡ held_at s (places.EntryOf name i)
-  from_first name i = let h : 0 + i ≡ i = omega arith in list_at name 0 (object s name).entries i ∙ ap (λ (n : ℕ). held_entry (EntryOf name n) (slice_index_or (object s name).entries i Empty)) h
+  from_first name i =
+      let h : 0 + i ≡ i = omega arith in
+      list_at name 0 (object s name).entries i ∙ ap (λ (n : ℕ). held_entry (EntryOf name n) (slice_index_or (object s name).entries i Empty)) h
 
   -- the slots of a new incarnation
   take_one : (param : Param) (params : List Param) (arg : ℕ) (args : List ℕ) → take (length (param ∷ params)) (arg ∷ args) ≡ arg ∷ take (length params) args

@@ -57,7 +57,8 @@ used_is s inc c reply step walked held first all slots w sl h st f a =
       slots_held s inc (carried_slots c),
       uses_told s c reply 2 0 (passed s inc (call_path c)),
       uses_told s c reply 7 (carried_step c) (map (λ slot. SlotOf inc slot) (carried_slots c)),
-      filter-append (is_used s c reply) (looked_from path_walked 0 (passed s inc (call_path c))) (looked_from carried_tested (carried_step c) (map (λ slot. SlotOf inc slot) (carried_slots c))),
+      filter-append (is_used s c reply) (looked_from path_walked 0 (passed s inc (call_path c)))
+          (looked_from carried_tested (carried_step c) (map (λ slot. SlotOf inc slot) (carried_slots c))),
     )
     (sym (map-append (told_use s) (filter (is_used s c reply) (looked_from path_walked 0 (passed s inc (call_path c))))
     (filter (is_used s c reply) (looked_from carried_tested (carried_step c) (map (λ slot. SlotOf inc slot) (carried_slots c))))))

@@ -18,10 +18,12 @@ loop-line-preserved c = record {
     | in-Nowhere w ↦ let some : 0 < c.loop-line.line = omega arith in
         rw (w.links-is, w.place-is)
         (back_none c.args.turns.now c.loop-line.line c.loop-line.place c.loop-line.links.items (trail c.args.turns.now (length c.args.turns.now) c.args.from)
-        c.index-turns-line.result c.source_in-source.result some c.loop-line.invariant.few c.index-turns-line.is c.source_in-source.ensures w.in-Nowhere.is c.loop-line.invariant.found)
+        c.index-turns-line.result c.source_in-source.result some c.loop-line.invariant.few c.index-turns-line.is
+        c.source_in-source.ensures w.in-Nowhere.is c.loop-line.invariant.found)
     | in-Came+in_ok-push-in-Came w ↦ let some : 0 < c.loop-line.line = omega arith in
         rw (w.links-is, w.place-is, w.in_ok-push-in-Came.ensures.items)
         (back_came c.args.turns.now c.loop-line.line c.loop-line.place c.loop-line.links.items (trail c.args.turns.now (length c.args.turns.now) c.args.from)
-        c.index-turns-line.result c.source_in-source.result w.in-Came.from some c.loop-line.invariant.few c.index-turns-line.is c.source_in-source.ensures w.in-Came.is c.loop-line.invariant.found)
+        c.index-turns-line.result c.source_in-source.result w.in-Came.from some c.loop-line.invariant.few c.index-turns-line.is
+        c.source_in-source.ensures w.in-Came.is c.loop-line.invariant.found)
   ];
 }

@@ -1,4 +1,4 @@
-use Rattle.std.proofs.Common.{◌≡◌, List, [], ◌∷◌, Option, Some, subst, sym}
+use Rattle.std.proofs.Common.{◌≡◌, List, Option, Some, subst, sym}
 use Rattle.std.specs.Prelude.{IfSome}
 use Rattle.hk_model.specs.declared.lines.Line.{Line}
 use Rattle.hk_model.specs.Running.{AreStepsOf, after_lines, opened, step}

@@ -21,5 +21,6 @@ returns c =
     let d : c.as_slice-2.result.now ≡ c.in_ok-used.used.items = c.as_slice-2.ensures.value in
     let e : c.in_ok-used.used.items ≡ map (told_use c.kernel.result.now) (used c.kernel.result.now c.args.line.now) = c.in_ok-used.ensures in
     let f = found_traced c.args.world.now c.args.before.now c.args.line.now c.in_ok-replay.replay.machine c.as_slice.result.now c.kernel.result.now c.as_slice-2.result.now
-    (map (chain_found c.as_slice.result.now) c.as_slice-2.result.now) c.requires.steps c.descent_law.ensures c.in_ok-replay.ensures.machine (a ∙ b) c.kernel.ensures (d ∙ e) refl in
+    (map (chain_found c.as_slice.result.now) c.as_slice-2.result.now)
+    c.requires.steps c.descent_law.ensures c.in_ok-replay.ensures.machine (a ∙ b) c.kernel.ensures (d ∙ e) refl in
     rw (← f) c.chains_of.ensures
