@@ -1,4 +1,4 @@
--- The way back over the turns of a history is the chain of the definitions.
+-- The way back over the writings of a history is the chain of the definitions.
 use Rattle.std.specs.Prelude.{◌≡◌, ℕ, zero, suc, ◌+◌, ◌-◌, ◌<◌, ◌≤◌, Bool, true, false, List, [], ◌∷◌, length, map, filter, take, slice_get, not, Option, Some, None, refl}
 use Rattle.std.proofs.Common.{arith, ap, sym, ◌∙◌, subst, cond}
 use Rattle.std.proofs.lemmas.Bool.{true≢false, false≢true, and_parts}
@@ -20,16 +20,16 @@ use Rattle.hk_model.proofs.Steps.{told_last, first_steps}
 use Rattle.hk_model.proofs.EventCounts.{events_are}
 use Rattle.hk_trace.specs.declared.chains.Place.{Place}
 use Rattle.hk_trace.specs.declared.chains.Chain.{Chain}
-use Rattle.hk_trace.specs.declared.following.Trail.{Trail}
-use Rattle.hk_trace.specs.declared.turns.Turn.{Turn}
+use Rattle.hk_trace.specs.declared.following.WayBack.{WayBack}
+use Rattle.hk_trace.specs.declared.writings.Writing.{Writing}
 use Rattle.hk_trace.specs.declared.using.UsedPlace.{UsedPlace}
 use Rattle.hk_trace.specs.Told.{told_place, meant, told_standing, links_of, end_of}
 use Rattle.hk_trace.specs.Used.{Looked, looked_at, is_refused_before, is_used, used_by, used}
 use Rattle.hk_trace.specs.Traced.{chain_after, traced, trace_of}
 use Rattle.hk_trace.specs.Held.{held_entry}
-use Rattle.hk_trace.specs.Turns.{came, source_told, turn_of, turns_of, turn_at, source_in, trail, trail_by}
+use Rattle.hk_trace.specs.Writings.{came, source_told, writing_of, writings_of, writing_at, source_in, way_back, trail_by}
 use Rattle.hk_trace.specs.Uses.{told_use, chain_found}
-use Rattle.hk_trace.proofs.TurnLemmas.{line_told}
+use Rattle.hk_trace.proofs.WritingLemmas.{line_told}
 
 -- ---- lists
 
@@ -51,20 +51,20 @@ there [] n h = absurd (omega arith)
 there (x ∷ lines) zero h = (x, refl)
 there (x ∷ lines) (suc n) h = there lines n (omega arith)
 
-turns_many : (w : WorldValue) (m : Machine) (lines : List Line) → length (turns_of w m lines) ≡ length lines
-turns_many w m [] = refl
-turns_many w m (line ∷ lines) = let h = turns_many w (moved w m line.cpu) lines in omega (arith, h)
+writings_many : (w : WorldValue) (m : Machine) (lines : List Line) → length (writings_of w m lines) ≡ length lines
+writings_many w m [] = refl
+writings_many w m (line ∷ lines) = let h = writings_many w (moved w m line.cpu) lines in omega (arith, h)
 
-turn_is : (w : WorldValue) (m : Machine) (lines : List Line) (n : ℕ) (line : Line) → slice_get lines n ≡ Some line
-    → turn_at (turns_of w m lines) n ≡ turn_of (after_lines w m (take n lines)).state line.inc (done_call line)
-turn_is w m [] n line h = absurd (cc)
-turn_is w m (x ∷ lines) zero line h = let same : x ≡ line = cc in rw same refl
-turn_is w m (x ∷ lines) (suc n) line h = turn_is w (moved w m x.cpu) lines n line h
+writing_is : (w : WorldValue) (m : Machine) (lines : List Line) (n : ℕ) (line : Line) → slice_get lines n ≡ Some line
+    → writing_at (writings_of w m lines) n ≡ writing_of (after_lines w m (take n lines)).state line.inc (done_call line)
+writing_is w m [] n line h = absurd (cc)
+writing_is w m (x ∷ lines) zero line h = let same : x ≡ line = cc in rw same refl
+writing_is w m (x ∷ lines) (suc n) line h = writing_is w (moved w m x.cpu) lines n line h
 
 -- ---- one line
 
--- a chain as a trail
-abbrev pub told_trail : descent.Chain → Trail
+-- a chain as a way_back
+abbrev pub told_trail : descent.Chain → WayBack
 told_trail chain = record { links = links_of chain; origin = end_of chain }
 
 meant_told : (r : places.Place) → meant (told_place r) ≡ r
@@ -83,7 +83,7 @@ linked (Held a) gate (Form b) D e h = (refl, h.1)
 linked (Form a) gate (Held b) D e h = (refl, h.1)
 linked (Form a) gate (Form b) D e h = (refl, h.1)
 
-module _ (w : WorldValue) (s : State) (line : ℕ) (before : Place → Trail) (g : places.Place → descent.Chain)
+module _ (w : WorldValue) (s : State) (line : ℕ) (before : Place → WayBack) (g : places.Place → descent.Chain)
     (known : (p : Place) (x : Entry) → is_empty x ≡ false → Descends w x (g (meant p)) → before p ≡ told_trail (g (meant p))) where
   trail_known : (r : places.Place) (x : Entry) → is_empty x ≡ false → Descends w x (g r) → before (told_place r) ≡ told_trail (g r)
   trail_known r x e d =
@@ -111,7 +111,7 @@ module _ (w : WorldValue) (s : State) (line : ℕ) (before : Place → Trail) (g
 -- ---- a history
 
 pub follows : (w : WorldValue) (lines : List Line) → AreStepsOf w lines → (n : ℕ) → n ≤ length lines → (p : Place) (x : Entry) → is_empty x ≡ false
-    → Descends w x (chains w (take n lines) (meant p)) → trail (turns_of w (opened w) lines) n p ≡ told_trail (chains w (take n lines) (meant p))
+    → Descends w x (chains w (take n lines) (meant p)) → way_back (writings_of w (opened w) lines) n p ≡ told_trail (chains w (take n lines) (meant p))
 follows w lines steps zero few p x e d = refl
 follows w lines steps (suc n) few p x e d =
     let found = there lines n (omega arith) in
@@ -119,28 +119,28 @@ follows w lines steps (suc n) few p x e d =
     = ap (λ (g : places.Place → descent.Chain). g (meant p)) (told_last extend w (opened w) lines n found.0 descent.Opened found.1) in
     let many : (state_at w lines n).events + 1 ≡ suc n =
     let a = events_are w (take n lines) (first_steps w (opened w) lines n steps) in let b = length_take lines n (omega arith) in omega (arith, a, b) in
-    let wrote : source_in (turn_at (turns_of w (opened w) lines) n) p ≡ source_told (state_at w lines n) (line_origin (state_at w lines n) found.0 (meant p))
-    = ap (λ (t : Turn). source_in t p) (turn_is w (opened w) lines n found.0 found.1) ∙ line_told (state_at w lines n) found.0 p in
+    let wrote : source_in (writing_at (writings_of w (opened w) lines) n) p ≡ source_told (state_at w lines n) (line_origin (state_at w lines n) found.0 (meant p))
+    = ap (λ (t : Writing). source_in t p) (writing_is w (opened w) lines n found.0 found.1) ∙ line_told (state_at w lines n) found.0 p in
     rw (wrote, last)
-    (goes_back w (state_at w lines n) (suc n) (trail (turns_of w (opened w) lines) n) (chains w (take n lines)) (follows w lines steps n (omega arith)) p x
+    (goes_back w (state_at w lines n) (suc n) (way_back (writings_of w (opened w) lines) n) (chains w (take n lines)) (follows w lines steps n (omega arith)) p x
     (line_origin (state_at w lines n) found.0 (meant p)) many e (subst (Descends w x) last d))
 
 -- ---- the chains of a line
 
 same_chain : (w : WorldValue) (lines : List Line) → AreStepsOf w lines → DescentLaw w lines → (l : Looked) → is_empty (standing (state_after w lines) l.place) ≡ false
-    → chain_found (turns_of w (opened w) lines) (told_use (state_after w lines) l) ≡ chain_after w lines l
+    → chain_found (writings_of w (opened w) lines) (told_use (state_after w lines) l) ≡ chain_after w lines l
 same_chain w lines steps law l full =
     let all = take_all lines in
-    let many = turns_many w (opened w) lines in
+    let many = writings_many w (opened w) lines in
     let place = meant_told l.place in
     let descends : Descends w (standing (state_after w lines) l.place) (chains w lines l.place)
     = subst (λ (ls : List Line). Descends w (standing (state_after w ls) l.place) (chains w ls l.place)) all (law (length lines) l.place) in
-    let same : trail (turns_of w (opened w) lines) (length lines) (told_place l.place) ≡ told_trail (chains w (take (length lines) lines) (meant (told_place l.place)))
+    let same : way_back (writings_of w (opened w) lines) (length lines) (told_place l.place) ≡ told_trail (chains w (take (length lines) lines) (meant (told_place l.place)))
     = follows w lines steps (length lines) (omega arith) (told_place l.place) (standing (state_after w lines) l.place) full
     (rw (all, place) descends) in
-    let whole : trail (turns_of w (opened w) lines) (length (turns_of w (opened w) lines)) (told_place l.place) ≡ told_trail (chains w lines l.place)
+    let whole : way_back (writings_of w (opened w) lines) (length (writings_of w (opened w) lines)) (told_place l.place) ≡ told_trail (chains w lines l.place)
     = rw many (same ∙ rw (all, place) refl) in
-    ap (λ (t : Trail). let c : Chain = record { step = l.step; at = told_standing (state_after w lines) l.place; links = t.links; origin = t.origin } in c) whole
+    ap (λ (t : WayBack). let c : Chain = record { step = l.step; at = told_standing (state_after w lines) l.place; links = t.links; origin = t.origin } in c) whole
 
 map_kept : {A B : Type 0} (f g : A → B) (test : A → Bool) (xs : List A) → ((x : A) → test x ≡ true → f x ≡ g x) → map f (filter test xs) ≡ map g (filter test xs)
 map_kept f g test [] h = refl
@@ -160,32 +160,32 @@ is_there true h = absurd (false≢true h)
 is_there false h = refl
 
 pub uses_traced : (w : WorldValue) (lines : List Line) → AreStepsOf w lines → DescentLaw w lines → (line : Line)
-    → map (chain_found (turns_of w (opened w) lines)) (map (told_use (state_after w lines)) (used (state_after w lines) line))
+    → map (chain_found (writings_of w (opened w) lines)) (map (told_use (state_after w lines)) (used (state_after w lines) line))
     ≡ map (chain_after w lines) (used (state_after w lines) line)
 uses_traced w lines steps law line = by line.what
   where
-    by : (what : What) → map (chain_found (turns_of w (opened w) lines)) (map (told_use (state_after w lines)) (used_by (state_after w lines) line.inc what line.reply))
+    by : (what : What) → map (chain_found (writings_of w (opened w) lines)) (map (told_use (state_after w lines)) (used_by (state_after w lines) line.inc what line.reply))
         ≡ map (chain_after w lines) (used_by (state_after w lines) line.inc what line.reply)
     by what.Dispatch = refl
     by what.Halt = refl
     by (what.Call c) =
-        map_twice (chain_found (turns_of w (opened w) lines)) (told_use (state_after w lines))
+        map_twice (chain_found (writings_of w (opened w) lines)) (told_use (state_after w lines))
         (filter (is_used (state_after w lines) c line.reply) (looked_at (state_after w lines) line.inc c))
-        ∙ map_kept (λ l. chain_found (turns_of w (opened w) lines) (told_use (state_after w lines) l)) (chain_after w lines) (is_used (state_after w lines) c line.reply)
+        ∙ map_kept (λ l. chain_found (writings_of w (opened w) lines) (told_use (state_after w lines) l)) (chain_after w lines) (is_used (state_after w lines) c line.reply)
         (looked_at (state_after w lines) line.inc c)
         (λ l e. same_chain w lines steps law l
         (is_there (is_empty (standing (state_after w lines) l.place))
         (and_parts (not (is_empty (standing (state_after w lines) l.place))) (not (is_refused_before c line.reply l.order l.step)) e).0))
 
 -- what is found of a line is what is traced
-pub found_traced : (w : WorldValue) (lines : List Line) (line : Line) (m : Machine) (turns : List Turn) (s : State) (us : List UsedPlace) (cs : List Chain) → AreStepsOf w lines
-    → DescentLaw w lines → m ≡ after_lines w (opened w) lines → turns ≡ turns_of w (opened w) lines → s ≡ m.state → us ≡ map (told_use s) (used s line)
-    → cs ≡ map (chain_found turns) us → cs ≡ map (chain_after w lines) (used (state_after w lines) line)
-found_traced w lines line m turns s us cs steps law hm ht hs hu hc = rw (hc, hu, hs, ht, hm) (uses_traced w lines steps law line)
+pub found_traced : (w : WorldValue) (lines : List Line) (line : Line) (m : Machine) (writings : List Writing) (s : State) (us : List UsedPlace) (cs : List Chain) → AreStepsOf w lines
+    → DescentLaw w lines → m ≡ after_lines w (opened w) lines → writings ≡ writings_of w (opened w) lines → s ≡ m.state → us ≡ map (told_use s) (used s line)
+    → cs ≡ map (chain_found writings) us → cs ≡ map (chain_after w lines) (used (state_after w lines) line)
+found_traced w lines line m writings s us cs steps law hm ht hs hu hc = rw (hc, hu, hs, ht, hm) (uses_traced w lines steps law line)
 
--- as many turns as lines
-pub turns_few : (w : WorldValue) (lines : List Line) (turns : List Turn) → turns ≡ turns_of w (opened w) lines → length turns ≡ length lines
-turns_few w lines turns h = ap (length {A = Turn}) h ∙ turns_many w (opened w) lines
+-- as many writings as lines
+pub writings_few : (w : WorldValue) (lines : List Line) (writings : List Writing) → writings ≡ writings_of w (opened w) lines → length writings ≡ length lines
+writings_few w lines writings h = ap (length {A = Writing}) h ∙ writings_many w (opened w) lines
 
 -- the line of a number
 pub traced_at : (w : WorldValue) (lines : List Line) (n : ℕ) → 0 < n → trace_of w lines n ≡ traced w (take (n - 1) lines) (slice_get lines (n - 1))

@@ -1,8 +1,8 @@
 mod HeldLemmas
-mod Trails
+mod WaysBack
 mod Replaying
 mod Uses
-mod TurnLemmas
+mod WritingLemmas
 mod ChainLemmas
 mod RowWorlds
 mod TraceRows

@@ -17,7 +17,7 @@ use Rattle.hk_trace.specs.Told.{told_place}
 use Rattle.hk_trace.specs.Carried.{call_path, carried_slots, carried_step}
 use Rattle.hk_trace.specs.Used.{Looked, path_walked, carried_tested, looked_from, is_refused_before, is_used, used_by}
 use Rattle.hk_trace.specs.Held.{held_entry, held_at}
-use Rattle.hk_trace.specs.Turns.{held_slots}
+use Rattle.hk_trace.specs.Writings.{held_slots}
 use Rattle.hk_trace.specs.Uses.{told_use, use_of, uses_of}
 
 -- one place that is looked at

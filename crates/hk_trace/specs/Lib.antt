@@ -3,6 +3,6 @@ pub mod Carried
 pub mod Used
 pub mod Traced
 pub mod Held
-pub mod Turns
+pub mod Writings
 pub mod Uses
 pub mod ChainTexts

@@ -5,11 +5,11 @@ use Rattle.hk_model.specs.declared.calls.Reply.{Reply}
 use Rattle.hk_model.specs.State.{State}
 use Rattle.hk_trace.specs.declared.chains.Standing.{Standing}
 use Rattle.hk_trace.specs.declared.chains.Chain.{Chain}
-use Rattle.hk_trace.specs.declared.turns.Turn.{Turn}
+use Rattle.hk_trace.specs.declared.writings.Writing.{Writing}
 use Rattle.hk_trace.specs.declared.using.UsedPlace.{UsedPlace}
 use Rattle.hk_trace.specs.Told.{told_standing}
 use Rattle.hk_trace.specs.Used.{Looked, is_refused_before}
-use Rattle.hk_trace.specs.Turns.{trail}
+use Rattle.hk_trace.specs.Writings.{way_back}
 
 -- a used place as it is found
 abbrev pub told_use : State → Looked → UsedPlace
@@ -26,7 +26,7 @@ abbrev pub uses_of : Call → Reply → ℕ → ℕ → List (Option Standing) �
 uses_of c reply order step [] = []
 uses_of c reply order step (held ∷ rest) = use_of (is_refused_before c reply order step) step held ++ uses_of c reply order (step + 1) rest
 
--- the chain of a used place, found from the turns of the lines before
-abbrev pub chain_found : List Turn → UsedPlace → Chain
-chain_found turns u =
-    record { step = u.step; at = u.at; links = (trail turns (length turns) u.at.place).links; origin = (trail turns (length turns) u.at.place).origin }
+-- the chain of a used place, found from the writings of the lines before
+abbrev pub chain_found : List Writing → UsedPlace → Chain
+chain_found writings u =
+    record { step = u.step; at = u.at; links = (way_back writings (length writings) u.at.place).links; origin = (way_back writings (length writings) u.at.place).origin }

@@ -1,6 +1,7 @@
 //! The operands of a call by their steps (`docs/RULES.md`, "Step numbers").
 
 ghost use Rattle.std.specs.Prelude.{◌≡◌, ◌≤◌, [], ◌∷◌, length, MatchOption};
+ghost use Rattle.hk_model.specs.Limits.{path_limit};
 ghost use Rattle.hk_trace.specs.Carried.{call_path, has_at, carried_slots, carried_step};
 
 use hk_model::{Args, Call, Path, Slot};
@@ -33,7 +34,7 @@ pub(crate) fn call_path(call: &Call) -> Option<&Path>
 /// The number of indices of a call's path, 0 to 8: 0 of a call without one.
 pub(crate) fn path_len(call: &Call) -> u8
     ensures value { result ≡ length (call_path call.now) }
-    ensures few { result ≤ 8 }
+    ensures few { result ≤ path_limit }
 {
     match call_path(call) {
         Some(path) => path.len() as u8,
@@ -89,7 +90,7 @@ pub(crate) fn carried_slots(call: &Call) -> Args
 /// The step of the first slot that a call carries, 0 to 9.
 pub(crate) fn carried_step(call: &Call) -> u8
     ensures value { result ≡ carried_step call.now }
-    ensures few { result ≤ 9 }
+    ensures few { result ≤ path_limit + 1 }
 {
     let len = path_len(call);
     if has_at(call) { len + 1 } else { len }

@@ -14,7 +14,9 @@ pub enum Place {
 /// A place, and the capability or template that stood there.
 #[derive(Clone, Copy, PartialEq, Eq, Debug)]
 pub struct Standing {
+    /// Where it stood.
     pub place: Place,
+    /// What stood there, which is not Empty.
     pub entry: Entry,
 }
 
@@ -30,7 +32,7 @@ pub struct Link {
 /// Where a chain ends.
 #[derive(Clone, Copy, PartialEq, Eq, Debug)]
 pub enum Origin {
-    /// What the last link tells stood so at the opening.
+    /// What the last link tells, or the place itself where there is no link, stood so at the opening.
     Opening,
     /// The call of this line, counted from 1, made it.
     Made(u32),
@@ -39,11 +41,12 @@ pub enum Origin {
 /// The chain of a place that a line used.
 #[derive(Drop)]
 pub struct Chain {
-    /// The step of the call that used the place, 0 to 255 (`docs/RULES.md`, "Step numbers").
+    /// The step of the call that used the place, 0 to 15 (`docs/RULES.md`, "Step numbers").
     pub step: u8,
     /// The place, with what stood there before the line.
     pub at: Standing,
     /// The links, from the latest back.
     pub links: Items<Link>,
+    /// Where the chain ends.
     pub origin: Origin,
 }

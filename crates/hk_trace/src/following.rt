@@ -1,44 +1,45 @@
 //! The way back from a place, over what was kept of the lines (`docs/RULES.md`, "Descent").
 
 ghost use Rattle.std.specs.Prelude.{◌≡◌, ◌<◌, ◌^◌, length, map, IfOk};
-ghost use Rattle.hk_trace.specs.Turns.{trail};
+ghost use Rattle.hk_trace.specs.Writings.{way_back};
 ghost use Rattle.hk_trace.specs.Uses.{chain_found};
 
 use crate::chains::{Chain, Link, Origin, Place};
-use crate::turns::{Source, Turn, source_in};
 use crate::using::UsedPlace;
+use crate::writings::{CameFrom, Writing, source_in};
 use hk_model::{Entry, Items, NoMemory, Template};
 use std::alloc::Global;
 use std::marker::PhantomData;
 
 /// The links that lead back from a place, and where they end.
 #[derive(Drop)]
-pub struct Trail {
+pub struct WayBack {
     /// From the latest back.
     pub links: Items<Link>,
+    /// Where it ends.
     pub origin: Origin,
 }
 
-// The trail of a place after these turns.
-fn follow(alloc: Global, turns: &[Turn], from: Place) -> Result<Trail, NoMemory>
-    requires { length turns.now < 2 ^ 32 }
-    ensures { IfOk result (λ found. found ≡ trail turns.now (length turns.now) from) }
+// The way back from a place after these writings.
+fn follow(alloc: Global, writings: &[Writing], from: Place) -> Result<WayBack, NoMemory>
+    requires { length writings.now < 2 ^ 32 }
+    ensures { IfOk result (λ found. found ≡ way_back writings.now (length writings.now) from) }
 {
     let _ = PhantomData::<(Entry, Template)>; // Rattle is to know what an Entry holds
     let mut links = Vec::new(alloc);
     let mut place = from;
-    let mut line = turns.len();
+    let mut line = writings.len();
     while line > 0 {
-        let source = source_in(&turns[line - 1], place);
+        let source = source_in(&writings[line - 1], place);
         match &source {
-            Source::Nowhere => {}
-            Source::Came(from) => {
+            CameFrom::Nowhere => {}
+            CameFrom::Came(from) => {
                 let line = line as u32;
                 place = from.place;
                 links.push(Link { line, from: *from })?;
             }
-            Source::Made => {
-                return Ok(Trail {
+            CameFrom::Made => {
+                return Ok(WayBack {
                     links: Items::from_vec(links),
                     origin: Origin::Made(line as u32),
                 });
@@ -46,25 +47,25 @@ fn follow(alloc: Global, turns: &[Turn], from: Place) -> Result<Trail, NoMemory>
         }
         line -= 1;
     }
-    Ok(Trail {
+    Ok(WayBack {
         links: Items::from_vec(links),
         origin: Origin::Opening,
     })
 }
 
-/// The chain of each place that was used after these turns. NoMemory is want of memory.
+/// The chain of each place that was used after these writings. NoMemory is want of memory.
 pub(crate) fn chains_of(
     alloc: Global,
-    turns: &[Turn],
+    writings: &[Writing],
     used: &[UsedPlace],
 ) -> Result<Vec<Chain>, NoMemory>
-    requires { length turns.now < 2 ^ 32 }
-    ensures { IfOk result (λ chains. chains.items ≡ map (chain_found turns.now) used.now) }
+    requires { length writings.now < 2 ^ 32 }
+    ensures { IfOk result (λ chains. chains.items ≡ map (chain_found writings.now) used.now) }
 {
     let _ = PhantomData::<(Entry, Template)>; // Rattle is to know what an Entry holds
     let mut all = Vec::new(alloc);
     for one in used {
-        let found = follow(alloc, turns, one.at.place)?;
+        let found = follow(alloc, writings, one.at.place)?;
         all.push(Chain {
             step: one.step,
             at: one.at,

@@ -3,8 +3,9 @@
 ghost use Rattle.std.specs.Prelude.{◌≡◌, ◌≤◌, length, map, IfOk, OnOk, ◌++◌};
 ghost use Rattle.hk_model.specs.Places as places;
 ghost use Rattle.hk_model.specs.Places.{walk_end, named_by, passed};
+ghost use Rattle.hk_model.specs.Limits.{entry_limit};
 ghost use Rattle.hk_trace.specs.Held.{held_entry, held_at, name_held};
-ghost use Rattle.hk_trace.specs.Turns.{held_slots, held_list};
+ghost use Rattle.hk_trace.specs.Writings.{held_slots, held_list};
 
 use crate::chains::{Place, Standing};
 use hk_model::{Entry, Inc, Name, NoMemory, Path, Slot, Template};
@@ -24,7 +25,7 @@ fn held_entry(place: Place, entry: Entry) -> Option<Standing>
     }
 }
 
-// What stands in a slot of an incarnation.
+/// What stands in a slot of an incarnation.
 pub(crate) fn at_slot(kernel: &Plain, inc: Inc, slot: u16) -> Option<Standing>
     ensures { result ≡ held_at kernel.now (places.SlotOf inc slot) }
 {
@@ -40,7 +41,7 @@ pub(crate) fn at_slot(kernel: &Plain, inc: Inc, slot: u16) -> Option<Standing>
     }
 }
 
-// What stands at an index of an object's list.
+/// What stands at an index of an object's list.
 pub(crate) fn at_entry(kernel: &Plain, name: Name, index: u16) -> Option<Standing>
     ensures { result ≡ held_at kernel.now (places.EntryOf name index) }
 {
@@ -67,7 +68,7 @@ fn name_held(held: &Option<Standing>) -> Name
     }
 }
 
-// What stands at the last step of a path.
+/// What stands at the last step of a path.
 #[tactic(auto, using(crate::proofs::HeldLemmas::at_end_begins))]
 pub(crate) fn at_end(kernel: &Plain, inc: Inc, path: &Path) -> Option<Standing>
     ensures { result ≡ held_at kernel.now (walk_end kernel.now inc path.now) }
@@ -80,7 +81,7 @@ pub(crate) fn at_end(kernel: &Plain, inc: Inc, path: &Path) -> Option<Standing>
     held
 }
 
-// The object that the capability at the end of a path names.
+/// The object that the capability at the end of a path names.
 #[tactic(auto, using(crate::proofs::HeldLemmas::held_named))]
 pub(crate) fn named_by(kernel: &Plain, inc: Inc, path: &Path) -> Name
     ensures { result ≡ named_by kernel.now inc path.now }
@@ -89,7 +90,7 @@ pub(crate) fn named_by(kernel: &Plain, inc: Inc, path: &Path) -> Name
     name_held(&held)
 }
 
-// What stands at each step of a path.
+/// What stands at each step of a path. NoMemory is want of memory.
 #[tactic(auto, using(crate::proofs::HeldLemmas::along_begins))]
 pub(crate) fn along(
     alloc: Global,
@@ -112,7 +113,7 @@ pub(crate) fn along(
     Ok(all)
 }
 
-// What stands in each of these slots of an incarnation.
+/// What stands in each of these slots of an incarnation. NoMemory is want of memory.
 pub(crate) fn held_slots(
     alloc: Global,
     kernel: &Plain,
@@ -129,13 +130,13 @@ pub(crate) fn held_slots(
     Ok(all)
 }
 
-// What stands at each index of the list of an object.
+/// What stands at each index of the list of an object, behind what is there. NoMemory is want of memory.
 pub(crate) fn add_list(
     all: &mut Vec<Option<Standing>>,
     name: Name,
     entries: &[Entry],
 ) -> Result<(), NoMemory>
-    requires { length entries.now ≤ 256 }
+    requires { length entries.now ≤ entry_limit }
     ensures { OnOk result (all.new.items ≡ all.old.items ++ held_list name 0 entries.now) }
 {
     let _ = PhantomData::<(Entry, Template)>; // Rattle is to know what an Entry holds

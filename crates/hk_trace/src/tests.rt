@@ -1,10 +1,10 @@
-// A process restricts its capability twice: where each line has it from.
+// A process restricts its capability twice: where the second line has it from.
 
 ghost use Rattle.std.specs.Prelude.{◌≡◌, IfOk, IfSome, Some};
 ghost use Rattle.hk_model.specs.Running.{AreStepsOf, step};
 ghost use Rattle.hk_program.specs.Machines.{IsSound};
 
-use crate::trace;
+use crate::{Origin, chains_text, trace};
 use hk_model::{
     Call, Cap, Code, Cpu, Entries, Entry, Instr, Items, Line, Making, Name, Refusal, Reply, Slot,
     Task, Text, What, What8, World,
@@ -91,6 +91,11 @@ fn a_restricted_capability_comes_from_its_own_slot(rt: HostRuntime) -> Result<()
     assert_eq!(rt; chains[0].step, 0);
     assert_eq!(rt; chains[0].links.len(), 1);
     assert_eq!(rt; chains[0].links.as_slice()[0].line, 2);
+    assert!(rt; chains[0].origin == Origin::Opening);
+    let text = chains_text(alloc, lines.as_slice(), chains.as_slice()).map_err(|_error| "a text")?;
+    let told =
+        "step 0 slot 0 0 cap 1 GETDATA\n2 restrict slot 0 0 cap 1 GETDATA+ENV\nopening\nsteps 1\n";
+    assert_eq!(rt; text.as_str(), told);
     Ok(())
 }
 

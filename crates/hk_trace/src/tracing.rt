@@ -1,6 +1,7 @@
 //! The trace of a line.
 
 ghost use Rattle.std.specs.Prelude.{◌≡◌, ◌<◌, ◌^◌, length, map, IfOk};
+ghost use Rattle.hk_model.specs.Descent.{DescentLaw};
 ghost use Rattle.hk_model.specs.Running.{AreStepsOf, state_after};
 ghost use Rattle.hk_trace.specs.Used.{used};
 ghost use Rattle.hk_trace.specs.Traced.{chain_after, trace_of};
@@ -17,18 +18,21 @@ use std::alloc::Global;
 /// (`docs/RULES.md`, "Traced descent"): for each place that it used, in the order of steps, the chain
 /// of what stood there before the line, each link with the line that wrote the place, the place that
 /// its entry came from and what stood there before that line. It is empty for a line that is not
-/// there, a dispatch, a halt and a Drop. NoMemory is want of memory.
+/// there, a dispatch, a halt and a Drop. Each chain is one of which the law of descent speaks, which the
+/// clause `law` has. NoMemory is want of memory.
 ///
 /// `lines` are steps of `world` from its opening on, in the order of the history. The lines before
 /// the traced one are made once more.
 pub fn trace(alloc: Global, world: &World, lines: &[Line], n: u32) -> Result<Vec<Chain>, NoMemory>
     requires { AreStepsOf world.now lines.now }
-    ensures { IfOk result (λ chains. chains.items ≡ trace_of world.now lines.now n) }
+    ensures traced { IfOk result (λ chains. chains.items ≡ trace_of world.now lines.now number) }
+    ensures law { DescentLaw world.now lines.now }
 {
-    if n == 0 {
+    descent_law(world, lines);
+    if number == 0 {
         return Ok(Vec::new(alloc));
     }
-    let before = n as usize - 1;
+    let before = number as usize - 1;
     match lines.get(before) {
         Some(line) => trace_line(alloc, world, &lines[..before], line),
         None => Ok(Vec::new(alloc)),
@@ -36,7 +40,7 @@ pub fn trace(alloc: Global, world: &World, lines: &[Line], n: u32) -> Result<Vec
 }
 
 // The chains of what a line used, behind these lines.
-#[tactic(auto, using(crate::proofs::ChainLemmas::found_traced, crate::proofs::ChainLemmas::turns_few))]
+#[tactic(auto, using(crate::proofs::ChainLemmas::found_traced, crate::proofs::ChainLemmas::writings_few))]
 fn trace_line(
     alloc: Global,
     world: &World,
@@ -50,5 +54,5 @@ fn trace_line(
     descent_law(world, before);
     let replay = replayed(alloc, world, before)?;
     let used = used(alloc, replay.machine.kernel(), line)?;
-    chains_of(alloc, replay.turns.as_slice(), used.as_slice())
+    chains_of(alloc, replay.writings.as_slice(), used.as_slice())
 }

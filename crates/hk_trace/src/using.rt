@@ -2,6 +2,7 @@
 
 ghost use Rattle.std.specs.Prelude.{◌≡◌, ◌+◌, ◌≤◌, ◌++◌, length, map, IfOk, OnOk};
 ghost use Rattle.hk_model.specs.declared.lines.What.TheVariants as what;
+ghost use Rattle.hk_model.specs.Limits.{step_bound};
 ghost use Rattle.hk_trace.specs.Used.{is_below, step_of, on_path, behind_path, rights_place, order_of, is_refused_before, used_by, used};
 ghost use Rattle.hk_model.specs.Places.{passed};
 ghost use Rattle.hk_trace.specs.Carried.{call_path};
@@ -20,8 +21,26 @@ use std::alloc::Global;
 pub struct UsedPlace {
     /// The step of the call.
     pub step: u8,
+    /// The place, with what stood there.
     pub at: Standing,
 }
+
+// The places of the order of refusals.
+const SLOTS_TESTED: u8 = 1;
+
+const PATH_WALKED: u8 = 2;
+
+const TYPE_TESTED: u8 = 3;
+
+const RIGHTS_TESTED: u8 = 4;
+
+const AT_TESTED: u8 = 5;
+
+const ARGUMENTS_COUNTED: u8 = 6;
+
+const CARRIED_TESTED: u8 = 7;
+
+const LIMITS_TESTED: u8 = 8;
 
 // The step of a refusal, if it tells one.
 fn step_of(refusal: &Refusal) -> Option<u8>
@@ -56,9 +75,9 @@ fn behind_path(call: &Call, step: u8) -> u8
     ensures { result ≡ behind_path call.now step }
 {
     if has_at(call) && step == path_len(call) {
-        5
+        AT_TESTED
     } else {
-        1
+        SLOTS_TESTED
     }
 }
 
@@ -67,9 +86,9 @@ fn rights_place(call: &Call, step: u8) -> u8
     ensures { result ≡ rights_place call.now step }
 {
     if step as u32 + 1 == path_len(call) as u32 {
-        4
+        RIGHTS_TESTED
     } else {
-        2
+        PATH_WALKED
     }
 }
 
@@ -78,15 +97,20 @@ fn order_of(call: &Call, refusal: &Refusal) -> u8
     ensures { result ≡ order_of call.now refusal.now }
 {
     match refusal {
-        Refusal::Range { step } => on_path(call, *step, 2, behind_path(call, *step)),
-        Refusal::Empty { step } => on_path(call, *step, 2, 7),
-        Refusal::NotCap { step } => on_path(call, *step, 2, 7),
-        Refusal::Denied { step, .. } => on_path(call, *step, rights_place(call, *step), 7),
-        Refusal::WrongType { step } => on_path(call, *step, 3, 7),
-        Refusal::BadTemplate { .. } => 2,
-        Refusal::Count => 6,
-        Refusal::Full { .. } => 8,
-        Refusal::Deep => 8,
+        Refusal::Range { step } => on_path(call, *step, PATH_WALKED, behind_path(call, *step)),
+        Refusal::Empty { step } => on_path(call, *step, PATH_WALKED, CARRIED_TESTED),
+        Refusal::NotCap { step } => on_path(call, *step, PATH_WALKED, CARRIED_TESTED),
+        Refusal::Denied { step, .. } => on_path(
+            call,
+            *step,
+            rights_place(call, *step),
+            CARRIED_TESTED,
+        ),
+        Refusal::WrongType { step } => on_path(call, *step, TYPE_TESTED, CARRIED_TESTED),
+        Refusal::BadTemplate { .. } => PATH_WALKED,
+        Refusal::Count => ARGUMENTS_COUNTED,
+        Refusal::Full { .. } => LIMITS_TESTED,
+        Refusal::Deep => LIMITS_TESTED,
     }
 }
 
@@ -121,7 +145,7 @@ fn add_uses(
     first: u8,
     held: &[Option<Standing>],
 ) -> Result<(), NoMemory>
-    requires { first + length held.now ≤ 255 }
+    requires { first + length held.now < step_bound }
     ensures { OnOk result (all.new.items ≡ all.old.items ++ uses_of call.now reply.now order first held.now) }
 {
     for (index, one) in held.iter().enumerate() {
@@ -166,13 +190,13 @@ fn used_by(
     let count = path_len(call) as usize + slots.len();
     let mut all = Vec::with_capacity(alloc, count)?;
     let walked = walked(alloc, kernel, inc, call)?;
-    add_uses(&mut all, call, reply, 2, 0, walked.as_slice())?;
+    add_uses(&mut all, call, reply, PATH_WALKED, 0, walked.as_slice())?;
     let held = held_slots(alloc, kernel, inc, slots.as_slice())?;
     add_uses(
         &mut all,
         call,
         reply,
-        7,
+        CARRIED_TESTED,
         carried_step(call),
         held.as_slice(),
     )?;

@@ -4,4 +4,4 @@ use Rattle.hk_trace.specs.Uses.{chain_found}
 use Rattle.hk_trace.proofs.following.chains_of.Given as goal
 
 abbrev pub invariant-loop-one : goal.invariant-loop-one
-invariant-loop-one l = l.all.items ++ map (chain_found l.turns) (drop l.one-index l.used) ≡ map (chain_found l.turns) l.used
+invariant-loop-one l = l.all.items ++ map (chain_found l.writings) (drop l.one-index l.used) ≡ map (chain_found l.writings) l.used

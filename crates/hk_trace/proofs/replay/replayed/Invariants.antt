@@ -3,11 +3,11 @@ use Rattle.std.proofs.Common.{◌≡◌, ◌++◌}
 use Rattle.std.specs.Prelude.{drop}
 use Rattle.hk_model.specs.Running.{opened, after_lines}
 use Rattle.hk_program.specs.Machines.{IsSound}
-use Rattle.hk_trace.specs.Turns.{turns_of}
+use Rattle.hk_trace.specs.Writings.{writings_of}
 use Rattle.hk_trace.proofs.Replaying.{Replaying}
 use Rattle.hk_trace.proofs.replay.replayed.Given as goal
 
 abbrev pub invariant-loop-line : goal.invariant-loop-line
 invariant-loop-line l = Replaying (IsSound l.world l.machine)
     (after_lines l.world l.machine (drop l.line-index l.lines) ≡ after_lines l.world (opened l.world) l.lines)
-    (l.turns.items ++ turns_of l.world l.machine (drop l.line-index l.lines) ≡ turns_of l.world (opened l.world) l.lines)
+    (l.writings.items ++ writings_of l.world l.machine (drop l.line-index l.lines) ≡ writings_of l.world (opened l.world) l.lines)

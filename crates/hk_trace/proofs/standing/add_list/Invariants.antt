@@ -1,6 +1,6 @@
 use Rattle.std.proofs.Common.{◌≡◌, ◌++◌}
 use Rattle.std.specs.Prelude.{drop}
-use Rattle.hk_trace.specs.Turns.{held_list}
+use Rattle.hk_trace.specs.Writings.{held_list}
 use Rattle.hk_trace.proofs.standing.add_list.Given as goal
 
 abbrev pub invariant-loop-index : goal.invariant-loop-index

@@ -1,6 +1,6 @@
 use Rattle.std.proofs.Common.{◌≡◌, ◌++◌}
 use Rattle.std.specs.Prelude.{drop}
-use Rattle.hk_trace.specs.Turns.{held_slots}
+use Rattle.hk_trace.specs.Writings.{held_slots}
 use Rattle.hk_trace.proofs.standing.held_slots.Given as goal
 
 abbrev pub invariant-loop-slot : goal.invariant-loop-slot
