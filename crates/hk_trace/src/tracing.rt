@@ -23,7 +23,12 @@ use std::alloc::Global;
 ///
 /// `lines` are steps of `world` from its opening on, in the order of the history. The lines before
 /// the traced one are made once more.
-pub fn trace(alloc: Global, world: &World, lines: &[Line], n: u32) -> Result<Vec<Chain>, NoMemory>
+pub fn trace(
+    alloc: Global,
+    world: &World,
+    lines: &[Line],
+    number: u32,
+) -> Result<Vec<Chain>, NoMemory>
     requires { AreStepsOf world.now lines.now }
     ensures traced { IfOk result (λ chains. chains.items ≡ trace_of world.now lines.now number) }
     ensures law { DescentLaw world.now lines.now }
