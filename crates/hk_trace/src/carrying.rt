@@ -1,6 +1,6 @@
 //! The operands of a call by their steps (`docs/RULES.md`, "Step numbers").
 
-ghost use Rattle.std.specs.Prelude.{◌≡◌, ◌≤◌, [], ◌∷◌, length, MatchOption};
+ghost use Rattle.std.specs.Prelude.{◌≡◌, ◌≤◌, ◌+◌, [], ◌∷◌, length, MatchOption};
 ghost use Rattle.hk_model.specs.Limits.{path_limit};
 ghost use Rattle.hk_trace.specs.Carried.{call_path, has_at, carried_slots, carried_step};
 

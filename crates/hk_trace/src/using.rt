@@ -1,6 +1,6 @@
 //! Which places a line used (`docs/RULES.md`, "Traced descent" and "The order of refusals").
 
-ghost use Rattle.std.specs.Prelude.{◌≡◌, ◌+◌, ◌≤◌, ◌++◌, length, map, IfOk, OnOk};
+ghost use Rattle.std.specs.Prelude.{◌≡◌, ◌+◌, ◌<◌, ◌++◌, length, map, IfOk, OnOk};
 ghost use Rattle.hk_model.specs.declared.lines.What.TheVariants as what;
 ghost use Rattle.hk_model.specs.Limits.{step_bound};
 ghost use Rattle.hk_trace.specs.Used.{is_below, step_of, on_path, behind_path, rights_place, order_of, is_refused_before, used_by, used};
