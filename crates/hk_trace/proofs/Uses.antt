@@ -1,8 +1,9 @@
 -- The used places of a line are those that are found.
-use Rattle.std.specs.Prelude.{◌≡◌, ℕ, ◌+◌, ◌≤◌, Bool, true, false, not, ◌&&◌, List, [], ◌∷◌, ◌++◌, length, map, filter, Option, refl}
+use Rattle.std.specs.Prelude.{◌≡◌, ℕ, ◌+◌, ◌<◌, ◌≤◌, Bool, true, false, not, ◌&&◌, List, [], ◌∷◌, ◌++◌, length, map, filter, Option, refl}
 use Rattle.std.proofs.Common.{arith, ap, sym, cond}
 use Rattle.std.proofs.lemmas.List.Elements.{filter-append}
 use Rattle.std.proofs.lemmas.List.{map-append}
+use Rattle.hk_model.specs.Limits.{argument_limit, path_limit, step_bound}
 use Rattle.hk_model.specs.declared.names.Inc.{Inc}
 use Rattle.hk_model.specs.declared.calls.Call.{Call}
 use Rattle.hk_model.specs.declared.calls.Reply.{Reply}
@@ -76,16 +77,16 @@ passed_few : (s : State) (inc : Inc) (path : List ℕ) → length (passed s inc 
 passed_few s inc [] = refl
 passed_few s inc (at ∷ rest) = let h = length_passed s (SlotOf inc at) rest in omega (arith, h)
 
-pub walked_few : (s : State) (inc : Inc) (path : List ℕ) (few : ℕ) (walked : List (Option Standing)) → walked ≡ map (held_at s) (passed s inc path) → few ≡ length path → few ≤ 8
-    → 0 + length walked ≤ 255
+pub walked_few : (s : State) (inc : Inc) (path : List ℕ) (few : ℕ) (walked : List (Option Standing)) → walked ≡ map (held_at s) (passed s inc path) → few ≡ length path → few ≤ path_limit
+    → 0 + length walked < step_bound
 walked_few s inc path few walked w e n =
     let a = ap (length {A = Option Standing}) w in
     let b = length_map (held_at s) (passed s inc path) in
     let c = passed_few s inc path in
     omega (arith, a, b, c)
 
-pub slots_few : (s : State) (inc : Inc) (step few : ℕ) (slots : List ℕ) (held : List (Option Standing)) → held ≡ held_slots s inc slots → few ≡ length slots → few ≤ 8 → step ≤ 9
-    → step + length held ≤ 255
+pub slots_few : (s : State) (inc : Inc) (step few : ℕ) (slots : List ℕ) (held : List (Option Standing)) → held ≡ held_slots s inc slots → few ≡ length slots → few ≤ argument_limit → step ≤ path_limit + 1
+    → step + length held < step_bound
 slots_few s inc step few slots held h e n m =
     let a = ap (length {A = Option Standing}) h in
     let b = length_map (λ slot. held_at s (SlotOf inc slot)) slots in
