@@ -97,7 +97,7 @@ byte_limit command.Bound = script_bytes
 byte_limit command.Check = record_bytes
 byte_limit (command.Trace line) = record_bytes
 
--- a number of processors that the command has may run a script
+-- the number that the command has, of processors or of a line, is in its range
 abbrev pub IsInRange : Command → Type 0
 IsInRange (command.RunOn cpus) = MayRun cpus
 IsInRange (command.Trace line) = MayTrace line
