@@ -5,12 +5,14 @@ ghost use Rattle.hk_program.specs.Machines.{IsSound};
 
 use crate::{check, verdict_is_one};
 use hk_model::{
-    Call, Code, Cpu, End, Entries, Inc, Items, Line, Misstep, Proc, Reply, Task, Text, Verdict,
-    What, World,
+    Call, Code, Cpu, End, Entries, Inc, Items, Line, Making, Misstep, Proc, Refusal, Reply, Task,
+    Text, Verdict, What, What8, World,
 };
 use hk_plain::Plain;
 use hk_program::{Machine, end_word};
+use hk_rights::Right;
 use std::alloc::{AllocError, Global};
+use std::marker::PhantomData;
 use std::test::Fail;
 
 // A text of its own.
@@ -75,7 +77,7 @@ fn of_two(alloc: Global, first: Line, second: Line) -> Result<Verdict, Fail> {
 }
 
 #[test]
-fn the_steps_of_a_run_are_legal(rt: HostRuntime) -> Result<(), Fail> {
+fn the_steps_of_a_run_are_legal_and_others_are_told(rt: HostRuntime) -> Result<(), Fail> {
     let alloc = rt.alloc();
     let legal = of_two(alloc, dispatch(15), leave(15, 0, Reply::Done))?;
     assert!(rt; legal == Verdict::Legal);
@@ -122,6 +124,7 @@ fn word_of(alloc: Global, kernel: &Plain) -> Result<Option<End>, Fail> {
 
 #[test]
 fn a_machine_steps_until_its_processes_have_ended(rt: HostRuntime) -> Result<(), Fail> {
+    let _ = PhantomData::<(Making, Call, What, Reply, Refusal, What8, Right)>; // Rattle is to know what a Line holds
     let alloc = rt.alloc();
     let world = world(alloc)?;
     let mut machine = machine(alloc, &world)?;
