@@ -1,0 +1,4 @@
+mod NamedLemmas
+mod Replaying
+mod Followed
+mod Listed

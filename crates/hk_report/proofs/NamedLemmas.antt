@@ -1,0 +1,27 @@
+-- What is named along a path, step by step.
+use Rattle.std.specs.Prelude.{◌≡◌, ℕ, ◌<◌, List, [], ◌∷◌, length, drop, slice_index, refl}
+use Rattle.std.proofs.Common.{arith}
+use Rattle.hk_model.specs.declared.names.Name.{Name}
+use Rattle.hk_model.specs.declared.names.Inc.{Inc}
+use Rattle.hk_model.specs.State.{State}
+use Rattle.hk_model.specs.Places.{Place, SlotOf, standing, object_named, next_place, end_from, named_by}
+use Rattle.hk_report.specs.Named.{named_last}
+
+-- from any place on
+last_named : (s : State) (p : Place) (rest : List ℕ) → named_last s (object_named (standing s p)) rest ≡ object_named (standing s (end_from s p rest))
+last_named s p [] = refl
+last_named s p (at ∷ rest) = last_named s (next_place s p at) rest
+
+-- from the first step on
+begins : (s : State) (inc : Inc) (path : List ℕ) → 0 < length path
+    → named_last s (object_named (standing s (SlotOf inc (slice_index path 0)))) (drop 1 path) ≡ named_by s inc path
+begins s inc [] h = absurd (omega arith)
+begins s inc (at ∷ rest) h = rw (drop_one at rest) (last_named s (SlotOf inc at) rest)
+  where
+    drop_one : (at : ℕ) (rest : List ℕ) → drop 1 (at ∷ rest) ≡ rest
+    drop_one at [] = refl
+    drop_one at (x ∷ rest) = refl
+
+pub named_begins : (s : State) (inc : Inc) (path : List ℕ) (at : ℕ) (name : Name) → 0 < length path → at ≡ slice_index path 0
+    → name ≡ object_named (standing s (SlotOf inc at)) → named_last s name (drop 1 path) ≡ named_by s inc path
+named_begins s inc path at name some e h = rw (h, e) (begins s inc path some)

@@ -1,0 +1,3 @@
+pub mod Named
+pub mod Doings
+pub mod Families

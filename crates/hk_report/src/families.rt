@@ -1,0 +1,150 @@
+//! The confined calls that each incarnation is under, and what is changed under them
+//! (`docs/RULES.md`, "Changes and their reasons").
+
+ghost use Rattle.std.specs.Prelude.{◌≡◌, ◌+◌, ◌<◌, ◌^◌, ◌++◌, [], length, map, replicate, slice_index_or, IfOk, OnOk, Some};
+ghost use Rattle.hk_report.specs.Families.{calls_entered, families_by, change_under, changes_by, changes_from};
+
+use crate::doings::{Doing, Entered};
+use hk_model::{Inc, Items, Name, NoMemory};
+use std::alloc::Global;
+
+/// A confined call, and when it began.
+#[derive(Clone, Copy, PartialEq, Eq, Debug)]
+pub struct Begun {
+    /// The incarnation that the call made.
+    pub call: Inc,
+    /// The number of lines up to and with the one that made it.
+    pub moment: u32,
+}
+
+/// A line that changed an object under a confined call.
+#[derive(Clone, Copy, PartialEq, Eq, Debug)]
+pub struct BareChange {
+    /// The number of lines before the line.
+    pub moment: u32,
+    /// The confined call that its incarnation is under.
+    pub under: Begun,
+    /// What it changed.
+    pub object: Name,
+}
+
+// The calls that an incarnation of this number is under.
+fn calls_over(families: &[Items<Begun>], inc: Inc) -> &[Begun]
+    ensures { result.now ≡ slice_index_or families.now inc.0 [] }
+{
+    match families.get(inc.0 as usize) {
+        Some(calls) => calls.as_slice(),
+        None => &[],
+    }
+}
+
+// The calls that a new incarnation is under, by those that its caller is under.
+fn calls_entered(
+    alloc: Global,
+    moment: u32,
+    new: Entered,
+    above: &[Begun],
+) -> Result<Items<Begun>, NoMemory>
+    requires { moment + 1 < 2 ^ 32 }
+    ensures { IfOk result (λ calls. calls ≡ calls_entered moment new above.now) }
+{
+    let mut calls = Vec::with_capacity(alloc, above.len())?;
+    for call in above {
+        calls.push(*call)?;
+    }
+    if new.confined {
+        calls.push(Begun {
+            call: new.inc,
+            moment: moment + 1,
+        })?;
+    }
+    Ok(Items::from_vec(calls))
+}
+
+// One family more, where the line has entered a procedure.
+fn add_family(
+    alloc: Global,
+    families: &mut Vec<Items<Begun>>,
+    moment: u32,
+    doing: &Doing,
+) -> Result<(), NoMemory>
+    requires { moment + 1 < 2 ^ 32 }
+    ensures { OnOk result (families.new.items ≡ families_by moment doing.now families.old.items) }
+{
+    if let Some(new) = doing.entered {
+        let calls = calls_entered(
+            alloc,
+            moment,
+            new,
+            calls_over(families.as_slice(), doing.inc),
+        )?;
+        families.push(calls)?;
+    }
+    Ok(())
+}
+
+// The change of an object, under each of these calls.
+fn add_each(
+    changes: &mut Vec<BareChange>,
+    moment: u32,
+    object: Name,
+    calls: &[Begun],
+) -> Result<(), NoMemory>
+    ensures { OnOk result (changes.new.items ≡ changes.old.items ++ map (change_under moment object) calls.now) }
+{
+    for call in calls {
+        changes.push(BareChange {
+            moment,
+            under: *call,
+            object,
+        })?;
+    }
+    Ok(())
+}
+
+// What a line changes, under each of the calls that it is under.
+fn add_changes(
+    changes: &mut Vec<BareChange>,
+    moment: u32,
+    changed: Option<Name>,
+    calls: &[Begun],
+) -> Result<(), NoMemory>
+    ensures { OnOk result (changes.new.items ≡ changes.old.items ++ changes_by moment changed calls.now) }
+{
+    match changed {
+        Some(object) => add_each(changes, moment, object, calls),
+        None => Ok(()),
+    }
+}
+
+// No call over each of the incarnations below this number.
+fn no_families(alloc: Global, below: Inc) -> Result<Vec<Items<Begun>>, NoMemory>
+    ensures { IfOk result (λ families. families.items ≡ replicate below.0 []) }
+{
+    let mut families = Vec::with_capacity(alloc, below.0 as usize)?;
+    for _ in 0..below.0 {
+        families.push(Items::new(alloc))?;
+    }
+    Ok(families)
+}
+
+/// The changes under confined calls of lines that did this, where the incarnations of the opening
+/// are those below `first`. NoMemory is want of memory.
+pub(crate) fn changes_of(
+    alloc: Global,
+    first: Inc,
+    doings: &[Doing],
+) -> Result<Vec<BareChange>, NoMemory>
+    requires { length doings.now < 2 ^ 32 }
+    ensures { IfOk result (λ changes. changes.items ≡ changes_from 0 (replicate first.0 []) doings.now) }
+{
+    let mut families = no_families(alloc, first)?;
+    let mut changes = Vec::new(alloc);
+    for (index, doing) in doings.iter().enumerate() {
+        let moment = index as u32;
+        let calls = calls_over(families.as_slice(), doing.inc);
+        add_changes(&mut changes, moment, doing.changed, calls)?;
+        add_family(alloc, &mut families, moment, doing)?;
+    }
+    Ok(changes)
+}

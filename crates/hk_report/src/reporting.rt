@@ -1,0 +1,30 @@
+//! The changes of a history (`docs/RULES.md`, "Changes and their reasons").
+
+ghost use Rattle.std.specs.Prelude.{◌≡◌, ◌<◌, ◌^◌, length, map, IfOk};
+ghost use Rattle.hk_model.specs.Running.{AreStepsOf};
+ghost use Rattle.hk_model.specs.Changes.{bare_changes};
+ghost use Rattle.hk_report.specs.Families.{told_change};
+
+use crate::families::{BareChange, changes_of};
+use crate::replay::replayed;
+use hk_model::{Line, NoMemory, World};
+use std::alloc::Global;
+
+/// The changes under confined calls (`docs/RULES.md`, "Changes and their reasons"): one for each
+/// line that changes an object and each confined call that the line's incarnation is under. They
+/// stand by rising line, and for one line by rising number of the call.
+///
+/// `lines` are steps of `world` from its opening on, in the order of the history. NoMemory is want of memory, and nothing else.
+#[tactic(auto, using(crate::proofs::Listed::changes_found, crate::proofs::Listed::doings_few))]
+pub fn changes_under(
+    alloc: Global,
+    world: &World,
+    lines: &[Line],
+) -> Result<Vec<BareChange>, NoMemory>
+    requires { AreStepsOf world.now lines.now }
+    ensures { IfOk result (λ changes. changes.items ≡ map told_change (bare_changes world.now lines.now)) }
+{
+    let _limit = world.limit();
+    let replay = replayed(alloc, world, lines)?;
+    changes_of(alloc, replay.first, replay.doings.as_slice())
+}
