@@ -11,6 +11,8 @@ mod families;
 mod naming;
 mod replay;
 mod reporting;
+#[cfg(test)]
+mod tests;
 
 pub use families::{BareChange, Begun};
 pub use hk_model::{Line, NoMemory, World};
