@@ -22,7 +22,7 @@ use Rattle.hk_table.proofs.Live.{live-none, no_frame}
 abbrev Ones : Type 0
 Ones = List (Inc × Incarnation)
 
-times-append : (n : Name) (xs ys : List Name) → times n (xs ++ ys) ≡ times n xs + times n ys
+pub times-append : (n : Name) (xs ys : List Name) → times n (xs ++ ys) ≡ times n xs + times n ys
 unfolding times
 times-append n xs ys = sum_by-append (λ m. cond (n.0 == m.0) 1 0) xs ys
 
@@ -41,7 +41,7 @@ sum-insert f k o [] absent = sum_by-cons f (k, o) []
 sum-insert f k o (e ∷ es) absent =
     grind (arith, nat_tests, sum-insert f k o es, sum_by-cons f (k, o) (e ∷ es), sum_by-cons f e es, sum_by-cons f e (insert_entry inc_cmp es k o))
 
-abbrev space_times : Name → StackFrame → ℕ
+abbrev pub space_times : Name → StackFrame → ℕ
 space_times n f = times n (named_in f.space)
 
 sum_with : (n : Name) (proc : Proc) (caller : Option Inc) (fs : List StackFrame) (es : Ones)

@@ -23,3 +23,8 @@ pub mod Restricted
 pub mod KeptMeets
 pub mod Wanting
 pub mod FrameNames
+pub mod FrameSums
+pub mod Holding
+pub mod Stepping
+pub mod NameBounds
+pub mod Stays

@@ -7,3 +7,6 @@ pub mod Woken
 pub mod Additions
 pub mod Returns
 pub mod Settled
+pub mod Held
+pub mod Small
+pub mod Waits

@@ -1,9 +1,10 @@
 -- The slots and counts that tell a state's objects. docs/RULES.md, "Objects that vanish".
-use Rattle.std.specs.Prelude.{◌≡◌, ℕ, List, Option, Some, slice_index}
+use Rattle.std.specs.Prelude.{◌≡◌, ℕ, ◌+◌, List, Option, Some, slice_index}
 use Rattle.hk_model.specs.declared.names.Name.{Name}
 use Rattle.hk_model.specs.declared.names.Proc.{Proc}
+use Rattle.hk_model.specs.declared.objects.Process.{Process}
 use Rattle.hk_model.specs.State.{State}
-use Rattle.hk_model.specs.Keeping.{outer_names}
+use Rattle.hk_model.specs.Keeping.{outer_names, run_names}
 use Rattle.hk_objects.specs.declared.body.Body.{Body}
 use Rattle.hk_objects.specs.Slots.{standing, name_at}
 use Rattle.hk_reclaim.specs.Naming.{times, named_in}
@@ -19,6 +20,17 @@ pub record Tells (s : State) (slots : List (Option (Name × Body))) (waiting : L
   pub first_new : s.first_new ≡ t.first_new
   pub outside : (k : ℕ) (n : Name) → name_at slots k ≡ Some n → slice_index t.outside k ≡ times n (outer_names s)
 
--- how often the slots of all frames name an object
+-- how often the slots of a process's frames name an object, and how often those of all frames do
+abbrev pub stack_namings : Name → List StackFrame → ℕ
+stack_namings n fs = sum_by (λ (f : StackFrame). times n (named_in f.space)) fs
+
 abbrev pub frame_namings : Name → List (List StackFrame) → ℕ
-frame_namings n stacks = sum_by (λ (fs : List StackFrame). sum_by (λ (f : StackFrame). times n (named_in f.space)) fs) stacks
+frame_namings n stacks = sum_by (λ (fs : List StackFrame). stack_namings n fs) stacks
+
+-- how often waiting processes name an object
+abbrev pub wait_namings : Name → List Process → ℕ
+wait_namings n ps = sum_by (λ (p : Process). times n (run_names p.run)) ps
+
+-- how often an object is named from outside
+abbrev pub outside_namings : Name → List (List StackFrame) → List Process → ℕ
+outside_namings n stacks ps = frame_namings n stacks + wait_namings n ps

@@ -7,7 +7,8 @@
 //! calls share, `frames` the incarnations that come and go, `making` and `objects` what is made.
 //! The calls: `words`, `lists`, `slots`, `templates`, `semaphores`, `procedures` and `creating`; `calls` hands each to its row.
 //! The state as plain data: `queued`, `shown` and `shows`. What vanishes: `settling`, over slots and counts alone, since the
-//! calls do not count yet; `laws` says what the counts from outside are to be.
+//! calls do not count yet. `counting` raises and lowers the counts by what names come and go, and `laws` says what the counts
+//! from outside are to be, and what each change of frames and processes is to them.
 //!
 //! What is not in a list of objects or frames is found by its number: nothing here grows with the number of objects,
 //! incarnations or processes but the opening and the state as plain data.
@@ -15,6 +16,7 @@
 
 mod born;
 mod calls;
+mod counting;
 mod creating;
 mod finding;
 mod frames;

@@ -2,23 +2,30 @@
 
 ghost use Rattle.std.specs.Prelude.{◌≡◌, ◌↔◌, [], List, IsTrue};
 ghost use Rattle.hk_model.specs.declared.names.Proc.{Proc};
+ghost use Rattle.hk_model.specs.declared.objects.Process.{Process};
 ghost use Rattle.hk_model.specs.State.{State};
 ghost use Rattle.hk_model.specs.Keeping.{kept_objects, rooted_objects};
 ghost use Rattle.hk_objects.specs.Slots.{standing};
+ghost use Rattle.hk_queues.specs.Queued.{Queued};
 ghost use Rattle.hk_reclaim.specs.Kept.{HasLost, only};
 ghost use Rattle.hk_reclaim.specs.Naming.{stands};
 ghost use Rattle.hk_reclaim.specs.Tally.{IsCounted, SameOutside};
+ghost use Rattle.hk_table.specs.Joined.{AreQueued};
 ghost use Rattle.hk_table.specs.Settled.{Tells};
+ghost use Rattle.hk_table.specs.Waits.{AreWaitsCounted};
 ghost use Rattle.hk_table.specs.Whole.{whole};
+ghost use Rattle.hk_walk.specs.Walks.{seen, AreRight};
 
 use hk_objects::Objects;
 use hk_reclaim::Counts;
+use hk_walk::Walker;
 
 /// The objects that nothing names vanish, one behind the other: the kept ones of each state that the slots tell are left.
 /// Whether one has gone.
 pub(crate) fn settle(objects: &mut Objects, counts: &mut Counts) -> bool
     requires { IsCounted objects.old.slots counts.old }
     ensures kept { (s : State) (waiting : List (List Proc)) → Tells s objects.old.slots waiting counts.old → standing (whole objects.new.slots waiting) ≡ kept_objects s }
+    ensures queued { (q : Queued) (ps : List Process) → AreWaitsCounted objects.old.slots ps counts.old → AreQueued objects.old.slots q ps → AreQueued objects.new.slots q ps }
     ensures left { objects.new.slots ≡ only (stands objects.new.slots) objects.old.slots }
     ensures next { objects.new.next ≡ objects.old.next }
     ensures removed { IsTrue result ↔ HasLost objects.old.slots objects.new.slots }
@@ -36,6 +43,7 @@ pub(crate) fn collect(objects: &mut Objects, counts: &mut Counts) -> bool
     requires counted { IsCounted objects.old.slots counts.old }
     requires settled { counts.old.pending ≡ [] }
     ensures rooted { (s : State) (waiting : List (List Proc)) → Tells s objects.old.slots waiting counts.old → standing (whole objects.new.slots waiting) ≡ rooted_objects s }
+    ensures queued { (q : Queued) (ps : List Process) → AreWaitsCounted objects.old.slots ps counts.old → AreQueued objects.old.slots q ps → AreQueued objects.new.slots q ps }
     ensures left { objects.new.slots ≡ only (stands objects.new.slots) objects.old.slots }
     ensures next { objects.new.next ≡ objects.old.next }
     ensures removed { IsTrue result ↔ HasLost objects.old.slots objects.new.slots }
@@ -45,4 +53,37 @@ pub(crate) fn collect(objects: &mut Objects, counts: &mut Counts) -> bool
 {
     let _next = objects.next_name(); // so that the check knows that the names are apart
     counts.collect(objects)
+}
+
+/// The objects that nothing names vanish, as with `settle`; where one has gone, no walk is remembered.
+pub(crate) fn settle_and_forget(objects: &mut Objects, counts: &mut Counts, walker: &mut Walker)
+    requires { IsCounted objects.old.slots counts.old }
+    ensures kept { (s : State) (waiting : List (List Proc)) → Tells s objects.old.slots waiting counts.old → standing (whole objects.new.slots waiting) ≡ kept_objects s }
+    ensures queued { (q : Queued) (ps : List Process) → AreWaitsCounted objects.old.slots ps counts.old → AreQueued objects.old.slots q ps → AreQueued objects.new.slots q ps }
+    ensures next { objects.new.next ≡ objects.old.next }
+    ensures counted { IsCounted objects.new.slots counts.new }
+    ensures outside { SameOutside counts.old counts.new }
+    ensures pending { counts.new.pending ≡ [] }
+    ensures walks { AreRight (seen objects.old.slots) walker.old.pairs → AreRight (seen objects.new.slots) walker.new.pairs }
+{
+    if settle(objects, counts) {
+        walker.forget();
+    }
+}
+
+/// The objects that no names lead to vanish, as with `collect`; where one has gone, no walk is remembered.
+pub(crate) fn collect_and_forget(objects: &mut Objects, counts: &mut Counts, walker: &mut Walker)
+    requires counted { IsCounted objects.old.slots counts.old }
+    requires settled { counts.old.pending ≡ [] }
+    ensures rooted { (s : State) (waiting : List (List Proc)) → Tells s objects.old.slots waiting counts.old → standing (whole objects.new.slots waiting) ≡ rooted_objects s }
+    ensures queued { (q : Queued) (ps : List Process) → AreWaitsCounted objects.old.slots ps counts.old → AreQueued objects.old.slots q ps → AreQueued objects.new.slots q ps }
+    ensures next { objects.new.next ≡ objects.old.next }
+    ensures counted { IsCounted objects.new.slots counts.new }
+    ensures outside { SameOutside counts.old counts.new }
+    ensures pending { counts.new.pending ≡ [] }
+    ensures walks { AreRight (seen objects.old.slots) walker.old.pairs → AreRight (seen objects.new.slots) walker.new.pairs }
+{
+    if collect(objects, counts) {
+        walker.forget();
+    }
 }
