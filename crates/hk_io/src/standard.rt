@@ -7,8 +7,11 @@ ghost use Rattle.hk_io.specs.Causes.{HasCause, next_count};
 
 use crate::fault::Failed;
 use crate::stream::{Sink, Source};
-use std::io::{Read, Write};
+use std::io::{ErrorKind, Read, Write};
 use std::marker::Model;
+
+// How many times in a row a call that the system interrupts is made.
+const TRIES: u32 = 1_048_576;
 
 /// A reader of std as a source (`docs/STREAMS.md`, "Adapters").
 ///
@@ -42,9 +45,9 @@ impl<R: Read> Source for StdIn<R> {
 
     ghost faults = { λ s. s.faults };
 
-    /// Reads once from the reader.
+    /// Reads once from the reader, and again where the system interrupted the call, up to 1,048,576 times in a row.
     ///
-    /// `Failed`: the reader answered an error of any kind, an interrupted call among them.
+    /// `Failed`: the reader answered another error, or that one each time.
     fn read(&mut self, buf: &mut [u8]) -> Result<usize, Failed>
         ensures bound { ReadsAtMost result buf.new }
         ensures bytes { ReadConsumes (R.remaining self.old.inner) (R.remaining self.new.inner) result buf.new }
@@ -53,13 +56,11 @@ impl<R: Read> Source for StdIn<R> {
         ensures ok { OnOk result (self.new.faults ≡ self.old.faults) }
         ensures err { OnErr result (self.new.faults ≡ next_count self.old.faults) }
     {
-        match self.inner.read(buf) {
-            Ok(count) => Ok(count),
-            Err(_) => {
-                self.faults = self.faults.saturating_add(1);
-                Err(Failed)
-            }
+        let answer = read_uninterrupted(&mut self.inner, buf);
+        if answer.is_err() {
+            self.faults = self.faults.saturating_add(1);
         }
+        answer
     }
 }
 
@@ -95,9 +96,9 @@ impl<W: Write> Sink for StdOut<W> {
 
     ghost faults = { λ s. s.faults };
 
-    /// Writes once to the writer.
+    /// Writes once to the writer, and again where the system interrupted the call, up to 1,048,576 times in a row.
     ///
-    /// `Failed`: the writer answered an error of any kind, or took nothing of a piece that is not empty.
+    /// `Failed`: the writer answered another error, or that one each time, or took nothing of a piece that is not empty.
     fn write(&mut self, piece: &[u8]) -> Result<usize, Failed>
         ensures bound { WritesAtMost result piece.now }
         ensures some { IfOk result (λ n. 0 < length piece.now → 0 < n) }
@@ -107,12 +108,41 @@ impl<W: Write> Sink for StdOut<W> {
         ensures ok { OnOk result (self.new.faults ≡ self.old.faults) }
         ensures err { OnErr result (self.new.faults ≡ next_count self.old.faults) }
     {
-        match self.inner.write(piece) {
-            Ok(count) if count > 0 || piece.is_empty() => Ok(count),
-            _ => {
-                self.faults = self.faults.saturating_add(1);
-                Err(Failed)
-            }
+        let answer = write_uninterrupted(&mut self.inner, piece);
+        if answer.is_err() {
+            self.faults = self.faults.saturating_add(1);
+        }
+        answer
+    }
+}
+
+// One read that the system did not interrupt.
+fn read_uninterrupted<R: Read>(reader: &mut R, buf: &mut [u8]) -> Result<usize, Failed>
+    ensures bound { ReadsAtMost result buf.new }
+    ensures bytes { ReadConsumes (R.remaining reader.old) (R.remaining reader.new) result buf.new }
+{
+    for _try in 0..TRIES {
+        match reader.read(buf) {
+            Ok(count) => return Ok(count),
+            Err(error) if error.kind() == ErrorKind::Interrupted => {}
+            Err(_) => return Err(Failed),
         }
     }
+    Err(Failed)
+}
+
+// One write that the system did not interrupt. It takes something of a piece that is not empty.
+fn write_uninterrupted<W: Write>(writer: &mut W, piece: &[u8]) -> Result<usize, Failed>
+    ensures bound { WritesAtMost result piece.now }
+    ensures some { IfOk result (λ n. 0 < length piece.now → 0 < n) }
+    ensures bytes { WriteAppends (W.contents writer.old) (W.contents writer.new) result piece.now }
+{
+    for _try in 0..TRIES {
+        match writer.write(piece) {
+            Ok(count) if count > 0 || piece.is_empty() => return Ok(count),
+            Err(error) if error.kind() == ErrorKind::Interrupted => {}
+            _ => return Err(Failed),
+        }
+    }
+    Err(Failed)
 }

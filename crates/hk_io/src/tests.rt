@@ -1,7 +1,10 @@
 use crate::{
-    Bytes, Out, ReadError, StdIn, StdOut, SureBytes, SureOut, WriteFault, read_all, write_all,
+    Bytes, Failed, Out, ReadError, Source, StdIn, StdOut, SureBytes, SureOut, WriteFault, read_all,
+    write_all,
 };
 use std::alloc::{AllocError, Global};
+use std::io;
+use std::io::{ErrorKind, Read};
 use std::test::Fail;
 
 const TEXT: &'static [u8; 48] = b"hydra 1\nlimit 8\nprocess a code\nend\nmore words\n..";
@@ -74,5 +77,41 @@ fn adapts_readers_and_writers(rt: HostRuntime) -> Result<(), Fail> {
     let mut sink = StdOut::new(room.as_mut_slice());
     assert_eq!(rt; write_all(&mut sink, TEXT), Err(WriteFault { sent: 40 }));
     assert_eq!(rt; room.as_slice(), &TEXT[..40]);
+    Ok(())
+}
+
+// A stream whose next calls, so many of them, the system interrupts; each call behind them passes a byte.
+#[derive(Drop)]
+struct Interrupted {
+    calls: u32,
+}
+
+impl Interrupted {
+    fn pass(&mut self) -> io::Result<usize> {
+        if self.calls == 0 {
+            return Ok(1);
+        }
+        self.calls -= 1;
+        Err(io::Error::from(ErrorKind::Interrupted))
+    }
+}
+
+impl Read for Interrupted {
+    fn read(&mut self, buf: &mut [u8]) -> io::Result<usize> {
+        if buf.is_empty() {
+            return Ok(0);
+        }
+        self.pass()
+    }
+}
+
+#[test]
+fn reads_again_where_the_system_interrupts(rt: HostRuntime) -> Result<(), Fail> {
+    let mut buf = [0u8; 4];
+    let mut source = StdIn::new(Interrupted { calls: 3 });
+    assert_eq!(rt; source.read(&mut buf), Ok(1));
+    let mut source = StdIn::new(Interrupted { calls: 1_048_576 });
+    assert_eq!(rt; source.read(&mut buf), Err(Failed));
+    assert_eq!(rt; source.read(&mut buf), Ok(1));
     Ok(())
 }
