@@ -27,11 +27,11 @@ use Rattle.hk_top.specs.declared.served.Silence.{Silence}
 use Rattle.hk_top.specs.declared.served.Silence.TheVariants as silence
 use Rattle.hk_top.specs.declared.words.Command.{Command}
 use Rattle.hk_top.specs.declared.words.Command.TheVariants as command
-use Rattle.hk_top.specs.Words.{IsCommand, IsInRange, MayTrace, ReadsScript, ReadsRecord, ReadsAtMost, words_of, byte_limit}
+use Rattle.hk_top.specs.Words.{IsCommand, IsReading, IsAlone, IsInRange, MayGenerate, MayTrace, ReadsAlone, ReadsScript, ReadsRecord, ReadsAtMost, words_of, byte_limit}
 use Rattle.hk_top.specs.BoundTexts.{AreTold}
-use Rattle.hk_top.specs.Served.{IsTooLong, silent_status}
-use Rattle.hk_top.specs.Outputs.{Due, DueTo, Answer, IsRecorded, IsChecked, IsLawful, Stream, IsSaid, status_of, read, record_of, script_of, bounds_of, verdict_of, chains_of, script_refused, traced_text}
-use Rattle.hk_top.specs.Outputs.{record_refused, legal, illegal, too_long, written, read_fault, no_memory, write_fault, HadFault}
+use Rattle.hk_top.specs.Served.{IsSummary, IsTooLong, silent_status}
+use Rattle.hk_top.specs.Outputs.{Due, DueTo, Answer, IsRecorded, IsSummed, IsChecked, IsLawful, Stream, IsSaid, status_of, read, record_of, script_of, bounds_of, verdict_of, chains_of, script_refused, traced_text}
+use Rattle.hk_top.specs.Outputs.{record_refused, legal, illegal, summed, too_long, written, read_fault, no_memory, write_fault, HadFault}
 
 -- a text that is due and said is an answer
 pub said : {words : List (List ℕ)} {input output : Stream} {status result : ℕ} {text : List ℕ} {made : Option State} → Due words input.before input.after status text made
@@ -116,26 +116,51 @@ illegal_due a legal_text w lines end v n cause (Err error) w_is lines_are end_is
 
 -- what is due to an input
 
--- the most bytes that the words of a command may read
-at_most : (c : Command) → IsInRange c → ReadsAtMost (words_of c) (byte_limit c)
-at_most command.Run range = inl (inl refl, refl)
-at_most (command.RunOn cpus) range = inl (inr (inl (cpus, (refl, range))), refl)
-at_most command.Show range = inl (inr (inr (inl refl)), refl)
-at_most command.Bound range = inl (inr (inr (inr refl)), refl)
-at_most command.Check range = inr (inl refl, refl)
-at_most (command.Trace line) range = inr (inr (line, (refl, range)), refl)
+-- the command reads something
+abbrev pub Reads : Command → Type 0
+Reads (command.Gen count) = ⊥
+Reads c = Unit {0}
 
-pub read_due : {before after : Option (List ℕ)} {bytes same text : List ℕ} {status : ℕ} {made : Option State} (c : Command) (limit : ℕ) → IsInRange c → limit ≡ byte_limit c
+pub reads_alone : (c : Command) → ReadsAlone c → Reads c
+reads_alone command.Run alone = tt
+reads_alone (command.RunOn cpus) alone = tt
+reads_alone command.Show alone = tt
+reads_alone command.Bound alone = tt
+reads_alone command.Check alone = tt
+reads_alone (command.Trace line) alone = tt
+reads_alone (command.Gen count) alone = absurd alone
+
+-- what one processor serves reads something, or is a generated world
+pub alone_reads : (c : Command) → IsAlone c → ((count : ℕ) → c ≡ command.Gen count → ⊥) → ReadsAlone c
+alone_reads command.Run alone other = tt
+alone_reads (command.RunOn cpus) alone other = absurd alone
+alone_reads command.Show alone other = tt
+alone_reads command.Bound alone other = tt
+alone_reads command.Check alone other = tt
+alone_reads (command.Trace line) alone other = tt
+alone_reads (command.Gen count) alone other = absurd (other count refl)
+
+-- the most bytes that the words of a command may read
+at_most : (c : Command) → Reads c → IsInRange c → ReadsAtMost (words_of c) (byte_limit c)
+at_most command.Run reads range = inl (inl refl, refl)
+at_most (command.RunOn cpus) reads range = inl (inr (inl (cpus, (refl, range))), refl)
+at_most command.Show reads range = inl (inr (inr (inl refl)), refl)
+at_most command.Bound reads range = inl (inr (inr (inr refl)), refl)
+at_most command.Check reads range = inr (inl refl, refl)
+at_most (command.Trace line) reads range = inr (inr (line, (refl, range)), refl)
+at_most (command.Gen count) reads range = absurd reads
+
+pub read_due : {before after : Option (List ℕ)} {bytes same text : List ℕ} {status : ℕ} {made : Option State} (c : Command) (limit : ℕ) → Reads c → IsInRange c → limit ≡ byte_limit c
     → Consumes before after bytes → IsAtEnd after → length bytes ≤ limit → same ≡ bytes
     → DueTo (words_of c) same status text made → Due (words_of c) before after status text made
-read_due {before} {after} {bytes} {same} {text} {status} {made} c limit range limit_is taken end few is due =
-    read bytes status text made (record { taken = taken; end = end; limit = limit; at_most = subst (λ n. ReadsAtMost (words_of c) n) (sym limit_is) (at_most c range); few = few })
+read_due {before} {after} {bytes} {same} {text} {status} {made} c limit reads range limit_is taken end few is due =
+    read bytes status text made (record { taken = taken; end = end; limit = limit; at_most = subst (λ n. ReadsAtMost (words_of c) n) (sym limit_is) (at_most c reads range); few = few })
     (subst (λ b. DueTo (words_of c) b status text made) is due)
 
-pub too_long_due : {before after : Option (List ℕ)} {status : ℕ} {text : List ℕ} {made : Option State} (c : Command) (limit : ℕ) → IsInRange c → limit ≡ byte_limit c
+pub too_long_due : {before after : Option (List ℕ)} {status : ℕ} {text : List ℕ} {made : Option State} (c : Command) (limit : ℕ) → Reads c → IsInRange c → limit ≡ byte_limit c
     → Took before after (λ bytes. limit < length bytes) → (status ≡ 3) × (text ≡ too_long_text) × (made ≡ None)
     → Due (words_of c) before after status text made
-too_long_due c limit range limit_is took h = rw (h.0, h.1, h.2) (too_long limit (subst (λ n. ReadsAtMost (words_of c) n) (sym limit_is) (at_most c range)) took)
+too_long_due c limit reads range limit_is took h = rw (h.0, h.1, h.2) (too_long limit (subst (λ n. ReadsAtMost (words_of c) n) (sym limit_is) (at_most c reads range)) took)
 
 -- a text that is due has a status of its own, which is not that of a fault of reading or of want of memory
 abbrev Speaks : ℕ → Type 0
@@ -159,14 +184,32 @@ speaks (chains_of a line status text traces is h) = check_speaks h
 speaks (script_refused line cause reads is) = (λ e. absurd (cc), λ e. absurd (cc))
 speaks (record_refused line cause reads is) = (λ e. absurd (cc), λ e. absurd (cc))
 
+pub summary_speaks : {count status : ℕ} {text : List ℕ} {made : Option State} → IsSummed count status text made → (status ≢ 4) × (status ≢ 5)
+summary_speaks h = subst Speaks (sym h.status_is) (run_speaks h.end)
+
+-- the summary that is due to the words of a generated world
+pub summary_due : {K : Type 0} (state : K → State) (count : ℕ) (before after : Option (List ℕ)) (served : Served K) → MayGenerate count → after ≡ before
+    → IsSummary state count served
+    → Due (words_of (command.Gen count)) before after served.due.status served.due.text (option_map state served.kernel)
+summary_due state count before after served may same h = summed count _ _ _ (refl, may) h same
+
 -- the words of a command, as they were read
 pub of_command : {words : List (List ℕ)} (c : Command) → IsInRange c → words ≡ words_of c → IsCommand words
-of_command command.Run range is = inl (inl is)
-of_command (command.RunOn cpus) range is = inl (inr (inl (cpus, (is, range))))
-of_command command.Show range is = inl (inr (inr (inl is)))
-of_command command.Bound range is = inl (inr (inr (inr is)))
-of_command command.Check range is = inr (inl is)
-of_command (command.Trace line) range is = inr (inr (line, (is, range)))
+of_command command.Run range is = inl (inl (inl is))
+of_command (command.RunOn cpus) range is = inl (inl (inr (inl (cpus, (is, range)))))
+of_command command.Show range is = inl (inl (inr (inr (inl is))))
+of_command command.Bound range is = inl (inl (inr (inr (inr is))))
+of_command command.Check range is = inl (inr (inl is))
+of_command (command.Trace line) range is = inl (inr (inr (line, (is, range))))
+of_command (command.Gen count) range is = inr (count, (is, range))
+
+of_reads : (words : List (List ℕ)) (limit : ℕ) → ReadsAtMost words limit → IsReading words
+of_reads words limit (inl h) = inl h.0
+of_reads words limit (inr h) = inr h.0
+
+-- the words of a command that reads something are those of such a command
+pub is_reading : (c : Command) → Reads c → IsInRange c → IsReading (words_of c)
+is_reading c reads range = of_reads (words_of c) (byte_limit c) (at_most c reads range)
 
 -- what a run of many processors, or of one, came to where the script is refused
 pub refused_served : {K : Type 0} (state : K → State) (c : Command) (bytes : List ℕ) (line : ℕ) (cause : Cause) (due : DueText) (served : Served K) → ReadsScript (words_of c)
@@ -177,22 +220,22 @@ refused_served state c bytes line cause due served reads is told due_is none = r
 
 -- what is due where the source was not read to its end
 pub unread_due : {K : Type 0} (state : K → State) (c : Command) (limit : ℕ) (before after : Option (List ℕ)) (r : Result (Vec ℕ Global) ReadError) (error : ReadError)
-    (out : Result (Served K) Silence) → IsInRange c → limit ≡ byte_limit c → r ≡ Err error
+    (out : Result (Served K) Silence) → Reads c → IsInRange c → limit ≡ byte_limit c → r ≡ Err error
     → Took before after (λ bytes. IsErrOf r ReadError.TooLong ↔ (limit < length bytes)) → IfOk out (λ served. (error ≡ ReadError.TooLong) × IsTooLong served)
     → IfOk out (λ served. Due (words_of c) before after served.due.status served.due.text (option_map state served.kernel))
-unread_due state c limit before after r error (Ok served) range limit_is is took h =
-    too_long_due c limit range limit_is (too_long_taken limit before after r (is ∙ ap (λ e. Err e) h.0) took) (h.1.0, h.1.1, ap (option_map state) h.1.2)
-unread_due state c limit before after r error (Err silence) range limit_is is took h = tt
+unread_due state c limit before after r error (Ok served) reads range limit_is is took h =
+    too_long_due c limit reads range limit_is (too_long_taken limit before after r (is ∙ ap (λ e. Err e) h.0) took) (h.1.0, h.1.1, ap (option_map state) h.1.2)
+unread_due state c limit before after r error (Err silence) reads range limit_is is took h = tt
 
 -- a call whose text is said, or that is silent, with the kernel that it hands back
 pub answered : {K : Type 0} (P : Type 0) (state : K → State) {words : List (List ℕ)} {input output : Stream} (c : Command) (due : Result (Served K) Silence) (out : ℕ × Option K)
     → IsInRange c → words ≡ words_of c
     → IfOk due (λ served. Due (words_of c) input.before input.after served.due.status served.due.text (option_map state served.kernel))
-    → (IsErrOf due Silence.ReadFault → HadFault input)
+    → (IsErrOf due Silence.ReadFault → IsReading (words_of c) × HadFault input)
     → IfOk due (λ served. (out.1 ≡ served.kernel) × IsSaid served.due.status served.due.text output out.0) → IfErr due (λ silence. (out ≡ (silent_status silence, None)) × P)
     → Answer words input output out.0 (option_map state out.1)
 answered {K} P state {words} {input} {output} c (Ok served) out range is due fault spoken quiet =
     let said_as : Answer words input output out.0 (option_map state served.kernel) = said (due_at (sym is) refl refl due) spoken.1 in
     subst (λ (k : Option K). Answer words input output out.0 (option_map state k)) (sym spoken.0) said_as
-answered {K} P state {words} {input} {output} c (Err silence.ReadFault) out range is due fault spoken quiet = rw quiet.0 (read_fault (of_command c range is) (fault refl))
+answered {K} P state {words} {input} {output} c (Err silence.ReadFault) out range is due fault spoken quiet = rw quiet.0 (read_fault (subst IsReading (sym is) (fault refl).0) (fault refl).1)
 answered {K} P state {words} {input} {output} c (Err silence.NoMemory) out range is due fault spoken quiet = rw quiet.0 (no_memory (of_command c range is))

@@ -1,10 +1,10 @@
 -- Where nothing failed, the text that is due to the bytes was written whole.
-use Rattle.std.proofs.Common.{◌≡◌, ◌∙◌, ◌≤◌, ℕ, List, [], ◌∷◌, ◌++◌, length, codes, Option, Some, None, refl, sym, subst, ap, arith, inl, inr, length-append, append-nil}
-use Rattle.std.specs.Io.KnownBytes.{Consumes, IsAtEnd}
+use Rattle.std.proofs.Common.{◌≡◌, ◌∙◌, ◌≤◌, ◌⊎◌, ℕ, List, [], ◌∷◌, ◌++◌, length, Option, Some, None, refl, sym, subst, ap, arith, inl, inr, length-append, append-nil}
+use Rattle.std.specs.Io.KnownBytes.{Appends, Consumes, IsAtEnd}
 use Rattle.hk_model.specs.State.{State}
-use Rattle.hk_top.specs.Words.{IsCommand, ReadsAtMost, ReadsRecord, ReadsScript}
-use Rattle.hk_top.proofs.WordLemmas.{bound_is_no_check, run_is_no_trace}
-use Rattle.hk_top.specs.Outputs.{Answer, Due, DueTo, IsComplete, Stream, read, usage, too_long, written, read_fault, no_memory, write_fault}
+use Rattle.hk_top.specs.Words.{IsGen, IsReading, ReadsAtMost}
+use Rattle.hk_top.proofs.WordLemmas.{one_input, one_count, gen_reads_nothing}
+use Rattle.hk_top.specs.Outputs.{Answer, Due, DueTo, HadFault, IsComplete, IsSummed, Stream, read, summed, usage, too_long, written, read_fault, no_memory, write_fault}
 
 -- a source that told its bytes and was read to its end gave them all
 all_read : (before after : Option (List ℕ)) (bytes got : List ℕ) → before ≡ Some bytes → Consumes before after got → IsAtEnd after → got ≡ bytes
@@ -22,22 +22,11 @@ most_taken before after bytes got told taken = by after (subst (λ (o : Option (
     by None taken = absurd taken
     by (Some rest) taken = let both = length-append got rest in let same = ap length taken in omega (arith, both, same)
 
-of_reading : {words : List (List ℕ)} {limit : ℕ} → ReadsAtMost words limit → IsCommand words
+of_reading : {words : List (List ℕ)} {limit : ℕ} → ReadsAtMost words limit → IsReading words
 of_reading (inl h) = inl h.0
 of_reading (inr h) = inr h.0
 
--- no words read a script and a record
-one_input : {words : List (List ℕ)} → ReadsScript words → ReadsRecord words → ⊥
-one_input (inl run) (inl check) = let both : codes "run" ∷ [] ≡ codes "check" ∷ [] = sym run ∙ check in absurd (cc)
-one_input (inr (inl many)) (inl check) = let both : codes "run" ∷ _ ∷ [] ≡ codes "check" ∷ [] = sym many.1.0 ∙ check in absurd (cc)
-one_input (inr (inr (inl show))) (inl check) = let both : codes "show" ∷ [] ≡ codes "check" ∷ [] = sym show ∙ check in absurd (cc)
-one_input (inr (inr (inr bound))) (inl check) = absurd (bound_is_no_check (sym bound ∙ check))
-one_input (inl run) (inr trace) = let both : codes "run" ∷ [] ≡ codes "trace" ∷ _ ∷ [] = sym run ∙ trace.1.0 in absurd (cc)
-one_input (inr (inl many)) (inr trace) = absurd (run_is_no_trace _ _ (sym many.1.0 ∙ trace.1.0))
-one_input (inr (inr (inl show))) (inr trace) = let both : codes "show" ∷ [] ≡ codes "trace" ∷ _ ∷ [] = sym show ∙ trace.1.0 in absurd (cc)
-one_input (inr (inr (inr bound))) (inr trace) = let both : codes "bound" ∷ [] ≡ codes "trace" ∷ _ ∷ [] = sym bound ∙ trace.1.0 in absurd (cc)
-
--- so they have one limit
+-- words that read have one limit
 one_limit : {words : List (List ℕ)} {limit other : ℕ} → ReadsAtMost words limit → ReadsAtMost words other → limit ≡ other
 one_limit (inl h) (inl g) = h.1 ∙ sym g.1
 one_limit (inl h) (inr g) = absurd (one_input h.0 g.0)
@@ -48,17 +37,38 @@ module _ {words : List (List ℕ)} {before after : Option (List ℕ)} (bytes : L
     (few : length bytes ≤ limit) where
   due_told : {status : ℕ} {text : List ℕ} {made : Option State} → Due words before after status text made → DueTo words bytes status text made
   due_told {status} {text} {made} (read got _ _ _ was due) = subst (λ (b : List ℕ). DueTo words b status text made) (all_read before after bytes got told was.taken was.end) due
-  due_told {status} {text} {made} (usage none same) = absurd (none (of_reading reads))
+  due_told {status} {text} {made} (usage none same) = absurd (none (inl (of_reading reads)))
+  due_told {status} {text} {made} (summed count _ _ _ gen h same) = absurd (gen_reads_nothing (count, gen) (of_reading reads))
   due_told {status} {text} {made} (too_long most mine took) =
       let less = most_taken before after bytes took.0 told took.1 in
       let same = one_limit reads mine in
       let more = took.2 in
       absurd (omega (arith, less, same, more, few))
 
-pub complete : {words : List (List ℕ)} {input output : Stream} {status : ℕ} {made : Option State} → Answer words input output status made
-    → IsComplete words input output status made
-complete {words} {input} {output} {status} {made} (written _ text _ due said) bytes limit told reads few quiet_in quiet_out =
-    inr (text, due_told bytes limit told reads few due, said)
-complete {words} {input} {output} {status} {made} (read_fault command fault) bytes limit told reads few quiet_in quiet_out = absurd (quiet_in fault)
-complete {words} {input} {output} {status} {made} (no_memory command) bytes limit told reads few quiet_in quiet_out = inl refl
-complete {words} {input} {output} {status} {made} (write_fault _ text _ sent due fault some said) bytes limit told reads few quiet_in quiet_out = absurd (quiet_out fault)
+-- what is due where a world is generated
+due_summed : {words : List (List ℕ)} {before after : Option (List ℕ)} (count : ℕ) → IsGen words count → {status : ℕ} {text : List ℕ} {made : Option State}
+    → Due words before after status text made → IsSummed count status text made
+due_summed {words} {before} {after} count gen (read got _ _ _ was due) = absurd (gen_reads_nothing (count, gen) (of_reading was.at_most))
+due_summed {words} {before} {after} count gen (summed other _ _ _ mine h same) = subst (λ n. IsSummed n _ _ _) (one_count mine gen) h
+due_summed {words} {before} {after} count gen (usage none same) = absurd (none (inr (count, gen)))
+due_summed {words} {before} {after} count gen (too_long most mine took) = absurd (gen_reads_nothing (count, gen) (of_reading mine))
+
+module _ {words : List (List ℕ)} {input output : Stream} where
+  complete_reading : {status : ℕ} {made : Option State} → Answer words input output status made
+      → (bytes : List ℕ) (limit : ℕ) → input.before ≡ Some bytes → ReadsAtMost words limit → length bytes ≤ limit → (HadFault input → ⊥) → (HadFault output → ⊥)
+      → (status ≡ 5) ⊎ ((text : List ℕ) × DueTo words bytes status text made × Appends output.before output.after text)
+  complete_reading (written _ text _ due said) bytes limit told reads few quiet_in quiet_out = inr (text, due_told bytes limit told reads few due, said)
+  complete_reading (read_fault command fault) bytes limit told reads few quiet_in quiet_out = absurd (quiet_in fault)
+  complete_reading (no_memory command) bytes limit told reads few quiet_in quiet_out = inl refl
+  complete_reading (write_fault _ text _ sent due fault some said) bytes limit told reads few quiet_in quiet_out = absurd (quiet_out fault)
+
+  complete_generating : {status : ℕ} {made : Option State} → Answer words input output status made
+      → (count : ℕ) → IsGen words count → (HadFault output → ⊥)
+      → (status ≡ 5) ⊎ ((text : List ℕ) × IsSummed count status text made × Appends output.before output.after text)
+  complete_generating (written _ text _ due said) count gen quiet_out = inr (text, due_summed count gen due, said)
+  complete_generating (read_fault reads fault) count gen quiet_out = absurd (gen_reads_nothing (count, gen) reads)
+  complete_generating (no_memory command) count gen quiet_out = inl refl
+  complete_generating (write_fault _ text _ sent due fault some said) count gen quiet_out = absurd (quiet_out fault)
+
+  pub complete : {status : ℕ} {made : Option State} → Answer words input output status made → IsComplete words input output status made
+  complete answer = record { reading = complete_reading answer; generating = complete_generating answer }

@@ -1,9 +1,11 @@
--- Words that spell a number of processors.
-use Rattle.std.specs.Prelude.{◌≡◌, ℕ, List, [], ◌∷◌, codes, Option, Some, None, IfNone}
-use Rattle.std.proofs.Common.{arith, ap, sym, ◌∙◌, ◌<◌, ◌^◌}
+-- Words that spell a number, and what the words of a command read.
+use Rattle.std.specs.Prelude.{◌≡◌, ℕ, ◌==◌, List, [], ◌∷◌, Option, Some, None, IfNone, if◌then◌else◌}
+use Rattle.std.proofs.Common.{arith, ap, sym, ◌∙◌, ◌<◌, ◌^◌, inl, inr}
+use Rattle.std.specs.Fmt.{decimal}
+use Rattle.std.proofs.lemmas.Fmt.{decimal_injective}
 use Rattle.hk_text.specs.Numerals.{numeral_of}
 use Rattle.hk_text.proofs.NumeralTexts.{numeral_again}
-use Rattle.hk_top.specs.Words.{IsBetween, IsNoNumber}
+use Rattle.hk_top.specs.Words.{IsBetween, IsNoNumber, IsReading, ReadsScript, ReadsRecord, Generates, IsGen}
 
 -- what spells no numeral spells no number of a range
 pub none_spelled : (largest : ℕ) (word : List ℕ) → largest < 2 ^ 32 → numeral_of word ≡ None → IsNoNumber largest word
@@ -22,15 +24,46 @@ pub from_none : {P : Type 0} (r : Option ℕ) → P → IfNone r P
 from_none None p = p
 from_none (Some n) p = tt
 
--- the first letter of the first word
-abbrev first_letter : List (List ℕ) → ℕ
-first_letter [] = 0
-first_letter ([] ∷ words) = 0
-first_letter ((letter ∷ letters) ∷ words) = letter
+-- what the words of a command read, by their first two letters: 0 a script, 1 a record, 2 nothing
+abbrev kind_of : ℕ → ℕ → ℕ
+kind_of 98 second = if second == 111 then 0 else 1
+kind_of 103 second = 2
+kind_of first second = if first == 99 then 1 else if first == 116 then 1 else 0
 
--- words that begin with other letters are other words
-pub bound_is_no_check : codes "bound" ∷ [] ≡ codes "check" ∷ [] → ⊥
-bound_is_no_check same = let letters : ◌≡◌ {A = ℕ} 98 99 = ap first_letter same in omega (arith, letters)
+abbrev input_kind : List (List ℕ) → ℕ
+input_kind [] = 0
+input_kind ([] ∷ words) = 0
+input_kind ((first ∷ []) ∷ words) = 0
+input_kind ((first ∷ second ∷ letters) ∷ words) = kind_of first second
 
-pub run_is_no_trace : (a b : List ℕ) → codes "run" ∷ a ∷ [] ≡ codes "trace" ∷ b ∷ [] → ⊥
-run_is_no_trace a b same = let letters : ◌≡◌ {A = ℕ} 114 116 = ap first_letter same in omega (arith, letters)
+script_kind : {words : List (List ℕ)} → ReadsScript words → input_kind words ≡ 0
+script_kind (inl run) = ap input_kind run
+script_kind (inr (inl many)) = ap input_kind many.1.0
+script_kind (inr (inr (inl show))) = ap input_kind show
+script_kind (inr (inr (inr bound))) = ap input_kind bound
+
+record_kind : {words : List (List ℕ)} → ReadsRecord words → input_kind words ≡ 1
+record_kind (inl check) = ap input_kind check
+record_kind (inr trace) = ap input_kind trace.1.0
+
+gen_kind : {words : List (List ℕ)} → Generates words → input_kind words ≡ 2
+gen_kind gen = ap input_kind gen.1.0
+
+-- no words read a script and a record
+pub one_input : {words : List (List ℕ)} → ReadsScript words → ReadsRecord words → ⊥
+one_input script record_read = let one = script_kind script in let other = record_kind record_read in omega (arith, one, other)
+
+-- nor do those read anything that generate a world
+pub gen_reads_nothing : {words : List (List ℕ)} → Generates words → IsReading words → ⊥
+gen_reads_nothing gen (inl script) = let one = script_kind script in let other = gen_kind gen in omega (arith, one, other)
+gen_reads_nothing gen (inr record_read) = let one = record_kind record_read in let other = gen_kind gen in omega (arith, one, other)
+
+abbrev second_word : List (List ℕ) → List ℕ
+second_word (first ∷ second ∷ words) = second
+second_word words = []
+
+-- words spell one number of processes
+pub one_count : {words : List (List ℕ)} {a b : ℕ} → IsGen words a → IsGen words b → a ≡ b
+one_count {words} {a} {b} mine other =
+    let spelled : decimal a ≡ decimal b = ap second_word (sym mine.0 ∙ other.0) in
+    decimal_injective a b (omega (arith, mine.1.1)) (omega (arith, other.1.1)) spelled

@@ -1,4 +1,5 @@
 pub mod BoundTexts
+pub mod Summaries
 pub mod Outputs
 pub mod Served
 pub mod Words

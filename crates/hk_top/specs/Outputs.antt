@@ -26,10 +26,12 @@ use Rattle.hk_format.specs.Worlds.{world}
 use Rattle.hk_format.specs.Canonical.{canon}
 use Rattle.hk_format.specs.Records.{record_text}
 use Rattle.hk_format.specs.Audits.{Audited, audit}
+use Rattle.hk_model.specs.Generated.{generate}
 use Rattle.hk_top.specs.BoundTexts.{AreBounds, bounds_text}
+use Rattle.hk_top.specs.Summaries.{summary_text}
 use Rattle.hk_trace.specs.ChainTexts.{chains_text}
 use Rattle.hk_trace.specs.Traced.{trace_of}
-use Rattle.hk_top.specs.Words.{IsRun, IsRunOn, IsShow, IsBound, IsCheck, IsTrace, ReadsScript, ReadsRecord, IsCommand, ReadsAtMost}
+use Rattle.hk_top.specs.Words.{IsRun, IsRunOn, IsShow, IsBound, IsCheck, IsTrace, IsGen, Generates, ReadsScript, ReadsRecord, IsReading, IsCommand, ReadsAtMost}
 
 -- what is written of words that are no command
 abbrev pub usage_text : List ℕ
@@ -84,6 +86,16 @@ pub record IsRecorded (words : List (List ℕ)) (w : WorldValue) (status : ℕ) 
   pub record_is : IsRecord w lines end status text
   pub kernel : made ≡ Some (state_after w lines)
 
+-- the summary of the whole run of the generated world of so many processes, and the state of the kernel that made it
+pub record IsSummed (count : ℕ) (status : ℕ) (text : List ℕ) (made : Option State) : Type 0 where
+  pub lines : List Line
+  pub end : End
+  pub run : IsWholeRun (generate count) lines end
+  pub laws : IsLawful (generate count) lines
+  pub status_is : status ≡ status_of end
+  pub text_is : text ≡ summary_text count (generate count) lines end
+  pub kernel : made ≡ Some (state_after (generate count) lines)
+
 -- what is written of a record that was read, if this text is written of a legal one, and its status
 pub data IsChecked (a : Audited) (told : List ℕ) : ℕ → List ℕ → Type 0 where
   -- 0: the record is legal, and the laws hold of its lines
@@ -127,6 +139,9 @@ pub data Due (words : List (List ℕ)) (before after : Option (List ℕ)) : ℕ 
   -- 0, 1, 3, 7, 8: the source was read
   read : (bytes : List ℕ) (status : ℕ) (text : List ℕ) (made : Option State) → WasRead words before after bytes → DueTo words bytes status text made
       → Due words before after status text made
+  -- 0, 1, 7: the words ask for the run of a generated world, and the text is its summary; the source is untouched
+  summed : (count status : ℕ) (text : List ℕ) (made : Option State) → IsGen words count → IsSummed count status text made → after ≡ before
+      → Due words before after status text made
   -- 2: the words are no command; the source is untouched
   usage : (IsCommand words → ⊥) → after ≡ before → Due words before after 2 usage_text None
   -- 3: more bytes were taken than these words may read
@@ -152,7 +167,7 @@ pub data Answer (words : List (List ℕ)) (input output : Stream) : ℕ → Opti
   written : (status : ℕ) (text : List ℕ) (made : Option State) → Due words input.before input.after status text made → Appends output.before output.after text
       → Answer words input output status made
   -- 4: a read failed
-  read_fault : IsCommand words → HadFault input → Answer words input output 4 None
+  read_fault : IsReading words → HadFault input → Answer words input output 4 None
   -- 5: want of memory
   no_memory : IsCommand words → Answer words input output 5 None
   -- 6: a write failed, and the sink took a part of the text that is due, from its front
@@ -161,11 +176,12 @@ pub data Answer (words : List (List ℕ)) (input output : Stream) : ℕ → Opti
       → sent < length text → Appends output.before output.after (take sent text) → Answer words input output 6 made
 
 -- completeness: where no read and no write failed, and the source told bytes that these words may read, the text that is due to
--- the bytes was written whole, or memory was wanted
-abbrev pub IsComplete : List (List ℕ) → Stream → Stream → ℕ → Option State → Type 0
-IsComplete words input output status made =
-    (bytes : List ℕ) (limit : ℕ) → input.before ≡ Some bytes → ReadsAtMost words limit → length bytes ≤ limit → (HadFault input → ⊥) → (HadFault output → ⊥)
-    → (status ≡ 5) ⊎ ((text : List ℕ) × DueTo words bytes status text made × Appends output.before output.after text)
+-- the bytes was written whole, or memory was wanted; and so was the summary of a generated world's run where no write failed
+pub record IsComplete (words : List (List ℕ)) (input output : Stream) (status : ℕ) (made : Option State) : Type 0 where
+  pub reading : (bytes : List ℕ) (limit : ℕ) → input.before ≡ Some bytes → ReadsAtMost words limit → length bytes ≤ limit → (HadFault input → ⊥) → (HadFault output → ⊥)
+      → (status ≡ 5) ⊎ ((text : List ℕ) × DueTo words bytes status text made × Appends output.before output.after text)
+  pub generating : (count : ℕ) → IsGen words count → (HadFault output → ⊥)
+      → (status ≡ 5) ⊎ ((text : List ℕ) × IsSummed count status text made × Appends output.before output.after text)
 
 -- a text was written and this status stands, or a write failed behind a part of it
 abbrev pub IsSaid : ℕ → List ℕ → Stream → ℕ → Type 0

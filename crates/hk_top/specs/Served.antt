@@ -6,7 +6,7 @@ use Rattle.hk_format.specs.CauseTexts.{too_long_text}
 use Rattle.hk_top.specs.declared.served.Served.{Served}
 use Rattle.hk_top.specs.declared.served.Silence.{Silence}
 use Rattle.hk_top.specs.declared.served.Silence.TheVariants as silence
-use Rattle.hk_top.specs.Outputs.{Due, DueTo, IsRecorded}
+use Rattle.hk_top.specs.Outputs.{Due, DueTo, IsRecorded, IsSummed}
 
 module _ {K : Type 0} (state : K → State) where
   -- what is served is due to these words and bytes
@@ -20,6 +20,10 @@ module _ {K : Type 0} (state : K → State) where
   -- what is served is the record of a run of this world that these words ask for
   abbrev pub Records : List (List ℕ) → WorldValue → Served K → Type 0
   Records words w served = IsRecorded words w served.due.status served.due.text (option_map state served.kernel)
+
+  -- what is served is the summary of the run of a generated world
+  abbrev pub IsSummary : ℕ → Served K → Type 0
+  IsSummary count served = IsSummed count served.due.status served.due.text (option_map state served.kernel)
 
 -- the refusal of more bytes than may be read
 abbrev pub IsTooLong : {K : Type 0} → Served K → Type 0

@@ -1,7 +1,7 @@
 -- The words that are commands, and how much each may read. docs/FORMATS.md, "Statuses and outputs".
 use Rattle.std.specs.Prelude.{◌≡◌, ℕ, ◌≤◌, ◌⊎◌, List, [], ◌∷◌, Option, Some, None, codes}
 use Rattle.std.specs.Fmt.{decimal}
-use Rattle.hk_model.specs.Limits.{cpu_limit, script_bytes, record_bytes}
+use Rattle.hk_model.specs.Limits.{cpu_limit, process_limit, script_bytes, record_bytes}
 use Rattle.hk_top.specs.declared.words.Command.{Command}
 use Rattle.hk_top.specs.declared.words.TheConstants.{TRACE_LIMIT}
 use Rattle.hk_top.specs.declared.words.Command.TheVariants as command
@@ -58,6 +58,18 @@ IsTrace words line = (words ≡ codes "trace" ∷ decimal line ∷ []) × MayTra
 abbrev pub Traces : List (List ℕ) → Type 0
 Traces words = (line : ℕ) × IsTrace words line
 
+-- a world of so many processes may be generated
+abbrev pub MayGenerate : ℕ → Type 0
+MayGenerate count = IsBetween process_limit count
+
+-- the words `gen` and a number of processes, from 1 to 256, in decimal digits without a leading zero
+abbrev pub IsGen : List (List ℕ) → ℕ → Type 0
+IsGen words count = (words ≡ codes "gen" ∷ decimal count ∷ []) × MayGenerate count
+
+-- the words `gen` and a number of processes
+abbrev pub Generates : List (List ℕ) → Type 0
+Generates words = (count : ℕ) × IsGen words count
+
 -- the words of a command that reads a script
 abbrev pub ReadsScript : List (List ℕ) → Type 0
 ReadsScript words = IsRun words ⊎ (RunsOnMany words ⊎ (IsShow words ⊎ IsBound words))
@@ -66,9 +78,13 @@ ReadsScript words = IsRun words ⊎ (RunsOnMany words ⊎ (IsShow words ⊎ IsBo
 abbrev pub ReadsRecord : List (List ℕ) → Type 0
 ReadsRecord words = IsCheck words ⊎ Traces words
 
+-- the words of a command that reads something
+abbrev pub IsReading : List (List ℕ) → Type 0
+IsReading words = ReadsScript words ⊎ ReadsRecord words
+
 -- the words of a command
 abbrev pub IsCommand : List (List ℕ) → Type 0
-IsCommand words = ReadsScript words ⊎ ReadsRecord words
+IsCommand words = IsReading words ⊎ Generates words
 
 -- the words are those of a command, and this is the most bytes that what it reads may have
 abbrev pub ReadsAtMost : List (List ℕ) → ℕ → Type 0
@@ -82,13 +98,20 @@ words_of command.Show = codes "show" ∷ []
 words_of command.Bound = codes "bound" ∷ []
 words_of command.Check = codes "check" ∷ []
 words_of (command.Trace line) = codes "trace" ∷ decimal line ∷ []
+words_of (command.Gen count) = codes "gen" ∷ decimal count ∷ []
 
 -- one processor serves the command
 abbrev pub IsAlone : Command → Type 0
 IsAlone (command.RunOn cpus) = ⊥
 IsAlone c = Unit {0}
 
--- the most bytes that this command reads
+-- one processor serves the command, which reads something
+abbrev pub ReadsAlone : Command → Type 0
+ReadsAlone (command.RunOn cpus) = ⊥
+ReadsAlone (command.Gen count) = ⊥
+ReadsAlone c = Unit {0}
+
+-- the most bytes that this command reads; none where it reads nothing
 abbrev pub byte_limit : Command → ℕ
 byte_limit command.Run = script_bytes
 byte_limit (command.RunOn cpus) = script_bytes
@@ -96,11 +119,13 @@ byte_limit command.Show = script_bytes
 byte_limit command.Bound = script_bytes
 byte_limit command.Check = record_bytes
 byte_limit (command.Trace line) = record_bytes
+byte_limit (command.Gen count) = 0
 
--- the number that the command has, of processors or of a line, is in its range
+-- the number that the command has, of processors, of a line or of processes, is in its range
 abbrev pub IsInRange : Command → Type 0
 IsInRange (command.RunOn cpus) = MayRun cpus
 IsInRange (command.Trace line) = MayTrace line
+IsInRange (command.Gen count) = MayGenerate count
 IsInRange c = Unit {0}
 
 -- the words are those of this command, or of none

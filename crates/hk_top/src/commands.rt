@@ -4,10 +4,11 @@ ghost use Rattle.std.specs.Prelude.{◌≡◌, ◌≢◌, ◌⊎◌, IfOk, IfErr
 ghost use Rattle.hk_io.specs.Causes.{Rose};
 ghost use Rattle.hk_io.specs.Streams.{Took};
 ghost use Rattle.hk_model.specs.Limits.{script_bytes};
-ghost use Rattle.hk_top.specs.Words.{IsCommand, IsAlone, IsInRange, MayRun, RunsOnMany, words_of, byte_limit};
+ghost use Rattle.hk_top.specs.Words.{IsReading, IsAlone, IsInRange, MayRun, ReadsAlone, RunsOnMany, words_of, byte_limit};
 ghost use Rattle.hk_top.specs.Outputs.{Answer, IsComplete, IsSaid, stream};
 ghost use Rattle.hk_top.specs.Served.{IsDue, IsTooLong, silent_status};
 
+use crate::generated::run_generated;
 use crate::maker::Maker;
 use crate::outputs::{due_to_bytes, text_alone, too_long};
 use crate::processors::run_script_on;
@@ -49,8 +50,8 @@ pub fn hydra<S: Source, W: Sink, G: Gate + Sync, M: Maker, R: Threads + Wait + S
     // A source that tells its bytes has lost some from its front, and nothing else.
     ensures taken { Took (S.left input.old) (S.left input.new) (λ _. Unit {0}) }
 
-    // Words that are no command leave the source as it was, and what fails before the first write leaves the sink so.
-    ensures untouched { (IsCommand (map string_bytes words.now) → ⊥) → input.new ≡ input.old }
+    // Words of no command that reads leave the source as it was, and what fails before the first write leaves the sink so.
+    ensures untouched { (IsReading (map string_bytes words.now) → ⊥) → input.new ≡ input.old }
     ensures silent { (result.0 ≡ 4) ⊎ (result.0 ≡ 5) → output.new ≡ output.old }
 {
     match read_command(words) {
@@ -80,7 +81,7 @@ pub fn answer<S: Source, W: Sink, M: Maker>(
         (stream (W.taken output.old) (W.taken output.new) (W.faults output.old) (W.faults output.new))
         result.0 (option_map M.Made.state result.1) }
     ensures taken { Took (S.left input.old) (S.left input.new) (λ _. Unit {0}) }
-    ensures untouched { (IsCommand (map string_bytes words.now) → ⊥) → input.new ≡ input.old }
+    ensures untouched { (IsReading (map string_bytes words.now) → ⊥) → input.new ≡ input.old }
     ensures silent { (result.0 ≡ 4) ⊎ (result.0 ≡ 5) → output.new ≡ output.old }
 {
     let Some(command) = read_command(words) else {
@@ -91,7 +92,7 @@ pub fn answer<S: Source, W: Sink, M: Maker>(
     say_due(output, due)
 }
 
-// What is due to a command that one processor serves, which reads the source.
+// What is due to a command that one processor serves.
 fn due<S: Source, M: Maker>(
     alloc: Global,
     command: Command,
@@ -99,6 +100,27 @@ fn due<S: Source, M: Maker>(
     kernels: &M,
 ) -> Result<Served<M::Made>, Silence>
     requires alone { IsAlone command }
+    requires range { IsInRange command }
+    ensures due { IfOk result (λ served. IsDue M.Made.state (words_of command) (S.left input.old) (S.left input.new) served) }
+    ensures status { IfOk result (λ served. served.due.status ≢ 4 × served.due.status ≢ 5) }
+    ensures taken { Took (S.left input.old) (S.left input.new) (λ _. Unit {0}) }
+    ensures untouched { (IsReading (words_of command) → ⊥) → input.new ≡ input.old }
+    ensures fault { IsErrOf result Silence.ReadFault → IsReading (words_of command) × Rose (S.faults input.old) (S.faults input.new) }
+{
+    match command {
+        Command::Gen(count) => Ok(run_generated(alloc, count, kernels)?),
+        _ => due_to_source(alloc, command, input, kernels),
+    }
+}
+
+// What is due to a command that one processor serves, which reads the source.
+fn due_to_source<S: Source, M: Maker>(
+    alloc: Global,
+    command: Command,
+    input: &mut S,
+    kernels: &M,
+) -> Result<Served<M::Made>, Silence>
+    requires alone { ReadsAlone command }
     requires range { IsInRange command }
     ensures due { IfOk result (λ served. IsDue M.Made.state (words_of command) (S.left input.old) (S.left input.new) served) }
     ensures status { IfOk result (λ served. served.due.status ≢ 4 × served.due.status ≢ 5) }
@@ -160,13 +182,14 @@ fn say_due<W: Sink, K>(output: &mut W, due: Result<Served<K>, Silence>) -> (u8, 
     }
 }
 
-// The most bytes that a command may read.
+// The most bytes that a command may read; none where it reads nothing.
 fn byte_limit(command: Command) -> usize
     ensures { result ≡ byte_limit command }
 {
     match command {
         Command::Run | Command::RunOn(_) | Command::Show | Command::Bound => SCRIPT_BYTES,
         Command::Check | Command::Trace(_) => RECORD_BYTES,
+        Command::Gen(_) => 0,
     }
 }
 

@@ -10,7 +10,7 @@ ghost use Rattle.hk_model.specs.Running.{AreStepsOf};
 ghost use Rattle.hk_model.specs.declared.verdicts.Verdict.TheVariants.{Legal};
 ghost use Rattle.hk_trace.specs.ChainTexts.{chains_text};
 ghost use Rattle.hk_trace.specs.Traced.{trace_of};
-ghost use Rattle.hk_top.specs.Words.{words_of, byte_limit, IsAlone, IsInRange, MayTrace};
+ghost use Rattle.hk_top.specs.Words.{words_of, byte_limit, IsInRange, MayTrace, ReadsAlone};
 ghost use Rattle.hk_top.specs.BoundTexts.{AreTold};
 ghost use Rattle.hk_top.specs.Outputs.{DueTo, IsChecked, IsRecord, traced_text};
 ghost use Rattle.hk_top.specs.Served.{IsDueTo, Records};
@@ -41,13 +41,13 @@ pub(crate) fn due_to_bytes<M: Maker>(
     kernels: &M,
 ) -> Result<Served<M::Made>, NoMemory>
     requires few { length bytes.now ≤ byte_limit command }
-    requires alone { IsAlone command }
+    requires alone { ReadsAlone command }
     requires range { IsInRange command }
     ensures { IfOk result (λ served. IsDueTo M.Made.state (words_of command) bytes.now served) }
 {
     match command {
         Command::Run => run_script(alloc, bytes, kernels),
-        Command::RunOn(_) => unreachable!(),
+        Command::RunOn(_) | Command::Gen(_) => unreachable!(),
         Command::Show => Ok(text_alone(show_script(alloc, bytes)?)),
         Command::Bound => Ok(text_alone(bound_script(alloc, bytes)?)),
         Command::Check => Ok(text_alone(check_record(alloc, bytes)?)),

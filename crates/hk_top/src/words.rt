@@ -2,10 +2,10 @@
 
 ghost use Rattle.std.specs.Prelude.{◌≡◌, [], ◌∷◌, IfSome, IfNone, map, string_bytes};
 ghost use Rattle.std.specs.Fmt.{decimal};
-ghost use Rattle.hk_model.specs.Limits.{cpu_limit};
-ghost use Rattle.hk_top.specs.Words.{Calls, IsBetween, IsNoNumber, MayRun, MayTrace, trace_limit};
+ghost use Rattle.hk_model.specs.Limits.{cpu_limit, process_limit};
+ghost use Rattle.hk_top.specs.Words.{Calls, IsBetween, IsNoNumber, MayRun, MayTrace, MayGenerate, trace_limit};
 
-use hk_model::limits::CPU_LIMIT;
+use hk_model::limits::{CPU_LIMIT, PROCESS_LIMIT};
 use hk_text::numeral;
 
 /// The largest number of a line that can be traced (`docs/FORMATS.md`, "Statuses and outputs").
@@ -27,6 +27,8 @@ pub enum Command {
     /// Writes where the capabilities and templates came from that a line of a record used: the line of
     /// this number, 1 to 999.
     Trace(u32),
+    /// Runs the generated world of so many processes, 1 to 256, on processor 0, and writes a summary.
+    Gen(u32),
 }
 
 /// The command of these words. None exactly where they are no command.
@@ -69,6 +71,9 @@ fn command_of_words(word: &str, number: &str) -> Option<Command>
     if word == "trace" {
         return Some(Command::Trace(line_number(number)?));
     }
+    if word == "gen" {
+        return Some(Command::Gen(processes(number)?));
+    }
     None
 }
 
@@ -87,6 +92,14 @@ fn line_number(word: &str) -> Option<u32>
     ensures none { IfNone result (IsNoNumber trace_limit word.now) }
 {
     number_to(TRACE_LIMIT, word)
+}
+
+// The number of processes, 1 to 256, that the word spells.
+fn processes(word: &str) -> Option<u32>
+    ensures some { IfSome result (λ count. (word.now ≡ decimal count) × MayGenerate count) }
+    ensures none { IfNone result (IsNoNumber process_limit word.now) }
+{
+    number_to(PROCESS_LIMIT as u32, word)
 }
 
 // The number from 1 to the largest one that the word spells in digits without a leading zero.
