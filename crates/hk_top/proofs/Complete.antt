@@ -3,7 +3,7 @@ use Rattle.std.proofs.Common.{◌≡◌, ◌∙◌, ◌≤◌, ◌⊎◌, ℕ, L
 use Rattle.std.specs.Io.KnownBytes.{Appends, Consumes, IsAtEnd}
 use Rattle.hk_model.specs.State.{State}
 use Rattle.hk_top.specs.Words.{IsGen, IsReading, ReadsAtMost}
-use Rattle.hk_top.proofs.WordLemmas.{one_input, one_count, gen_reads_nothing}
+use Rattle.hk_top.proofs.WordLemmas.{no_record, no_json, no_json_record, one_count, gen_reads_nothing}
 use Rattle.hk_top.specs.Outputs.{Answer, Due, DueTo, HadFault, IsComplete, IsSummed, Stream, read, summed, usage, too_long, written, read_fault, no_memory, write_fault}
 
 -- a source that told its bytes and was read to its end gave them all
@@ -24,14 +24,20 @@ most_taken before after bytes got told taken = by after (subst (λ (o : Option (
 
 of_reading : {words : List (List ℕ)} {limit : ℕ} → ReadsAtMost words limit → IsReading words
 of_reading (inl h) = inl h.0
-of_reading (inr h) = inr h.0
+of_reading (inr (inl h)) = inr (inl h.0)
+of_reading (inr (inr h)) = inr (inr h.0)
 
 -- words that read have one limit
 one_limit : {words : List (List ℕ)} {limit other : ℕ} → ReadsAtMost words limit → ReadsAtMost words other → limit ≡ other
 one_limit (inl h) (inl g) = h.1 ∙ sym g.1
-one_limit (inl h) (inr g) = absurd (one_input h.0 g.0)
-one_limit (inr h) (inl g) = absurd (one_input g.0 h.0)
-one_limit (inr h) (inr g) = h.1 ∙ sym g.1
+one_limit (inl h) (inr (inl g)) = absurd (no_record h.0 g.0)
+one_limit (inl h) (inr (inr g)) = absurd (no_json h.0 g.0)
+one_limit (inr (inl h)) (inl g) = absurd (no_record g.0 h.0)
+one_limit (inr (inl h)) (inr (inl g)) = h.1 ∙ sym g.1
+one_limit (inr (inl h)) (inr (inr g)) = absurd (no_json_record h.0 g.0)
+one_limit (inr (inr h)) (inl g) = absurd (no_json g.0 h.0)
+one_limit (inr (inr h)) (inr (inl g)) = absurd (no_json_record g.0 h.0)
+one_limit (inr (inr h)) (inr (inr g)) = h.1 ∙ sym g.1
 
 module _ {words : List (List ℕ)} {before after : Option (List ℕ)} (bytes : List ℕ) (limit : ℕ) (told : before ≡ Some bytes) (reads : ReadsAtMost words limit)
     (few : length bytes ≤ limit) where

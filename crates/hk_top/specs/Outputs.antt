@@ -1,5 +1,5 @@
 -- What the program writes, and its status. docs/FORMATS.md, "Statuses and outputs".
-use Rattle.std.specs.Prelude.{◌≡◌, ℕ, ◌<◌, ◌≤◌, ◌⊎◌, List, [], ◌∷◌, ◌++◌, length, take, Option, Some, None, Ok, Err, All, codes}
+use Rattle.std.specs.Prelude.{◌≡◌, ℕ, ◌-◌, ◌<◌, ◌≤◌, ◌⊎◌, List, [], ◌∷◌, ◌++◌, length, take, Option, Some, None, Ok, Err, All, codes}
 use Rattle.std.specs.Io.KnownBytes.{Consumes, Appends, IsAtEnd}
 use Rattle.hk_io.specs.Causes.{Rose}
 use Rattle.hk_io.specs.Streams.{Took}
@@ -12,9 +12,13 @@ use Rattle.hk_model.specs.declared.lines.Line.{Line}
 use Rattle.hk_model.specs.declared.lines.End.{End}
 use Rattle.hk_model.specs.declared.lines.End.TheVariants as end
 use Rattle.hk_format.specs.CauseTexts.{cause_name, refusal_text, too_long_text, verdict_text}
-use Rattle.hk_model.specs.WorldValue.{WorldValue}
+use Rattle.serde_json.specs.Written.{compact_text}
+use Rattle.hk_model.specs.declared.reaches.Change.{Change}
+use Rattle.hk_model.specs.Changes.{AreChanges}
+use Rattle.hk_model.specs.Snapshots.{shown}
+use Rattle.hk_model.specs.WorldValue.{IsWorld, WorldValue}
 use Rattle.hk_model.specs.State.{State}
-use Rattle.hk_model.specs.Running.{opened, step, after_lines, state_after}
+use Rattle.hk_model.specs.Running.{opened, step, after_lines, state_after, state_at}
 use Rattle.hk_model.specs.Legal.{IsLegal}
 use Rattle.hk_model.specs.Verdicts.{IsVerdict}
 use Rattle.hk_model.specs.Descent.{DescentLaw}
@@ -25,13 +29,18 @@ use Rattle.hk_bound.specs.Bounds.{BoundLaw}
 use Rattle.hk_format.specs.Worlds.{world}
 use Rattle.hk_format.specs.Canonical.{canon}
 use Rattle.hk_format.specs.Records.{record_text}
+use Rattle.hk_format.specs.Texts.{ended_line}
 use Rattle.hk_format.specs.Audits.{Audited, audit}
 use Rattle.hk_model.specs.Generated.{generate}
 use Rattle.hk_top.specs.BoundTexts.{AreBounds, bounds_text}
 use Rattle.hk_top.specs.Summaries.{summary_text}
+use Rattle.hk_json.specs.Readings.{Reads}
+use Rattle.hk_json.specs.Values.{value}
+use Rattle.hk_report.specs.ChangeTexts.{changes_text}
+use Rattle.hk_undo.specs.StateTexts.{state_text}
 use Rattle.hk_trace.specs.ChainTexts.{chains_text}
 use Rattle.hk_trace.specs.Traced.{trace_of}
-use Rattle.hk_top.specs.Words.{IsRun, IsRunOn, IsShow, IsBound, IsCheck, IsTrace, IsGen, Generates, ReadsScript, ReadsRecord, IsReading, IsCommand, ReadsAtMost}
+use Rattle.hk_top.specs.Words.{IsRun, IsRunOn, IsShow, IsBound, IsJson, IsUnjson, IsCheck, IsConfine, IsTrace, IsBack, IsGen, Generates, ReadsScript, ReadsRecord, IsReading, IsCommand, ReadsAtMost}
 
 -- what is written of words that are no command
 abbrev pub usage_text : List ℕ
@@ -96,16 +105,38 @@ pub record IsSummed (count : ℕ) (status : ℕ) (text : List ℕ) (made : Optio
   pub text_is : text ≡ summary_text count (generate count) lines end
   pub kernel : made ≡ Some (state_after (generate count) lines)
 
--- what is written of a record that was read, if this text is written of a legal one, and its status
-pub data IsChecked (a : Audited) (told : List ℕ) : ℕ → List ℕ → Type 0 where
-  -- 0: the record is legal, and the laws hold of its lines
-  legal : IsLegal a.world a.lines a.end → IsLawful a.world a.lines → IsChecked a told 0 told
-  -- 8: it is not, and the text is its first bad line, with its first cause
-  illegal : (n : ℕ) (cause : Misstep) → IsVerdict a.world a.lines a.end (Illegal n cause) → IsChecked a told 8 (verdict_text (Illegal n cause))
+-- what is told of a legal history
+
+-- that it is legal
+abbrev pub TellsLegal : WorldValue → List Line → List ℕ → Type 0
+TellsLegal w lines text = text ≡ verdict_text Legal
+
+-- its changes under confined calls, each with its reason
+abbrev pub TellsChanges : WorldValue → List Line → List ℕ → Type 0
+TellsChanges w lines text = (changes : List Change) × AreChanges w lines changes × (text ≡ changes_text changes)
 
 -- the chains of what the line of this number used
-abbrev pub traced_text : Audited → ℕ → List ℕ
-traced_text a line = chains_text a.lines (trace_of a.world a.lines line)
+abbrev pub TellsChains : ℕ → WorldValue → List Line → List ℕ → Type 0
+TellsChains line w lines text = text ≡ chains_text lines (trace_of w lines line)
+
+-- the state after so many lines
+abbrev pub moment_text : WorldValue → List Line → ℕ → List ℕ
+moment_text w lines moment = state_text (shown (state_at w lines moment)) moment
+
+-- the state before its last lines, so many: the opening where it has no more
+abbrev pub TellsState : ℕ → WorldValue → List Line → List ℕ → Type 0
+TellsState count w lines text = text ≡ moment_text w lines (length lines - count)
+
+-- what is written of a record that was read, if this is to be told of a legal one, and its status
+pub data IsChecked (a : Audited) (Told : WorldValue → List Line → List ℕ → Type 0) : ℕ → List ℕ → Type 0 where
+  -- 0: the record is legal, and the laws hold of its lines
+  legal : (text : List ℕ) → IsLegal a.world a.lines a.end → IsLawful a.world a.lines → Told a.world a.lines text → IsChecked a Told 0 text
+  -- 8: it is not, and the text is its first bad line, with its first cause
+  illegal : (n : ℕ) (cause : Misstep) → IsVerdict a.world a.lines a.end (Illegal n cause) → IsChecked a Told 8 (verdict_text (Illegal n cause))
+
+-- what is written of bytes that are the JSON of no world
+abbrev pub bad_json_text : List ℕ
+bad_json_text = refusal_text 0 (codes "BadJson")
 
 -- the status and the text that are due to these words and to the bytes that were read, and the state of the kernel, if one
 -- made a record
@@ -116,15 +147,26 @@ pub data DueTo (words : List (List ℕ)) (bytes : List ℕ) : ℕ → List ℕ �
   script_of : (w : WorldValue) → IsShow words → world bytes ≡ Ok w → DueTo words bytes 0 (canon w) None
   -- 0: the bytes are the script of a world, and the text is the bounds of its processes
   bounds_of : (w : WorldValue) (bounds : List (List Name)) → IsBound words → world bytes ≡ Ok w → AreBounds w bounds → DueTo words bytes 0 (bounds_text bounds) None
+  -- 0: the bytes are the script of a world, and the text is its JSON, on one line
+  json_of : (w : WorldValue) → IsJson words → world bytes ≡ Ok w → DueTo words bytes 0 (ended_line (compact_text (value w))) None
+  -- 0: the bytes are read as the value of a world, and the text is its canonical script
+  world_of : (w : WorldValue) → IsUnjson words → Reads bytes (value w) → DueTo words bytes 0 (canon w) None
   -- 0, 8: the bytes are a record, and the text is the verdict on it
-  verdict_of : (a : Audited) (status : ℕ) (text : List ℕ) → IsCheck words → audit bytes ≡ Ok a → IsChecked a (verdict_text Legal) status text → DueTo words bytes status text None
+  verdict_of : (a : Audited) (status : ℕ) (text : List ℕ) → IsCheck words → audit bytes ≡ Ok a → IsChecked a TellsLegal status text → DueTo words bytes status text None
   -- 0, 8: the bytes are a record, and the text is the chains of what a line of it used, or the verdict on it
-  chains_of : (a : Audited) (line status : ℕ) (text : List ℕ) → IsTrace words line → audit bytes ≡ Ok a → IsChecked a (traced_text a line) status text
+  chains_of : (a : Audited) (line status : ℕ) (text : List ℕ) → IsTrace words line → audit bytes ≡ Ok a → IsChecked a (TellsChains line) status text
+      → DueTo words bytes status text None
+  -- 0, 8: the bytes are a record, and the text is its changes under confined calls with their reasons, or the verdict on it
+  changes_of : (a : Audited) (status : ℕ) (text : List ℕ) → IsConfine words → audit bytes ≡ Ok a → IsChecked a TellsChanges status text → DueTo words bytes status text None
+  -- 0, 8: the bytes are a record, and the text is the state before the last of its lines, so many, or the verdict on it
+  state_of : (a : Audited) (count status : ℕ) (text : List ℕ) → IsBack words count → audit bytes ≡ Ok a → IsChecked a (TellsState count) status text
       → DueTo words bytes status text None
   -- 3: the bytes are the script of no world, and the text is the first line that is refused, with its first cause
   script_refused : (line : ℕ) (cause : Cause) → ReadsScript words → world bytes ≡ Err (line, cause) → DueTo words bytes 3 (refusal_text line (cause_name cause)) None
   -- 3: the bytes are no record, and the text is the line that is refused first, with its cause
   record_refused : (line : ℕ) (cause : Cause) → ReadsRecord words → audit bytes ≡ Err (line, cause) → DueTo words bytes 3 (refusal_text line (cause_name cause)) None
+  -- 3: the bytes have no reading, or one that is the value of no world
+  json_refused : IsUnjson words → ((w : WorldValue) → IsWorld w → Reads bytes (value w) → ⊥) → DueTo words bytes 3 bad_json_text None
 
 -- these bytes were read: they are all that the source had, up to its end, and no more than these words may read
 pub record WasRead (words : List (List ℕ)) (before after : Option (List ℕ)) (bytes : List ℕ) : Type 0 where

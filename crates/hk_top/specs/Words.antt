@@ -3,7 +3,7 @@ use Rattle.std.specs.Prelude.{◌≡◌, ℕ, ◌≤◌, ◌⊎◌, List, [], �
 use Rattle.std.specs.Fmt.{decimal}
 use Rattle.hk_model.specs.Limits.{cpu_limit, process_limit, script_bytes, record_bytes}
 use Rattle.hk_top.specs.declared.words.Command.{Command}
-use Rattle.hk_top.specs.declared.words.TheConstants.{TRACE_LIMIT}
+use Rattle.hk_top.specs.declared.words.TheConstants.{BACK_LIMIT, JSON_BYTES, TRACE_LIMIT}
 use Rattle.hk_top.specs.declared.words.Command.TheVariants as command
 
 -- the words `run`
@@ -38,9 +38,21 @@ IsShow words = words ≡ codes "show" ∷ []
 abbrev pub IsBound : List (List ℕ) → Type 0
 IsBound words = words ≡ codes "bound" ∷ []
 
+-- the words `json`
+abbrev pub IsJson : List (List ℕ) → Type 0
+IsJson words = words ≡ codes "json" ∷ []
+
+-- the words `unjson`
+abbrev pub IsUnjson : List (List ℕ) → Type 0
+IsUnjson words = words ≡ codes "unjson" ∷ []
+
 -- the words `check`
 abbrev pub IsCheck : List (List ℕ) → Type 0
 IsCheck words = words ≡ codes "check" ∷ []
+
+-- the words `confine`
+abbrev pub IsConfine : List (List ℕ) → Type 0
+IsConfine words = words ≡ codes "confine" ∷ []
 
 -- the largest number of a line that can be traced
 abbrev pub trace_limit : ℕ
@@ -58,6 +70,22 @@ IsTrace words line = (words ≡ codes "trace" ∷ decimal line ∷ []) × MayTra
 abbrev pub Traces : List (List ℕ) → Type 0
 Traces words = (line : ℕ) × IsTrace words line
 
+-- the largest number of lines that can be taken back
+abbrev pub back_limit : ℕ
+back_limit = BACK_LIMIT
+
+-- so many lines may be taken back
+abbrev pub MayTakeBack : ℕ → Type 0
+MayTakeBack count = IsBetween back_limit count
+
+-- the words `back` and a number of lines, from 1 to 999, in decimal digits without a leading zero
+abbrev pub IsBack : List (List ℕ) → ℕ → Type 0
+IsBack words count = (words ≡ codes "back" ∷ decimal count ∷ []) × MayTakeBack count
+
+-- the words `back` and a number of lines
+abbrev pub TakesBack : List (List ℕ) → Type 0
+TakesBack words = (count : ℕ) × IsBack words count
+
 -- a world of so many processes may be generated
 abbrev pub MayGenerate : ℕ → Type 0
 MayGenerate count = IsBetween process_limit count
@@ -72,23 +100,28 @@ Generates words = (count : ℕ) × IsGen words count
 
 -- the words of a command that reads a script
 abbrev pub ReadsScript : List (List ℕ) → Type 0
-ReadsScript words = IsRun words ⊎ (RunsOnMany words ⊎ (IsShow words ⊎ IsBound words))
+ReadsScript words = IsRun words ⊎ (RunsOnMany words ⊎ (IsShow words ⊎ (IsBound words ⊎ IsJson words)))
 
 -- the words of a command that reads a record
 abbrev pub ReadsRecord : List (List ℕ) → Type 0
-ReadsRecord words = IsCheck words ⊎ Traces words
+ReadsRecord words = IsCheck words ⊎ (IsConfine words ⊎ (Traces words ⊎ TakesBack words))
 
 -- the words of a command that reads something
 abbrev pub IsReading : List (List ℕ) → Type 0
-IsReading words = ReadsScript words ⊎ ReadsRecord words
+IsReading words = ReadsScript words ⊎ (ReadsRecord words ⊎ IsUnjson words)
 
 -- the words of a command
 abbrev pub IsCommand : List (List ℕ) → Type 0
 IsCommand words = IsReading words ⊎ Generates words
 
+-- the most bytes that the JSON of a world may have
+abbrev pub json_bytes : ℕ
+json_bytes = JSON_BYTES
+
 -- the words are those of a command, and this is the most bytes that what it reads may have
 abbrev pub ReadsAtMost : List (List ℕ) → ℕ → Type 0
-ReadsAtMost words limit = (ReadsScript words × (limit ≡ script_bytes)) ⊎ (ReadsRecord words × (limit ≡ record_bytes))
+ReadsAtMost words limit =
+    (ReadsScript words × (limit ≡ script_bytes)) ⊎ ((ReadsRecord words × (limit ≡ record_bytes)) ⊎ (IsUnjson words × (limit ≡ json_bytes)))
 
 -- the words of this command
 abbrev pub words_of : Command → List (List ℕ)
@@ -96,8 +129,12 @@ words_of command.Run = codes "run" ∷ []
 words_of (command.RunOn cpus) = codes "run" ∷ decimal cpus ∷ []
 words_of command.Show = codes "show" ∷ []
 words_of command.Bound = codes "bound" ∷ []
+words_of command.Json = codes "json" ∷ []
+words_of command.Unjson = codes "unjson" ∷ []
 words_of command.Check = codes "check" ∷ []
+words_of command.Confine = codes "confine" ∷ []
 words_of (command.Trace line) = codes "trace" ∷ decimal line ∷ []
+words_of (command.Back count) = codes "back" ∷ decimal count ∷ []
 words_of (command.Gen count) = codes "gen" ∷ decimal count ∷ []
 
 -- one processor serves the command
@@ -117,14 +154,19 @@ byte_limit command.Run = script_bytes
 byte_limit (command.RunOn cpus) = script_bytes
 byte_limit command.Show = script_bytes
 byte_limit command.Bound = script_bytes
+byte_limit command.Json = script_bytes
+byte_limit command.Unjson = json_bytes
 byte_limit command.Check = record_bytes
+byte_limit command.Confine = record_bytes
 byte_limit (command.Trace line) = record_bytes
+byte_limit (command.Back count) = record_bytes
 byte_limit (command.Gen count) = 0
 
--- the number that the command has, of processors, of a line or of processes, is in its range
+-- the number that the command has, of processors, of a line, of lines or of processes, is in its range
 abbrev pub IsInRange : Command → Type 0
 IsInRange (command.RunOn cpus) = MayRun cpus
 IsInRange (command.Trace line) = MayTrace line
+IsInRange (command.Back count) = MayTakeBack count
 IsInRange (command.Gen count) = MayGenerate count
 IsInRange c = Unit {0}
 

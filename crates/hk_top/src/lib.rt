@@ -15,6 +15,7 @@ mod processors;
 mod processors_tests;
 mod running;
 mod served;
+mod states;
 pub mod status;
 mod words;
 

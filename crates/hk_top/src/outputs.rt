@@ -5,14 +5,16 @@ ghost use Rattle.std.specs.Prelude.{◌≡◌, ◌≢◌, ◌≤◌, IfOk, None,
 ghost use Rattle.hk_format.specs.CauseTexts.{cause_name, refusal_text, too_long_text, verdict_text};
 ghost use Rattle.hk_model.specs.Limits.{script_bytes, record_bytes};
 ghost use Rattle.hk_format.specs.Canonical.{canon};
+ghost use Rattle.hk_format.specs.Texts.{ended_line};
+ghost use Rattle.serde_json.specs.Written.{compact_text};
+ghost use Rattle.hk_json.specs.Values.{value};
+
 ghost use Rattle.hk_model.specs.Opening.{opening};
 ghost use Rattle.hk_model.specs.Running.{AreStepsOf};
 ghost use Rattle.hk_model.specs.declared.verdicts.Verdict.TheVariants.{Legal};
-ghost use Rattle.hk_trace.specs.ChainTexts.{chains_text};
-ghost use Rattle.hk_trace.specs.Traced.{trace_of};
-ghost use Rattle.hk_top.specs.Words.{words_of, byte_limit, IsInRange, MayTrace, ReadsAlone};
+ghost use Rattle.hk_top.specs.Words.{words_of, byte_limit, IsInRange, MayTakeBack, MayTrace, ReadsAlone, json_bytes};
 ghost use Rattle.hk_top.specs.BoundTexts.{AreTold};
-ghost use Rattle.hk_top.specs.Outputs.{DueTo, IsChecked, IsRecord, traced_text};
+ghost use Rattle.hk_top.specs.Outputs.{DueTo, IsChecked, IsRecord, TellsChains, TellsChanges, TellsLegal, TellsState, bad_json_text};
 ghost use Rattle.hk_top.specs.Served.{IsDueTo, Records};
 
 use crate::bounds::bounds_text;
@@ -20,16 +22,20 @@ use crate::causes::{refusal_text, verdict_text};
 use crate::maker::Maker;
 use crate::running::{laws, run_alone};
 use crate::served::{DueText, Served};
+use crate::states::state_behind;
 use crate::status;
 use crate::words::Command;
 use hk_audit::{Audit, RecordError, read_record, record_text, steps_have_texts};
 use hk_bound::bound;
 use hk_check::check;
 use hk_format::Cause;
+use hk_json::{JsonError, json_text, read_json};
 use hk_load::{WorldError, read_world};
 use hk_model::{End, Kernel, Line, NoMemory, Text, Verdict, World};
 use hk_print::script_text;
+use hk_report::{changes_text, report};
 use hk_trace::{chains_text, trace};
+use hk_undo::state_text;
 use std::alloc::Global;
 
 /// What is due to a command and the bytes that it read, where one processor serves it. NoMemory is
@@ -50,8 +56,12 @@ pub(crate) fn due_to_bytes<M: Maker>(
         Command::RunOn(_) | Command::Gen(_) => unreachable!(),
         Command::Show => Ok(text_alone(show_script(alloc, bytes)?)),
         Command::Bound => Ok(text_alone(bound_script(alloc, bytes)?)),
+        Command::Json => Ok(text_alone(json_script(alloc, bytes)?)),
+        Command::Unjson => Ok(text_alone(unjson(alloc, bytes)?)),
         Command::Check => Ok(text_alone(check_record(alloc, bytes)?)),
+        Command::Confine => Ok(text_alone(confine_record(alloc, bytes)?)),
         Command::Trace(line) => Ok(text_alone(trace_record(alloc, bytes, line)?)),
+        Command::Back(count) => Ok(text_alone(back_record(alloc, bytes, count)?)),
     }
 }
 
@@ -130,6 +140,29 @@ fn bound_script(alloc: Global, bytes: &[u8]) -> Result<DueText, NoMemory>
     }
 }
 
+// What is due to `json` and the bytes of a script.
+fn json_script(alloc: Global, bytes: &[u8]) -> Result<DueText, NoMemory>
+    requires few { length bytes.now ≤ script_bytes }
+    ensures { IfOk result (λ due. DueTo (words_of Command.Json) bytes.now due.status due.text None) }
+{
+    match read_world(alloc, bytes) {
+        Ok(world) => json(alloc, &world),
+        Err(WorldError::Refused { line, cause }) => refused(alloc, line, cause),
+        Err(WorldError::NoMemory) => Err(NoMemory),
+    }
+}
+
+// What is due to `unjson` and the bytes of a JSON text.
+fn unjson(alloc: Global, bytes: &[u8]) -> Result<DueText, NoMemory>
+    ensures { IfOk result (λ due. DueTo (words_of Command.Unjson) bytes.now due.status due.text None) }
+{
+    match read_json(alloc, bytes) {
+        Ok(world) => script(alloc, &world),
+        Err(JsonError::BadJson) => bad_json(alloc),
+        Err(JsonError::NoMemory) => Err(NoMemory),
+    }
+}
+
 // What is due to `check` and the bytes of a record.
 fn check_record(alloc: Global, bytes: &[u8]) -> Result<DueText, NoMemory>
     requires few { length bytes.now ≤ record_bytes }
@@ -137,6 +170,18 @@ fn check_record(alloc: Global, bytes: &[u8]) -> Result<DueText, NoMemory>
 {
     match read_record(alloc, bytes) {
         Ok(audit) => verdict(alloc, &audit),
+        Err(RecordError::Refused { line, cause }) => refused(alloc, line, cause),
+        Err(RecordError::NoMemory) => Err(NoMemory),
+    }
+}
+
+// What is due to `confine` and the bytes of a record.
+fn confine_record(alloc: Global, bytes: &[u8]) -> Result<DueText, NoMemory>
+    requires few { length bytes.now ≤ record_bytes }
+    ensures { IfOk result (λ due. DueTo (words_of Command.Confine) bytes.now due.status due.text None) }
+{
+    match read_record(alloc, bytes) {
+        Ok(audit) => confined(alloc, &audit),
         Err(RecordError::Refused { line, cause }) => refused(alloc, line, cause),
         Err(RecordError::NoMemory) => Err(NoMemory),
     }
@@ -155,6 +200,19 @@ fn trace_record(alloc: Global, bytes: &[u8], line: u32) -> Result<DueText, NoMem
     }
 }
 
+// What is due to `back` with a number of lines, and the bytes of a record.
+fn back_record(alloc: Global, bytes: &[u8], count: u32) -> Result<DueText, NoMemory>
+    requires few { length bytes.now ≤ record_bytes }
+    requires count { MayTakeBack count }
+    ensures { IfOk result (λ due. DueTo (words_of (Command.Back count)) bytes.now due.status due.text None) }
+{
+    match read_record(alloc, bytes) {
+        Ok(audit) => taken_back(alloc, &audit, count),
+        Err(RecordError::Refused { line, cause }) => refused(alloc, line, cause),
+        Err(RecordError::NoMemory) => Err(NoMemory),
+    }
+}
+
 /// What is due to bytes that are refused: the line and the cause. NoMemory is want of memory.
 pub(crate) fn refused(alloc: Global, line: u32, cause: Cause) -> Result<DueText, NoMemory>
     ensures { IfOk result (λ due. (due.status ≡ 3) × (due.text ≡ refusal_text line (cause_name cause))) }
@@ -162,6 +220,18 @@ pub(crate) fn refused(alloc: Global, line: u32, cause: Cause) -> Result<DueText,
     Ok(DueText {
         status: status::REFUSED,
         text: refusal_text(alloc, line, cause)?,
+    })
+}
+
+// What is due to bytes that are the JSON of no world.
+#[tactic(auto, using(crate::proofs::AnswerLemmas::bad_json_is))]
+fn bad_json(alloc: Global) -> Result<DueText, NoMemory>
+    ensures { IfOk result (λ due. (due.status ≡ 3) × (due.text ≡ bad_json_text)) }
+{
+    let text = String::from_str(alloc, "line 0: BadJson\n")?;
+    Ok(DueText {
+        status: status::REFUSED,
+        text: Text::from_string(text),
     })
 }
 
@@ -194,6 +264,20 @@ fn script(alloc: Global, world: &World) -> Result<DueText, NoMemory>
     })
 }
 
+// What is due to `json` and a world: its JSON, on one line.
+fn json(alloc: Global, world: &World) -> Result<DueText, NoMemory>
+    ensures { IfOk result (λ due. (due.status ≡ 0) × (due.text ≡ ended_line (compact_text (value world.now)))) }
+{
+    let json = json_text(alloc, world)?;
+    let mut text = String::with_capacity(alloc, json.as_bytes().len() + 1)?;
+    text.push_str(json.as_str())?;
+    text.push_str("\n")?;
+    Ok(DueText {
+        status: status::DONE,
+        text: Text::from_string(text),
+    })
+}
+
 // What is due to `bound` and a world: the bounds of its processes.
 fn bounds(alloc: Global, world: &World) -> Result<DueText, NoMemory>
     ensures { IfOk result (λ due. AreTold world.now due.status due.text) }
@@ -207,7 +291,7 @@ fn bounds(alloc: Global, world: &World) -> Result<DueText, NoMemory>
 
 // What is due to `check` and a record: the verdict on it.
 fn verdict(alloc: Global, audit: &Audit) -> Result<DueText, NoMemory>
-    ensures { IfOk result (λ due. IsChecked audit.now (verdict_text Legal) due.status due.text) }
+    ensures { IfOk result (λ due. IsChecked audit.now TellsLegal due.status due.text) }
 {
     let world = audit.world();
     let lines = audit.lines();
@@ -224,7 +308,7 @@ fn verdict(alloc: Global, audit: &Audit) -> Result<DueText, NoMemory>
 // What is due to `trace` with the number of a line, and a record: the chains of what the line used, or
 // the verdict where the record is not legal.
 fn traced(alloc: Global, audit: &Audit, line: u32) -> Result<DueText, NoMemory>
-    ensures { IfOk result (λ due. IsChecked audit.now (traced_text audit.now line) due.status due.text) }
+    ensures { IfOk result (λ due. IsChecked audit.now (TellsChains line) due.status due.text) }
 {
     let world = audit.world();
     let lines = audit.lines();
@@ -241,12 +325,71 @@ fn traced(alloc: Global, audit: &Audit, line: u32) -> Result<DueText, NoMemory>
 // The chains of what a line used, as a text.
 fn chains(alloc: Global, world: &World, lines: &[Line], line: u32) -> Result<DueText, NoMemory>
     requires { AreStepsOf world.now lines.now }
-    ensures { IfOk result (λ due. (due.status ≡ 0) × (due.text ≡ chains_text lines.now (trace_of world.now lines.now line))) }
+    ensures { IfOk result (λ due. (due.status ≡ 0) × TellsChains line world.now lines.now due.text) }
 {
     let chains = trace(alloc, world, lines, line)?;
     Ok(DueText {
         status: status::DONE,
         text: chains_text(alloc, lines, chains.as_slice())?,
+    })
+}
+
+// What is due to `confine` and a record: its changes under confined calls, each with its reason, or the
+// verdict where the record is not legal.
+fn confined(alloc: Global, audit: &Audit) -> Result<DueText, NoMemory>
+    ensures { IfOk result (λ due. IsChecked audit.now TellsChanges due.status due.text) }
+{
+    let world = audit.world();
+    let lines = audit.lines();
+    let found = check(alloc, world, lines, audit.end())?;
+    match found {
+        Verdict::Legal => {
+            laws(world, lines);
+            changes(alloc, world, lines)
+        }
+        Verdict::Illegal { .. } => told(alloc, status::ILLEGAL, found),
+    }
+}
+
+// The changes under confined calls, as a text.
+fn changes(alloc: Global, world: &World, lines: &[Line]) -> Result<DueText, NoMemory>
+    requires { AreStepsOf world.now lines.now }
+    ensures { IfOk result (λ due. (due.status ≡ 0) × TellsChanges world.now lines.now due.text) }
+{
+    let changes = report(alloc, world, lines)?;
+    Ok(DueText {
+        status: status::DONE,
+        text: changes_text(alloc, changes.as_slice())?,
+    })
+}
+
+// What is due to `back` with a number of lines, and a record: the state before its last lines, so many, or
+// the verdict where the record is not legal.
+fn taken_back(alloc: Global, audit: &Audit, count: u32) -> Result<DueText, NoMemory>
+    ensures { IfOk result (λ due. IsChecked audit.now (TellsState count) due.status due.text) }
+{
+    let world = audit.world();
+    let lines = audit.lines();
+    let found = check(alloc, world, lines, audit.end())?;
+    match found {
+        Verdict::Legal => {
+            laws(world, lines);
+            state_left(alloc, world, lines, count)
+        }
+        Verdict::Illegal { .. } => told(alloc, status::ILLEGAL, found),
+    }
+}
+
+// The state before the last lines, so many, as a text.
+fn state_left(alloc: Global, world: &World, lines: &[Line], count: u32) -> Result<DueText, NoMemory>
+    requires { AreStepsOf world.now lines.now }
+    ensures { IfOk result (λ due. (due.status ≡ 0) × TellsState count world.now lines.now due.text) }
+{
+    let left = lines.len().saturating_sub(count as usize);
+    let state = state_behind(alloc, world, &lines[..left])?;
+    Ok(DueText {
+        status: status::DONE,
+        text: state_text(alloc, &state, left as u32)?,
     })
 }
 

@@ -3,13 +3,19 @@
 ghost use Rattle.std.specs.Prelude.{◌≡◌, [], ◌∷◌, IfSome, IfNone, map, string_bytes};
 ghost use Rattle.std.specs.Fmt.{decimal};
 ghost use Rattle.hk_model.specs.Limits.{cpu_limit, process_limit};
-ghost use Rattle.hk_top.specs.Words.{Calls, IsBetween, IsNoNumber, MayRun, MayTrace, MayGenerate, trace_limit};
+ghost use Rattle.hk_top.specs.Words.{Calls, IsBetween, IsNoNumber, MayRun, MayTakeBack, MayTrace, MayGenerate, back_limit, trace_limit};
 
 use hk_model::limits::{CPU_LIMIT, PROCESS_LIMIT};
 use hk_text::numeral;
 
 /// The largest number of a line that can be traced (`docs/FORMATS.md`, "Statuses and outputs").
 pub const TRACE_LIMIT: u32 = 999;
+
+/// The largest number of lines that can be taken back (`docs/FORMATS.md`, "Statuses and outputs").
+pub const BACK_LIMIT: u32 = 999;
+
+/// The most bytes that the JSON of a world may have (`docs/FORMATS.md`, "Worlds as JSON").
+pub const JSON_BYTES: usize = 16_777_216;
 
 /// What the program can do.
 #[derive(Clone, Copy, PartialEq, Eq, Debug)]
@@ -22,11 +28,19 @@ pub enum Command {
     Show,
     /// Writes the static bound of each process of the world that a script declares.
     Bound,
+    /// Writes the world that a script declares as JSON.
+    Json,
+    /// Writes the canonical script of a world that is read as JSON.
+    Unjson,
     /// Writes the verdict on a record.
     Check,
+    /// Writes the changes of a record's lines under confined calls, each with its reason.
+    Confine,
     /// Writes where the capabilities and templates came from that a line of a record used: the line of
     /// this number, 1 to 999.
     Trace(u32),
+    /// Writes the state before the last lines of a record: so many of them, 1 to 999.
+    Back(u32),
     /// Runs the generated world of so many processes, 1 to 256, on processor 0, and writes a summary.
     Gen(u32),
 }
@@ -46,35 +60,29 @@ pub(crate) fn read_command(words: &[String]) -> Option<Command>
 fn command_of_word(word: &str) -> Option<Command>
     ensures { Calls result (word.now ∷ []) }
 {
-    if word == "run" {
-        return Some(Command::Run);
+    match word {
+        "run" => Some(Command::Run),
+        "show" => Some(Command::Show),
+        "bound" => Some(Command::Bound),
+        "json" => Some(Command::Json),
+        "unjson" => Some(Command::Unjson),
+        "check" => Some(Command::Check),
+        "confine" => Some(Command::Confine),
+        _ => None,
     }
-    if word == "show" {
-        return Some(Command::Show);
-    }
-    if word == "bound" {
-        return Some(Command::Bound);
-    }
-    if word == "check" {
-        return Some(Command::Check);
-    }
-    None
 }
 
 // The command of this word and this number.
 fn command_of_words(word: &str, number: &str) -> Option<Command>
     ensures { Calls result (word.now ∷ number.now ∷ []) }
 {
-    if word == "run" {
-        return Some(Command::RunOn(processors(number)?));
+    match word {
+        "run" => Some(Command::RunOn(processors(number)?)),
+        "trace" => Some(Command::Trace(line_number(number)?)),
+        "back" => Some(Command::Back(lines_back(number)?)),
+        "gen" => Some(Command::Gen(processes(number)?)),
+        _ => None,
     }
-    if word == "trace" {
-        return Some(Command::Trace(line_number(number)?));
-    }
-    if word == "gen" {
-        return Some(Command::Gen(processes(number)?));
-    }
-    None
 }
 
 // The number of processors, 1 to 16, that the word spells.
@@ -92,6 +100,14 @@ fn line_number(word: &str) -> Option<u32>
     ensures none { IfNone result (IsNoNumber trace_limit word.now) }
 {
     number_to(TRACE_LIMIT, word)
+}
+
+// The number of lines, 1 to 999, that the word spells.
+fn lines_back(word: &str) -> Option<u32>
+    ensures some { IfSome result (λ count. (word.now ≡ decimal count) × MayTakeBack count) }
+    ensures none { IfNone result (IsNoNumber back_limit word.now) }
+{
+    number_to(BACK_LIMIT, word)
 }
 
 // The number of processes, 1 to 256, that the word spells.

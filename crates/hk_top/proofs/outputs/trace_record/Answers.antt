@@ -1,4 +1,4 @@
-use Rattle.std.proofs.Common.{Err, arith, ap, ◌∙◌, inr, refl}
+use Rattle.std.proofs.Common.{Err, arith, ap, ◌∙◌, inl, inr, refl}
 use Rattle.hk_text.proofs.LineCount.{lines_few}
 use Rattle.hk_top.specs.declared.words.Command.TheVariants as command
 use Rattle.hk_top.proofs.AnswerLemmas.{chains_due, record_refused_due}
@@ -12,5 +12,5 @@ returns-in-Ok c = chains_due c.args.bytes.now c.in-Ok.audit c.args.line c.traced
 
 pub returns-in-Err-Refused : goal.returns-in-Err-Refused
 returns-in-Err-Refused c =
-    record_refused_due (command.Trace c.args.line) c.args.bytes.now c.in-Err-Refused.line c.in-Err-Refused.cause c.refused.result (inr (c.args.line, (refl, c.requires.line)))
+    record_refused_due (command.Trace c.args.line) c.args.bytes.now c.in-Err-Refused.line c.in-Err-Refused.cause c.refused.result (inr (inr (inl (c.args.line, (refl, c.requires.line)))))
     (c.read_record.ensures.refused c.in-Err-Refused.line c.in-Err-Refused.cause (c.in-Err-Refused.is ∙ ap (λ e. Err e) c.in-Err-Refused.field-0-is)) c.refused.ensures

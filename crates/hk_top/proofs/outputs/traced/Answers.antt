@@ -1,17 +1,14 @@
-use Rattle.std.proofs.Common.{◌≡◌, IfOk}
-use Rattle.hk_top.specs.Outputs.{traced_text}
+use Rattle.hk_top.specs.Outputs.{TellsChains}
 use Rattle.hk_top.proofs.AnswerLemmas.{legal_due, illegal_due}
 use Rattle.hk_top.proofs.outputs.traced.Goals as goal
 
 pub returns-in-Legal : goal.returns-in-Legal
 returns-in-Legal c =
-    let told : IfOk c.chains.result (λ due. (due.status ≡ 0) × (due.text ≡ traced_text c.args.audit.now c.args.line)) =
-    rw (c.world-world.ensures, c.lines-lines.ensures) at c.chains.ensures in
-    legal_due c.args.audit.now (traced_text c.args.audit.now c.args.line) c.world-world.result.now c.lines-lines.result.now c.end.result c.in_ok-found.found
-    c.chains.result c.world-world.ensures c.lines-lines.ensures c.end.ensures c.in_ok-found.ensures c.in-Legal.is c.laws.ensures told
+    legal_due c.args.audit.now (TellsChains c.args.line) c.world-world.result.now c.lines-lines.result.now c.end.result c.in_ok-found.found c.chains.result
+    c.world-world.ensures c.lines-lines.ensures c.end.ensures c.in_ok-found.ensures c.in-Legal.is c.laws.ensures c.chains.ensures
 
 pub returns-in-Illegal : goal.returns-in-Illegal
 returns-in-Illegal c =
-    illegal_due c.args.audit.now (traced_text c.args.audit.now c.args.line) c.world-world.result.now c.lines-lines.result.now c.end.result c.in_ok-found.found
-    c.in-Illegal.line c.in-Illegal.cause c.told.result
+    illegal_due c.args.audit.now (TellsChains c.args.line) c.world-world.result.now c.lines-lines.result.now c.end.result c.in_ok-found.found c.in-Illegal.line
+    c.in-Illegal.cause c.told.result
     c.world-world.ensures c.lines-lines.ensures c.end.ensures c.in_ok-found.ensures c.in-Illegal.is c.told.ensures

@@ -1,0 +1,12 @@
+-- The lines to come lead on from here as all lead from the opening.
+use Rattle.std.proofs.Common.{◌≡◌}
+use Rattle.std.specs.Prelude.{drop}
+use Rattle.hk_model.specs.Running.{opened, after_lines}
+use Rattle.hk_program.specs.Machines.{IsSound}
+use Rattle.hk_top.proofs.states.state_behind.Given as goal
+
+abbrev pub invariant-loop-line : goal.invariant-loop-line
+invariant-loop-line l = record {
+  sound : IsSound l.world l.machine;
+  leads : after_lines l.world l.machine (drop l.line-index l.lines) ≡ after_lines l.world (opened l.world) l.lines;
+}
