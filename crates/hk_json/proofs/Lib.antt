@@ -1,0 +1,5 @@
+pub mod Known
+pub mod Places
+pub mod Plain
+pub mod Said
+pub mod Written
