@@ -1,3 +1,4 @@
+pub mod Fields
 pub mod Known
 pub mod Places
 pub mod Plain

@@ -48,8 +48,11 @@ task_whole names task = rw (items_whole (entry_value names) (λ e. body_whole (e
 
 pub value_whole : (w : WorldValue) → has_float (value w) ≡ false
 value_whole w =
-    rw (items_whole code_value code_whole w.codes, items_whole (object_value (spoken w)) (λ o. kind_whole (spoken w) o.label o.kind) w.objects,
-    items_whole (task_value (spoken w)) (task_whole (spoken w)) w.tasks) refl
+    rw (
+      items_whole code_value code_whole w.codes,
+      items_whole (object_value (spoken w)) (λ o. kind_whole (spoken w) o.label o.kind) w.objects,
+      items_whole (task_value (spoken w)) (task_whole (spoken w)) w.tasks,
+    ) refl
 
 -- not deep
 
@@ -83,5 +86,9 @@ task_flat names task = omega (arith, items_flat (entry_value names) 1 (λ e. bod
 
 pub value_flat : (w : WorldValue) → depth (value w) ≤ max_depth
 value_flat w =
-    omega (arith, items_flat code_value 3 code_flat w.codes, items_flat (object_value (spoken w)) 3 (λ o. kind_flat (spoken w) o.label o.kind) w.objects,
-    items_flat (task_value (spoken w)) 3 (task_flat (spoken w)) w.tasks)
+    omega (
+      arith,
+      items_flat code_value 3 code_flat w.codes,
+      items_flat (object_value (spoken w)) 3 (λ o. kind_flat (spoken w) o.label o.kind) w.objects,
+      items_flat (task_value (spoken w)) 3 (task_flat (spoken w)) w.tasks,
+    )

@@ -40,13 +40,10 @@ use Rattle.hk_print.proofs.ItemByItem.{canon_is}
 use Rattle.hk_print.proofs.StepByStep.{label_spelled}
 use Rattle.hk_json.specs.Values.{number_value, entry_value, param_value, step_value, kind_value, object_value, code_value, task_value, value}
 use Rattle.hk_json.specs.Scripts.{values_in, entry_said, param_said, word_said, object_said, process_said, label_said, steps_said, is_place, goes_to, code_said, script_said}
+use Rattle.hk_json.proofs.Fields.{values_again}
 use Rattle.hk_json.proofs.Places.{place_again, goes_where}
 
 -- lists
-
-values_again : (ds : List Data) → values_in (items_of ds) ≡ ds
-values_again [] = refl
-values_again (d ∷ ds) = ap (λ t. d ∷ t) (values_again ds)
 
 -- the parts that the values of these say
 parts_again : {A : Type 0} (said : Data → Body) (valued : A → Data) (body : A → Body) → ((x : A) → said (valued x) ≡ body x) → (xs : List A)
@@ -83,8 +80,10 @@ kind_again w label (kind.Plain of words entries) h =
     rw (words_again words h.2, parts_again entry_said (entry_value (spoken w)) (entry_body (spoken w)) (entry_again (spoken w)) entries) refl
 kind_again w label (kind.Semaphore count) h = refl
 kind_again w label (kind.Procedure code params entries) h =
-    rw (parts_again param_said (param_value (spoken w)) (param_body (spoken w)) (param_again (spoken w)) params,
-    parts_again entry_said (entry_value (spoken w)) (entry_body (spoken w)) (entry_again (spoken w)) entries) refl
+    rw (
+      parts_again param_said (param_value (spoken w)) (param_body (spoken w)) (param_again (spoken w)) params,
+      parts_again entry_said (entry_value (spoken w)) (entry_body (spoken w)) (entry_again (spoken w)) entries,
+    ) refl
 
 task_again : (w : WorldValue) (t : Task) → process_said (task_value (spoken w) t) ≡ task_item (spoken w) t
 task_again w t = rw (parts_again entry_said (entry_value (spoken w)) (entry_body (spoken w)) (entry_again (spoken w)) t.slots) refl

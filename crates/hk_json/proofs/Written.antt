@@ -40,6 +40,11 @@ parts_written said (d ∷ ds) = ap (λ (t : List ℕ). body_text (said d) ++ t) 
 
 -- instructions
 
+-- a marked place has its label's line
+pub label_written : (all : List Data) (n : ℕ) (mark : Bool) (old new : List ℕ) → mark ≡ list_any (goes_to n) all
+    → new ≡ old ++ cond mark (body_text (LabelIs (label_text n))) [] → new ≡ old ++ label_said all n
+label_written all n mark old new e written = written ∙ ap (λ (b : Bool). old ++ cond b (body_text (LabelIs (label_text n))) []) e
+
 -- the label and the text of an instruction are what the lines from it on begin with
 pub step_written : (all : List Data) (values : List Value) (i : ℕ) (d : Value) (whole out labelled text new : List ℕ) → i < length values
     → out ++ steps_said all i (map view (drop i values)) ≡ whole → labelled ≡ out ++ label_said all i → text ≡ text_said (view (get_or values i d))

@@ -8,7 +8,7 @@ use Rattle.hk_json.specs.declared.errors.JsonError.TheVariants.{NoMemory}
 
 -- the bytes are a text, which is read as this value
 abbrev pub Reads : List ℕ → Data → Type 0
-Reads bytes data = IsUtf8 bytes × (read bytes ≡ Some data)
+Reads bytes d = IsUtf8 bytes × (read bytes ≡ Some d)
 
 -- the answer is this world, or want of memory
 abbrev pub GivesWorld : Result WorldValue JsonError → WorldValue → Type 0

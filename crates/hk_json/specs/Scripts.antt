@@ -21,74 +21,74 @@ use Rattle.hk_text.specs.Numerals.{numeral_of}
 
 -- there is such a key
 abbrev pub has : List ℕ → Data → Bool
-has key data = is_some (get key data)
+has key d = is_some (get key d)
 
 -- the text that a value is, or nothing
 abbrev pub text_said : Data → List ℕ
-text_said data = unwrap_or (as_str data) []
+text_said d = unwrap_or (as_str d) []
 
 -- the text, or nothing
 abbrev pub text_at : List ℕ → Data → List ℕ
-text_at key data = unwrap_or (option_map text_said (get key data)) []
+text_at key d = unwrap_or (option_map text_said (get key d)) []
 
 -- the number that a value is, or 0
 abbrev pub number_said : Data → ℕ
-number_said data = unwrap_or (option_and_then as_u64 (as_number data)) 0
+number_said d = unwrap_or (option_and_then as_u64 (as_number d)) 0
 
 -- the number, or 0
 abbrev pub number_at : List ℕ → Data → ℕ
-number_at key data = unwrap_or (option_map number_said (get key data)) 0
+number_at key d = unwrap_or (option_map number_said (get key d)) 0
 
 -- the values in a list
 abbrev pub values_in : Items → List Data
 values_in no_items = []
-values_in (item data more) = data ∷ values_in more
+values_in (item d more) = d ∷ values_in more
 
 -- the list that a value is, or none
 abbrev pub list_said : Data → List Data
-list_said data = values_in (unwrap_or (as_array data) no_items)
+list_said d = values_in (unwrap_or (as_array d) no_items)
 
 -- the list, or none
 abbrev pub list_at : List ℕ → Data → List Data
-list_at key data = unwrap_or (option_map list_said (get key data)) []
+list_at key d = unwrap_or (option_map list_said (get key d)) []
 
 -- lines inside items
 
 -- an entry: its first key tells which
 abbrev pub entry_said : Data → Body
-entry_said data =
-    if has (codes "cap") data then CapEntry (text_at (codes "cap") data) (text_at (codes "rights") data)
-    else if has (codes "amplify") data then AmplifyEntry (text_at (codes "amplify") data) (text_at (codes "check") data) (text_at (codes "give") data)
-    else if has (codes "create") data then CreateEntry (text_at (codes "create") data) (text_at (codes "give") data)
+entry_said d =
+    if has (codes "cap") d then CapEntry (text_at (codes "cap") d) (text_at (codes "rights") d)
+    else if has (codes "amplify") d then AmplifyEntry (text_at (codes "amplify") d) (text_at (codes "check") d) (text_at (codes "give") d)
+    else if has (codes "create") d then CreateEntry (text_at (codes "create") d) (text_at (codes "give") d)
     else EmptyEntry
 
 -- a parameter
 abbrev pub param_said : Data → Body
-param_said data = ParamIs (text_at (codes "of") data) (text_at (codes "check") data) (text_at (codes "give") data)
+param_said d = ParamIs (text_at (codes "of") d) (text_at (codes "check") d) (text_at (codes "give") d)
 
 -- the lines of the list at a key
 abbrev pub parts_said : (Data → Body) → List ℕ → Data → List Part
-parts_said said key data = map (λ (d : Data). part (said d)) (list_at key data)
+parts_said said key d = map (λ (x : Data). part (said x)) (list_at key d)
 
 -- a word, or 0 where the value is none
 abbrev pub word_said : Data → ℕ
-word_said data = if nat_lt (number_said data) word_bound then number_said data else 0
+word_said d = if nat_lt (number_said d) word_bound then number_said d else 0
 
 -- items
 
 -- an object: the key that only its kind has tells which
 abbrev pub object_said : Data → Item
-object_said data =
-    if has (codes "words") data then canonical.item (ObjectIs (text_at (codes "name") data) (text_at (codes "type") data))
-    (word_parts (map word_said (list_at (codes "words") data)) ++ parts_said entry_said (codes "entries") data)
-    else if has (codes "params") data then canonical.item (ProcedureIs (text_at (codes "name") data) (text_at (codes "code") data))
-    (parts_said param_said (codes "params") data ++ parts_said entry_said (codes "entries") data)
-    else if has (codes "count") data then canonical.item (SemaphoreIs (text_at (codes "name") data) (number_at (codes "count") data)) []
-    else canonical.item (TypeIs (text_at (codes "name") data)) []
+object_said d =
+    if has (codes "words") d then canonical.item (ObjectIs (text_at (codes "name") d) (text_at (codes "type") d))
+    (word_parts (map word_said (list_at (codes "words") d)) ++ parts_said entry_said (codes "entries") d)
+    else if has (codes "params") d then canonical.item (ProcedureIs (text_at (codes "name") d) (text_at (codes "code") d))
+    (parts_said param_said (codes "params") d ++ parts_said entry_said (codes "entries") d)
+    else if has (codes "count") d then canonical.item (SemaphoreIs (text_at (codes "name") d) (number_at (codes "count") d)) []
+    else canonical.item (TypeIs (text_at (codes "name") d)) []
 
 -- a process
 abbrev pub process_said : Data → Item
-process_said data = canonical.item (ProcessIs (text_at (codes "name") data) (text_at (codes "code") data)) (parts_said entry_said (codes "entries") data)
+process_said d = canonical.item (ProcessIs (text_at (codes "name") d) (text_at (codes "code") d)) (parts_said entry_said (codes "entries") d)
 
 -- codes, whose instructions are texts already
 
@@ -113,7 +113,7 @@ is_place n (Some to) = to == n
 
 -- the instruction goes to this place
 abbrev pub goes_to : ℕ → Data → Bool
-goes_to n data = is_place n (place_named (text_said data))
+goes_to n d = is_place n (place_named (text_said d))
 
 -- the label line of a place, where some instruction goes there
 abbrev pub label_said : List Data → ℕ → List ℕ
@@ -122,18 +122,18 @@ label_said all n = if list_any (goes_to n) all then body_text (LabelIs (label_te
 -- the lines of the instructions from number n on, with the labels before them and at the end
 abbrev pub steps_said : List Data → ℕ → List Data → List ℕ
 steps_said all n [] = label_said all n
-steps_said all n (data ∷ more) = label_said all n ++ (text_said data ++ 10 ∷ steps_said all (n + 1) more)
+steps_said all n (d ∷ more) = label_said all n ++ (text_said d ++ 10 ∷ steps_said all (n + 1) more)
 
 -- a code
 abbrev pub code_said : Data → List ℕ
-code_said data =
-    pieces_line (head_pieces (CodeIs (text_at (codes "name") data)))
-    ++ (steps_said (list_at (codes "steps") data) 0 (list_at (codes "steps") data) ++ codes "end\n")
+code_said d =
+    pieces_line (head_pieces (CodeIs (text_at (codes "name") d)))
+    ++ (steps_said (list_at (codes "steps") d) 0 (list_at (codes "steps") d) ++ codes "end\n")
 
 -- the whole
 abbrev pub script_said : Data → List ℕ
-script_said data =
-    (((codes "hydra 1\n" ++ flat_map item_text (limit_items (number_at (codes "limit") data)))
-    ++ flat_map (λ (d : Data). item_text (object_said d)) (list_at (codes "objects") data))
-    ++ flat_map code_said (list_at (codes "codes") data))
-    ++ flat_map (λ (d : Data). item_text (process_said d)) (list_at (codes "processes") data)
+script_said d =
+    (((codes "hydra 1\n" ++ flat_map item_text (limit_items (number_at (codes "limit") d)))
+    ++ flat_map (λ (x : Data). item_text (object_said x)) (list_at (codes "objects") d))
+    ++ flat_map code_said (list_at (codes "codes") d))
+    ++ flat_map (λ (x : Data). item_text (process_said x)) (list_at (codes "processes") d)

@@ -32,9 +32,7 @@ fn object_value(alloc: Global, world: &World, object: &Born) -> Result<Value, No
     let label = object.label.as_str();
     match &object.kind {
         Kind::TypeObject => Ok(json!(in alloc; {"kind": "type", "name": label})?),
-        Kind::Plain { of, words, entries } => plain_value(
-            alloc, world, label, *of, words, entries,
-        ),
+        Kind::Plain { of, words, entries } => plain_value(alloc, world, label, *of, words, entries),
         Kind::Semaphore { count } => semaphore_value(alloc, label, *count),
         Kind::Procedure {
             code,

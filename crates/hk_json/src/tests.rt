@@ -91,7 +91,8 @@ fn what_is_no_world_is_bad(rt: HostRuntime) -> Result<(), Fail> {
 
 #[test]
 fn order_blanks_and_escapes_are_free(rt: HostRuntime) -> Result<(), Fail> {
-    let bytes: &[u8] = b" {\"processes\":[], \"limit\":7,\n\"objects\":[{\"name\":\"\\u0062ox\",\"kind\":\"type\"}],\"limit\":10000,\"codes\":[]}\t";
+    let bytes: &[u8] =
+        b" {\"processes\":[], \"limit\":7,\n\"objects\":[{\"name\":\"\\u0062ox\",\"kind\":\"type\"}],\"limit\":10000,\"codes\":[]}\t";
     let found = read_json(rt.alloc(), bytes).map_err(|_error: JsonError| "json")?;
     let text = script_text(rt.alloc(), &found).map_err(|_error: NoMemory| "memory")?;
     assert_eq!(rt; text.as_str(), "hydra 1\ntype box\n");
