@@ -1,12 +1,12 @@
 mod Arguments
 mod FoundLabels
-mod ItemByItem
-mod Items
+pub mod ItemByItem
+pub mod Items
 mod Joined
 mod Names
 pub mod Pieces
 mod Places
 mod Registers
-mod StepByStep
+pub mod StepByStep
 mod WordByWord
 pub mod Spelled

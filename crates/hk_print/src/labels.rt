@@ -7,7 +7,7 @@ ghost use Rattle.hk_format.specs.Names.{spoken, object_text, code_text};
 use hk_model::{Name, World};
 
 /// The label of an object: a kernel type's name, or that of the object's line.
-pub(crate) fn object_label(world: &World, name: Name) -> &str
+pub fn object_label(world: &World, name: Name) -> &str
     requires { IsObject world.now name }
     ensures { result.now ≡ object_text (spoken world.now) name }
 {
@@ -36,7 +36,7 @@ fn declared_label(world: &World, number: u64) -> &str
 
 /// The label of a code.
 #[tactic(auto, using(crate::proofs::FoundLabels::code_label))]
-pub(crate) fn code_label(world: &World, code: u16) -> &str
+pub fn code_label(world: &World, code: u16) -> &str
     requires { code < length world.now.codes }
     ensures { result.now ≡ code_text (spoken world.now) code }
 {

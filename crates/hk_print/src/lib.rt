@@ -6,7 +6,7 @@ pub mod again;
 mod codes;
 pub mod entries;
 pub mod instructions;
-mod labels;
+pub mod labels;
 mod objects;
 pub mod operands;
 mod processes;
@@ -16,12 +16,14 @@ mod shapes;
 pub mod spellers;
 #[cfg(test)]
 mod tests;
-mod words;
+pub mod words;
 
 pub use again::canonical_is_read_again;
 pub use entries::{write_entry, write_param};
 pub use instructions::instr_text;
+pub use labels::{code_label, object_label};
 pub use operands::{operand_text, register_text, route_text};
 pub use rights::{RIGHT_NUMBERS, right_of, rights_text};
 pub use script::script_text;
-pub use spellers::{ByNumber, Speller};
+pub use spellers::{ByNumber, Speller, kind_text};
+pub use words::write_words;

@@ -57,7 +57,7 @@ impl Speller for ByNumber {
 }
 
 /// The text of a type, or `any`. The only error is want of memory.
-pub(crate) fn kind_text<S: Speller>(
+pub fn kind_text<S: Speller>(
     alloc: Global,
     speller: &S,
     of: Option<Name>,

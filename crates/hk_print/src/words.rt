@@ -13,8 +13,8 @@ use std::alloc::Global;
 /// The bytes of `words`.
 const WORDS_BYTES: usize = 5;
 
-/// Writes the words, in as few lines as keep each within its length.
-pub(crate) fn write_words(alloc: Global, out: &mut String, words: &[u32]) -> Result<(), NoMemory>
+/// Writes the words, in as few lines as keep each within its length. The only error is want of memory.
+pub fn write_words(alloc: Global, out: &mut String, words: &[u32]) -> Result<(), NoMemory>
     ensures { OnOk result (string_bytes out.new ≡ string_bytes out.old ++ parts_text (word_parts words.now)) }
 {
     if words.is_empty() {

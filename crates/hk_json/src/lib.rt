@@ -1,0 +1,21 @@
+//! Worlds as JSON, there and back.
+//!
+//! `docs/FORMATS.md`, "Worlds as JSON", states the value of a world.
+#![tactic(auto)]
+
+mod codes;
+mod entries;
+mod errors;
+mod fields;
+mod lines;
+mod objects;
+mod reading;
+mod script;
+#[cfg(test)]
+mod tests;
+mod texts;
+mod values;
+
+pub use crate::errors::JsonError;
+pub use crate::reading::read_json;
+pub use crate::texts::json_text;

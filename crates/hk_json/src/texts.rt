@@ -1,0 +1,21 @@
+//! The JSON text of a world (`docs/FORMATS.md`, "Worlds as JSON").
+
+ghost use Rattle.std.specs.Prelude.{◌≡◌, IfOk};
+ghost use Rattle.serde_json.specs.Written.{compact_text};
+ghost use Rattle.hk_json.specs.Values.{value};
+ghost use Rattle.hk_json.specs.Readings.{Reads};
+
+use crate::values::value_of;
+use hk_model::{NoMemory, Text, World};
+use std::alloc::Global;
+
+/// The text of the value of a world, with no blank and no line feed, each object's keys rising. It is
+/// read as this value. The only error is want of memory.
+pub fn json_text(alloc: Global, world: &World) -> Result<Text, NoMemory>
+    ensures text { IfOk result (λ t. t ≡ compact_text (value world.now)) }
+    ensures reads { IfOk result (λ t. Reads t (value world.now)) }
+{
+    let value = value_of(alloc, world)?;
+    let text = value.to_string(alloc)?;
+    Ok(Text::from_string(text))
+}
