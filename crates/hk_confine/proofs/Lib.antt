@@ -1,7 +1,7 @@
 mod Hands
 mod Doings
-mod Settling
+pub mod Settling
 mod Kept
 mod Callers
-mod Begins
+pub mod Begins
 mod Confined

@@ -2,3 +2,15 @@ mod NamedLemmas
 mod Replaying
 mod Followed
 mod Listed
+mod HopLemmas
+mod HistoryLemmas
+mod SearchLemmas
+mod Keys
+mod Bounds
+mod Spans
+mod Onwards
+mod Found
+mod Relists
+mod Replays
+mod Makers
+mod Explained

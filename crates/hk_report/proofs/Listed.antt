@@ -37,7 +37,7 @@ use Rattle.hk_report.specs.declared.families.Begun.{Begun}
 use Rattle.hk_report.specs.declared.families.BareChange.{BareChange}
 use Rattle.hk_report.specs.Named.{named_change}
 use Rattle.hk_report.specs.Doings.{doing, doings}
-use Rattle.hk_report.specs.Families.{told_call, told_change, families_by, change_under, changes_by, changes_from}
+use Rattle.hk_report.specs.Families.{told_call, told_change, families_by, families_after, change_under, changes_by, changes_from}
 use Rattle.hk_report.proofs.Followed.{Followed, started, goes_on, new_calls, followed_by, calls_of, calls_with, calls_followed, old_with, rises_above, Fits, fits_line}
 
 -- ---- what a line changes
@@ -48,7 +48,7 @@ target_named : (s : State) (inc : Inc) (path : List ℕ) (types : Name → Bool)
 target_named s inc path types rights h =
     ap (λ (r : Result Entry Refusal). option_map (λ (cap : Cap). cap.name) (cap_of (entry_given r))) h.is.leads ∙ ap Some (sym h.is.name)
 
-changed_named : (s : State) (inc : Inc) (o : Option Call) → ShownIf s inc o → changed_by s inc o ≡ named_change s inc o
+pub changed_named : (s : State) (inc : Inc) (o : Option Call) → ShownIf s inc o → changed_by s inc o ≡ named_change s inc o
 changed_named s inc None h = refl
 changed_named s inc (Some (call.Put of at word)) h = target_named s inc of _ _ h
 changed_named s inc (Some (call.Add of word)) h = target_named s inc of _ _ h
@@ -72,7 +72,7 @@ changed_named s inc (Some (call.Leave give)) h = refl
 changed_named s inc (Some call.Yield) h = refl
 
 -- who changes something lives
-changer_lives : (s : State) (inc : Inc) (o : Option Call) (name : Name) → changed_by s inc o ≡ Some name → IsTrue (is_live s inc)
+pub changer_lives : (s : State) (inc : Inc) (o : Option Call) (name : Name) → changed_by s inc o ≡ Some name → IsTrue (is_live s inc)
 changer_lives s inc o name h = by (changes_path o) h
   where
     walked : (path : List ℕ) (r : Result Entry Refusal) → walk s inc path ≡ r → option_map (λ (cap : Cap). cap.name) (cap_of (entry_given r)) ≡ Some name → IsTrue (is_live s inc)
@@ -83,29 +83,29 @@ changer_lives s inc o name h = by (changes_path o) h
     by None g = absurd (cc)
     by (Some path) g = walked path (walk s inc path) refl g
 
-live_numbered : (s : State) (inc : Inc) → Sound s → IsTrue (is_live s inc) → inc.0 < s.next_inc.0
+pub live_numbered : (s : State) (inc : Inc) → Sound s → IsTrue (is_live s inc) → inc.0 < s.next_inc.0
 live_numbered s inc sound live = sound.stacked.below inc (activation (incarnation s inc)) (activation_live s.incarnations inc live)
 
 -- ---- the lines to come
 
-drop_get : (k : ℕ) (lines : List Line) (line : Line) (rest : List Line) → drop k lines ≡ line ∷ rest → slice_get lines k ≡ Some line
+pub drop_get : (k : ℕ) (lines : List Line) (line : Line) (rest : List Line) → drop k lines ≡ line ∷ rest → slice_get lines k ≡ Some line
 drop_get zero [] line rest h = absurd (cc)
 drop_get zero (x ∷ lines) line rest h = cc
 drop_get (suc k) [] line rest h = absurd (cc)
 drop_get (suc k) (x ∷ lines) line rest h = drop_get k lines line rest h
 
-drop_next : (k : ℕ) (lines : List Line) (line : Line) (rest : List Line) → drop k lines ≡ line ∷ rest → drop (suc k) lines ≡ rest
+pub drop_next : (k : ℕ) (lines : List Line) (line : Line) (rest : List Line) → drop k lines ≡ line ∷ rest → drop (suc k) lines ≡ rest
 drop_next zero [] line rest h = absurd (cc)
 drop_next zero (x ∷ []) line rest h = cc
 drop_next zero (x ∷ y ∷ lines) line rest h = cc
 drop_next (suc k) [] line rest h = absurd (cc)
 drop_next (suc k) (x ∷ lines) line rest h = drop_next k lines line rest h
 
-take_zero : (lines : List Line) → take 0 lines ≡ []
+pub take_zero : (lines : List Line) → take 0 lines ≡ []
 take_zero [] = refl
 take_zero (x ∷ lines) = refl
 
-drop_zero : (lines : List Line) → drop 0 lines ≡ lines
+pub drop_zero : (lines : List Line) → drop 0 lines ≡ lines
 drop_zero [] = refl
 drop_zero (x ∷ lines) = refl
 
@@ -259,6 +259,32 @@ module _ (w : WorldValue) (lines : List Line) where
       first : List BareChange
       first = changes_by m.state.events (named_change m.state line.inc (done_call line)) (slice_index_or families line.inc.0 [])
 
+  -- who is under which call at the end
+  pub record FamiliesEnd (t : State) (families : List (List Begun)) (calls : List Beginning) : Type 0 where
+    pub followed : List Followed
+    pub fits : Fits t families followed
+    pub linked : All (λ (p : Followed). (i : Inc) → is_under w lines p.of.moment p.of.call i ≡ is_one_of i p.under) followed
+    pub all : calls_of followed ≡ calls
+
+  families_go : (m : Machine) (rest : List Line) (families : List (List Begun)) (ps : List Followed) → AreSteps w m rest → Sound m.state → At m rest → All (Linked m rest) ps
+      → Fits m.state families ps
+      → FamiliesEnd (after_lines w m rest).state (families_after m.state.events (doings w m rest) families) (told confined_by w m rest (calls_of ps))
+  families_go m [] families ps steps sound at linked fits = record { followed = ps; fits = fits; linked = linked; all = refl }
+  families_go m (line ∷ rest) families ps steps sound at linked fits =
+      subst (λ (n : ℕ). FamiliesEnd (after_lines w (moved w m line.cpu) rest).state
+      (families_after n (doings w (moved w m line.cpu) rest) (families_by m.state.events (doing m.state line (moved w m line.cpu).state) families))
+      (told confined_by w (moved w m line.cpu) rest (confined_by m.state line (moved w m line.cpu).state (calls_of ps)))) (events_next w m line rest steps)
+      (subst (λ (calls : List Beginning). FamiliesEnd (after_lines w (moved w m line.cpu) rest).state
+      (families_after (moved w m line.cpu).state.events (doings w (moved w m line.cpu) rest) (families_by m.state.events (doing m.state line (moved w m line.cpu).state) families))
+      (told confined_by w (moved w m line.cpu) rest calls)) (sym (calls_followed m.state line (moved w m line.cpu).state ps))
+      (families_go (moved w m line.cpu) rest (families_by m.state.events (doing m.state line (moved w m line.cpu).state) families)
+      (followed_by m.state line (moved w m line.cpu).state ps) steps.1 k.after (at_next m line rest steps at) (linked_next m line rest ps (at_next m line rest steps at) linked)
+      (fits_line m.state line (moved w m line.cpu).state k (events_next w m line rest steps) families ps fits
+      (λ e. live_numbered m.state line.inc sound (enters_turn m.state line (moved w m line.cpu).state k.turn e).live))))
+    where
+      k : LineKnown m.state line (moved w m line.cpu).state
+      k = known m line rest steps sound
+
   at_opening : At (opened w) lines
   at_opening = record {
     machine = ap (machine_at w lines) (opened_events w) ∙ ap (after_lines w (opened w)) (take_zero lines);
@@ -272,7 +298,7 @@ module _ (w : WorldValue) (lines : List Line) where
     same = λ i h. get_or-replicate (opened w).state.next_inc.0 i.0 [] [] h;
   }
 
-opened_sound : (w : WorldValue) → Sound (opened w).state
+pub opened_sound : (w : WorldValue) → Sound (opened w).state
 unfolding opened
 opened_sound w = opening_sound w
 
@@ -284,6 +310,14 @@ changes_found w lines first all found steps f a h =
     (ap (λ (n : ℕ). changes_from n (replicate (opened w).state.next_inc.0 []) (doings w (opened w) lines)) (sym (opened_events w))
     ∙ sym (lines_change w lines (opened w) lines (replicate (opened w).state.next_inc.0 []) [] (confined_calls w lines) [] steps (opened_sound w) (at_opening w lines) tt
     (fits_opening w lines) refl))
+
+-- who is under which call, in a whole history
+pub families_end : (w : WorldValue) (lines : List Line) → AreStepsOf w lines
+    → FamiliesEnd w lines (after_lines w (opened w) lines).state (families_after 0 (doings w (opened w) lines) (replicate (opened w).state.next_inc.0 [])) (confined_calls w lines)
+families_end w lines steps =
+    subst (λ (n : ℕ). FamiliesEnd w lines (after_lines w (opened w) lines).state (families_after n (doings w (opened w) lines) (replicate (opened w).state.next_inc.0 []))
+    (confined_calls w lines)) (opened_events w)
+    (families_go w lines (opened w) lines (replicate (opened w).state.next_inc.0 []) [] steps (opened_sound w) (at_opening w lines) tt (fits_opening w lines))
 
 -- ---- how many lines there are
 
@@ -300,3 +334,11 @@ doings_few w lines all world steps h =
     let d = world.few_events in
     let e : event_limit ≡ 1000000 = refl in
     omega (arith, a, b, c, d, e)
+
+-- and so are the lines
+pub lines_few : (w : WorldValue) (lines : List Line) → IsWorld w → AreStepsOf w lines → length lines + 1 < 2 ^ 32
+lines_few w lines world steps =
+    let c = lines_within w lines world steps in
+    let d = world.few_events in
+    let e : event_limit ≡ 1000000 = refl in
+    omega (arith, c, d, e)

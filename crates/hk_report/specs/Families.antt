@@ -40,3 +40,8 @@ abbrev pub changes_from : ℕ → List (List Begun) → List Doing → List Bare
 changes_from moment families [] = []
 changes_from moment families (doing ∷ doings) =
     changes_by moment doing.changed (slice_index_or families doing.inc.0 []) ++ changes_from (moment + 1) (families_by moment doing families) doings
+
+-- the confined calls that each incarnation is under, by number, after the lines from a moment on
+abbrev pub families_after : ℕ → List Doing → List (List Begun) → List (List Begun)
+families_after moment [] families = families
+families_after moment (doing ∷ doings) families = families_after (moment + 1) doings (families_by moment doing families)

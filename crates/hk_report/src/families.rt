@@ -2,7 +2,7 @@
 //! (`docs/RULES.md`, "Changes and their reasons").
 
 ghost use Rattle.std.specs.Prelude.{◌≡◌, ◌+◌, ◌<◌, ◌^◌, ◌++◌, [], length, map, replicate, slice_index_or, IfOk, OnOk, Some};
-ghost use Rattle.hk_report.specs.Families.{calls_entered, families_by, change_under, changes_by, changes_from};
+ghost use Rattle.hk_report.specs.Families.{calls_entered, families_by, families_after, change_under, changes_by, changes_from};
 
 use crate::doings::{Doing, Entered};
 use hk_model::{Inc, Items, Name, NoMemory};
@@ -28,8 +28,8 @@ pub struct BareChange {
     pub object: Name,
 }
 
-// The calls that an incarnation of this number is under.
-fn calls_over(families: &[Items<Begun>], inc: Inc) -> &[Begun]
+/// The calls that an incarnation of this number is under.
+pub(crate) fn calls_over(families: &[Items<Begun>], inc: Inc) -> &[Begun]
     ensures { result.now ≡ slice_index_or families.now inc.0 [] }
 {
     match families.get(inc.0 as usize) {
@@ -128,15 +128,20 @@ fn no_families(alloc: Global, below: Inc) -> Result<Vec<Items<Begun>>, NoMemory>
     Ok(families)
 }
 
+/// The changes under confined calls, and the calls that each incarnation is under.
+#[derive(Drop)]
+pub struct Families {
+    /// The calls that each incarnation is under, by its number.
+    pub calls: Vec<Items<Begun>>,
+    pub changes: Vec<BareChange>,
+}
+
 /// The changes under confined calls of lines that did this, where the incarnations of the opening
 /// are those below `first`. NoMemory is want of memory.
-pub(crate) fn changes_of(
-    alloc: Global,
-    first: Inc,
-    doings: &[Doing],
-) -> Result<Vec<BareChange>, NoMemory>
+pub(crate) fn changes_of(alloc: Global, first: Inc, doings: &[Doing]) -> Result<Families, NoMemory>
     requires { length doings.now < 2 ^ 32 }
-    ensures { IfOk result (λ changes. changes.items ≡ changes_from 0 (replicate first.0 []) doings.now) }
+    ensures changes { IfOk result (λ f. f.changes.items ≡ changes_from 0 (replicate first.0 []) doings.now) }
+    ensures calls { IfOk result (λ f. f.calls.items ≡ families_after 0 doings.now (replicate first.0 [])) }
 {
     let mut families = no_families(alloc, first)?;
     let mut changes = Vec::new(alloc);
@@ -146,5 +151,8 @@ pub(crate) fn changes_of(
         add_changes(&mut changes, moment, doing.changed, calls)?;
         add_family(alloc, &mut families, moment, doing)?;
     }
-    Ok(changes)
+    Ok(Families {
+        calls: families,
+        changes,
+    })
 }

@@ -2,18 +2,27 @@
 //! "Changes and their reasons").
 //!
 //! `changes_under` tells each change with the confined call that it was made under, by one run of
-//! the history. `naming` has what a path names, `doings` what each line did, `replay` the lines of a
-//! history once more, `families` the confined calls that each incarnation is under.
+//! the history; `report` with its reason besides, and `changes_text` is the list as text. `naming` has
+//! what a path names, `doings` what each line did, `replay` the lines of a history once more,
+//! `families` the confined calls that each incarnation is under, `histories` what has stood in lists,
+//! `hops` the hops over that, `searching` the search for the least reach, `reasons` each change with
+//! its reason.
 #![tactic(auto)]
 
 mod doings;
 mod families;
+mod histories;
+mod hops;
 mod naming;
+mod reasons;
 mod replay;
 mod reporting;
+mod searching;
 #[cfg(test)]
 mod tests;
+mod texts;
 
 pub use families::{BareChange, Begun};
-pub use hk_model::{Line, NoMemory, World};
-pub use reporting::changes_under;
+pub use hk_model::{Change, Hop, Line, NoMemory, Reach, World};
+pub use reporting::{changes_under, report};
+pub use texts::changes_text;

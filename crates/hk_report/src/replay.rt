@@ -1,36 +1,96 @@
 //! A history once more, with what its lines did (`docs/RULES.md`, "Steps of processors").
 
-ghost use Rattle.std.specs.Prelude.{◌≡◌, IfOk};
+ghost use Rattle.std.specs.Prelude.{◌≡◌, ◌+◌, ◌<◌, ◌^◌, length, IfOk};
+ghost use Rattle.hk_model.specs.Lines.{done_call, param_count};
 ghost use Rattle.hk_model.specs.Running.{opened};
-ghost use Rattle.hk_report.specs.Doings.{doings};
+ghost use Rattle.hk_report.specs.Doings.{doings, given_params, params_given};
+ghost use Rattle.hk_report.specs.Histories.{told_histories};
 
-use crate::doings::{Doing, before_line, doing_behind};
-use hk_model::{Inc, Line, NoMemory, World};
+use crate::doings::{Before, Doing, before_line, doing_behind};
+use crate::histories::{History, finish, note, opened_histories};
+use hk_model::lists::Limited;
+use hk_model::{Call, Entry, Inc, Line, NoMemory, Reply, What, World};
 use hk_plain::Plain;
 use hk_program::Machine;
 use std::alloc::Global;
+
+/// The merged parameters of a call.
+pub type GivenParams = Limited<Entry, 8>;
 
 /// What the lines of a history did.
 #[derive(Drop)]
 pub struct Replay {
     /// The number that the first incarnation takes which a line makes.
     pub first: Inc,
+    /// What each line did.
     pub doings: Vec<Doing>,
+    /// The merged parameters of the call that each line has begun, none of another line.
+    pub params: Vec<GivenParams>,
+    /// What has stood in the list of each object, by its name.
+    pub histories: Vec<History>,
+}
+
+// How many parameters the call has that a line has begun.
+fn param_count(line: &Line) -> usize
+    ensures { result ≡ param_count (done_call line.now) }
+{
+    match &line.reply {
+        Reply::No(_) => 0,
+        _ => match &line.what {
+            What::Call(Call::Enter { args, .. }) => args.len(),
+            _ => 0,
+        },
+    }
+}
+
+// The merged parameters of the call that a line has begun, by a kernel in the state behind it.
+fn params_behind(
+    alloc: Global,
+    kernel: &Plain,
+    line: &Line,
+    before: &Before,
+) -> Result<GivenParams, NoMemory>
+    ensures { IfOk result (λ params. params ≡ given_params line.now before.now kernel.now) }
+{
+    let Some(inc) = before.enters else {
+        return Ok(GivenParams::new(alloc));
+    };
+    let Some(incarnation) = kernel.incarnation(inc) else {
+        return Ok(GivenParams::new(alloc));
+    };
+    let slots = incarnation.slots.as_slice();
+    let count = param_count(line).min(slots.len());
+    Ok(GivenParams::from_vec(Vec::from_slice(alloc, &slots[..count])?))
 }
 
 /// The lines of a history once more, from the opening of its world on. NoMemory is want of memory.
 pub(crate) fn replayed(alloc: Global, world: &World, lines: &[Line]) -> Result<Replay, NoMemory>
+    requires { length lines.now + 1 < 2 ^ 32 }
     ensures first { IfOk result (λ r. r.first ≡ (opened world.now).state.next_inc) }
     ensures doings { IfOk result (λ r. r.doings.items ≡ doings world.now (opened world.now) lines.now) }
+    ensures params { IfOk result (λ r. r.params.items ≡ params_given world.now (opened world.now) lines.now) }
+    ensures histories { IfOk result (λ r. r.histories.items ≡ told_histories world.now lines.now) }
 {
     let kernel = Plain::new(alloc, world)?;
     let mut machine = Machine::open(alloc, world, kernel)?;
     let first = machine.kernel().next_inc();
     let mut doings = Vec::new(alloc);
-    for line in lines {
+    let mut params = Vec::new(alloc);
+    let mut histories = opened_histories(alloc, machine.kernel())?;
+    for (index, line) in lines.iter().enumerate() {
         let before = before_line(machine.kernel(), line);
         let _made = machine.step(alloc, world, line.cpu)?;
-        doings.push(doing_behind(before, machine.kernel()))?;
+        params.push(params_behind(alloc, machine.kernel(), line, &before)?)?;
+        let doing = doing_behind(before, machine.kernel());
+        let moment = index as u32 + 1;
+        note(alloc, &mut histories, machine.kernel(), moment, &doing)?;
+        doings.push(doing)?;
     }
-    Ok(Replay { first, doings })
+    finish(alloc, &mut histories, lines.len() as u32 + 1)?;
+    Ok(Replay {
+        first,
+        doings,
+        params,
+        histories,
+    })
 }

@@ -2,12 +2,13 @@
 
 ghost use Rattle.std.specs.Prelude.{◌≡◌, ◌<◌, ◌^◌, length, map, IfOk};
 ghost use Rattle.hk_model.specs.Running.{AreStepsOf};
-ghost use Rattle.hk_model.specs.Changes.{bare_changes};
+ghost use Rattle.hk_model.specs.Changes.{AreChanges, bare_changes};
 ghost use Rattle.hk_report.specs.Families.{told_change};
 
 use crate::families::{BareChange, changes_of};
+use crate::reasons::Grounds;
 use crate::replay::replayed;
-use hk_model::{Line, NoMemory, World};
+use hk_model::{Change, Line, NoMemory, World};
 use std::alloc::Global;
 
 /// The changes under confined calls (`docs/RULES.md`, "Changes and their reasons"): one for each
@@ -15,7 +16,7 @@ use std::alloc::Global;
 /// stand by rising line, and for one line by rising number of the call.
 ///
 /// `lines` are steps of `world` from its opening on, in the order of the history. NoMemory is want of memory, and nothing else.
-#[tactic(auto, using(crate::proofs::Listed::changes_found, crate::proofs::Listed::doings_few))]
+#[tactic(auto, using(crate::proofs::Listed::changes_found, crate::proofs::Listed::doings_few, crate::proofs::Listed::lines_few))]
 pub fn changes_under(
     alloc: Global,
     world: &World,
@@ -26,5 +27,28 @@ pub fn changes_under(
 {
     let _limit = world.limit();
     let replay = replayed(alloc, world, lines)?;
-    changes_of(alloc, replay.first, replay.doings.as_slice())
+    let families = changes_of(alloc, replay.first, replay.doings.as_slice())?;
+    Ok(families.changes)
+}
+
+/// The changes under confined calls, each with its reason (`docs/RULES.md`, "Changes and their
+/// reasons"): that the object was made under the call, or the least reach at the moment before the
+/// line, which is there by `hk_confine::confinement_law`. They stand by rising line, and for one line
+/// by rising number of the call.
+///
+/// `lines` are steps of `world` from its opening on, in the order of the history. NoMemory is want of memory, and nothing else.
+#[tactic(auto, using(crate::proofs::Listed::lines_few))]
+pub fn report(alloc: Global, world: &World, lines: &[Line]) -> Result<Vec<Change>, NoMemory>
+    requires { AreStepsOf world.now lines.now }
+    ensures { IfOk result (λ changes. AreChanges world.now lines.now changes.items) }
+{
+    let _limit = world.limit();
+    let replay = replayed(alloc, world, lines)?;
+    let families = changes_of(alloc, replay.first, replay.doings.as_slice())?;
+    let grounds = Grounds {
+        histories: replay.histories.as_slice(),
+        families: families.calls.as_slice(),
+        params: replay.params.as_slice(),
+    };
+    grounds.explain_all(alloc, families.changes.as_slice())
 }

@@ -1,0 +1,7 @@
+use Rattle.std.proofs.Common.{◌≡◌, ◌++◌}
+use Rattle.std.specs.Prelude.{replicate, None}
+use Rattle.hk_report.proofs.histories.padded.Given as goal
+
+-- so many are added
+abbrev pub invariant-loop : goal.invariant-loop
+invariant-loop l = l.all.items ≡ l.now ++ replicate l.counter None

@@ -1,0 +1,44 @@
+-- The changes with their reasons, from what has stood in lists, who is under which call, and the parameters of the calls.
+-- docs/RULES.md, "Changes and their reasons".
+use Rattle.std.specs.Prelude.{◌≡◌, ℕ, ◌+◌, ◌-◌, ◌<◌, ◌^◌, Bool, true, false, List, [], ◌∷◌, slice_index_or}
+use Rattle.std.specs.List.{AllByRecursion}
+use Rattle.hk_model.specs.declared.entries.Entry.{Entry}
+use Rattle.hk_model.specs.declared.reaches.Reach.{Reach}
+use Rattle.hk_model.specs.declared.reaches.Reach.TheVariants.{Made}
+use Rattle.hk_model.specs.declared.reaches.Change.{Change}
+use Rattle.hk_report.specs.declared.families.Begun.{Begun}
+use Rattle.hk_report.specs.declared.families.BareChange.{BareChange}
+use Rattle.hk_report.specs.declared.histories.History.{History}
+use Rattle.hk_report.specs.Hops.{is_made}
+use Rattle.hk_report.specs.Searches.{IsFound}
+
+-- the parameters of the call that begins at a moment, with those that each line has given
+abbrev pub params_at : List (List Entry) → ℕ → List Entry
+params_at params moment = slice_index_or params (moment - 1) []
+
+module _ (families : List (List Begun)) (histories : List History) (params : List (List Entry)) where
+  -- the reason, by whether the object was made under the call
+  abbrev pub IsReasonedBy : BareChange → Reach → Bool → Type 0
+  IsReasonedBy bare reach true = reach ≡ Made
+  IsReasonedBy bare reach false =
+      IsFound (is_made families bare.under histories) histories bare.object (bare.moment + 1) bare.under.moment (params_at params bare.under.moment) reach
+
+  abbrev pub IsReasoned : BareChange → Reach → Type 0
+  IsReasoned bare reach = IsReasonedBy bare reach (is_made families bare.under histories bare.object)
+
+  -- the change is this one, with its reason
+  pub record IsTold (bare : BareChange) (change : Change) : Type 0 where
+    pub line : change.line ≡ bare.moment + 1
+    pub under : change.under ≡ bare.under.call
+    pub object : change.object ≡ bare.object
+    pub reason : IsReasoned bare change.reach
+
+  abbrev pub AreTold : List BareChange → List Change → Type 0
+  AreTold [] [] = Unit {0}
+  AreTold (bare ∷ bares) (change ∷ changes) = IsTold bare change × AreTold bares changes
+  AreTold [] (change ∷ changes) = ⊥
+  AreTold (bare ∷ bares) [] = ⊥
+
+-- their lines can be numbered
+abbrev pub AreFew : List BareChange → Type 0
+AreFew bares = AllByRecursion (λ (bare : BareChange). bare.moment + 1 < 2 ^ 32) bares

@@ -1,0 +1,296 @@
+//! What has stood in the list of each object, from which moment to which, and who made the object
+//! (`docs/RULES.md`, "Reaches").
+
+ghost use Rattle.std.specs.Prelude.{◌≡◌, ◌+◌, ◌++◌, ◌<◌, ◌≤◌, ◌^◌, [], length, replicate, slice_get, IfOk, OnOk};
+ghost use Rattle.std.specs.Option.{option_and_then};
+ghost use Rattle.hk_model.specs.Limits.{entry_limit};
+ghost use Rattle.hk_model.specs.Places.{cap_of};
+ghost use Rattle.hk_model.specs.State.{object};
+ghost use Rattle.hk_report.specs.Histories.{same_cap, stays, since_by, ended_by, added, padded, relisted, no_history, touched, touched_name, maker_of, noted, opened_below, finished_below};
+
+use crate::doings::Doing;
+use hk_model::lists::Limited;
+use hk_model::{Cap, Entry, Inc, Items, Name, NoMemory, Template};
+use hk_plain::Plain;
+use std::alloc::Global;
+use std::marker::PhantomData;
+
+/// A capability that stands at an index of a list.
+#[derive(Clone, Copy, PartialEq, Eq, Debug)]
+pub struct Since {
+    pub cap: Cap,
+    /// The first moment at which it stood there.
+    pub from: u32,
+}
+
+/// A capability that stood at an index of a list up to a moment.
+#[derive(Clone, Copy, PartialEq, Eq, Debug)]
+pub struct Span {
+    pub index: u16,
+    pub cap: Cap,
+    /// The first moment at which it stood there.
+    pub from: u32,
+    /// The first moment after that at which it did not.
+    pub until: u32,
+}
+
+/// The history of an object: who made it, and what stood in its list.
+#[derive(Drop)]
+pub struct History {
+    /// The incarnation that made it, none of an object of the opening.
+    pub maker: Option<Inc>,
+    /// What stands at each index of its list.
+    pub now: Limited<Option<Since>, 256>,
+    /// What stood there before.
+    pub spans: Items<Span>,
+}
+
+// The capability at an index of a list.
+fn cap_at(entries: &[Entry], index: usize) -> Option<Cap>
+    ensures { result ≡ option_and_then cap_of (slice_get entries.now index) }
+{
+    let _ = PhantomData::<Template>; // Rattle is to know what an Entry holds
+    match entries.get(index) {
+        Some(Entry::Held(cap)) => Some(*cap),
+        _ => None,
+    }
+}
+
+// Whether two capabilities are the same.
+fn same_cap(a: Cap, b: Cap) -> bool
+    ensures { result ≡ same_cap a b }
+{
+    a.name.0 == b.name.0 && a.rights.bits() == b.rights.bits()
+}
+
+// Whether what stood at an index stands there still.
+fn stays(old: &Option<Since>, new: &Option<Cap>) -> bool
+    ensures { result ≡ stays old.now new.now }
+{
+    match old {
+        Some(since) => match new {
+            Some(cap) => same_cap(since.cap, *cap),
+            None => false,
+        },
+        None => false,
+    }
+}
+
+// What stands at an index from a moment on, where this stood there before.
+fn since_by(moment: u32, old: &Option<Since>, new: &Option<Cap>) -> Option<Since>
+    ensures { result ≡ since_by moment old.now new.now }
+{
+    if stays(old, new) {
+        return *old;
+    }
+    match new {
+        Some(cap) => Some(Since {
+            cap: *cap,
+            from: moment,
+        }),
+        None => None,
+    }
+}
+
+// What stood at an index up to a moment.
+fn ended_by(moment: u32, index: u16, old: &Option<Since>, new: &Option<Cap>) -> Option<Span>
+    ensures { result ≡ ended_by moment index old.now new.now }
+{
+    if stays(old, new) {
+        return None;
+    }
+    match old {
+        Some(since) => Some(Span {
+            index,
+            cap: since.cap,
+            from: since.from,
+            until: moment,
+        }),
+        None => None,
+    }
+}
+
+// One span more, if there is one.
+fn add(spans: &mut Items<Span>, span: Option<Span>) -> Result<(), NoMemory>
+    ensures { OnOk result (spans.new ≡ spans.old ++ added span) }
+{
+    if let Some(span) = span {
+        spans.push(span)?;
+    }
+    Ok(())
+}
+
+// What stands at each index of a list, at as many as this at least.
+fn padded(
+    alloc: Global,
+    now: &[Option<Since>],
+    count: usize,
+) -> Result<Vec<Option<Since>>, NoMemory>
+    ensures { IfOk result (λ all. all.items ≡ padded now.now count) }
+{
+    let mut all = Vec::from_slice(alloc, now)?;
+    let missing = count.saturating_sub(now.len());
+    for _ in 0..missing {
+        all.push(None)?;
+    }
+    Ok(all)
+}
+
+// A list has these entries from a moment on.
+fn relist(
+    alloc: Global,
+    history: &mut History,
+    moment: u32,
+    maker: Option<Inc>,
+    entries: &[Entry],
+) -> Result<(), NoMemory>
+    requires { length entries.now ≤ entry_limit }
+    ensures { OnOk result (history.new ≡ relisted moment maker entries.now history.old) }
+{
+    let olds = padded(alloc, history.now.as_slice(), entries.len())?;
+    let mut now = Vec::with_capacity(alloc, olds.len())?;
+    for (index, old) in olds.iter().enumerate() {
+        let new = cap_at(entries, index);
+        add(
+            &mut history.spans,
+            ended_by(moment, index as u16, old, &new),
+        )?;
+        now.push(since_by(moment, old, &new))?;
+    }
+    history.now = Limited::from_vec(now);
+    if maker.is_some() {
+        history.maker = maker;
+    }
+    Ok(())
+}
+
+// A history of nothing.
+fn no_history(alloc: Global) -> History
+    ensures { result ≡ no_history }
+{
+    History {
+        maker: None,
+        now: Limited::new(alloc),
+        spans: Items::new(alloc),
+    }
+}
+
+// Histories of nothing behind these, up to a name.
+fn reach_up(alloc: Global, histories: &mut Vec<History>, name: Name) -> Result<(), NoMemory>
+    ensures { OnOk result (histories.new.items ≡ histories.old.items ++ replicate (name.0 - length histories.old.items) no_history) }
+{
+    let missing = (name.0 as usize).saturating_sub(histories.len());
+    for _ in 0..missing {
+        histories.push(no_history(alloc))?;
+    }
+    Ok(())
+}
+
+// The list of the object of this name has these entries from a moment on.
+fn touch(
+    alloc: Global,
+    histories: &mut Vec<History>,
+    name: Name,
+    moment: u32,
+    maker: Option<Inc>,
+    entries: &[Entry],
+) -> Result<(), NoMemory>
+    requires { length entries.now ≤ entry_limit }
+    ensures { OnOk result (histories.new.items ≡ touched moment maker entries.now name histories.old.items) }
+{
+    match histories.get_mut(name.0 as usize) {
+        Some(history) => relist(alloc, history, moment, maker, entries),
+        None => {
+            reach_up(alloc, histories, name)?;
+            let mut history = no_history(alloc);
+            relist(alloc, &mut history, moment, maker, entries)?;
+            histories.push(history)?;
+            Ok(())
+        }
+    }
+}
+
+// The list of an object; an object that does not stand has none.
+fn entries_of(kernel: &Plain, name: Name) -> &[Entry]
+    ensures same { result.now ≡ (object kernel.now name).entries }
+    ensures few { length result.now ≤ entry_limit }
+{
+    match kernel.object(name) {
+        Some(object) => object.entries.as_slice(),
+        None => &[],
+    }
+}
+
+/// The histories at the opening of a world, by a kernel in that state. NoMemory is want of memory.
+pub(crate) fn opened_histories(alloc: Global, kernel: &Plain) -> Result<Vec<History>, NoMemory>
+    ensures { IfOk result (λ all. all.items ≡ opened_below kernel.now kernel.now.next_name.0) }
+{
+    let mut all = Vec::new(alloc);
+    for number in 0..kernel.next_name().0 {
+        let name = Name(number);
+        touch(alloc, &mut all, name, 0, None, entries_of(kernel, name))?;
+    }
+    Ok(all)
+}
+
+// The object whose list a line can have changed or made.
+fn touched_name(doing: &Doing) -> Option<Name>
+    ensures { result ≡ touched_name doing.now }
+{
+    match doing.changed {
+        Some(name) => Some(name),
+        None => doing.made,
+    }
+}
+
+// Who has made the object, where a line has made one.
+fn maker_of(doing: &Doing) -> Option<Inc>
+    ensures { result ≡ maker_of doing.now }
+{
+    match doing.made {
+        Some(_) => Some(doing.inc),
+        None => None,
+    }
+}
+
+/// The histories after one line more, by a kernel in the state behind it. `moment` is the number of
+/// lines up to and with it. NoMemory is want of memory.
+pub(crate) fn note(
+    alloc: Global,
+    histories: &mut Vec<History>,
+    kernel: &Plain,
+    moment: u32,
+    doing: &Doing,
+) -> Result<(), NoMemory>
+    ensures { OnOk result (histories.new.items ≡ noted moment doing.now kernel.now histories.old.items) }
+{
+    match touched_name(doing) {
+        Some(name) => {
+            let maker = maker_of(doing);
+            touch(
+                alloc,
+                histories,
+                name,
+                moment,
+                maker,
+                entries_of(kernel, name),
+            )
+        }
+        None => Ok(()),
+    }
+}
+
+/// The histories where all that stands ends at a moment. NoMemory is want of memory.
+pub(crate) fn finish(
+    alloc: Global,
+    histories: &mut Vec<History>,
+    moment: u32,
+) -> Result<(), NoMemory>
+    ensures { OnOk result (histories.new.items ≡ finished_below moment (length histories.old.items) histories.old.items) }
+{
+    let count = histories.len();
+    for index in 0..count {
+        touch(alloc, histories, Name(index as u64), moment, None, &[])?;
+    }
+    Ok(())
+}

@@ -1,0 +1,363 @@
+//! Hops over what has stood in lists, and which of them comes first (`docs/RULES.md`, "Reaches").
+
+ghost use Rattle.std.specs.Prelude.{◌≡◌, None, IfOk};
+ghost use Rattle.std.specs.Cmp.Lexicographic.{slice_cmp};
+ghost use Rattle.std.specs.Ordering.{nat_cmp, is_lt};
+ghost use Rattle.hk_model.specs.Reaches.{index_of, moment_of};
+ghost use Rattle.hk_model.specs.Changes.{hop_key};
+ghost use Rattle.hk_report.specs.Histories.{history_of};
+ghost use Rattle.hk_report.specs.Hops.{same_begun, has_begun, is_made, next_level, later, greater, lesser, arrived_by, arrived_whole, latest_at, is_good, entry_onward, handed_onward, earlier, onward_over, first_from, from_on, entry_bound, handed_bound, latest_from};
+
+use crate::families::{Begun, calls_over};
+use crate::histories::{History, Span};
+use hk_model::{Cap, Hop, Items, Name, NoMemory};
+use hk_rights::Right;
+use std::alloc::Global;
+
+/// Where a way has come to.
+#[derive(Clone, Copy, PartialEq, Eq, Debug)]
+pub struct Arrived {
+    pub name: Name,
+    /// Whether the object stands good for the modifiable reach.
+    pub modify: bool,
+    /// Whether it stands good for the unconfined reach.
+    pub unconf: bool,
+    pub moment: u32,
+}
+
+/// From which moments on an object the rest of a way can be made: from those below these.
+#[derive(Clone, Copy, PartialEq, Eq, Debug)]
+pub struct Latest {
+    /// Where the object stands good for the modifiable reach.
+    pub modify: u32,
+    /// Where it stands good for the unconfined reach.
+    pub unconf: u32,
+}
+
+/// From which moments the rest of a way can be made that has so many hops.
+#[derive(Drop)]
+pub enum Level {
+    /// No hop: the way has come to this object, before this moment.
+    End { name: Name, before: u32 },
+    /// For each object, by its name.
+    Hops(Items<Latest>),
+}
+
+/// A hop, and where it leads.
+#[derive(Clone, Copy, PartialEq, Eq, Debug)]
+pub struct Onward {
+    pub hop: Hop,
+    pub to: Arrived,
+}
+
+/// What hops of a call go over.
+#[derive(Clone, Copy)]
+pub(crate) struct Ground<'a> {
+    /// What has stood in the list of each object, by its name.
+    pub histories: &'a [History],
+    /// The confined calls that each incarnation is under, by its number.
+    pub families: &'a [Items<Begun>],
+    /// The confined call that makes the hops.
+    pub begun: Begun,
+}
+
+// Whether two calls are the same.
+fn same_begun(a: Begun, b: Begun) -> bool
+    ensures { result ≡ same_begun a b }
+{
+    a.call.0 == b.call.0 && a.moment == b.moment
+}
+
+// Whether a call is one of these.
+fn has_begun(begun: Begun, calls: &[Begun]) -> bool
+    ensures { result ≡ has_begun begun calls.now }
+{
+    for call in calls {
+        if same_begun(begun, *call) {
+            return true;
+        }
+    }
+    false
+}
+
+// The later of two moments.
+fn later(a: u32, b: u32) -> u32
+    ensures { result ≡ later a b }
+{
+    if a < b { b } else { a }
+}
+
+// The lesser of two bounds.
+fn lesser(a: u32, b: u32) -> u32
+    ensures { result ≡ lesser a b }
+{
+    if a < b { a } else { b }
+}
+
+/// What a capability stands good for, at a moment.
+pub(crate) fn arrived_by(moment: u32, cap: Cap) -> Arrived
+    ensures { result ≡ arrived_by moment cap }
+{
+    Arrived {
+        name: cap.name,
+        modify: cap.rights.has(Right::MODIFY),
+        unconf: cap.rights.has(Right::UNCONF),
+        moment,
+    }
+}
+
+// An object that was made under the call stands good for both.
+fn arrived_whole(moment: u32, cap: Cap) -> Arrived
+    ensures { result ≡ arrived_whole moment cap }
+{
+    Arrived {
+        name: cap.name,
+        modify: true,
+        unconf: true,
+        moment,
+    }
+}
+
+// From which moments the rest can be made at an object.
+fn latest_at(level: &Level, name: Name) -> Latest
+    ensures { result ≡ latest_at level.now name }
+{
+    let nothing = Latest {
+        modify: 0,
+        unconf: 0,
+    };
+    match level {
+        Level::End { name: end, before } => {
+            if name.0 == end.0 {
+                Latest {
+                    modify: *before,
+                    unconf: 0,
+                }
+            } else {
+                nothing
+            }
+        }
+        Level::Hops(latest) => match latest.as_slice().get(name.0 as usize) {
+            Some(latest) => *latest,
+            None => nothing,
+        },
+    }
+}
+
+// Whether the rest can be made from there.
+fn is_good(to: &Arrived, latest: Latest) -> bool
+    ensures { result ≡ is_good to.now latest }
+{
+    (to.modify && to.moment < latest.modify) || (to.unconf && to.moment < latest.unconf)
+}
+
+// The hop by the entry, where it can be made and the rest after it.
+fn entry_onward(from: &Arrived, span: &Span, latest: Latest) -> Option<Onward>
+    ensures { result ≡ entry_onward from.now span.now latest }
+{
+    let moment = later(from.moment, span.from);
+    let to = arrived_by(moment, span.cap);
+    if from.unconf && moment < span.until && is_good(&to, latest) {
+        let hop = Hop::Entry {
+            index: span.index,
+            moment,
+        };
+        Some(Onward { hop, to })
+    } else {
+        None
+    }
+}
+
+// The hop to what was made under the call, where it can be made and the rest after it.
+fn handed_onward(from: &Arrived, span: &Span, latest: Latest, made: bool) -> Option<Onward>
+    ensures { result ≡ handed_onward from.now span.now latest made }
+{
+    let moment = later(from.moment, span.from);
+    let to = arrived_whole(moment, span.cap);
+    if from.modify && made && moment < span.until && is_good(&to, latest) {
+        let hop = Hop::Handed {
+            index: span.index,
+            moment,
+        };
+        Some(Onward { hop, to })
+    } else {
+        None
+    }
+}
+
+// The index of a hop.
+fn index_of(hop: &Hop) -> u16
+    ensures { result ≡ index_of hop.now }
+{
+    match hop {
+        Hop::Entry { index, .. } => *index,
+        Hop::Handed { index, .. } => *index,
+    }
+}
+
+// The moment of a hop.
+fn moment_of(hop: &Hop) -> u32
+    ensures { result ≡ moment_of hop.now }
+{
+    match hop {
+        Hop::Entry { moment, .. } => *moment,
+        Hop::Handed { moment, .. } => *moment,
+    }
+}
+
+// Whether a hop comes before another: by its moment, then its index, then an entry before what is handed.
+fn comes_before(a: &Hop, b: &Hop) -> bool
+    ensures { result ≡ is_lt (slice_cmp nat_cmp (hop_key a.now) (hop_key b.now)) }
+{
+    if moment_of(a) != moment_of(b) {
+        return moment_of(a) < moment_of(b);
+    }
+    if index_of(a) != index_of(b) {
+        return index_of(a) < index_of(b);
+    }
+    match (a, b) {
+        (Hop::Entry { .. }, Hop::Handed { .. }) => true,
+        _ => false,
+    }
+}
+
+// The hop that comes first of those that there are.
+fn earlier(a: Option<Onward>, b: Option<Onward>) -> Option<Onward>
+    ensures { result ≡ earlier a b }
+{
+    match a {
+        None => b,
+        Some(first) => match b {
+            None => a,
+            Some(second) => {
+                if comes_before(&second.hop, &first.hop) {
+                    b
+                } else {
+                    a
+                }
+            }
+        },
+    }
+}
+
+// From which moments a hop over a span can be made at its list, where the rest can be from below a bound.
+fn from_on(span: &Span, bound: u32) -> u32
+    ensures { result ≡ from_on span.now bound }
+{
+    let bound = lesser(span.until, bound);
+    if span.from < bound { bound } else { 0 }
+}
+
+// The greater of two bounds.
+fn greater(a: u32, b: u32) -> u32
+    ensures { result ≡ greater a b }
+{
+    if a < b { b } else { a }
+}
+
+// From which moments a hop by the entry can be made.
+fn entry_bound(span: &Span, latest: Latest) -> u32
+    ensures { result ≡ entry_bound span.now latest }
+{
+    let modify = if span.cap.rights.has(Right::MODIFY) {
+        latest.modify
+    } else {
+        0
+    };
+    let unconf = if span.cap.rights.has(Right::UNCONF) {
+        latest.unconf
+    } else {
+        0
+    };
+    from_on(span, greater(modify, unconf))
+}
+
+// From which moments it can be made to what was made under the call.
+fn handed_bound(span: &Span, latest: Latest, made: bool) -> u32
+    ensures { result ≡ handed_bound span.now latest made }
+{
+    if made {
+        from_on(span, greater(latest.modify, latest.unconf))
+    } else {
+        0
+    }
+}
+
+impl<'a> Ground<'a> {
+    /// Whether an object was made under the call.
+    pub(crate) fn is_made(&self, name: Name) -> bool
+        ensures { result ≡ is_made self.now.families.now self.now.begun self.now.histories.now name }
+    {
+        match self.histories.get(name.0 as usize) {
+            Some(history) => match history.maker {
+                Some(inc) => has_begun(self.begun, calls_over(self.families, inc)),
+                None => false,
+            },
+            None => false,
+        }
+    }
+
+    // The spans of an object's list.
+    fn spans_of(&self, name: Name) -> &[Span]
+        ensures { result.now ≡ (history_of self.now.histories.now name).spans }
+    {
+        match self.histories.get(name.0 as usize) {
+            Some(history) => history.spans.as_slice(),
+            None => &[],
+        }
+    }
+
+    // The first hop over a span after which the rest can be made.
+    fn onward_over(&self, level: &Level, from: &Arrived, span: &Span) -> Option<Onward>
+        ensures { result ≡ onward_over (is_made self.now.families.now self.now.begun self.now.histories.now) level.now from.now span.now }
+    {
+        let latest = latest_at(level, span.cap.name);
+        let made = self.is_made(span.cap.name);
+        earlier(
+            entry_onward(from, span, latest),
+            handed_onward(from, span, latest, made),
+        )
+    }
+
+    /// The first hop after which the rest can be made.
+    pub(crate) fn first_onward(&self, level: &Level, from: &Arrived) -> Option<Onward>
+        ensures { result ≡ first_from (is_made self.now.families.now self.now.begun self.now.histories.now) level.now from.now None (history_of self.now.histories.now from.now.name).spans }
+    {
+        let spans = self.spans_of(from.name);
+        let mut first = None;
+        for span in spans {
+            first = earlier(first, self.onward_over(level, from, span));
+        }
+        first
+    }
+
+    // From which moments at a list a hop and the rest can be made.
+    fn latest_from(&self, level: &Level, spans: &[Span]) -> Latest
+        ensures { result ≡ latest_from (is_made self.now.families.now self.now.begun self.now.histories.now) level.now (record { modify = 0; unconf = 0 }) spans.now }
+    {
+        let mut all = Latest {
+            modify: 0,
+            unconf: 0,
+        };
+        for span in spans {
+            let latest = latest_at(level, span.cap.name);
+            let made = self.is_made(span.cap.name);
+            all = Latest {
+                modify: greater(all.modify, handed_bound(span, latest, made)),
+                unconf: greater(all.unconf, entry_bound(span, latest)),
+            };
+        }
+        all
+    }
+
+    /// The level of one hop more. NoMemory is want of memory.
+    pub(crate) fn next_level(&self, alloc: Global, level: &Level) -> Result<Level, NoMemory>
+        ensures { IfOk result (λ next. next ≡ next_level (is_made self.now.families.now self.now.begun self.now.histories.now) self.now.histories.now level.now) }
+    {
+        let mut all = Vec::with_capacity(alloc, self.histories.len())?;
+        for history in self.histories {
+            all.push(self.latest_from(level, history.spans.as_slice()))?;
+        }
+        Ok(Level::Hops(Items::from_vec(all)))
+    }
+}
