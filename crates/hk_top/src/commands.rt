@@ -14,7 +14,7 @@ use crate::outputs::{due_to_bytes, text_alone, too_long};
 use crate::processors::run_script_on;
 use crate::served::{Served, Silence};
 use crate::status;
-use crate::words::{Command, read_command};
+use crate::words::{Command, JSON_BYTES, read_command};
 use hk_io::{ReadError, Sink, Source, read_all, write_all};
 use hk_model::limits::{RECORD_BYTES, SCRIPT_BYTES};
 use hk_procs::Gate;
@@ -187,8 +187,13 @@ fn byte_limit(command: Command) -> usize
     ensures { result ≡ byte_limit command }
 {
     match command {
-        Command::Run | Command::RunOn(_) | Command::Show | Command::Bound => SCRIPT_BYTES,
-        Command::Check | Command::Trace(_) => RECORD_BYTES,
+        Command::Run
+        | Command::RunOn(_)
+        | Command::Show
+        | Command::Bound
+        | Command::Json => SCRIPT_BYTES,
+        Command::Check | Command::Confine | Command::Trace(_) | Command::Back(_) => RECORD_BYTES,
+        Command::Unjson => JSON_BYTES,
         Command::Gen(_) => 0,
     }
 }
