@@ -10,9 +10,8 @@ use Rattle.hk_model.specs.declared.entries.Cap.{Cap}
 use Rattle.hk_report.specs.declared.histories.Span.{Span}
 use Rattle.hk_report.specs.declared.hops.Arrived.{Arrived}
 use Rattle.hk_report.specs.declared.hops.Latest.{Latest}
-use Rattle.hk_report.specs.declared.hops.Level.{Level}
 use Rattle.hk_report.specs.declared.hops.Onward.{Onward}
-use Rattle.hk_report.specs.Hops.{later, greater, lesser, arrived_by, arrived_whole, latest_at, is_good, entry_onward, handed_onward, earlier, onward_over, first_from, from_on, entry_bound}
+use Rattle.hk_report.specs.Hops.{later, greater, lesser, arrived_by, arrived_whole, is_good, entry_onward, handed_onward, earlier, onward_over, first_from, from_on, entry_bound}
 use Rattle.hk_report.specs.Hops.{handed_bound, raised, latest_from, comes_before}
 
 -- tests that follow from each other are the same
@@ -113,13 +112,13 @@ some_earlier (Some a) (Some b) = by (comes_before b.hop a.hop)
     by true = refl
     by false = refl
 
-module _ (made : Name → Bool) (level : Level) (from : Arrived) where
+module _ (made : Name → Bool) (level : Name → Latest) (from : Arrived) where
   some_over : (span : Span) → is_some (onward_over made level from span)
-      ≡ ((from.unconf && nat_lt from.moment (entry_bound span (latest_at level span.cap.name)))
-      || (from.modify && nat_lt from.moment (handed_bound span (latest_at level span.cap.name) (made span.cap.name))))
+      ≡ ((from.unconf && nat_lt from.moment (entry_bound span (level span.cap.name)))
+      || (from.modify && nat_lt from.moment (handed_bound span (level span.cap.name) (made span.cap.name))))
   some_over span =
-      some_earlier (entry_onward from span (latest_at level span.cap.name)) (handed_onward from span (latest_at level span.cap.name) (made span.cap.name))
-      ∙ rw (some_entry from span (latest_at level span.cap.name), some_handed from span (latest_at level span.cap.name) (made span.cap.name)) refl
+      some_earlier (entry_onward from span (level span.cap.name)) (handed_onward from span (level span.cap.name) (made span.cap.name))
+      ∙ rw (some_entry from span (level span.cap.name), some_handed from span (level span.cap.name) (made span.cap.name)) refl
 
   pub some_first : (spans : List Span) (first : Option Onward)
       → is_some (first_from made level from first spans) ≡ (is_some first || list_any (λ (s : Span). is_some (onward_over made level from s)) spans)
@@ -139,13 +138,13 @@ module _ (made : Name → Bool) (level : Level) (from : Arrived) where
 
   good_raised : (all : Latest) (span : Span) → is_good from (raised made level all span) ≡ (is_good from all || is_some (onward_over made level from span))
   good_raised all span =
-      rw (
-        below_greater from.moment all.modify (handed_bound span (latest_at level span.cap.name) (made span.cap.name)),
-        below_greater from.moment all.unconf (entry_bound span (latest_at level span.cap.name)),
-        some_over span,
-      )
-      (by from.modify from.unconf (nat_lt from.moment all.modify) (nat_lt from.moment all.unconf)
-      (nat_lt from.moment (handed_bound span (latest_at level span.cap.name) (made span.cap.name))) (nat_lt from.moment (entry_bound span (latest_at level span.cap.name))))
+      ap (λ (x : Bool). (from.modify && x) || (from.unconf && nat_lt from.moment (greater all.unconf (entry_bound span (level span.cap.name)))))
+      (below_greater from.moment all.modify (handed_bound span (level span.cap.name) (made span.cap.name)))
+      ∙ ap (λ (x : Bool). (from.modify && (nat_lt from.moment all.modify || nat_lt from.moment (handed_bound span (level span.cap.name) (made span.cap.name)))) || (from.unconf && x))
+      (below_greater from.moment all.unconf (entry_bound span (level span.cap.name)))
+      ∙ by from.modify from.unconf (nat_lt from.moment all.modify) (nat_lt from.moment all.unconf)
+      (nat_lt from.moment (handed_bound span (level span.cap.name) (made span.cap.name))) (nat_lt from.moment (entry_bound span (level span.cap.name)))
+      ∙ ap (λ (x : Bool). is_good from all || x) (sym (some_over span))
     where
       by : (m u a b h e : Bool) → ((m && (a || h)) || (u && (b || e))) ≡ (((m && a) || (u && b)) || ((u && e) || (m && h)))
       by false false a b h e = refl

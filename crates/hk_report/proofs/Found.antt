@@ -23,7 +23,7 @@ use Rattle.hk_model.specs.Reaches.{Reached, reached_by, listed_cap, follow, para
 use Rattle.hk_model.specs.Changes.{hop_key, reach_key, is_at_most, IsLeastReach}
 use Rattle.hk_report.specs.declared.histories.History.{History}
 use Rattle.hk_report.specs.declared.hops.Arrived.{Arrived}
-use Rattle.hk_report.specs.declared.hops.Level.{Level}
+use Rattle.hk_report.specs.declared.hops.Latest.{Latest}
 use Rattle.hk_report.specs.declared.hops.Onward.{Onward}
 use Rattle.hk_report.specs.declared.searching.Start.{Start}
 use Rattle.hk_report.specs.Histories.{history_of}
@@ -91,7 +91,7 @@ direct_none wanted index (entry ∷ entries) h other held k p = by (is_direct wa
     by false e g zero k = true≢false (sym (ap (is_direct_held wanted) k ∙ p) ∙ e)
     by false e g (suc other) k = direct_none wanted (index + 1) entries g other held k p
 
-module _ (made : Name → Bool) (histories : List History) (k : ℕ) (level : Level) where
+module _ (made : Name → Bool) (histories : List History) (k : ℕ) (level : Name → Latest) where
   -- a parameter from where the rest can be made, and none before it
   record FirstStart (index : ℕ) (entries : List Entry) (start : Start) : Type 0 where
     place : ℕ

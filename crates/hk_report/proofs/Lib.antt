@@ -2,10 +2,10 @@ mod NamedLemmas
 mod Replaying
 mod Followed
 mod Listed
-mod HopLemmas
 mod HistoryLemmas
-mod SearchLemmas
 mod Keys
+mod HopLemmas
+mod SearchLemmas
 mod Bounds
 mod Spans
 mod Onwards

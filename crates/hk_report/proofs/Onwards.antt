@@ -22,11 +22,9 @@ use Rattle.hk_report.specs.declared.histories.Span.{Span}
 use Rattle.hk_report.specs.declared.histories.History.{History}
 use Rattle.hk_report.specs.declared.hops.Arrived.{Arrived}
 use Rattle.hk_report.specs.declared.hops.Latest.{Latest}
-use Rattle.hk_report.specs.declared.hops.Level.{Level}
-use Rattle.hk_report.specs.declared.hops.Level.TheVariants as level_by
 use Rattle.hk_report.specs.declared.hops.Onward.{Onward}
 use Rattle.hk_report.specs.Histories.{history_of, no_history}
-use Rattle.hk_report.specs.Hops.{later, arrived_by, arrived_whole, latest_at, no_latest, ends_before, is_good, entry_onward, handed_onward, earlier, onward_over, first_from, latest_from, next_level, comes_before}
+use Rattle.hk_report.specs.Hops.{later, arrived_by, arrived_whole, latest_end, no_latest, ends_before, is_good, entry_onward, handed_onward, earlier, onward_over, first_from, latest_from, next_latest, comes_before}
 use Rattle.hk_report.specs.Searches.{first_onward, level_at, hops_down}
 use Rattle.hk_report.proofs.Keys.{NotAfter, sooner, not_before, before_then, not_after_then, hop_then}
 use Rattle.hk_report.proofs.Bounds.{some_first, good_from}
@@ -175,13 +173,13 @@ module _ (at : ℕ → State) (made test : Name → Bool) (test_is : (x : Name) 
   -- ---- the hops over a span
 
   -- a hop leads where it is told to, and the rest can be made there
-  pub record Leads (level : Level) (from : Arrived) (o : Onward) : Type 0 where
+  pub record Leads (level : Name → Latest) (from : Arrived) (o : Onward) : Type 0 where
     pub leads : hop_to at made o.hop (reached from) ≡ Some (reached o.to)
     pub there : stands (at o.to.moment) o.to.name ≡ true
     pub by_end : o.to.moment ≤ end
-    pub good : is_good o.to (latest_at level o.to.name) ≡ true
+    pub good : is_good o.to (level o.to.name) ≡ true
 
-  module _ (level : Level) (from : Arrived) (by_end : from.moment ≤ end) (there : stands (at from.moment) from.name ≡ true) where
+  module _ (level : Name → Latest) (from : Arrived) (by_end : from.moment ≤ end) (there : stands (at from.moment) from.name ≡ true) where
     -- at the first moment at which a span can be gone over its capability is there
     span_holds : (span : Span) → Stood at end from.name span → nat_lt (later from.moment span.from) span.until ≡ true
         → listed_cap (at (later from.moment span.from)) from.name span.index ≡ Some span.cap
@@ -200,18 +198,18 @@ module _ (at : ℕ → State) (made test : Name → Bool) (test_is : (x : Name) 
         → hop_to at made (hop_by.Handed index m) (reached from) ≡ Some (handed_over m cap)
     hop_handed index m cap u y held late = rw (le-leb from.moment m late, held, u, y) refl
 
-    entry_leads : (span : Span) → Stood at end from.name span → Held (Leads level from) (entry_onward from span (latest_at level span.cap.name))
+    entry_leads : (span : Span) → Stood at end from.name span → Held (Leads level from) (entry_onward from span (level span.cap.name))
     entry_leads span stood =
-        by (from.unconf && (nat_lt (later from.moment span.from) span.until && is_good (arrived_by (later from.moment span.from) span.cap) (latest_at level span.cap.name))) refl
+        by (from.unconf && (nat_lt (later from.moment span.from) span.until && is_good (arrived_by (later from.moment span.from) span.cap) (level span.cap.name))) refl
       where
         by : (o : Bool)
-            → (from.unconf && (nat_lt (later from.moment span.from) span.until && is_good (arrived_by (later from.moment span.from) span.cap) (latest_at level span.cap.name))) ≡ o
+            → (from.unconf && (nat_lt (later from.moment span.from) span.until && is_good (arrived_by (later from.moment span.from) span.cap) (level span.cap.name))) ≡ o
             → Held (Leads level from)
             (cond o (Some (record { hop = hop_by.Entry span.index (later from.moment span.from); to = arrived_by (later from.moment span.from) span.cap })) None)
         by false e = tt
         by true e =
             let m = later from.moment span.from in
-            let good = is_good (arrived_by m span.cap) (latest_at level span.cap.name) in
+            let good = is_good (arrived_by m span.cap) (level span.cap.name) in
             let a = first_so from.unconf (nat_lt m span.until && good) e in
             let r = second_so from.unconf (nat_lt m span.until && good) e in
             let held = span_holds span stood (first_so (nat_lt m span.until) good r) in
@@ -222,22 +220,22 @@ module _ (at : ℕ → State) (made test : Name → Bool) (test_is : (x : Name) 
               good = second_so (nat_lt m span.until) good r;
             }
 
-    handed_leads : (span : Span) → Stood at end from.name span → Held (Leads level from) (handed_onward from span (latest_at level span.cap.name) (test span.cap.name))
+    handed_leads : (span : Span) → Stood at end from.name span → Held (Leads level from) (handed_onward from span (level span.cap.name) (test span.cap.name))
     handed_leads span stood =
         by (from.modify
-        && (test span.cap.name && (nat_lt (later from.moment span.from) span.until && is_good (arrived_whole (later from.moment span.from) span.cap) (latest_at level span.cap.name))))
+        && (test span.cap.name && (nat_lt (later from.moment span.from) span.until && is_good (arrived_whole (later from.moment span.from) span.cap) (level span.cap.name))))
         refl
       where
         by : (o : Bool)
             → (from.modify
-            && (test span.cap.name && (nat_lt (later from.moment span.from) span.until && is_good (arrived_whole (later from.moment span.from) span.cap) (latest_at level span.cap.name))))
+            && (test span.cap.name && (nat_lt (later from.moment span.from) span.until && is_good (arrived_whole (later from.moment span.from) span.cap) (level span.cap.name))))
             ≡ o
             → Held (Leads level from)
             (cond o (Some (record { hop = hop_by.Handed span.index (later from.moment span.from); to = arrived_whole (later from.moment span.from) span.cap })) None)
         by false e = tt
         by true e =
             let m = later from.moment span.from in
-            let good = is_good (arrived_whole m span.cap) (latest_at level span.cap.name) in
+            let good = is_good (arrived_whole m span.cap) (level span.cap.name) in
             let a = first_so from.modify (test span.cap.name && (nat_lt m span.until && good)) e in
             let r = second_so from.modify (test span.cap.name && (nat_lt m span.until && good)) e in
             let b = first_so (test span.cap.name) (nat_lt m span.until && good) r in
@@ -252,7 +250,7 @@ module _ (at : ℕ → State) (made test : Name → Bool) (test_is : (x : Name) 
 
     over_leads : (span : Span) → Stood at end from.name span → Held (Leads level from) (onward_over test level from span)
     over_leads span stood =
-        earlier_holds (Leads level from) (entry_onward from span (latest_at level span.cap.name)) (handed_onward from span (latest_at level span.cap.name) (test span.cap.name))
+        earlier_holds (Leads level from) (entry_onward from span (level span.cap.name)) (handed_onward from span (level span.cap.name) (test span.cap.name))
         (entry_leads span stood) (handed_leads span stood)
 
     first_leads : (spans : List Span) (first : Option Onward) → Held (Leads level from) first → All (Stood at end from.name) spans
@@ -267,12 +265,12 @@ module _ (at : ℕ → State) (made test : Name → Bool) (test_is : (x : Name) 
 
   -- ---- every hop is told by a span
 
-  by_start : (level : Level) (from : Arrived) (hop : Hop) (spans : List Span) (first : Option Onward) → IsBy first hop → IsBy (first_from test level from first spans) hop
+  by_start : (level : Name → Latest) (from : Arrived) (hop : Hop) (spans : List Span) (first : Option Onward) → IsBy first hop → IsBy (first_from test level from first spans) hop
   by_start level from hop [] first h = h
   by_start level from hop (span ∷ spans) first h =
       by_start level from hop spans (earlier first (onward_over test level from span)) (by_left first (onward_over test level from span) hop h)
 
-  by_span : (level : Level) (from : Arrived) (hop : Hop) (spans : List Span) (first : Option Onward) (span : Span) → Has spans span → IsBy (onward_over test level from span) hop
+  by_span : (level : Name → Latest) (from : Arrived) (hop : Hop) (spans : List Span) (first : Option Onward) (span : Span) → Has spans span → IsBy (onward_over test level from span) hop
       → IsBy (first_from test level from first spans) hop
   by_span level from hop [] first span h g = absurd h
   by_span level from hop (next ∷ spans) first span (inl e) g =
@@ -305,13 +303,13 @@ module _ (at : ℕ → State) (made test : Name → Bool) (test_is : (x : Name) 
   to_moment from (hop_by.Entry index m) to cap h = sym (ap (λ (r : Reached). r.moment) (chosen from.unconf (reached_by m cap) to h).1)
   to_moment from (hop_by.Handed index m) to cap h = sym (ap (λ (r : Reached). r.moment) (chosen (from.modify && made cap.name) (handed_over m cap) to h).1)
 
-  module _ (level : Level) (from : Arrived) where
+  module _ (level : Name → Latest) (from : Arrived) where
     -- the hop over a span at its first moment does not come after a hop over it
     by_entry : (index m : ℕ) (to : Reached) (cap : Cap) (told : SpanAt (history_of histories from.name).spans m index cap) → from.moment ≤ m
-        → onward made (hop_by.Entry index m) (reached from) cap ≡ Some to → is_good (arrived to) (latest_at level to.name) ≡ true
+        → onward made (hop_by.Entry index m) (reached from) cap ≡ Some to → is_good (arrived to) (level to.name) ≡ true
         → IsBy (onward_over test level from told.span) (hop_by.Entry index m)
     by_entry index m to cap told late h good =
-        by_left (entry_onward from span (latest_at level span.cap.name)) (handed_onward from span (latest_at level span.cap.name) (test span.cap.name)) (hop_by.Entry index m)
+        by_left (entry_onward from span (level span.cap.name)) (handed_onward from span (level span.cap.name) (test span.cap.name)) (hop_by.Entry index m)
         (record { by = made_onward; is = ap (λ (b : Bool). cond b (Some made_onward) None) holds; not_after = sooner made_onward.hop (hop_by.Entry index m) early told.index_is refl })
       where
         span : Span
@@ -326,27 +324,27 @@ module _ (at : ℕ → State) (made test : Name → Bool) (test_is : (x : Name) 
         found : (from.unconf ≡ true) × (reached_by m cap ≡ to)
         found = chosen from.unconf (reached_by m cap) to h
 
-        good_then : is_good (arrived_by m cap) (latest_at level cap.name) ≡ true
-        good_then = subst (λ (r : Reached). is_good (arrived r) (latest_at level r.name) ≡ true) (sym found.1) good
+        good_then : is_good (arrived_by m cap) (level cap.name) ≡ true
+        good_then = subst (λ (r : Reached). is_good (arrived r) (level r.name) ≡ true) (sym found.1) good
 
-        good_now : is_good (arrived_by (later from.moment span.from) span.cap) (latest_at level span.cap.name) ≡ true
+        good_now : is_good (arrived_by (later from.moment span.from) span.cap) (level span.cap.name) ≡ true
         good_now =
-            subst (λ (c : Cap). is_good (arrived_by (later from.moment span.from) c) (latest_at level c.name) ≡ true) (sym told.cap_is)
-            (good_earlier (has cap.rights modify_right) (has cap.rights unconf_right) (later from.moment span.from) m (latest_at level cap.name) early good_then)
+            subst (λ (c : Cap). is_good (arrived_by (later from.moment span.from) c) (level c.name) ≡ true) (sym told.cap_is)
+            (good_earlier (has cap.rights modify_right) (has cap.rights unconf_right) (later from.moment span.from) m (level cap.name) early good_then)
 
         before : nat_lt (later from.moment span.from) span.until ≡ true
         before = let u = told.until in lt-ltb (later from.moment span.from) span.until (omega (arith, early, u))
 
-        holds : (from.unconf && (nat_lt (later from.moment span.from) span.until && is_good (arrived_by (later from.moment span.from) span.cap) (latest_at level span.cap.name))) ≡ true
+        holds : (from.unconf && (nat_lt (later from.moment span.from) span.until && is_good (arrived_by (later from.moment span.from) span.cap) (level span.cap.name))) ≡ true
         holds =
-            and_yes from.unconf (nat_lt (later from.moment span.from) span.until && is_good (arrived_by (later from.moment span.from) span.cap) (latest_at level span.cap.name)) found.0
-            (and_yes (nat_lt (later from.moment span.from) span.until) (is_good (arrived_by (later from.moment span.from) span.cap) (latest_at level span.cap.name)) before good_now)
+            and_yes from.unconf (nat_lt (later from.moment span.from) span.until && is_good (arrived_by (later from.moment span.from) span.cap) (level span.cap.name)) found.0
+            (and_yes (nat_lt (later from.moment span.from) span.until) (is_good (arrived_by (later from.moment span.from) span.cap) (level span.cap.name)) before good_now)
 
     by_handed : (index m : ℕ) (to : Reached) (cap : Cap) (told : SpanAt (history_of histories from.name).spans m index cap) → from.moment ≤ m
-        → onward made (hop_by.Handed index m) (reached from) cap ≡ Some to → is_good (arrived to) (latest_at level to.name) ≡ true
+        → onward made (hop_by.Handed index m) (reached from) cap ≡ Some to → is_good (arrived to) (level to.name) ≡ true
         → IsBy (onward_over test level from told.span) (hop_by.Handed index m)
     by_handed index m to cap told late h good =
-        by_right (entry_onward from span (latest_at level span.cap.name)) (handed_onward from span (latest_at level span.cap.name) (test span.cap.name)) (hop_by.Handed index m)
+        by_right (entry_onward from span (level span.cap.name)) (handed_onward from span (level span.cap.name) (test span.cap.name)) (hop_by.Handed index m)
         (record { by = made_onward; is = ap (λ (b : Bool). cond b (Some made_onward) None) holds; not_after = sooner made_onward.hop (hop_by.Handed index m) early told.index_is refl })
       where
         span : Span
@@ -361,13 +359,13 @@ module _ (at : ℕ → State) (made test : Name → Bool) (test_is : (x : Name) 
         found : ((from.modify && made cap.name) ≡ true) × (handed_over m cap ≡ to)
         found = chosen (from.modify && made cap.name) (handed_over m cap) to h
 
-        good_then : is_good (arrived_whole m cap) (latest_at level cap.name) ≡ true
-        good_then = subst (λ (r : Reached). is_good (arrived r) (latest_at level r.name) ≡ true) (sym found.1) good
+        good_then : is_good (arrived_whole m cap) (level cap.name) ≡ true
+        good_then = subst (λ (r : Reached). is_good (arrived r) (level r.name) ≡ true) (sym found.1) good
 
-        good_now : is_good (arrived_whole (later from.moment span.from) span.cap) (latest_at level span.cap.name) ≡ true
+        good_now : is_good (arrived_whole (later from.moment span.from) span.cap) (level span.cap.name) ≡ true
         good_now =
-            subst (λ (c : Cap). is_good (arrived_whole (later from.moment span.from) c) (latest_at level c.name) ≡ true) (sym told.cap_is)
-            (good_earlier true true (later from.moment span.from) m (latest_at level cap.name) early good_then)
+            subst (λ (c : Cap). is_good (arrived_whole (later from.moment span.from) c) (level c.name) ≡ true) (sym told.cap_is)
+            (good_earlier true true (later from.moment span.from) m (level cap.name) early good_then)
 
         before : nat_lt (later from.moment span.from) span.until ≡ true
         before = let u = told.until in lt-ltb (later from.moment span.from) span.until (omega (arith, early, u))
@@ -376,17 +374,17 @@ module _ (at : ℕ → State) (made test : Name → Bool) (test_is : (x : Name) 
         tested = test_is span.cap.name ∙ ap (λ (c : Cap). made c.name) told.cap_is ∙ second_so from.modify (made cap.name) found.0
 
         holds : (from.modify
-            && (test span.cap.name && (nat_lt (later from.moment span.from) span.until && is_good (arrived_whole (later from.moment span.from) span.cap) (latest_at level span.cap.name))))
+            && (test span.cap.name && (nat_lt (later from.moment span.from) span.until && is_good (arrived_whole (later from.moment span.from) span.cap) (level span.cap.name))))
             ≡ true
         holds =
             and_yes from.modify
-            (test span.cap.name && (nat_lt (later from.moment span.from) span.until && is_good (arrived_whole (later from.moment span.from) span.cap) (latest_at level span.cap.name)))
+            (test span.cap.name && (nat_lt (later from.moment span.from) span.until && is_good (arrived_whole (later from.moment span.from) span.cap) (level span.cap.name)))
             (first_so from.modify (made cap.name) found.0)
-            (and_yes (test span.cap.name) (nat_lt (later from.moment span.from) span.until && is_good (arrived_whole (later from.moment span.from) span.cap) (latest_at level span.cap.name)) tested
-            (and_yes (nat_lt (later from.moment span.from) span.until) (is_good (arrived_whole (later from.moment span.from) span.cap) (latest_at level span.cap.name)) before good_now))
+            (and_yes (test span.cap.name) (nat_lt (later from.moment span.from) span.until && is_good (arrived_whole (later from.moment span.from) span.cap) (level span.cap.name)) tested
+            (and_yes (nat_lt (later from.moment span.from) span.until) (is_good (arrived_whole (later from.moment span.from) span.cap) (level span.cap.name)) before good_now))
 
     -- where a hop leads to from where the rest can be made, the first hop does not come after it
-    pub first_by : (hop : Hop) (to : Reached) → hop_to at made hop (reached from) ≡ Some to → to.moment ≤ end → is_good (arrived to) (latest_at level to.name) ≡ true
+    pub first_by : (hop : Hop) (to : Reached) → hop_to at made hop (reached from) ≡ Some to → to.moment ≤ end → is_good (arrived to) (level to.name) ≡ true
         → IsBy (first_onward test histories level from) hop
     first_by hop to h by_end good = by hop shown
       where
@@ -416,10 +414,10 @@ module _ (at : ℕ → State) (made test : Name → Bool) (test_is : (x : Name) 
       pub by_last : there.moment ≤ last
 
     -- a level tells from where there are ways of so many hops
-    pub record IsLevel (n : ℕ) (level : Level) : Type 0 where
-      pub sound : (from : Arrived) → from.moment ≤ end → stands (at from.moment) from.name ≡ true → is_good from (latest_at level from.name) ≡ true
+    pub record IsLevel (n : ℕ) (level : Name → Latest) : Type 0 where
+      pub sound : (from : Arrived) → from.moment ≤ end → stands (at from.moment) from.name ≡ true → is_good from (level from.name) ≡ true
           → (hops : List Hop) × Way n from hops
-      pub complete : (from : Arrived) (hops : List Hop) → Way n from hops → is_good from (latest_at level from.name) ≡ true
+      pub complete : (from : Arrived) (hops : List Hop) → Way n from hops → is_good from (level from.name) ≡ true
 
     -- a way goes on from its first hop
     pub record GoesOn (n : ℕ) (from : Arrived) (hop : Hop) (rest : List Hop) : Type 0 where
@@ -481,7 +479,7 @@ module _ (at : ℕ → State) (made test : Name → Bool) (test_is : (x : Name) 
     empty_way : (from : Arrived) → from.name ≡ wanted → from.modify ≡ true → from.moment ≤ last → Way 0 from []
     empty_way from e h late = record { count = refl; there = reached from; leads = refl; same = e; good = h; by_last = late }
 
-    end_shown : (from : Arrived) → is_good from (latest_at (level_by.End wanted (last + 1)) from.name) ≡ true → Way 0 from []
+    end_shown : (from : Arrived) → is_good from (latest_end wanted (last + 1) from.name) ≡ true → Way 0 from []
     end_shown from h = by (from.name.0 == wanted.0) refl h
       where
         by : (b : Bool) → (from.name.0 == wanted.0) ≡ b → is_good from (cond b (ends_before (last + 1)) no_latest) ≡ true → Way 0 from []
@@ -494,7 +492,7 @@ module _ (at : ℕ → State) (made test : Name → Bool) (test_is : (x : Name) 
                 (let x = ltb-true from.moment (last + 1) (second_so from.modify (nat_lt from.moment (last + 1)) k) in omega (arith, x))
             on (inr k) = absurd (true≢false (sym k ∙ none_below from.unconf from.moment))
 
-    end_good : (from : Arrived) (hops : List Hop) → Way 0 from hops → is_good from (latest_at (level_by.End wanted (last + 1)) from.name) ≡ true
+    end_good : (from : Arrived) (hops : List Hop) → Way 0 from hops → is_good from (latest_end wanted (last + 1) from.name) ≡ true
     end_good from (hop ∷ hops) way = absurd (let c = way.count in omega (arith, c))
     end_good from [] way =
         ap (λ (b : Bool). is_good from (cond b (ends_before (last + 1)) no_latest)) named_so
@@ -513,25 +511,19 @@ module _ (at : ℕ → State) (made test : Name → Bool) (test_is : (x : Name) 
         before : nat_lt from.moment (last + 1) ≡ true
         before = let e = ap (λ (r : Reached). r.moment) here in let b = way.by_last in lt-ltb from.moment (last + 1) (omega (arith, e, b))
 
-    level_end : IsLevel 0 (level_by.End wanted (last + 1))
+    level_end : IsLevel 0 (latest_end wanted (last + 1))
     level_end = record { sound = λ from by_end there good. ([], end_shown from good); complete = end_good }
 
     -- ---- one hop more
 
-    map_at : (f : History → Latest) (hs : List History) (n : ℕ) → slice_index_or (map f hs) n (f no_history) ≡ f (slice_index_or hs n no_history)
-    map_at f [] n = refl
-    map_at f (h ∷ hs) zero = refl
-    map_at f (h ∷ hs) (suc n) = map_at f hs n
-
-    module _ (n : ℕ) (level : Level) (is : IsLevel n level) where
-      next_good : (from : Arrived) → is_good from (latest_at (next_level test histories level) from.name) ≡ is_some (first_onward test histories level from)
+    module _ (n : ℕ) (level : Name → Latest) (is : IsLevel n level) where
+      next_good : (from : Arrived) → is_good from (next_latest test histories level from.name) ≡ is_some (first_onward test histories level from)
       next_good from =
-          ap (is_good from) (map_at (λ (h : History). latest_from test level no_latest h.spans) histories from.name.0)
-          ∙ good_from test level from (history_of histories from.name).spans no_latest
+          good_from test level from (history_of histories from.name).spans no_latest
           ∙ ap (λ (b : Bool). b || list_any (λ (s : Span). is_some (onward_over test level from s)) (history_of histories from.name).spans) (good_nothing from)
           ∙ sym (some_first test level from (history_of histories from.name).spans None)
 
-      next_sound : (from : Arrived) → from.moment ≤ end → stands (at from.moment) from.name ≡ true → is_good from (latest_at (next_level test histories level) from.name) ≡ true
+      next_sound : (from : Arrived) → from.moment ≤ end → stands (at from.moment) from.name ≡ true → is_good from (next_latest test histories level from.name) ≡ true
           → (hops : List Hop) × Way (suc n) from hops
       next_sound from by_end there good =
           let found = some_is (first_onward test histories level from) (sym (next_good from) ∙ good) in
@@ -539,14 +531,14 @@ module _ (at : ℕ → State) (made test : Name → Bool) (test_is : (x : Name) 
           let rest = is.sound found.0.to leads.by_end leads.there leads.good in
           (found.0.hop ∷ rest.0, comes_on n from found.0.hop (reached found.0.to) rest.0 leads.leads rest.1)
 
-      next_complete : (from : Arrived) (hops : List Hop) → Way (suc n) from hops → is_good from (latest_at (next_level test histories level) from.name) ≡ true
+      next_complete : (from : Arrived) (hops : List Hop) → Way (suc n) from hops → is_good from (next_latest test histories level from.name) ≡ true
       next_complete from [] way = absurd (let c = way.count in omega (arith, c))
       next_complete from (hop ∷ rest) way =
           let on = goes_on n from hop rest way in
           let first = first_by level from hop on.to on.leads (way_by_end n (arrived on.to) rest on.way) (is.complete (arrived on.to) rest on.way) in
           next_good from ∙ ap (is_some {T = Onward}) first.is
 
-      level_next : IsLevel (suc n) (next_level test histories level)
+      level_next : IsLevel (suc n) (next_latest test histories level)
       level_next = record { sound = next_sound; complete = next_complete }
 
     pub levels : (n : ℕ) → IsLevel n (level_at test histories wanted (last + 1) n)
@@ -602,7 +594,7 @@ module _ (at : ℕ → State) (made test : Name → Bool) (test_is : (x : Name) 
       least_on = record { way = comes_on n from o.hop (reached o.to) rest first_leads_on.leads below.way; least = others_later }
 
     pub least_down : (n : ℕ) (from : Arrived) → from.moment ≤ end → stands (at from.moment) from.name ≡ true
-        → is_good from (latest_at (level_at test histories wanted (last + 1) n) from.name) ≡ true
+        → is_good from (level_at test histories wanted (last + 1) n from.name) ≡ true
         → Least n from (hops_down test histories wanted (last + 1) n from)
     least_down zero from by_end there good = least_here from (end_shown from good)
     least_down (suc n) from by_end there good =
@@ -617,5 +609,5 @@ module _ (at : ℕ → State) (made test : Name → Bool) (test_is : (x : Name) 
             least_on n from by_end there o e (hops_down test histories wanted (last + 1) n o.to) (least_down n o.to leads.by_end leads.there leads.good)
 
     pub good_by_onward : (n : ℕ) (from : Arrived) (o : Onward) → first_onward test histories (level_at test histories wanted (last + 1) n) from ≡ Some o
-        → is_good from (latest_at (level_at test histories wanted (last + 1) (suc n)) from.name) ≡ true
+        → is_good from (level_at test histories wanted (last + 1) (suc n) from.name) ≡ true
     good_by_onward n from o e = next_good n (level_at test histories wanted (last + 1) n) (levels n) from ∙ ap (is_some {T = Onward}) e

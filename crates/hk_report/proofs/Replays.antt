@@ -44,11 +44,8 @@ makes_only c h = absurd (true≢false (sym h))
 pub made_name : (s : State) (line : Line) (t : State) → makes_object (done_call line) ≡ true → touched_name (doing s line t) ≡ Some s.next_name
 made_name s line t h =
     ap (λ (o : Option Name). elim o as (λ x. Option Name) [ Some name ↦ Some name | None ↦ (doing s line t).made ])
-    (ap (option_map (λ (path : List ℕ). named s path)) (makes_only (done_call line) h))
+    (ap (option_map (named_by s line.inc)) (makes_only (done_call line) h))
     ∙ ap (λ (b : Bool). elim b as (λ x. Option Name) [ true ↦ Some s.next_name | false ↦ None ]) h
-  where
-    named : State → List ℕ → Name
-    named s path = named_by s line.inc path
 
 -- an object is touched, or it stands with the list that it had
 touched_or_same : (s : State) (line : Line) (t : State) → ShownIf s line.inc (done_call line) → (x : Name) → Becomes s line t.objects x

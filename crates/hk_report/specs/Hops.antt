@@ -1,6 +1,6 @@
 -- Hops over what has stood in lists, which of them comes first, and from which moments the rest of a way can be made.
 -- docs/RULES.md, "Reaches".
-use Rattle.std.specs.Prelude.{ℕ, ◌==◌, ◌&&◌, ◌||◌, Bool, true, false, List, [], ◌∷◌, map, nat_lt, slice_index_or, Option, Some, None, if◌then◌else◌}
+use Rattle.std.specs.Prelude.{ℕ, ◌==◌, ◌&&◌, ◌||◌, Bool, true, false, List, [], ◌∷◌, nat_lt, slice_index_or, Option, Some, None, if◌then◌else◌}
 use Rattle.std.specs.List.{list_any}
 use Rattle.std.specs.Ordering.{nat_cmp, is_lt}
 use Rattle.std.specs.Cmp.Lexicographic.{slice_cmp}
@@ -52,15 +52,18 @@ arrived_by moment cap = record { name = cap.name; modify = has cap.rights modify
 abbrev pub arrived_whole : ℕ → Cap → Arrived
 arrived_whole moment cap = record { name = cap.name; modify = true; unconf = true; moment = moment }
 
--- from which moments the rest can be made at an object
+-- from which moments the rest can be made at an object, as it is kept
 abbrev pub no_latest : Latest
 no_latest = record { modify = 0; unconf = 0 }
 
 abbrev pub ends_before : ℕ → Latest
 ends_before before = record { modify = before; unconf = 0 }
 
+abbrev pub latest_end : Name → ℕ → Name → Latest
+latest_end end before name = if name.0 == end.0 then ends_before before else no_latest
+
 abbrev pub latest_at : Level → Name → Latest
-latest_at (level_by.End end before) name = if name.0 == end.0 then ends_before before else no_latest
+latest_at (level_by.End end before) name = latest_end end before name
 latest_at (level_by.Hops latest) name = slice_index_or latest name.0 no_latest
 
 -- the rest can be made from there
@@ -89,12 +92,12 @@ earlier None b = b
 earlier (Some a) None = Some a
 earlier (Some a) (Some b) = if comes_before b.hop a.hop then Some b else Some a
 
-abbrev pub onward_over : (Name → Bool) → Level → Arrived → Span → Option Onward
+abbrev pub onward_over : (Name → Bool) → (Name → Latest) → Arrived → Span → Option Onward
 onward_over made level from span =
-    earlier (entry_onward from span (latest_at level span.cap.name)) (handed_onward from span (latest_at level span.cap.name) (made span.cap.name))
+    earlier (entry_onward from span (level span.cap.name)) (handed_onward from span (level span.cap.name) (made span.cap.name))
 
 -- of these spans, and of a hop besides
-abbrev pub first_from : (Name → Bool) → Level → Arrived → Option Onward → List Span → Option Onward
+abbrev pub first_from : (Name → Bool) → (Name → Latest) → Arrived → Option Onward → List Span → Option Onward
 first_from made level from first [] = first
 first_from made level from first (span ∷ spans) = first_from made level from (earlier first (onward_over made level from span)) spans
 
@@ -109,16 +112,16 @@ entry_bound span latest =
 abbrev pub handed_bound : Span → Latest → Bool → ℕ
 handed_bound span latest made = if made then from_on span (greater latest.modify latest.unconf) else 0
 
-abbrev pub raised : (Name → Bool) → Level → Latest → Span → Latest
+abbrev pub raised : (Name → Bool) → (Name → Latest) → Latest → Span → Latest
 raised made level all span = record {
-  modify = greater all.modify (handed_bound span (latest_at level span.cap.name) (made span.cap.name));
-  unconf = greater all.unconf (entry_bound span (latest_at level span.cap.name));
+  modify = greater all.modify (handed_bound span (level span.cap.name) (made span.cap.name));
+  unconf = greater all.unconf (entry_bound span (level span.cap.name));
 }
 
-abbrev pub latest_from : (Name → Bool) → Level → Latest → List Span → Latest
+abbrev pub latest_from : (Name → Bool) → (Name → Latest) → Latest → List Span → Latest
 latest_from made level all [] = all
 latest_from made level all (span ∷ spans) = latest_from made level (raised made level all span) spans
 
--- the level of one hop more
-abbrev pub next_level : (Name → Bool) → List History → Level → Level
-next_level made histories level = level_by.Hops (map (λ (h : History). latest_from made level no_latest h.spans) histories)
+-- the same with one hop more
+abbrev pub next_latest : (Name → Bool) → List History → (Name → Latest) → Name → Latest
+next_latest made histories level name = latest_from made level no_latest (history_of histories name).spans

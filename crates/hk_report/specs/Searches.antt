@@ -12,12 +12,11 @@ use Rattle.hk_model.specs.declared.reaches.Reach.TheVariants.{Param}
 use Rattle.hk_model.specs.Places.{cap_of}
 use Rattle.hk_report.specs.declared.histories.History.{History}
 use Rattle.hk_report.specs.declared.hops.Arrived.{Arrived}
-use Rattle.hk_report.specs.declared.hops.Level.{Level}
-use Rattle.hk_report.specs.declared.hops.Level.TheVariants as level_by
+use Rattle.hk_report.specs.declared.hops.Latest.{Latest}
 use Rattle.hk_report.specs.declared.hops.Onward.{Onward}
 use Rattle.hk_report.specs.declared.searching.Start.{Start}
 use Rattle.hk_report.specs.Histories.{history_of}
-use Rattle.hk_report.specs.Hops.{arrived_by, first_from, next_level}
+use Rattle.hk_report.specs.Hops.{arrived_by, first_from, latest_end, next_latest}
 
 -- a parameter is the object with MODIFY
 abbrev pub is_direct_cap : Name → Cap → Bool
@@ -37,18 +36,18 @@ direct_param wanted index (entry ∷ entries) = if is_direct wanted entry then S
 
 module _ (made : Name → Bool) (histories : List History) where
   -- the first hop from there after which the rest can be made
-  abbrev pub first_onward : Level → Arrived → Option Onward
+  abbrev pub first_onward : (Name → Latest) → Arrived → Option Onward
   first_onward level from = first_from made level from None (history_of histories from.name).spans
 
   -- from the object of an entry at the beginning of the call, at moment k
-  abbrev pub onward_at : ℕ → Level → Entry → Option Onward
+  abbrev pub onward_at : ℕ → (Name → Latest) → Entry → Option Onward
   onward_at k level entry = option_and_then (λ (cap : Cap). first_onward level (arrived_by k cap)) (cap_of entry)
 
   -- the first parameter, of those from a number on, from whose object the rest can be made after a hop
   abbrev pub started : ℕ → Onward → Start
   started index onward = record { arg = index; onward = onward }
 
-  abbrev pub first_start : ℕ → Level → ℕ → List Entry → Option Start
+  abbrev pub first_start : ℕ → (Name → Latest) → ℕ → List Entry → Option Start
   first_start k level index [] = None
   first_start k level index (entry ∷ entries) = elim (onward_at k level entry) [
     | Some onward ↦ Some (started index onward)
@@ -57,11 +56,11 @@ module _ (made : Name → Bool) (histories : List History) where
 
   module _ (wanted : Name) (before : ℕ) where
     -- what can be done in so many hops
-    abbrev pub level_at : ℕ → Level
-    level_at zero = level_by.End wanted before
-    level_at (suc n) = next_level made histories (level_at n)
+    abbrev pub level_at : ℕ → Name → Latest
+    level_at zero = latest_end wanted before
+    level_at (suc n) = next_latest made histories (level_at n)
 
-    abbrev pub levels_below : ℕ → List Level
+    abbrev pub levels_below : ℕ → List (Name → Latest)
     levels_below zero = []
     levels_below (suc n) = levels_below n ++ level_at n ∷ []
 

@@ -6,7 +6,7 @@ ghost use Rattle.std.specs.Ordering.{nat_cmp, is_lt};
 ghost use Rattle.hk_model.specs.Reaches.{index_of, moment_of};
 ghost use Rattle.hk_model.specs.Changes.{hop_key};
 ghost use Rattle.hk_report.specs.Histories.{history_of};
-ghost use Rattle.hk_report.specs.Hops.{same_begun, has_begun, is_made, next_level, later, greater, lesser, arrived_by, arrived_whole, latest_at, is_good, entry_onward, handed_onward, earlier, onward_over, first_from, from_on, entry_bound, handed_bound, latest_from};
+ghost use Rattle.hk_report.specs.Hops.{same_begun, has_begun, is_made, next_latest, later, greater, lesser, arrived_by, arrived_whole, latest_at, is_good, entry_onward, handed_onward, earlier, onward_over, first_from, from_on, entry_bound, handed_bound, latest_from};
 
 use crate::families::{Begun, calls_over};
 use crate::histories::{History, Span};
@@ -309,7 +309,7 @@ impl<'a> Ground<'a> {
 
     // The first hop over a span after which the rest can be made.
     fn onward_over(&self, level: &Level, from: &Arrived, span: &Span) -> Option<Onward>
-        ensures { result ≡ onward_over (is_made self.now.families.now self.now.begun self.now.histories.now) level.now from.now span.now }
+        ensures { result ≡ onward_over (is_made self.now.families.now self.now.begun self.now.histories.now) (latest_at level.now) from.now span.now }
     {
         let latest = latest_at(level, span.cap.name);
         let made = self.is_made(span.cap.name);
@@ -321,7 +321,7 @@ impl<'a> Ground<'a> {
 
     /// The first hop after which the rest can be made.
     pub(crate) fn first_onward(&self, level: &Level, from: &Arrived) -> Option<Onward>
-        ensures { result ≡ first_from (is_made self.now.families.now self.now.begun self.now.histories.now) level.now from.now None (history_of self.now.histories.now from.now.name).spans }
+        ensures { result ≡ first_from (is_made self.now.families.now self.now.begun self.now.histories.now) (latest_at level.now) from.now None (history_of self.now.histories.now from.now.name).spans }
     {
         let spans = self.spans_of(from.name);
         let mut first = None;
@@ -333,7 +333,7 @@ impl<'a> Ground<'a> {
 
     // From which moments at a list a hop and the rest can be made.
     fn latest_from(&self, level: &Level, spans: &[Span]) -> Latest
-        ensures { result ≡ latest_from (is_made self.now.families.now self.now.begun self.now.histories.now) level.now (record { modify = 0; unconf = 0 }) spans.now }
+        ensures { result ≡ latest_from (is_made self.now.families.now self.now.begun self.now.histories.now) (latest_at level.now) (record { modify = 0; unconf = 0 }) spans.now }
     {
         let mut all = Latest {
             modify: 0,
@@ -352,7 +352,7 @@ impl<'a> Ground<'a> {
 
     /// The level of one hop more. NoMemory is want of memory.
     pub(crate) fn next_level(&self, alloc: Global, level: &Level) -> Result<Level, NoMemory>
-        ensures { IfOk result (λ next. next ≡ next_level (is_made self.now.families.now self.now.begun self.now.histories.now) self.now.histories.now level.now) }
+        ensures { IfOk result (λ next. latest_at next ≡ next_latest (is_made self.now.families.now self.now.begun self.now.histories.now) self.now.histories.now (latest_at level.now)) }
     {
         let mut all = Vec::with_capacity(alloc, self.histories.len())?;
         for history in self.histories {

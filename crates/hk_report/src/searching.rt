@@ -1,7 +1,7 @@
 //! The search for the least reach (`docs/RULES.md`, "Changes and their reasons").
 
-ghost use Rattle.std.specs.Prelude.{◌≡◌, ◌∷◌, ◌++◌, ◌≤◌, ◌<◌, [], length, IfOk, OnOk, Some};
-ghost use Rattle.hk_report.specs.Hops.{is_made};
+ghost use Rattle.std.specs.Prelude.{map, ◌≡◌, ◌∷◌, ◌++◌, ◌≤◌, ◌<◌, [], length, IfOk, OnOk, Some};
+ghost use Rattle.hk_report.specs.Hops.{is_made, latest_at};
 ghost use Rattle.hk_report.specs.Searches.{is_direct, direct_param, onward_at, first_start, level_at, levels_below, hops_down, IsFoundBehind, IsFound};
 
 use crate::hops::{Arrived, Ground, Level, Onward, arrived_by};
@@ -56,7 +56,7 @@ fn direct_param(params: &[Entry], wanted: Name) -> Option<u8>
 impl<'a> Search<'a> {
     // The first hop from the object of an entry after which the rest can be made.
     fn onward_at(&self, level: &Level, entry: &Entry) -> Option<Onward>
-        ensures { result ≡ onward_at (is_made self.now.ground.families.now self.now.ground.begun self.now.ground.histories.now) self.now.ground.histories.now self.now.ground.begun.moment level.now entry.now }
+        ensures { result ≡ onward_at (is_made self.now.ground.families.now self.now.ground.begun self.now.ground.histories.now) self.now.ground.histories.now self.now.ground.begun.moment (latest_at level.now) entry.now }
     {
         let _ = PhantomData::<(Entry, Template)>; // Rattle is to know what an Entry holds
         match entry {
@@ -71,7 +71,7 @@ impl<'a> Search<'a> {
     // The first parameter from whose object the rest can be made after a hop.
     fn first_start(&self, level: &Level) -> Option<Start>
         requires { length self.now.params.now ≤ 8 }
-        ensures { result ≡ first_start (is_made self.now.ground.families.now self.now.ground.begun self.now.ground.histories.now) self.now.ground.histories.now self.now.ground.begun.moment level.now 0 self.now.params.now }
+        ensures { result ≡ first_start (is_made self.now.ground.families.now self.now.ground.begun self.now.ground.histories.now) self.now.ground.histories.now self.now.ground.begun.moment (latest_at level.now) 0 self.now.params.now }
     {
         for (index, entry) in self.params.iter().enumerate() {
             if let Some(onward) = self.onward_at(level, entry) {
@@ -89,7 +89,7 @@ impl<'a> Search<'a> {
         levels: &[Level],
         from: Arrived,
     ) -> Result<(), NoMemory>
-        requires { levels.now ≡ levels_below (is_made self.now.ground.families.now self.now.ground.begun self.now.ground.histories.now) self.now.ground.histories.now self.now.wanted self.now.before (length levels.now) }
+        requires { map latest_at levels.now ≡ levels_below (is_made self.now.ground.families.now self.now.ground.begun self.now.ground.histories.now) self.now.ground.histories.now self.now.wanted self.now.before (length levels.now) }
         ensures { OnOk result (hops.new ≡ hops.old ++ hops_down (is_made self.now.ground.families.now self.now.ground.begun self.now.ground.histories.now) self.now.ground.histories.now self.now.wanted self.now.before (length levels.now) from) }
     {
         let mut left = levels.len();

@@ -4,7 +4,7 @@ ghost use Rattle.std.specs.Prelude.{◌≡◌, IfOk, IfSome, Some};
 ghost use Rattle.hk_model.specs.Running.{AreStepsOf, step};
 ghost use Rattle.hk_program.specs.Machines.{IsSound};
 
-use crate::changes_under;
+use crate::{changes_text, changes_under, report};
 use hk_gen::generate;
 use hk_model::{Call, Cpu, Items, Line, Making, Refusal, Reply, What, What8, World};
 use hk_plain::Plain;
@@ -52,5 +52,16 @@ fn the_word_is_changed_under_the_call(rt: HostRuntime) -> Result<(), Fail> {
     assert_eq!(rt; changes[0].moment, 4);
     assert_eq!(rt; changes[0].under.call.0, 1);
     assert_eq!(rt; changes[0].under.moment, 3);
+    Ok(())
+}
+
+#[test]
+fn the_change_is_by_the_first_parameter(rt: HostRuntime) -> Result<(), Fail> {
+    let alloc = rt.alloc();
+    let world = generate(alloc, 1).map_err(|_error| "a world")?;
+    let lines = first_steps(alloc, &world)?;
+    let changes = report(alloc, &world, lines.as_slice()).map_err(|_error| "a report")?;
+    let text = changes_text(alloc, changes.as_slice()).map_err(|_error| "a text")?;
+    assert_eq!(rt; text.as_str(), "5 1 7 param 0\nchanges 1\n");
     Ok(())
 }
