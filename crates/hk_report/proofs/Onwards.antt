@@ -192,11 +192,16 @@ module _ (at : ℕ → State) (made test : Name → Bool) (test_is : (x : Name) 
 
     hop_entry : (index m : ℕ) (cap : Cap) → from.unconf ≡ true → listed_cap (at m) from.name index ≡ Some cap → from.moment ≤ m
         → hop_to at made (hop_by.Entry index m) (reached from) ≡ Some (reached_by m cap)
-    hop_entry index m cap u held late = rw (le-leb from.moment m late, held, u) refl
+    hop_entry index m cap u held late =
+        ap (λ (b : Bool). cond b (option_and_then (onward made (hop_by.Entry index m) (reached from)) (listed_cap (at m) from.name index)) None) (le-leb from.moment m late)
+        ∙ ap (option_and_then (onward made (hop_by.Entry index m) (reached from))) held ∙ ap (λ (b : Bool). cond b (Some (reached_by m cap)) None) u
 
     hop_handed : (index m : ℕ) (cap : Cap) → from.modify ≡ true → made cap.name ≡ true → listed_cap (at m) from.name index ≡ Some cap → from.moment ≤ m
         → hop_to at made (hop_by.Handed index m) (reached from) ≡ Some (handed_over m cap)
-    hop_handed index m cap u y held late = rw (le-leb from.moment m late, held, u, y) refl
+    hop_handed index m cap u y held late =
+        ap (λ (b : Bool). cond b (option_and_then (onward made (hop_by.Handed index m) (reached from)) (listed_cap (at m) from.name index)) None) (le-leb from.moment m late)
+        ∙ ap (option_and_then (onward made (hop_by.Handed index m) (reached from))) held ∙ ap (λ (b : Bool). cond (b && made cap.name) (Some (handed_over m cap)) None) u
+        ∙ ap (λ (b : Bool). cond b (Some (handed_over m cap)) None) y
 
     entry_leads : (span : Span) → Stood at end from.name span → Held (Leads level from) (entry_onward from span (level span.cap.name))
     entry_leads span stood =
@@ -536,7 +541,7 @@ module _ (at : ℕ → State) (made test : Name → Bool) (test_is : (x : Name) 
       next_complete from (hop ∷ rest) way =
           let on = goes_on n from hop rest way in
           let first = first_by level from hop on.to on.leads (way_by_end n (arrived on.to) rest on.way) (is.complete (arrived on.to) rest on.way) in
-          next_good from ∙ ap (is_some {T = Onward}) first.is
+          next_good from ∙ ap (λ (x : Option Onward). is_some x) first.is
 
       level_next : IsLevel (suc n) (next_latest test histories level)
       level_next = record { sound = next_sound; complete = next_complete }
@@ -610,4 +615,4 @@ module _ (at : ℕ → State) (made test : Name → Bool) (test_is : (x : Name) 
 
     pub good_by_onward : (n : ℕ) (from : Arrived) (o : Onward) → first_onward test histories (level_at test histories wanted (last + 1) n) from ≡ Some o
         → is_good from (level_at test histories wanted (last + 1) (suc n) from.name) ≡ true
-    good_by_onward n from o e = next_good n (level_at test histories wanted (last + 1) n) (levels n) from ∙ ap (is_some {T = Onward}) e
+    good_by_onward n from o e = next_good n (level_at test histories wanted (last + 1) n) (levels n) from ∙ ap (λ (x : Option Onward). is_some x) e

@@ -52,10 +52,10 @@ touched_or_same : (s : State) (line : Line) (t : State) → ShownIf s line.inc (
     → (touched_name (doing s line t) ≡ Some x) ⊎ (stands t x ≡ true → (stands s x ≡ true) × ((index : ℕ) → listed_cap t x index ≡ listed_cap s x index))
 touched_or_same s line t shown x (Stays e) =
     inr (λ standing. (
-      ap (is_some {T = Object}) (sym e) ∙ standing,
+      ap (λ (o : Option Object). is_some o) (sym e) ∙ standing,
       λ index. ap (λ (o : Option Object). option_and_then cap_of (slice_get (unwrap_or o no_object).entries index)) e,
     ))
-touched_or_same s line t shown x (Goes before lets opening was gone) = inr (λ standing. absurd (true≢false (sym standing ∙ ap (is_some {T = Object}) gone)))
+touched_or_same s line t shown x (Goes before lets opening was gone) = inr (λ standing. absurd (true≢false (sym standing ∙ ap (λ (o : Option Object). is_some o) gone)))
 touched_or_same s line t shown x (Changes before after change was is kind) =
     inl (ap (λ (o : Option Name). elim o as (λ y. Option Name) [ Some name ↦ Some name | None ↦ (doing s line t).made ])
     (sym (changed_named s line.inc (done_call line) shown) ∙ change))

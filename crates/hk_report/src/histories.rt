@@ -1,7 +1,7 @@
 //! What has stood in the list of each object, from which moment to which, and who made the object
 //! (`docs/RULES.md`, "Reaches").
 
-ghost use Rattle.std.specs.Prelude.{◌≡◌, ◌+◌, ◌++◌, ◌<◌, ◌≤◌, ◌^◌, [], length, replicate, slice_get, IfOk, OnOk};
+ghost use Rattle.std.specs.Prelude.{◌≡◌, ◌-◌, ◌++◌, ◌≤◌, length, replicate, slice_get, IfOk, OnOk};
 ghost use Rattle.std.specs.Option.{option_and_then};
 ghost use Rattle.hk_model.specs.Limits.{entry_limit};
 ghost use Rattle.hk_model.specs.Places.{cap_of};

@@ -37,7 +37,7 @@ pub fn changes_under(
 /// by rising number of the call.
 ///
 /// `lines` are steps of `world` from its opening on, in the order of the history. NoMemory is want of memory, and nothing else.
-#[tactic(auto, using(crate::proofs::Listed::lines_few))]
+#[tactic(auto, using(crate::proofs::Listed::lines_few, crate::proofs::Listed::doings_few, crate::proofs::Explained::few_changes, crate::proofs::Explained::report_is))]
 pub fn report(alloc: Global, world: &World, lines: &[Line]) -> Result<Vec<Change>, NoMemory>
     requires { AreStepsOf world.now lines.now }
     ensures { IfOk result (λ changes. AreChanges world.now lines.now changes.items) }
