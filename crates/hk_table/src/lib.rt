@@ -16,6 +16,7 @@
 
 mod born;
 mod calls;
+mod counted;
 mod counting;
 mod creating;
 mod finding;
@@ -39,6 +40,7 @@ mod stacks;
 mod table;
 mod targets;
 mod templates;
+mod vanishing;
 mod walks;
 mod words;
 

@@ -4,7 +4,7 @@ ghost use Rattle.std.specs.Prelude.{◌≡◌, IfOk};
 
 use crate::Table;
 use hk_model::{
-    Born, Cap, Code, Cpu, Entries, Entry, Inc, Items, Kind, Name, Proc, Snapshot, Task, Text,
+    Born, Cap, Code, Cpu, Entries, Entry, Inc, Items, Kernel, Kind, Name, Proc, Snapshot, Task, Text,
     Words, World,
 };
 use hk_rights::Rights;

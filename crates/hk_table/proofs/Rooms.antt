@@ -1,0 +1,66 @@
+-- Room for one more object.
+use Rattle.std.proofs.Common.{◌≡◌, ℕ, ◌+◌, ◌<◌, ◌≤◌, ◌↔◌, Bool, true, false, cond, not, List, length, Option, Some, None, Ok, Err, refl, sym, ap, ◌∙◌, subst, arith}
+use Rattle.std.specs.Prelude.{nat_lt, IsTrue}
+use Rattle.std.proofs.lemmas.Bool.Decides.{nat_tests}
+use Rattle.hk_model.specs.declared.names.Name.{Name}
+use Rattle.hk_model.specs.declared.names.Proc.{Proc}
+use Rattle.hk_model.specs.declared.calls.Refusal.TheVariants as refused
+use Rattle.hk_model.specs.declared.calls.What8.TheVariants as full
+use Rattle.hk_model.specs.declared.objects.Object.{Object}
+use Rattle.hk_model.specs.State.{State}
+use Rattle.hk_model.specs.Keeping.{rooted_objects}
+use Rattle.hk_model.specs.Rule.{has_room, room_made}
+use Rattle.hk_objects.specs.Slots.{standing}
+use Rattle.hk_table.specs.Rooms.{MakesRoom}
+use Rattle.hk_table.specs.Whole.{whole}
+use Rattle.hk_table.proofs.Holding.{Slots}
+use Rattle.hk_table.proofs.Makings.{standing_many}
+use Rattle.hk_table.proofs.Vanishing.{whole_few, all_rooted}
+
+pub full_is : (ps : Slots) (ws : List (List Proc)) (b : Bool) → length ps ≡ 65536 → IsTrue b ↔ (length (standing ps) ≡ 65536) → b ≡ not (has_room (standing (whole ps ws)))
+full_is ps ws true room is =
+    let e : length (standing ps) ≡ 65536 = is.0 refl in
+    let m = standing_many ps ws in
+    let n : length (standing (whole ps ws)) ≡ 65536 = omega (arith, e, m) in
+    grind (arith, nat_tests)
+full_is ps ws false room is =
+    let few = whole_few ps ws room in
+    let m = standing_many ps ws in
+    let other : length (standing (whole ps ws)) ≡ 65536 → ⊥ = λ k. let f : false ≡ true = is.1 (omega (arith, k, m)) in cc in
+    let low : length (standing (whole ps ws)) < 65536 = omega (arith, few, other) in
+    grind (arith, nat_tests)
+
+not_not : (a b : Bool) → a ≡ not b → a ≡ false → b ≡ true
+not_not true b e f = absurd (cc)
+not_not false true e f = refl
+not_not false false e f = absurd (cc)
+
+not_yes : (a b : Bool) → a ≡ not b → a ≡ true → b ≡ false
+not_yes false b e f = absurd (cc)
+not_yes true true e f = absurd (cc)
+not_yes true false e f = refl
+
+-- there is room
+pub room_there : (s : State) (b : Bool) → b ≡ not (has_room s.objects) → b ≡ false → MakesRoom s (Ok tt) s
+room_there s b is none = let r : has_room s.objects ≡ true = not_not b (has_room s.objects) is none in (rw r refl, refl, r)
+
+-- room was made
+pub room_cleared : (s t : State) (a b : Bool) → a ≡ not (has_room s.objects) → a ≡ true → t ≡ record s { objects = rooted_objects s } → b ≡ not (has_room t.objects) → b ≡ false
+    → MakesRoom s (Ok tt) t
+room_cleared s t a b full yes is none not_yet =
+    let f : has_room s.objects ≡ false = not_yes a (has_room s.objects) full yes in
+    let r : has_room t.objects ≡ true = not_not b (has_room t.objects) none not_yet in
+    let e : t.objects ≡ rooted_objects s = ap (λ (x : State). x.objects) is in
+    let g : has_room (rooted_objects s) ≡ true = sym (ap has_room e) ∙ r in
+    (rw (f, g) (ap (λ (os : List (Name × Object)). Ok os) (sym e)), is ∙ (λ i. record s { objects = sym e i }), r)
+
+-- there is none
+pub no_room : (s t : State) (a b : Bool) → a ≡ not (has_room s.objects) → a ≡ true → length s.objects ≤ 65536 → t ≡ record s { objects = rooted_objects s }
+    → b ≡ not (has_room t.objects) → b ≡ true → MakesRoom s (Err (refused.Full full.Objects)) t
+no_room s t a b full' yes few is none still =
+    let f : has_room s.objects ≡ false = not_yes a (has_room s.objects) full' yes in
+    let r : has_room t.objects ≡ false = not_yes b (has_room t.objects) none still in
+    let e : t.objects ≡ rooted_objects s = ap (λ (x : State). x.objects) is in
+    let g : has_room (rooted_objects s) ≡ false = sym (ap has_room e) ∙ r in
+    let all : rooted_objects s ≡ s.objects = all_rooted s few g in
+    (rw (f, g) refl, is ∙ (λ i. record s { objects = all i }))
