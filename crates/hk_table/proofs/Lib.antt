@@ -33,8 +33,8 @@ pub mod ObjectTelling
 pub mod Unnamed
 pub mod StackNames
 pub mod MadeObjects
-pub mod Vanishing
+pub mod WhatIsLeft
 pub mod Named
 pub mod Runs
-pub mod Counted
+pub mod OpenCounts
 pub mod Rooms

@@ -1,5 +1,5 @@
 -- The counts of a table, as one more object comes.
-use Rattle.std.proofs.Common.{◌≡◌, ◌≢◌, ℕ, zero, suc, ◌+◌, ◌-◌, ◌<◌, ◌≤◌, ◌^◌, true, false, List, [], ◌∷◌, ◌++◌, length, get_or, set, Option, Some, None, IsSome, refl, sym, ap, ◌∙◌, subst, arith}
+use Rattle.std.proofs.Common.{◌≡◌, ◌≢◌, ℕ, zero, suc, ◌+◌, ◌-◌, ◌<◌, ◌≤◌, ◌^◌, true, false, List, [], ◌∷◌, ◌++◌, length, get_or, set, Option, Some, None, IsSome, IfSome, refl, sym, ap, ◌∙◌, subst, arith}
 use Rattle.std.proofs.Common.{⊎_elim, option_map, get_or-set_same, get_or-set_other, length-set}
 use Rattle.std.specs.Prelude.{slice_index_or}
 use Rattle.std.proofs.lemmas.Bool.{cases_eq}
@@ -26,7 +26,7 @@ use Rattle.hk_table.specs.Told.{AreTold}
 use Rattle.hk_table.proofs.FrameNames.{times-append}
 use Rattle.hk_table.proofs.FrameSums.{space_written}
 use Rattle.hk_table.proofs.Holding.{Slots, owed_same, released_here}
-use Rattle.hk_table.proofs.NameBounds.{names_are_few, entry_within, entries_within}
+use Rattle.hk_table.proofs.NameBounds.{names_are_few, one_name, entries_within}
 use Rattle.hk_queues.specs.Queued.{Queued}
 use Rattle.hk_table.specs.Stacked.{Stacked, AreNumbered}
 use Rattle.hk_table.specs.Told.{AllNamedStand}
@@ -81,8 +81,11 @@ module _ (o : Shelf) (stacks : List (List StackFrame)) (ps : List Process) (firs
   h : AreTold o stacks ps first t
   h = making.told
 
+  abbrev new_one : Name × Body
+  new_one = (n, new_body of words entries)
+
   abbrev made : Slots
-  made = set o.slots s (Some (n, new_body of words entries))
+  made = set o.slots s (Some new_one)
 
   abbrev raised_there : Tally
   raised_there = record t { outside = raised t.outside s; total = raised t.total s; pending = without s t.pending }
@@ -101,10 +104,10 @@ module _ (o : Shelf) (stacks : List (List StackFrame)) (ps : List Process) (firs
       omega (arith, z, a, b)
 
   made_name : name_at made s ≡ Some n
-  made_name = ap (option_map (λ (e : Name × Body). e.0)) (get_or-set_same o.slots s (Some (n, new_body of words entries)) None low)
+  made_name = ap (option_map (λ (e : Name × Body). e.0)) (get_or-set_same o.slots s (Some new_one) None low)
 
   made_other : (k : ℕ) → k ≢ s → name_at made k ≡ name_at o.slots k
-  made_other k ne = ap (option_map (λ (e : Name × Body). e.0)) (get_or-set_other o.slots s k (Some (n, new_body of words entries)) None ne)
+  made_other k ne = ap (option_map (λ (e : Name × Body). e.0)) (get_or-set_other o.slots s k (Some new_one) None ne)
 
   made_held : AreHeld made (owing (λ m. outside_namings m stacks ps) (n ∷ [])) (namings o.slots) raised_there
   made_held =
@@ -148,7 +151,7 @@ module _ (o : Shelf) (stacks : List (List StackFrame)) (ps : List Process) (firs
 
   made_namings : (m : Name) → owing (owing (namings o.slots) (of ∷ [])) (named_in entries) m ≡ namings made m
   made_namings m =
-      let w = namings_set o.slots s (Some (n, new_body of words entries)) m low in
+      let w = namings_set o.slots s (Some new_one) m low in
       let z : times m (names_in (place o.slots s)) ≡ 0 = ap (λ (p : Option (Name × Body)). times m (names_in p)) free ∙ times_none m in
       let a = times-cons m of (named_in entries) in
       let b = times-cons m of [] in
@@ -157,20 +160,29 @@ module _ (o : Shelf) (stacks : List (List StackFrame)) (ps : List Process) (firs
 
   small_made : AreSmall made stacks ps
   small_made = record {
-    room = length-set o.slots s (Some (n, new_body of words entries)) ∙ h.small.room;
+    room = length-set o.slots s (Some new_one) ∙ h.small.room;
     entries = λ k x there. ⊎_elim
         (λ (same : k ≡ s).
-        let w : Some (n, new_body of words entries) ≡ Some x =
-        sym (ap (place made) same ∙ get_or-set_same o.slots s (Some (n, new_body of words entries)) None low) ∙ there in
-        let g : (n, new_body of words entries) ≡ x = cc in
+        let w : Some new_one ≡ Some x =
+        sym (ap (place made) same ∙ get_or-set_same o.slots s (Some new_one) None low) ∙ there in
+        let g : new_one ≡ x = cc in
         let l : length x.1.entries ≡ length entries = ap (λ (y : Name × Body). length y.1.entries) (sym g) in omega (arith, l, few))
-        (λ (ne : k ≢ s). h.small.entries k x (sym (get_or-set_other o.slots s k (Some (n, new_body of words entries)) None ne) ∙ there))
+        (λ (ne : k ≢ s). h.small.entries k x (sym (get_or-set_other o.slots s k (Some new_one) None ne) ∙ there))
         (cases_eq k s);
     many = h.small.many;
     frames = h.small.frames;
     spaces = h.small.spaces;
     processes = h.small.processes;
   }
+
+  made_there : (new : Slots) → new ≡ made → place new s ≡ Some new_one
+  made_there new is = ap (λ (qs : Slots). place qs s) is ∙ get_or-set_same o.slots s (Some new_one) None low
+
+  pub made_stands : (new : Slots) → new ≡ made → IsSome (place new s)
+  made_stands new is = subst (λ (p : Option (Name × Body)). IsSome p) (sym (made_there new is)) tt
+
+  pub made_read : (new : Slots) → new ≡ made → (es : List Entry) → IfSome (place new s) (λ e. es ≡ e.1.entries) → es ≡ entries
+  made_read new is es read = subst (λ (p : Option (Name × Body)). IfSome p (λ e. es ≡ e.1.entries)) (made_there new is) read
 
   module _ (new : Shelf) (is : new.slots ≡ made) (apart : AreApart new.slots) (u : Tally) (settled : u ≡ record (released raised_there s n) { outside = lowered (raised t.outside s) s }) where
     made_ready : AreHeld new.slots (λ m. outside_namings m stacks ps) (namings o.slots) u
@@ -186,7 +198,7 @@ module _ (o : Shelf) (stacks : List (List StackFrame)) (ps : List Process) (firs
       made_ready,
       λ m.
           let a = names_are_few m o.slots stacks ps h.small in
-          let w = entry_within m (Held (record { name = of; rights = 0 })) in
+          let w : times m (of ∷ []) ≤ 1 = one_name m of in
           omega (arith, a, w),
     )
 
@@ -197,7 +209,7 @@ module _ (o : Shelf) (stacks : List (List StackFrame)) (ps : List Process) (firs
       f.1 (λ m. outside_namings m stacks ps) (namings o.slots) made_ready,
       λ m.
           let a = names_are_few m o.slots stacks ps h.small in
-          let w = entry_within m (Held (record { name = of; rights = 0 })) in
+          let w : times m (of ∷ []) ≤ 1 = one_name m of in
           let l = entries_within m entries in
           omega (arith, a, w, l, few),
     )

@@ -32,7 +32,7 @@ once : (b : Bool) → cond b 1 0 ≤ 1
 once true = omega arith
 once false = omega arith
 
-one_name : (n x : Name) → times n (x ∷ []) ≤ 1
+pub one_name : (n x : Name) → times n (x ∷ []) ≤ 1
 one_name n x = let z : times n [] ≡ 0 = times_none n in let w : cond (n.0 == x.0) 1 0 ≤ 1 = once (n.0 == x.0) in omega (arith, times-cons n x [], z, w)
 
 no_name : (n : Name) → times n [] ≤ 1

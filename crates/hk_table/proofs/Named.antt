@@ -1,5 +1,5 @@
 -- Whatever is named stands, at each moment.
-use Rattle.std.proofs.Common.{◌≡◌, ℕ, ◌+◌, List, [], ◌∷◌, Option, Some, None, Result, Ok, Err, refl, sym, ap, ◌∙◌, subst, true}
+use Rattle.std.proofs.Common.{◌≡◌, ℕ, ◌+◌, List, [], ◌∷◌, Option, Some, None, Result, Ok, Err, refl, sym, ap, ◌∙◌, subst, true, arith}
 use Rattle.hk_model.specs.declared.names.Cpu.{Cpu}
 use Rattle.hk_model.specs.declared.names.Name.{Name}
 use Rattle.hk_model.specs.declared.names.Proc.{Proc}
@@ -16,6 +16,7 @@ use Rattle.hk_model.proofs.CallWays.{room_vanish}
 use Rattle.hk_model.proofs.NamesKept.{named_each}
 use Rattle.hk_model.proofs.NamesOpened.{opening_named}
 use Rattle.hk_model.proofs.NamesStand.{NamedStand, vanish_named}
+use Rattle.hk_table.specs.Joined.{FewNumbers}
 use Rattle.hk_table.specs.Rooms.{MakesRoom}
 use Rattle.hk_table.specs.Told.{AllNamedStand}
 
@@ -51,3 +52,29 @@ room_named before after (Ok done) m h =
     let named = vanish_named before after.objects (room_vanish before after.objects m.0) (law before h) in
     subst (λ (f : State). AllNamedStand f) (sym m.1) (λ n k. named.each n k)
 room_named before after (Err refusal) m h = subst (λ (f : State). AllNamedStand f) (sym m.1) h
+
+-- what holds of the numbers and names of a table holds on
+
+pub dispatch_lasts : (s t : State) (cpu : Cpu) (proc : Proc) → dispatched s cpu ≡ Some (proc, t) → FewNumbers s × AllNamedStand s → FewNumbers t × AllNamedStand t
+dispatch_lasts s t cpu proc is h = (by s.ready is, dispatch_named s t cpu proc is h.1) where
+  by : (procs : List Proc) → dispatched_from s cpu procs ≡ Some (proc, t) → FewNumbers t
+  by [] k = absurd (cc)
+  by (first ∷ rest) k =
+      let name : t.next_name.0 ≡ s.next_name.0 = ap (λ (o : Option (Proc × State)). (second o).next_name.0) (sym k) in
+      let inc : t.next_inc.0 ≡ s.next_inc.0 = ap (λ (o : Option (Proc × State)). (second o).next_inc.0) (sym k) in
+      let events : t.events ≡ s.events + 1 = ap (λ (o : Option (Proc × State)). (second o).events) (sym k) in
+      let a = h.0.0 in
+      let b = h.0.1 in
+      (omega (arith, name, events, a), omega (arith, inc, events, b)) where
+        second : Option (Proc × State) → State
+        second None = s
+        second (Some f) = f.1
+
+pub halt_lasts : (s t : State) (cpu : Cpu) (proc : Proc) → runner s cpu ≡ Some proc → t ≡ halted s proc → FewNumbers s × AllNamedStand s → FewNumbers t × AllNamedStand t
+halt_lasts s t cpu proc runs is h =
+    let name : t.next_name.0 ≡ s.next_name.0 = ap (λ (x : State). x.next_name.0) is in
+    let inc : t.next_inc.0 ≡ s.next_inc.0 = ap (λ (x : State). x.next_inc.0) is in
+    let events : t.events ≡ s.events + 1 = ap (λ (x : State). x.events) is in
+    let a = h.0.0 in
+    let b = h.0.1 in
+    ((omega (arith, name, events, a), omega (arith, inc, events, b)), halt_named s t cpu proc runs is h.1)

@@ -56,16 +56,19 @@ some_place ps s n named = by (place ps s) refl named where
 -- ---- a change of one object
 
 module _ (o : Shelf) (stacks : List (List StackFrame)) (ps : List Process) (s : ℕ) (e : Name × Body) (here : place o.slots s ≡ Some e) (f : Body → Body) where
+  abbrev changed : Name × Body
+  changed = (e.0, f e.1)
+
   low_slot : s < length o.slots
   low_slot = within_some o.slots s (subst (λ (p : Option (Name × Body)). IsSome p) (sym here) tt)
 
-  change_is : change o.slots s f ≡ set o.slots s (Some (e.0, f e.1))
+  change_is : change o.slots s f ≡ set o.slots s (Some changed)
   change_is = ap (λ (p : Option (Name × Body)). set o.slots s (option_map (λ (x : Name × Body). (x.0, f x.1)) p)) here
 
   changed_namings : (n : Name) → namings (change o.slots s f) n + times n (names_of e.1) ≡ namings o.slots n + times n (names_of (f e.1))
   changed_namings n =
-      let w = namings_set o.slots s (Some (e.0, f e.1)) n low_slot in
-      let a : namings (change o.slots s f) n ≡ namings (set o.slots s (Some (e.0, f e.1))) n = ap (λ (qs : Slots). namings qs n) change_is in
+      let w = namings_set o.slots s (Some changed) n low_slot in
+      let a : namings (change o.slots s f) n ≡ namings (set o.slots s (Some changed)) n = ap (λ (qs : Slots). namings qs n) change_is in
       let b : times n (names_in (place o.slots s)) ≡ times n (names_of e.1) = ap (λ (p : Option (Name × Body)). times n (names_in p)) here in
       omega (arith, w, a, b)
 
@@ -74,12 +77,12 @@ module _ (o : Shelf) (stacks : List (List StackFrame)) (ps : List Process) (s : 
     room = length-set o.slots s (option_map (λ (x : Name × Body). (x.0, f x.1)) (place o.slots s)) ∙ h.room;
     entries = λ k x there. ⊎_elim
         (λ (same : k ≡ s).
-        let w : Some (e.0, f e.1) ≡ Some x =
-        sym (ap (λ (qs : Slots). place qs k) change_is ∙ ap (place (set o.slots s (Some (e.0, f e.1)))) same ∙ get_or-set_same o.slots s (Some (e.0, f e.1)) None low_slot) ∙ there in
-        let g : (e.0, f e.1) ≡ x = cc in
+        let w : Some changed ≡ Some x =
+        sym (ap (λ (qs : Slots). place qs k) change_is ∙ ap (place (set o.slots s (Some changed))) same ∙ get_or-set_same o.slots s (Some changed) None low_slot) ∙ there in
+        let g : changed ≡ x = cc in
         let l : length x.1.entries ≡ length (f e.1).entries = ap (λ (y : Name × Body). length y.1.entries) (sym g) in omega (arith, l, few))
         (λ (ne : k ≢ s).
-        h.entries k x (sym (ap (λ (qs : Slots). place qs k) change_is ∙ get_or-set_other o.slots s k (Some (e.0, f e.1)) None ne) ∙ there))
+        h.entries k x (sym (ap (λ (qs : Slots). place qs k) change_is ∙ get_or-set_other o.slots s k (Some changed) None ne) ∙ there))
         (cases_eq k s);
     many = h.many;
     frames = h.frames;

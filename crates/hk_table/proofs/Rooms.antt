@@ -7,15 +7,19 @@ use Rattle.hk_model.specs.declared.names.Proc.{Proc}
 use Rattle.hk_model.specs.declared.calls.Refusal.TheVariants as refused
 use Rattle.hk_model.specs.declared.calls.What8.TheVariants as full
 use Rattle.hk_model.specs.declared.objects.Object.{Object}
-use Rattle.hk_model.specs.State.{State}
+use Rattle.hk_model.specs.declared.calls.Answer.{Answer}
+use Rattle.hk_model.specs.declared.calls.Answer.TheVariants.{Done}
+use Rattle.hk_model.specs.declared.entries.Entry.TheVariants.{Held}
+use Rattle.hk_model.specs.State.{State, process, put_slot}
 use Rattle.hk_model.specs.Keeping.{rooted_objects}
-use Rattle.hk_model.specs.Rule.{has_room, room_made}
+use Rattle.hk_model.specs.Rule.{has_room, room_made, add_beside}
 use Rattle.hk_objects.specs.Slots.{standing}
-use Rattle.hk_table.specs.Rooms.{MakesRoom}
+use Rattle.hk_table.specs.Giving.{Answers}
+use Rattle.hk_table.specs.Rooms.{MakesRoom, object_made_in_room}
 use Rattle.hk_table.specs.Whole.{whole}
 use Rattle.hk_table.proofs.Holding.{Slots}
 use Rattle.hk_table.proofs.Makings.{standing_many}
-use Rattle.hk_table.proofs.Vanishing.{whole_few, all_rooted}
+use Rattle.hk_table.proofs.WhatIsLeft.{whole_few, all_rooted}
 
 pub full_is : (ps : Slots) (ws : List (List Proc)) (b : Bool) → length ps ≡ 65536 → IsTrue b ↔ (length (standing ps) ≡ 65536) → b ≡ not (has_room (standing (whole ps ws)))
 full_is ps ws true room is =
@@ -64,3 +68,19 @@ no_room s t a b full' yes few is none still =
     let g : has_room (rooted_objects s) ≡ false = sym (ap has_room e) ∙ r in
     let all : rooted_objects s ≡ s.objects = all_rooted s few g in
     (rw (f, g) refl, is ∙ (λ i. record s { objects = all i }))
+
+-- an object made where room was made, and a capability for it
+pub made_in_room : (s r m t : State) (proc : Proc) (slot : ℕ) (new : Object) (name : Name) (rights : ℕ) → MakesRoom s (Ok tt) r → name ≡ r.next_name → m ≡ add_beside r r.objects new
+    → t ≡ put_slot m (process m proc).current slot (Held (record { name = name; rights = rights }))
+    → Answers s (object_made_in_room s (process s proc).current slot new rights) (Ok Done) t
+made_in_room s r m t proc slot new name rights room same made put =
+    let os : List (Name × Object) = r.objects in
+    let e : t ≡ left r name = put ∙ ap (λ (x : State). put_slot x (process x proc).current slot (Held (record { name = name; rights = rights }))) made in
+    let f : t ≡ left r r.next_name = e ∙ ap (left r) same in
+    let g : t ≡ left (record s { objects = os }) s.next_name = f ∙ ap (λ (x : State). left x x.next_name) room.1 in
+    let n : t.next_name.0 ≡ s.next_name.0 + 1 = ap (λ (x : State). x.next_name.0) g in
+    let i : t.next_inc.0 ≡ s.next_inc.0 = ap (λ (x : State). x.next_inc.0) g in
+    (rw room.0 (ap (λ (x : State). let f : Answer × State = (Done, x) in Ok f) (sym g)), omega (arith, n), omega (arith, i)) where
+      left : State → Name → State
+      left x n =
+          put_slot (add_beside x r.objects new) (process (add_beside x r.objects new) proc).current slot (Held (record { name = n; rights = rights }))

@@ -71,7 +71,6 @@ module _ (o : Shelf) (q : Queued) (ps : List Process) (st : Stacked) (first : Na
       (λ (some : 0 < namings o.slots n).
       let w = namer o.slots n some in
       let m = namer_named (place o.slots w.0) w.1 in
-      let all : Name → Bool = λ x. true in
       let supported : are_supporting state (filter (λ (e : Name × Object). true) state.objects) n ≡ true =
       member_to state o.slots q.waiting t apart tells (λ x. true) n (w.0, m.0, m.1, refl, w.1) in
       absurd (unsupported (subst (λ (es : List (Name × Object)). are_supporting state es n ≡ true) (all_members state.objects) supported)))

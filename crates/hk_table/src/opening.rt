@@ -6,6 +6,7 @@ ghost use Rattle.hk_model.specs.declared.objects.Process.{Process};
 ghost use Rattle.hk_model.specs.Processors.{is_running};
 ghost use Rattle.hk_model.specs.Opening.{all_ready, proc_numbers, opening};
 ghost use Rattle.hk_table.specs.Joined.{FewNumbers};
+ghost use Rattle.hk_table.specs.Told.{AllNamedStand};
 
 use crate::born::objects_of;
 use crate::counted::counted;
@@ -82,6 +83,7 @@ impl Parts {
     pub(crate) fn open(alloc: Global, world: &World) -> Result<Parts, NoMemory>
         ensures state { IfOk result (λ parts. parts ≡ opening world.now) }
         ensures numbers { IfOk result (λ parts. FewNumbers parts) }
+        ensures named { IfOk result (λ parts. AllNamedStand parts) }
     {
         let born = born_of(world);
         let tasks = tasks_of(world);

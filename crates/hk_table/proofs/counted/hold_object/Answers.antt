@@ -4,7 +4,7 @@ use Rattle.hk_objects.specs.declared.body.Body.{Body}
 use Rattle.hk_objects.specs.Slots.{place}
 use Rattle.hk_reclaim.specs.Naming.{names_in}
 use Rattle.hk_table.specs.Held.{HoldsInside}
-use Rattle.hk_table.proofs.Counted.{type_can, entries_can, object_held, nothing_held}
+use Rattle.hk_table.proofs.OpenCounts.{type_can, entries_can, object_held, nothing_held}
 use Rattle.hk_table.proofs.ObjectTelling.{some_place}
 use Rattle.hk_table.proofs.counted.hold_object.Goals as goal
 

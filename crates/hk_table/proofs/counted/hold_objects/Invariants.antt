@@ -1,4 +1,4 @@
-use Rattle.hk_table.proofs.Counted.{AreFirstHeld}
+use Rattle.hk_table.proofs.OpenCounts.{AreFirstHeld}
 use Rattle.hk_table.proofs.counted.hold_objects.Given as goal
 
 abbrev pub invariant-loop-slot : goal.invariant-loop-slot

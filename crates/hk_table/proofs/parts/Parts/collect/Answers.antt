@@ -1,7 +1,7 @@
 use Rattle.std.proofs.Common.{sym}
 use Rattle.hk_table.proofs.Opens.{told}
 use Rattle.hk_table.proofs.Unnamed.{tells_told}
-use Rattle.hk_table.proofs.Vanishing.{waits_counted, left_counted, left_joined}
+use Rattle.hk_table.proofs.WhatIsLeft.{waits_counted, left_counted, left_joined}
 use Rattle.hk_table.proofs.parts.Parts.collect.Goals as goal
 
 pub collect_and_forget-requires : goal.collect_and_forget-requires

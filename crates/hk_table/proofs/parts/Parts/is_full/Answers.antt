@@ -1,6 +1,6 @@
 use Rattle.std.proofs.Common.{sym}
 use Rattle.hk_table.proofs.Rooms.{full_is}
-use Rattle.hk_table.proofs.Vanishing.{whole_few}
+use Rattle.hk_table.proofs.WhatIsLeft.{whole_few}
 use Rattle.hk_table.proofs.parts.Parts.is_full.Goals as goal
 
 pub returns-clause-full : goal.returns-clause-full

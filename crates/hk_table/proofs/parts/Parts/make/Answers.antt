@@ -7,9 +7,11 @@ use Rattle.hk_links.specs.Chained.{without}
 use Rattle.hk_objects.specs.Shelf.{Shelf, new_body}
 use Rattle.hk_objects.specs.Slots.{name_at}
 use Rattle.hk_reclaim.specs.Tally.{Tally, raised, lowered, released}
+use Rattle.hk_reclaim.specs.Naming.{named_in}
+use Rattle.hk_table.specs.Held.{CanHold, HoldsInside}
 use Rattle.hk_table.specs.Told.{AllNamedStand}
 use Rattle.hk_table.proofs.Makings.{has_place, made_joined, made_told}
-use Rattle.hk_table.proofs.MadeObjects.{making, made_range, made_few, made_range_still, made_some, made_can, made_can_more, made_told_all}
+use Rattle.hk_table.proofs.MadeObjects.{making, made_range, made_few, made_range_still, made_some, made_can, made_can_more, made_told_all, made_stands, made_read}
 use Rattle.hk_table.proofs.Opens.{told}
 use Rattle.hk_table.proofs.parts.Parts.make.Goals as goal
 
@@ -67,13 +69,39 @@ hold_name_inside-requires c =
     c.make.ensures.free few named in
     let t : Tally = c.self.inside.counts in
     let s : ℕ = c.make.result.0 in
-    made_can c.self.inside.objects c.self.inside.stacks.stacks c.self.inside.processes c.self.inside.first_new c.self.inside.counts c.make.result.0 c.self.inside.objects.next c.args.of c.args.words c.args.entries m c.make.new.objects (ap (λ (v : Shelf). v.slots) c.make.ensures.made) c.next_name-apart.ensures.apart c.release_outside.new.self
-    (subst (λ (v : Tally). c.release_outside.new.self ≡ record (released v s c.next_name-name.result) { outside = lowered v.outside s }) c.hold_outside.ensures c.release_outside.ensures
+    let settled = subst (λ (v : Tally). c.release_outside.new.self ≡ record (released v s c.next_name-name.result) { outside = lowered v.outside s }) c.hold_outside.ensures
+    c.release_outside.ensures
     ∙ ap (λ (n : Name). let v : Tally = record t { outside = raised t.outside s; total = raised t.total s; pending = without s t.pending } in
-    record (released v s n) { outside = lowered v.outside s }) c.next_name-name.ensures.name)
+    let w : Tally = record (released v s n) { outside = lowered v.outside s } in w) c.next_name-name.ensures.name in
+    made_can c.self.inside.objects c.self.inside.stacks.stacks c.self.inside.processes c.self.inside.first_new c.self.inside.counts c.make.result.0 c.self.inside.objects.next c.args.of c.args.words c.args.entries m c.make.new.objects (ap (λ (v : Shelf). v.slots) c.make.ensures.made) c.next_name-apart.ensures.apart c.release_outside.new.self settled
+
+pub entries-requires : goal.entries-requires
+entries-requires c =
+    let few : length c.args.entries ≤ 256 = subst (λ (es : List Entry). length es ≤ 256) c.as_slice-few.ensures.value c.as_slice-few.ensures.few in
+    let named : AllNamedStand (told c.self.inside.objects c.self.inside.queues c.self.inside.processes c.self.inside.stacks c.self.inside.first_new c.self.inside.events
+    c.self.inside.limit) = subst (λ (s : State). AllNamedStand s) (sym c.self.view_is) c.requires.named in
+    let m = making c.self.inside.objects c.self.inside.queues c.self.inside.processes c.self.inside.stacks c.self.inside.first_new c.self.inside.events c.self.inside.limit
+    c.self.inside.counts c.make.result.0 c.args.entries c.as_slice-stacks.ensures.numbered c.self.invariant.told c.make.ensures.apart c.make.ensures.above c.make.ensures.slot
+    c.make.ensures.free few named in
+    made_stands c.self.inside.objects c.self.inside.stacks.stacks c.self.inside.processes c.self.inside.first_new c.self.inside.counts c.make.result.0 c.self.inside.objects.next c.args.of c.args.words c.args.entries m c.make.new.objects.slots (ap (λ (v : Shelf). v.slots) c.make.ensures.made)
 
 pub hold_entries_inside-requires : goal.hold_entries_inside-requires
-hold_entries_inside-requires c = search
+hold_entries_inside-requires c =
+    let few : length c.args.entries ≤ 256 = subst (λ (es : List Entry). length es ≤ 256) c.as_slice-few.ensures.value c.as_slice-few.ensures.few in
+    let named : AllNamedStand (told c.self.inside.objects c.self.inside.queues c.self.inside.processes c.self.inside.stacks c.self.inside.first_new c.self.inside.events
+    c.self.inside.limit) = subst (λ (s : State). AllNamedStand s) (sym c.self.view_is) c.requires.named in
+    let m = making c.self.inside.objects c.self.inside.queues c.self.inside.processes c.self.inside.stacks c.self.inside.first_new c.self.inside.events c.self.inside.limit
+    c.self.inside.counts c.make.result.0 c.args.entries c.as_slice-stacks.ensures.numbered c.self.invariant.told c.make.ensures.apart c.make.ensures.above c.make.ensures.slot
+    c.make.ensures.free few named in
+    let t : Tally = c.self.inside.counts in
+    let s : ℕ = c.make.result.0 in
+    let settled = subst (λ (v : Tally). c.release_outside.new.self ≡ record (released v s c.next_name-name.result) { outside = lowered v.outside s }) c.hold_outside.ensures
+    c.release_outside.ensures
+    ∙ ap (λ (n : Name). let v : Tally = record t { outside = raised t.outside s; total = raised t.total s; pending = without s t.pending } in
+    let w : Tally = record (released v s n) { outside = lowered v.outside s } in w) c.next_name-name.ensures.name in
+    let read : c.entries.result.now ≡ c.args.entries = made_read c.self.inside.objects c.self.inside.stacks.stacks c.self.inside.processes c.self.inside.first_new c.self.inside.counts c.make.result.0 c.self.inside.objects.next c.args.of c.args.words c.args.entries m c.make.new.objects.slots (ap (λ (v : Shelf). v.slots) c.make.ensures.made) c.entries.result.now c.entries.ensures.entries in
+    subst (λ (es : List Entry). CanHold c.make.new.objects.slots (named_in es) c.hold_name_inside.new.counts) (sym read)
+    (made_can_more c.self.inside.objects c.self.inside.stacks.stacks c.self.inside.processes c.self.inside.first_new c.self.inside.counts c.make.result.0 c.self.inside.objects.next c.args.of c.args.words c.args.entries m c.make.new.objects (ap (λ (v : Shelf). v.slots) c.make.ensures.made) c.next_name-apart.ensures.apart c.release_outside.new.self settled c.hold_name_inside.new.counts c.hold_name_inside.ensures)
 
 pub invariant_of-self : goal.invariant_of-self
 invariant_of-self c =
@@ -83,13 +111,22 @@ invariant_of-self c =
     let m = making c.self.inside.objects c.self.inside.queues c.self.inside.processes c.self.inside.stacks c.self.inside.first_new c.self.inside.events c.self.inside.limit
     c.self.inside.counts c.make.result.0 c.args.entries c.as_slice-stacks.ensures.numbered c.self.invariant.told c.make.ensures.apart c.make.ensures.above c.make.ensures.slot
     c.make.ensures.free few named in
+    let t : Tally = c.self.inside.counts in
+    let s : ℕ = c.make.result.0 in
+    let settled = subst (λ (v : Tally). c.release_outside.new.self ≡ record (released v s c.next_name-name.result) { outside = lowered v.outside s }) c.hold_outside.ensures
+    c.release_outside.ensures
+    ∙ ap (λ (n : Name). let v : Tally = record t { outside = raised t.outside s; total = raised t.total s; pending = without s t.pending } in
+    let w : Tally = record (released v s n) { outside = lowered v.outside s } in w) c.next_name-name.ensures.name in
     let fresh : (k : ℕ) → name_at c.self.inside.objects.slots k ≡ Some c.self.inside.objects.next → ⊥ =
     λ k named. let a = c.make.ensures.above k c.self.inside.objects.next named in omega (arith, a) in
+    let read : c.entries.result.now ≡ c.args.entries = made_read c.self.inside.objects c.self.inside.stacks.stacks c.self.inside.processes c.self.inside.first_new c.self.inside.counts c.make.result.0 c.self.inside.objects.next c.args.of c.args.words c.args.entries m c.make.new.objects.slots (ap (λ (v : Shelf). v.slots) c.make.ensures.made) c.entries.result.now c.entries.ensures.entries in
     record {
       joined = made_joined c.self.inside.objects c.make.new.objects c.self.inside.queues c.self.inside.processes c.self.inside.stacks c.self.inside.walker c.make.result.0
           c.self.inside.objects.next (new_body c.args.of c.args.words c.args.entries) c.make.ensures.free c.make.ensures.slot fresh c.self.invariant.joined
           (ap (λ (v : Shelf). v.slots) c.make.ensures.made);
-      told = search;
+      told = made_told_all c.self.inside.objects c.self.inside.stacks.stacks c.self.inside.processes c.self.inside.first_new c.self.inside.counts c.make.result.0 c.self.inside.objects.next c.args.of c.args.words c.args.entries m c.make.new.objects (ap (λ (v : Shelf). v.slots) c.make.ensures.made) c.next_name-apart.ensures.apart c.release_outside.new.self settled c.hold_name_inside.new.counts c.hold_entries_inside.new.counts c.hold_name_inside.ensures
+          (subst (λ (es : List Entry). HoldsInside c.make.new.objects.slots (named_in es) c.hold_name_inside.new.counts c.hold_entries_inside.new.counts) read
+          c.hold_entries_inside.ensures);
     }
 
 pub returns : goal.returns

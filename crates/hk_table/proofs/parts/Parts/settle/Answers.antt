@@ -1,7 +1,7 @@
 use Rattle.std.proofs.Common.{sym}
 use Rattle.hk_table.proofs.Opens.{told}
 use Rattle.hk_table.proofs.Unnamed.{tells_told}
-use Rattle.hk_table.proofs.Vanishing.{waits_counted, left_counted, left_joined}
+use Rattle.hk_table.proofs.WhatIsLeft.{waits_counted, left_counted, left_joined}
 use Rattle.hk_table.proofs.parts.Parts.settle.Goals as goal
 
 pub settle_and_forget-requires : goal.settle_and_forget-requires

@@ -1,6 +1,6 @@
 use Rattle.std.proofs.Common.{◌∙◌, arith}
 use Rattle.hk_table.proofs.Bases.{next_stack, base_numbered}
-use Rattle.hk_table.proofs.Counted.{base_small}
+use Rattle.hk_table.proofs.OpenCounts.{base_small}
 use Rattle.hk_table.proofs.stacks.Stacks.open.Goals as goal
 
 pub loop-n-preserved : goal.loop-n-preserved

@@ -7,7 +7,7 @@ use Rattle.std.proofs.lemmas.List.{take_more, length-take-le, length-append, len
 use Rattle.std.proofs.lemmas.List.Sums.{sum_by-cons}
 use Rattle.hk_model.specs.declared.names.Name.{Name}
 use Rattle.hk_model.specs.declared.entries.Entry.{Entry}
-use Rattle.hk_model.specs.declared.entries.Entry.TheVariants.{Empty, Held}
+use Rattle.hk_model.specs.declared.entries.Entry.TheVariants.{Empty}
 use Rattle.hk_model.specs.declared.objects.Process.{Process}
 use Rattle.hk_model.specs.declared.world.Task.{Task}
 use Rattle.hk_model.specs.Opening.{all_ready}
@@ -29,24 +29,21 @@ use Rattle.hk_table.specs.Stacked.{frame_at, base_stacks, base_frame}
 use Rattle.hk_table.specs.Told.{AreTold}
 use Rattle.hk_table.proofs.FrameNames.{times-append}
 use Rattle.hk_table.proofs.Holding.{Slots, held_same, owed_same}
-use Rattle.hk_table.proofs.NameBounds.{entry_within, entries_within, objects_within, names_are_few}
+use Rattle.hk_table.proofs.NameBounds.{one_name, entries_within, objects_within, names_are_few}
 use Rattle.hk_table.proofs.Telling.{stack_names_sum}
 
 -- ---- the names of one object
 
-one_few : (n x : Name) → times n (x ∷ []) ≤ 1
-one_few n x = entry_within n (Held (record { name = x; rights = 0 }))
-
 module _ (ps : Slots) (t : Tally) (h : HasPlace ps t) where
   pub type_can : (of : Name) → CanHold ps (of ∷ []) t
-  type_can of = (h.0, h.1, h.2, λ n. let a = h.3 n in let b = one_few n of in omega (arith, a, b))
+  type_can of = (h.0, h.1, h.2, λ n. let a = h.3 n in let b = one_name n of in omega (arith, a, b))
 
   pub entries_can : (of : Name) (u : Tally) (entries : List Entry) → length entries ≤ 256 → HoldsInside ps (of ∷ []) t u → CanHold ps (named_in entries) u
   entries_can of u entries few f = (
     h.0,
     owing h.1 (of ∷ []),
     f.1 h.0 h.1 h.2,
-    λ n. let a = h.3 n in let b = one_few n of in let c = entries_within n entries in omega (arith, a, b, c, few),
+    λ n. let a = h.3 n in let b = one_name n of in let c = entries_within n entries in omega (arith, a, b, c, few),
   )
 
 pub object_held : (ps : Slots) (t u v : Tally) (e : Name × Body) (of : Name) (entries : List Entry) → of ≡ e.1.of → entries ≡ e.1.entries → HoldsInside ps (of ∷ []) t u
