@@ -179,7 +179,7 @@ module _ (o : Shelf) (stacks : List (List StackFrame)) (ps : List Process) (firs
   made_there new is = ap (λ (qs : Slots). place qs s) is ∙ get_or-set_same o.slots s (Some new_one) None low
 
   pub made_stands : (new : Slots) → new ≡ made → IsSome (place new s)
-  made_stands new is = subst (λ (p : Option (Name × Body)). IsSome p) (sym (made_there new is)) tt
+  made_stands new is = subst (λ (p : Option (Name × Body)). IsSome p) (sym (made_there new is)) refl
 
   pub made_read : (new : Slots) → new ≡ made → (es : List Entry) → IfSome (place new s) (λ e. es ≡ e.1.entries) → es ≡ entries
   made_read new is es read = subst (λ (p : Option (Name × Body)). IfSome p (λ e. es ≡ e.1.entries)) (made_there new is) read

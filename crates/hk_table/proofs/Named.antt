@@ -1,5 +1,5 @@
 -- Whatever is named stands, at each moment.
-use Rattle.std.proofs.Common.{◌≡◌, ℕ, ◌+◌, List, [], ◌∷◌, Option, Some, None, Result, Ok, Err, refl, sym, ap, ◌∙◌, subst, true, arith}
+use Rattle.std.proofs.Common.{◌≡◌, ℕ, ◌+◌, List, [], ◌∷◌, Option, Some, None, Result, Ok, Err, IfSome, IfNone, IfOk, OnOk, OnErr, refl, sym, ap, ◌∙◌, subst, true, arith}
 use Rattle.hk_model.specs.declared.names.Cpu.{Cpu}
 use Rattle.hk_model.specs.declared.names.Name.{Name}
 use Rattle.hk_model.specs.declared.names.Proc.{Proc}
@@ -78,3 +78,15 @@ halt_lasts s t cpu proc runs is h =
     let a = h.0.0 in
     let b = h.0.1 in
     ((omega (arith, name, events, a), omega (arith, inc, events, b)), halt_named s t cpu proc runs is h.1)
+
+pub dispatch_leaves : (s t : State) (cpu : Cpu) (r : Option Proc) → IfSome r (λ proc. dispatched s cpu ≡ Some (proc, t)) → IfNone r ((dispatched s cpu ≡ None) × (t ≡ s))
+    → FewNumbers s × AllNamedStand s
+    → FewNumbers t × AllNamedStand t
+dispatch_leaves s t cpu None given none h = subst (λ (x : State). FewNumbers x × AllNamedStand x) (sym none.1) h
+dispatch_leaves s t cpu (Some proc) given none h = dispatch_lasts s t cpu proc given h
+
+pub act_leaves : {X Y : Type 0} (reply : X → Reply) (s t : State) (cpu : Cpu) (proc : Proc) (c : Call) (r : Result X Y) → runner s cpu ≡ Some proc
+    → IfOk r (λ x. rule s proc c ≡ (reply x, t)) → OnOk r (FewNumbers t) → OnErr r (t ≡ s) → FewNumbers s × AllNamedStand s
+    → FewNumbers t × AllNamedStand t
+act_leaves reply s t cpu proc c (Ok x) runs is few same h = (few, act_named s t cpu proc c (reply x) runs is h.1)
+act_leaves reply s t cpu proc c (Err e) runs is few same h = subst (λ (x : State). FewNumbers x × AllNamedStand x) (sym same) h

@@ -60,7 +60,7 @@ module _ (o : Shelf) (stacks : List (List StackFrame)) (ps : List Process) (s : 
   changed = (e.0, f e.1)
 
   low_slot : s < length o.slots
-  low_slot = within_some o.slots s (subst (λ (p : Option (Name × Body)). IsSome p) (sym here) tt)
+  low_slot = within_some o.slots s (subst (λ (p : Option (Name × Body)). IsSome p) (sym here) refl)
 
   change_is : change o.slots s f ≡ set o.slots s (Some changed)
   change_is = ap (λ (p : Option (Name × Body)). set o.slots s (option_map (λ (x : Name × Body). (x.0, f x.1)) p)) here

@@ -1,5 +1,5 @@
 -- The counts of a world that opens.
-use Rattle.std.proofs.Common.{◌≡◌, ℕ, zero, suc, ◌+◌, ◌-◌, ◌*◌, ◌<◌, ◌≤◌, false, true, List, [], ◌∷◌, ◌++◌, length, get_or, take, replicate, Option, Some, None, IfSome, IsSome, refl, sym, ap, ◌∙◌, subst, arith, ◌↔◌, ◌≢◌, ⊎_elim}
+use Rattle.std.proofs.Common.{◌≡◌, ℕ, zero, suc, ◌+◌, ◌-◌, ◌*◌, ◌<◌, ◌≤◌, false, true, List, [], ◌∷◌, ◌++◌, length, get_or, take, replicate, Option, Some, None, IfSome, IsSome, refl, sym, ap, ◌∙◌, subst, arith, ◌↔◌, ◌≢◌, ⊎_elim, option_map}
 use Rattle.std.proofs.lemmas.Bool.{cases_eq}
 use Rattle.hk_model.specs.declared.objects.ProcessState.TheVariants.{Ready}
 use Rattle.std.specs.Prelude.{slice_get, slice_index_or}
@@ -129,7 +129,7 @@ first_all ps room i start t high h =
 pub first_few : (ps : Slots) (room : length ps ≡ 65536) (i : ℕ) (start t : Tally) → 65536 ≤ i → AreFirstHeld ps i start t → (k : ℕ) (e : Name × Body) → place ps k ≡ Some e
     → length e.1.entries ≤ 256
 first_few ps room i start t high h k e here =
-    let low : k < length ps = within_some ps k (subst (λ (p : Option (Name × Body)). IsSome p) (sym here) tt) in h.few k e (omega (arith, low, room, high)) here
+    let low : k < length ps = within_some ps k (subst (λ (p : Option (Name × Body)). IsSome p) (sym here) refl) in h.few k e (omega (arith, low, room, high)) here
 
 -- ---- nothing is counted yet
 
@@ -245,3 +245,17 @@ base_small w tasks i stacks world same all is =
       frames = λ q. base_frames 0 w.tasks q;
       spaces = λ q k f here. base_spaces w 0 w.tasks world.tasks_are q k f here;
     })
+
+-- a slot in which nothing stands, and one with an object
+pub free_held : (ps : Slots) (s : ℕ) (t : Tally) → None ≡ name_at ps s → HoldsInside ps (names_in (place ps s)) t t
+free_held ps s t none = by (place ps s) none where
+  by : (p : Option (Name × Body)) → None ≡ option_map (λ (e : Name × Body). e.0) p → HoldsInside ps (names_in p) t t
+  by None e = nothing_held ps t
+  by (Some q) e = absurd (cc)
+
+pub place_held : (ps : Slots) (s : ℕ) (n : Name) (t u v : Tally) (of : Name) (entries : List Entry) → Some n ≡ name_at ps s → IfSome (place ps s) (λ e. of ≡ e.1.of)
+    → IfSome (place ps s) (λ e. entries ≡ e.1.entries) → HoldsInside ps (of ∷ []) t u → HoldsInside ps (named_in entries) u v → HoldsInside ps (names_in (place ps s)) t v
+place_held ps s n t u v of entries named type all f g = by (place ps s) named type all where
+  by : (p : Option (Name × Body)) → Some n ≡ option_map (λ (e : Name × Body). e.0) p → IfSome p (λ e. of ≡ e.1.of) → IfSome p (λ e. entries ≡ e.1.entries) → HoldsInside ps (names_in p) t v
+  by None e a b = absurd (cc)
+  by (Some q) e a b = object_held ps t u v q of entries a b f g

@@ -51,8 +51,8 @@ room_there s b is none = let r : has_room s.objects ≡ true = not_not b (has_ro
 -- room was made
 pub room_cleared : (s t : State) (a b : Bool) → a ≡ not (has_room s.objects) → a ≡ true → t ≡ record s { objects = rooted_objects s } → b ≡ not (has_room t.objects) → b ≡ false
     → MakesRoom s (Ok tt) t
-room_cleared s t a b full yes is none not_yet =
-    let f : has_room s.objects ≡ false = not_yes a (has_room s.objects) full yes in
+room_cleared s t a b full holds is none not_yet =
+    let f : has_room s.objects ≡ false = not_yes a (has_room s.objects) full holds in
     let r : has_room t.objects ≡ true = not_not b (has_room t.objects) none not_yet in
     let e : t.objects ≡ rooted_objects s = ap (λ (x : State). x.objects) is in
     let g : has_room (rooted_objects s) ≡ true = sym (ap has_room e) ∙ r in
@@ -61,8 +61,8 @@ room_cleared s t a b full yes is none not_yet =
 -- there is none
 pub no_room : (s t : State) (a b : Bool) → a ≡ not (has_room s.objects) → a ≡ true → length s.objects ≤ 65536 → t ≡ record s { objects = rooted_objects s }
     → b ≡ not (has_room t.objects) → b ≡ true → MakesRoom s (Err (refused.Full full.Objects)) t
-no_room s t a b full' yes few is none still =
-    let f : has_room s.objects ≡ false = not_yes a (has_room s.objects) full' yes in
+no_room s t a b full' holds few is none still =
+    let f : has_room s.objects ≡ false = not_yes a (has_room s.objects) full' holds in
     let r : has_room t.objects ≡ false = not_yes b (has_room t.objects) none still in
     let e : t.objects ≡ rooted_objects s = ap (λ (x : State). x.objects) is in
     let g : has_room (rooted_objects s) ≡ false = sym (ap has_room e) ∙ r in
@@ -80,7 +80,11 @@ made_in_room s r m t proc slot new name rights room same made put =
     let g : t ≡ left (record s { objects = os }) s.next_name = f ∙ ap (λ (x : State). left x x.next_name) room.1 in
     let n : t.next_name.0 ≡ s.next_name.0 + 1 = ap (λ (x : State). x.next_name.0) g in
     let i : t.next_inc.0 ≡ s.next_inc.0 = ap (λ (x : State). x.next_inc.0) g in
-    (rw room.0 (ap (λ (x : State). let f : Answer × State = (Done, x) in Ok f) (sym g)), omega (arith, n), omega (arith, i)) where
+    (rw room.0 (ap (λ (x : State). let f : Answer × State = (Done, x) in Ok f) (sym g)), (omega (arith, n), omega (arith, i))) where
       left : State → Name → State
       left x n =
           put_slot (add_beside x r.objects new) (process (add_beside x r.objects new) proc).current slot (Held (record { name = n; rights = rights }))
+
+pub not_false : (b : Bool) → not b ≡ false → b ≡ true
+not_false true e = refl
+not_false false e = absurd (cc)

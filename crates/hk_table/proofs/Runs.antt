@@ -18,16 +18,18 @@ on_runs cpu Ended e = e
 some_runner : (ps : List Process) (cpu : Cpu) (n : ℕ) (proc : Proc) → runner_from ps cpu n ≡ Some proc
     → (k : ℕ) × (proc.0 ≡ n + k) × (k < length ps) × (is_running (process_at ps k).run ≡ true)
 some_runner [] cpu n proc e = absurd (cc)
-some_runner (p ∷ ps) cpu n proc e = by (is_on cpu p.run) refl e where
-  by : (b : Bool) → is_on cpu p.run ≡ b → cond b (Some (let q : Proc = record { 0 = n } in q)) (runner_from ps cpu (n + 1)) ≡ Some proc
+some_runner (p ∷ ps) cpu n proc e = by (is_on cpu p.run) refl (some_runner ps cpu (n + 1) proc) e where
+  by : (b : Bool) → is_on cpu p.run ≡ b
+      → (runner_from ps cpu (n + 1) ≡ Some proc → (k : ℕ) × (proc.0 ≡ n + 1 + k) × (k < length ps) × (is_running (process_at ps k).run ≡ true))
+      → cond b (Some (let q : Proc = record { 0 = n } in q)) (runner_from ps cpu (n + 1)) ≡ Some proc
       → (k : ℕ) × (proc.0 ≡ n + k) × (k < suc (length ps)) × (is_running (process_at (p ∷ ps) k).run ≡ true)
-  by true on h =
+  by true on later h =
       let q : Proc = record { 0 = n } in
       let same : q ≡ proc = cc in
       let number : proc.0 ≡ n = ap (λ (x : Proc). x.0) (sym same) in
       (0, omega (arith, number), omega arith, on_runs cpu p.run on)
-  by false on h =
-      let w = some_runner ps cpu (n + 1) proc h in
+  by false on later h =
+      let w = later h in
       (suc w.0, (let a = w.1 in omega (arith, a)), (let b = w.2 in omega (arith, b)), w.3)
 
 pub runner_known : (ps : List Process) (cpu : Cpu) (o : Option Proc) → o ≡ runner_from ps cpu 0 → IfSome o (λ proc. proc.0 < length ps)

@@ -1,4 +1,4 @@
-use Rattle.std.proofs.Common.{List, arith, subst}
+use Rattle.std.proofs.Common.{List, arith, sym, subst}
 use Rattle.hk_model.specs.declared.entries.Entry.{Entry}
 use Rattle.hk_reclaim.specs.Naming.{named_in}
 use Rattle.hk_spaces.specs.declared.stack.StackFrame.{StackFrame}
@@ -26,4 +26,4 @@ loop-at-preserved c =
     }
 
 pub returns : goal.returns
-returns c = c.loop-at.invariant.more c.loop-at.counts (all_done (λ (g : StackFrame). named_in g.space) (λ names t. CanRelease c.args.objects.now.slots names t) (λ names t u. Releases c.args.objects.now.slots names t u) (releasing c.args.objects.now.slots) c.args.stack.now c.loop-at.at c.loop-at.counts (omega (arith, c.depth.ensures.value)))
+returns c = c.loop-at.invariant.more c.loop-at.counts (all_done (λ (g : StackFrame). named_in g.space) (λ names t. CanRelease c.args.objects.now.slots names t) (λ names t u. Releases c.args.objects.now.slots names t u) (releasing c.args.objects.now.slots) c.args.stack.now c.loop-at.at c.loop-at.counts (omega (arith, c.depth-at-end.ensures.value)))

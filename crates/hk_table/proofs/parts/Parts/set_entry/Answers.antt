@@ -9,8 +9,8 @@ use Rattle.hk_table.proofs.PartReads.{part_forgot, part_told, missing_told}
 use Rattle.hk_table.proofs.Telling.{can_hold_entry}
 use Rattle.hk_table.proofs.parts.Parts.set_entry.Goals as goal
 
-pub entry_in-requires-clause-at : goal.entry_in-requires-clause-at
-entry_in-requires-clause-at c =
+pub entry_in-old-requires-clause-at : goal.entry_in-old-requires-clause-at
+entry_in-old-requires-clause-at c =
     holds_inside c.self.inside.objects.slots c.self.inside.queues.waiting c.in-Some.slot.0 c.args.name c.in-Some.ensures.apart c.in-Some.ensures.found (λ b. length b.entries)
     (λ o. length o.entries) (λ b procs. refl) (λ m. c.args.at < m)
     (subst (λ (s : State). c.args.at < length (object s c.args.name).entries) (sym c.self.view_is) c.requires)
