@@ -84,7 +84,3 @@ made_in_room s r m t proc slot new name rights room same made put =
       left : State → Name → State
       left x n =
           put_slot (add_beside x r.objects new) (process (add_beside x r.objects new) proc).current slot (Held (record { name = n; rights = rights }))
-
-pub not_false : (b : Bool) → not b ≡ false → b ≡ true
-not_false true e = refl
-not_false false e = absurd (cc)
