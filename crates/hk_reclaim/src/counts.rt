@@ -103,8 +103,7 @@ impl Counts {
     /// Takes away all that is not reached: what is left is the least set that has the opening objects, those
     /// that are named from outside, and all that its members name.
     pub fn collect(&mut self, objects: &mut Objects) -> bool
-        requires counted { IsCounted objects.old.slots self.old }
-        requires settled { self.old.pending ≡ [] }
+        requires { IsCounted objects.old.slots self.old }
         ensures reached { IsReached self.old.first_new self.old.outside objects.old.slots (stands objects.new.slots) }
         ensures left { objects.new.slots ≡ only (stands objects.new.slots) objects.old.slots }
         ensures next { objects.new.next ≡ objects.old.next }

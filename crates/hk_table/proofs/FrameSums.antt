@@ -34,7 +34,7 @@ entries_sum n (e ∷ es) =
     times-append n (entry_names e) (named_in es) ∙ ap (λ (k : ℕ). times n (entry_names e) + k) (entries_sum n es) ∙ sym (sum_by-cons (entry_times n) e es)
 
 -- an entry in place of another
-space_written : (n : Name) (es : List Entry) (slot : ℕ) (entry : Entry) → slot < length es
+pub space_written : (n : Name) (es : List Entry) (slot : ℕ) (entry : Entry) → slot < length es
     → times n (named_in (set es slot entry)) + times n (entry_names (get_or es slot Empty)) ≡ times n (named_in es) + times n (entry_names entry)
 space_written n es slot entry low = omega (arith, entries_sum n es, entries_sum n (set es slot entry), sum_by-set (entry_times n) es slot entry Empty low)
 

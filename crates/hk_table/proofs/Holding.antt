@@ -1,6 +1,6 @@
 -- Names that come and go, one by one and behind each other.
-use Rattle.std.proofs.Common.{◌≡◌, ◌≢◌, ℕ, ◌+◌, ◌-◌, ◌<◌, ◌^◌, List, [], ◌∷◌, length, get_or, refl, ap, ◌∙◌, sym, arith, ⊎_elim}
-use Rattle.std.proofs.Common.{get_or-set_same, get_or-set_other, length-set, Option, Some, inl}
+use Rattle.std.proofs.Common.{◌≡◌, ◌≢◌, ℕ, ◌+◌, ◌-◌, ◌<◌, ◌^◌, List, [], ◌∷◌, length, get_or, refl, ap, ◌∙◌, sym, arith, ⊎_elim, subst}
+use Rattle.std.proofs.Common.{get_or-set_same, get_or-set_other, length-set, Option, Some, None, inl}
 use Rattle.std.proofs.lemmas.Bool.{cases_eq}
 use Rattle.hk_links.specs.Chained.{without}
 use Rattle.hk_model.specs.declared.names.Name.{Name}
@@ -11,16 +11,20 @@ use Rattle.hk_reclaim.specs.Naming.{times, named}
 use Rattle.hk_reclaim.specs.Tally.{Tally, raised, lowered, released, due, owing}
 use Rattle.hk_reclaim.proofs.Counting.{times_none, times_same, times_other, due_other, due_same, counted_same, owing_nothing, releasable, released_name}
 use Rattle.hk_reclaim.proofs.Keeping.{hold_outside_counted, release_outside_counted, hold_inside_counted}
-use Rattle.hk_table.specs.Held.{AreHeld, CanHold, CanRelease, CanReleaseInside}
+use Rattle.hk_table.specs.Held.{AreHeld, CanHold, CanRelease, CanReleaseInside, Holds, Releases}
 
 abbrev pub Slots : Type 0
 Slots = List (Option (Name × Body))
 
 pub held_same : (ps : Slots) (f g owed : Name → ℕ) (t : Tally) → ((n : Name) → f n ≡ g n) → AreHeld ps f owed t → AreHeld ps g owed t
-held_same ps f g owed t e h = record { counted = h.counted; outside = λ k n named. h.outside k n named ∙ e n; room = h.room }
+held_same ps f g owed t e h = record { counted = h.counted; outside = λ k n named. h.outside k n named ∙ e n; free = h.free; room = h.room }
 
 pub owed_same : (ps : Slots) (outer f g : Name → ℕ) (t : Tally) → ((n : Name) → f n ≡ g n) → AreHeld ps outer f t → AreHeld ps outer g t
-owed_same ps outer f g t e h = record { counted = counted_same ps f g t e h.counted; outside = h.outside; room = h.room }
+owed_same ps outer f g t e h = record { counted = counted_same ps f g t e h.counted; outside = h.outside; free = h.free; room = h.room }
+
+-- what has no name is another slot
+free_apart : (ps : Slots) (s k : ℕ) (x : Name) → name_at ps s ≡ Some x → name_at ps k ≡ None → k ≢ s
+free_apart ps s k x here none same = let e : None ≡ Some x = sym none ∙ ap (name_at ps) same ∙ here in cc
 
 one_name : (ps : Slots) (k : ℕ) (n x : Name) → name_at ps k ≡ Some n → name_at ps k ≡ Some x → n ≡ x
 one_name ps k n x a b = let e : Some n ≡ Some x = sym a ∙ b in cc
@@ -50,6 +54,7 @@ held_here ps outer owed t s x apart here low h =
           let never : times n (x ∷ []) ≡ 0 = named_never n x (λ e. ne (apart k s x (named ∙ ap (λ (m : Name). Some m) e) here)) in
           get_or-set_other t.outside s k (get_or t.outside s 0 + 1) 0 ne ∙ omega (arith, never, h.outside k n named))
           (cases_eq k s);
+      free = λ k none. get_or-set_other t.outside s k (get_or t.outside s 0 + 1) 0 (free_apart ps s k x here none) ∙ h.free k none;
       room = length-set t.total s (get_or t.total s 0 + 1) ∙ h.room;
     }
 
@@ -59,6 +64,7 @@ held_nowhere ps outer owed t x none h = record {
   counted = h.counted;
   outside = λ k n named.
       let never : times n (x ∷ []) ≡ 0 = named_never n x (λ e. none k (named ∙ ap (λ (m : Name). Some m) e)) in omega (arith, never, h.outside k n named);
+  free = h.free;
   room = h.room;
 }
 
@@ -83,6 +89,7 @@ released_here ps outer owed t s x apart here low h =
           let never : times n (x ∷ []) ≡ 0 = named_never n x (λ e. ne (apart k s x (named ∙ ap (λ (m : Name). Some m) e) here)) in
           get_or-set_other t.outside s k (get_or t.outside s 0 - 1) 0 ne ∙ omega (arith, never, h.outside k n named))
           (cases_eq k s);
+      free = λ k none. get_or-set_other t.outside s k (get_or t.outside s 0 - 1) 0 (free_apart ps s k x here none) ∙ h.free k none;
       room = length-set t.total s (get_or t.total s 0 - 1) ∙ h.room;
     }
 
@@ -92,6 +99,7 @@ released_nowhere ps outer owed t x none h = record {
   counted = h.counted;
   outside = λ k n named.
       let never : times n (x ∷ []) ≡ 0 = named_never n x (λ e. none k (named ∙ ap (λ (m : Name). Some m) e)) in omega (arith, never, h.outside k n named);
+  free = h.free;
   room = h.room;
 }
 
@@ -103,6 +111,7 @@ inside_here ps outer owed t s x apart here low h =
     record {
       counted = hold_inside_counted ps owed t s x apart here lowt h.counted;
       outside = h.outside;
+      free = h.free;
       room = length-set t.total s (get_or t.total s 0 + 1) ∙ h.room;
     }
 
@@ -121,6 +130,7 @@ inside_nowhere ps outer owed t x none h = record {
     pending = h.counted.pending;
   };
   outside = h.outside;
+  free = h.free;
   room = h.room;
 }
 
@@ -130,6 +140,7 @@ pub outside_here : (ps : Slots) (outer owed : Name → ℕ) (t : Tally) (s : ℕ
 outside_here ps outer owed t s x apart here low h = record {
   counted = owing_nothing ps owed (released t s x) (released_name ps (Some x) [] owed t (released t s x) apart (inl (s, here, refl)) h.counted);
   outside = h.outside;
+  free = h.free;
   room = length-set t.total s (get_or t.total s 0 - 1) ∙ h.room;
 }
 
@@ -143,6 +154,7 @@ outside_nowhere ps outer owed t x none h = record {
     pending = h.counted.pending;
   };
   outside = h.outside;
+  free = h.free;
   room = h.room;
 }
 
@@ -159,3 +171,21 @@ some_outside ps t s x here can = omega (arith, can.2.outside s x here, named_onc
 
 pub some_inside : (ps : Slots) (t : Tally) (s : ℕ) (x : Name) → name_at ps s ≡ Some x → CanReleaseInside ps (x ∷ []) t → get_or t.outside s 0 < get_or t.total s 0
 some_inside ps t s x here can = (releasable ps (Some x) [] can.1 t can.2.counted s here).1
+
+-- a name that comes, and one that goes, in its slot
+pub held_holds : (ps : Slots) (t u : Tally) (s : ℕ) (x : Name) → AreApart ps → name_at ps s ≡ Some x → s < 65536
+    → u ≡ record t { outside = raised t.outside s; total = raised t.total s; pending = without s t.pending } → Holds ps (x ∷ []) t u
+held_holds ps t u s x apart here low e = (
+  ap (λ (v : Tally). v.first_new) e,
+  λ outer owed h. subst (λ (v : Tally). AreHeld ps (owing outer (x ∷ [])) owed v) (sym e) (held_here ps outer owed t s x apart here low h),
+)
+
+pub nowhere_holds : (ps : Slots) (t : Tally) (x : Name) → ((k : ℕ) → name_at ps k ≡ Some x → ⊥) → Holds ps (x ∷ []) t t
+nowhere_holds ps t x none = (refl, λ outer owed h. held_nowhere ps outer owed t x none h)
+
+pub released_releases : (ps : Slots) (t u : Tally) (s : ℕ) (x : Name) → AreApart ps → name_at ps s ≡ Some x → s < 65536
+    → u ≡ record (released t s x) { outside = lowered t.outside s } → Releases ps (x ∷ []) t u
+released_releases ps t u s x apart here low e = (
+  ap (λ (v : Tally). v.first_new) e,
+  λ outer owed h. subst (λ (v : Tally). AreHeld ps outer owed v) (sym e) (released_here ps outer owed t s x apart here low h),
+)

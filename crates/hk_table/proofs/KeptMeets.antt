@@ -33,11 +33,11 @@ or_cases : (a b : Bool) → (a || b) ≡ true → (a ≡ true) ⊎ (b ≡ true)
 or_cases true b h = inl refl
 or_cases false b h = inr h
 
-or_left : (a b : Bool) → a ≡ true → (a || b) ≡ true
+pub or_left : (a b : Bool) → a ≡ true → (a || b) ≡ true
 or_left true b h = refl
 or_left false b h = absurd (cc)
 
-or_right : (a b : Bool) → b ≡ true → (a || b) ≡ true
+pub or_right : (a b : Bool) → b ≡ true → (a || b) ≡ true
 or_right true b h = refl
 or_right false b h = h
 
@@ -78,7 +78,7 @@ module _ {X : Type 0} where
       ⊎_elim (λ (a : opt f p ≡ true). (zero, a)) (λ (a : list_any (opt f) ps ≡ true). let r = any_at f ps a in (suc r.0, r.1)) (or_cases (opt f p) (list_any (opt f) ps) h)
 
 -- a list has a name exactly where it has it some times
-any_times : (n : Name) (ns : List Name) → 0 < times n ns → is_among n ns ≡ true
+pub any_times : (n : Name) (ns : List Name) → 0 < times n ns → is_among n ns ≡ true
 any_times n [] h = absurd (omega (arith, times_none n))
 any_times n (m ∷ ns) h =
     ⊎_elim (λ (same : n.0 ≡ m.0). or_left (same_name n m) (is_among n ns) (grind (arith, nat_tests)))
@@ -119,7 +119,7 @@ only_whole S (p ∷ qs) [] = λ i. only_one S p [] i ∷ only_whole S qs [] i
 only_whole S (p ∷ qs) (x ∷ vs) = λ i. only_one S p x i ∷ only_whole S qs vs i
 
 module _ (s : State) (ps : List (Option (Name × Body))) (ws : List (List Proc)) (t : Tally) (apart : AreApart ps) (tells : Tells s ps ws t) where
-  stands_at : (n : Name) (k : ℕ) → name_at ps k ≡ Some n → stands s n ≡ true
+  pub stands_at : (n : Name) (k : ℕ) → name_at ps k ≡ Some n → stands s n ≡ true
   stands_at n k named = by (place (whole ps ws) k) refl (name_at-whole ps ws k ∙ named) where
     by : (p : Option (Name × Object)) → place (whole ps ws) k ≡ p → option_map (λ (e : Name × Object). e.0) p ≡ Some n → stands s n ≡ true
     by None e h = absurd (cc)
@@ -131,7 +131,7 @@ module _ (s : State) (ps : List (Option (Name × Body))) (ws : List (List Proc))
   abbrev is_it : Name → Name × Body → Bool
   is_it n e = same_name n e.0
 
-  at_stands : (n : Name) → stands s n ≡ true → (k : ℕ) × (name_at ps k ≡ Some n)
+  pub at_stands : (n : Name) → stands s n ≡ true → (k : ℕ) × (name_at ps k ≡ Some n)
   at_stands n h = by (list_any (opt (is_it n)) ps) refl where
     is_named : (p : Option (Name × Body)) → opt (is_it n) p ≡ true → option_map (λ (e : Name × Body). e.0) p ≡ Some n
     is_named None e = absurd (cc)
@@ -191,7 +191,7 @@ module _ (s : State) (ps : List (Option (Name × Body))) (ws : List (List Proc))
       ∙ or_left (is_among n (outer_names s)) (is_among n (inner (members s S))) (any_times n (outer_names s) (subst (λ (k : ℕ). 0 < k) (tells.outside r.0 n r.1) some))))
       r.2
 
-  member_to : (S : Name → Bool) (n : Name) → IsNamedIn ps S n → supports s S n ≡ true
+  pub member_to : (S : Name → Bool) (n : Name) → IsNamedIn ps S n → supports s S n ≡ true
   member_to S n w =
       or_right (is_opening s n) (is_among n (outer_names s ++ inner (members s S)))
       (list_any-append (same_name n) (outer_names s) (inner (members s S)) ∙ or_right (is_among n (outer_names s)) (is_among n (inner (members s S))) (named_to S n w))

@@ -28,3 +28,13 @@ pub mod Holding
 pub mod Stepping
 pub mod NameBounds
 pub mod Stays
+pub mod Telling
+pub mod ObjectTelling
+pub mod Unnamed
+pub mod StackNames
+pub mod MadeObjects
+pub mod WhatIsLeft
+pub mod Named
+pub mod Runs
+pub mod OpenCounts
+pub mod Rooms

@@ -32,13 +32,13 @@ once : (b : Bool) → cond b 1 0 ≤ 1
 once true = omega arith
 once false = omega arith
 
-one_name : (n x : Name) → times n (x ∷ []) ≤ 1
+pub one_name : (n x : Name) → times n (x ∷ []) ≤ 1
 one_name n x = let z : times n [] ≡ 0 = times_none n in let w : cond (n.0 == x.0) 1 0 ≤ 1 = once (n.0 == x.0) in omega (arith, times-cons n x [], z, w)
 
 no_name : (n : Name) → times n [] ≤ 1
 no_name n = let z : times n [] ≡ 0 = times_none n in omega arith
 
-entry_within : (n : Name) (e : Entry) → times n (entry_names e) ≤ 1
+pub entry_within : (n : Name) (e : Entry) → times n (entry_names e) ≤ 1
 entry_within n Empty = no_name n
 entry_within n (Held cap) = one_name n cap.name
 entry_within n (Form (template.Amplify None check give)) = no_name n
@@ -72,7 +72,7 @@ names_within n (Some e) h =
     let w : cond (n.0 == e.1.of.0) 1 0 ≤ 1 = once (n.0 == e.1.of.0) in
     omega (arith, few, w, times-cons n e.1.of (named_in e.1.entries), entries_within n e.1.entries)
 
-objects_within : (n : Name) (slots : List (Option (Name × Body))) → ((k : ℕ) (e : Name × Body) → place slots k ≡ Some e → length e.1.entries ≤ 256) → namings slots n ≤ length slots * 257
+pub objects_within : (n : Name) (slots : List (Option (Name × Body))) → ((k : ℕ) (e : Name × Body) → place slots k ≡ Some e → length e.1.entries ≤ 256) → namings slots n ≤ length slots * 257
 unfolding namings
 objects_within n slots few =
     sum_within (λ p. times n (names_in p)) 257 slots (λ k p here. names_within n p (λ e is. few k e (place_some slots k p here ∙ is)))

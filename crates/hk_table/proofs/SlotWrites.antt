@@ -12,7 +12,7 @@ use Rattle.hk_model.specs.declared.objects.Incarnation.{Incarnation}
 use Rattle.hk_model.specs.State.{inc_cmp, same_inc}
 use Rattle.hk_spaces.specs.declared.stack.StackFrame.{StackFrame}
 use Rattle.hk_spaces.specs.Slots.{with_slot, with_changed, with_top}
-use Rattle.hk_table.specs.Stacked.{caller_at, incarnation_of, live_with, live_from, frame_at, top_of, with_top_of, AreNumbered}
+use Rattle.hk_table.specs.Stacked.{caller_at, incarnation_of, live_with, live_from, frame_at, top_of, slots_of, with_top_of, AreNumbered}
 use Rattle.hk_table.specs.Joined.{IsCurrentOf, IsCurrent}
 use Rattle.hk_table.proofs.Live.{IsNoneOf, no_frame, live_one, current_one, incarnation_or_none}
 
@@ -156,7 +156,7 @@ top_numbers fs slot entry j = by (top_of fs) refl where
   by None e = ap (λ (o : Option StackFrame). number_of (slice_get (with_changed fs (length fs - 1) o slot entry) j)) e
   by (Some f) e = ap (λ (o : Option StackFrame). number_of (slice_get (with_changed fs (length fs - 1) o slot entry) j)) e ∙ numbers_put fs (length fs - 1) f (with_slot f slot entry) e refl j
 
-top_many : (fs : List StackFrame) (slot : ℕ) (entry : Entry) → length (with_top fs slot entry) ≡ length fs
+pub top_many : (fs : List StackFrame) (slot : ℕ) (entry : Entry) → length (with_top fs slot entry) ≡ length fs
 top_many fs slot entry = by (top_of fs) where
   by : (o : Option StackFrame) → length (with_changed fs (length fs - 1) o slot entry) ≡ length fs
   by None = refl
@@ -193,3 +193,13 @@ top_same stacks q slot entry = record {
   numbers = λ p k.
       placed_put (λ (fs : List StackFrame). number_of (slice_get fs k)) stacks q (with_top (slice_index_or stacks q []) slot entry) (top_numbers (slice_index_or stacks q []) slot entry k) p;
 }
+
+-- and a slot past those of the top frame of a process
+pub past_slots : (stacks : List (List StackFrame)) (q slot : ℕ) (entry : Entry) → length (slots_of (top_of (slice_index_or stacks q []))) ≤ slot
+    → stacks ≡ with_top_of stacks q slot entry
+past_slots stacks q slot entry past =
+    sym (ap (set stacks q) (sym (by (top_of (slice_index_or stacks q [])) refl past)) ∙ set-get_or stacks q []) where
+      by : (o : Option StackFrame) → top_of (slice_index_or stacks q []) ≡ o → length (slots_of o) ≤ slot → slice_index_or stacks q [] ≡ with_top (slice_index_or stacks q []) slot entry
+      by None e low =
+          sym (ap (λ (o : Option StackFrame). with_changed (slice_index_or stacks q []) (length (slice_index_or stacks q []) - 1) o slot entry) e)
+      by (Some f) e low = past_top (slice_index_or stacks q []) slot entry f e low

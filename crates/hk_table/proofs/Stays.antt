@@ -1,6 +1,7 @@
 -- What stays as it was where objects vanish: who waits, and what is remembered of walks.
-use Rattle.std.proofs.Common.{◌≡◌, ℕ, zero, suc, ◌<◌, ◌==◌, ◌||◌, ◌⊎◌, ◌↔◌, inl, inr, Bool, true, false, cond, List, [], ◌∷◌, Some, None, option_map, refl, sym, ap, ◌∙◌, subst, arith, ⊎_elim}
+use Rattle.std.proofs.Common.{◌≡◌, ℕ, zero, suc, ◌<◌, ◌≤◌, ◌==◌, ◌||◌, ◌⊎◌, ◌↔◌, inl, inr, Bool, true, false, cond, List, [], ◌∷◌, Option, Some, None, option_map, refl, sym, ap, ◌∙◌, subst, arith, ⊎_elim}
 use Rattle.std.specs.Prelude.{IsTrue, slice_index}
+use Rattle.std.proofs.lemmas.Bool.{cases_lt}
 use Rattle.std.proofs.lemmas.Bool.Decides.{nat_tests}
 use Rattle.std.proofs.lemmas.List.Sums.{sum_by-cons}
 use Rattle.hk_model.specs.declared.names.Name.{Name}
@@ -20,7 +21,7 @@ use Rattle.hk_running.specs.Runners.{process_at}
 use Rattle.hk_walk.specs.declared.trail.Trail.{Trail}
 use Rattle.hk_walk.specs.Walks.{seen, AreRight}
 use Rattle.hk_table.specs.Joined.{AreQueued}
-use Rattle.hk_table.specs.Settled.{wait_namings}
+use Rattle.hk_table.specs.Settled.{wait_namings, FreesUncounted}
 use Rattle.hk_table.specs.Waits.{AreWaitsCounted}
 use Rattle.hk_table.proofs.Holding.{Slots}
 
@@ -117,3 +118,22 @@ pub reached_queued : (slots new : Slots) (q : Queued) (ps : List Process) (t : T
     → AreQueued slots q ps
     → AreQueued new q ps
 reached_queued slots new q ps t reached left counted h = queued_with_roots slots new q ps t counted (λ n root. reached.closed.roots n root) left h
+
+-- where nothing is left nothing was counted
+frees : (slots new : Slots) (t : Tally) → ((n : Name) → IsRoot t.first_new t.outside slots n → stands new n ≡ true) → new ≡ only (stands new) slots → FreesUncounted slots new t
+frees slots new t roots left k none = by (name_at slots k) refl where
+  by : (o : Option Name) → name_at slots k ≡ o → (name_at slots k ≡ None) ⊎ (slice_index t.outside k ≡ 0)
+  by None e = inl e
+  by (Some n) e =
+      ⊎_elim
+      (λ (some : 0 < slice_index t.outside k).
+      let here : name_at new k ≡ Some n = ap (λ (qs : Slots). name_at qs k) left ∙ stays (stands new) slots k n e (roots n (k, e, inr some)) in
+      let f : None ≡ Some n = sym none ∙ here in absurd (cc))
+      (λ (zero_is : slice_index t.outside k ≤ 0). inr (omega (arith, zero_is)))
+      (cases_lt 0 (slice_index t.outside k))
+
+pub kept_frees : (slots new : Slots) (t : Tally) → IsKept t.first_new t.outside slots (stands new) → new ≡ only (stands new) slots → FreesUncounted slots new t
+kept_frees slots new t kept left = frees slots new t (λ n root. roots_kept t.first_new t.outside slots (stands new) kept n root) left
+
+pub reached_frees : (slots new : Slots) (t : Tally) → IsReached t.first_new t.outside slots (stands new) → new ≡ only (stands new) slots → FreesUncounted slots new t
+reached_frees slots new t reached left = frees slots new t (λ n root. reached.closed.roots n root) left

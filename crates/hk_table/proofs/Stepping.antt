@@ -44,39 +44,47 @@ few_inside f g xs ys few n =
 pub holding : (ps : Slots) → IsStepwise (λ names t. CanHold ps names t) (λ names t u. Holds ps names t u)
 holding ps = record {
   first = λ xs ys t can. (can.0, can.1, can.2, few_first can.0 can.1 xs ys can.3);
-  rest = λ xs ys t u can does. (owing can.0 xs, can.1, does can.0 can.1 can.2, few_rest can.0 can.1 xs ys can.3);
-  more = λ xs ys t u v one two outer owed h.
-      held_same ps (owing (owing outer xs) ys) (owing outer (xs ++ ys)) owed v (behind outer xs ys) (two (owing outer xs) owed (one outer owed h));
-  nothing = λ t outer owed h. held_same ps outer (owing outer []) owed t (λ n. sym (added outer n)) h;
+  rest = λ xs ys t u can does. (owing can.0 xs, can.1, does.1 can.0 can.1 can.2, few_rest can.0 can.1 xs ys can.3);
+  more = λ xs ys t u v one two. (
+    two.0 ∙ one.0,
+    λ outer owed h. held_same ps (owing (owing outer xs) ys) (owing outer (xs ++ ys)) owed v (behind outer xs ys) (two.1 (owing outer xs) owed (one.1 outer owed h)),
+  );
+  nothing = λ t. (refl, λ outer owed h. held_same ps outer (owing outer []) owed t (λ n. sym (added outer n)) h);
 }
 
 pub releasing : (ps : Slots) → IsStepwise (λ names t. CanRelease ps names t) (λ names t u. Releases ps names t u)
 releasing ps = record {
   first = λ xs ys t can. (owing can.0 ys, can.1, held_same ps (owing can.0 (xs ++ ys)) (owing (owing can.0 ys) xs) can.1 t (before can.0 xs ys) can.2);
   rest = λ xs ys t u can does.
-      (can.0, can.1, does (owing can.0 ys) can.1 (held_same ps (owing can.0 (xs ++ ys)) (owing (owing can.0 ys) xs) can.1 t (before can.0 xs ys) can.2));
-  more = λ xs ys t u v one two outer owed h.
-      two outer owed (one (owing outer ys) owed (held_same ps (owing outer (xs ++ ys)) (owing (owing outer ys) xs) owed t (before outer xs ys) h));
-  nothing = λ t outer owed h. held_same ps (owing outer []) outer owed t (added outer) h;
+      (can.0, can.1, does.1 (owing can.0 ys) can.1 (held_same ps (owing can.0 (xs ++ ys)) (owing (owing can.0 ys) xs) can.1 t (before can.0 xs ys) can.2));
+  more = λ xs ys t u v one two. (
+    two.0 ∙ one.0,
+    λ outer owed h. two.1 outer owed (one.1 (owing outer ys) owed (held_same ps (owing outer (xs ++ ys)) (owing (owing outer ys) xs) owed t (before outer xs ys) h)),
+  );
+  nothing = λ t. (refl, λ outer owed h. held_same ps (owing outer []) outer owed t (added outer) h);
 }
 
 pub holding_inside : (ps : Slots) → IsStepwise (λ names t. CanHold ps names t) (λ names t u. HoldsInside ps names t u)
 holding_inside ps = record {
   first = λ xs ys t can. (can.0, can.1, can.2, few_first can.0 can.1 xs ys can.3);
-  rest = λ xs ys t u can does. (can.0, owing can.1 xs, does can.0 can.1 can.2, few_inside can.0 can.1 xs ys can.3);
-  more = λ xs ys t u v one two outer owed h.
-      owed_same ps outer (owing (owing owed xs) ys) (owing owed (xs ++ ys)) v (behind owed xs ys) (two outer (owing owed xs) (one outer owed h));
-  nothing = λ t outer owed h. owed_same ps outer owed (owing owed []) t (λ n. sym (added owed n)) h;
+  rest = λ xs ys t u can does. (can.0, owing can.1 xs, does.1 can.0 can.1 can.2, few_inside can.0 can.1 xs ys can.3);
+  more = λ xs ys t u v one two. (
+    two.0 ∙ one.0,
+    λ outer owed h. owed_same ps outer (owing (owing owed xs) ys) (owing owed (xs ++ ys)) v (behind owed xs ys) (two.1 outer (owing owed xs) (one.1 outer owed h)),
+  );
+  nothing = λ t. (refl, λ outer owed h. owed_same ps outer owed (owing owed []) t (λ n. sym (added owed n)) h);
 }
 
 pub releasing_inside : (ps : Slots) → IsStepwise (λ names t. CanReleaseInside ps names t) (λ names t u. ReleasesInside ps names t u)
 releasing_inside ps = record {
   first = λ xs ys t can. (can.0, owing can.1 ys, owed_same ps can.0 (owing can.1 (xs ++ ys)) (owing (owing can.1 ys) xs) t (before can.1 xs ys) can.2);
   rest = λ xs ys t u can does.
-      (can.0, can.1, does can.0 (owing can.1 ys) (owed_same ps can.0 (owing can.1 (xs ++ ys)) (owing (owing can.1 ys) xs) t (before can.1 xs ys) can.2));
-  more = λ xs ys t u v one two outer owed h.
-      two outer owed (one outer (owing owed ys) (owed_same ps outer (owing owed (xs ++ ys)) (owing (owing owed ys) xs) t (before owed xs ys) h));
-  nothing = λ t outer owed h. owed_same ps outer (owing owed []) owed t (added owed) h;
+      (can.0, can.1, does.1 can.0 (owing can.1 ys) (owed_same ps can.0 (owing can.1 (xs ++ ys)) (owing (owing can.1 ys) xs) t (before can.1 xs ys) can.2));
+  more = λ xs ys t u v one two. (
+    two.0 ∙ one.0,
+    λ outer owed h. two.1 outer owed (one.1 outer (owing owed ys) (owed_same ps outer (owing owed (xs ++ ys)) (owing (owing owed ys) xs) t (before owed xs ys) h)),
+  );
+  nothing = λ t. (refl, λ outer owed h. owed_same ps outer (owing owed []) owed t (added owed) h);
 }
 
 -- what an entry names

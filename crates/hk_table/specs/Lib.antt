@@ -10,3 +10,5 @@ pub mod Settled
 pub mod Held
 pub mod Small
 pub mod Waits
+pub mod Told
+pub mod Rooms

@@ -14,3 +14,9 @@ pub record AreSmall (slots : List (Option (Name × Body))) (stacks : List (List 
   pub frames : (q : ℕ) → length (slice_index_or stacks q []) ≤ 64
   pub spaces : (q k : ℕ) (f : StackFrame) → frame_at stacks q k ≡ Some f → length f.space ≤ 64
   pub processes : length ps ≤ 256
+
+-- no more processes, frames and slots than there may be
+pub record AreSmallStacks (stacks : List (List StackFrame)) : Type 0 where
+  pub many : length stacks ≤ 256
+  pub frames : (q : ℕ) → length (slice_index_or stacks q []) ≤ 64
+  pub spaces : (q k : ℕ) (f : StackFrame) → frame_at stacks q k ≡ Some f → length f.space ≤ 64

@@ -78,3 +78,7 @@ with_frame st q f = record { stacks = slice_set st.stacks q (slice_index_or st.s
 abbrev pub Pops : List (List StackFrame) → ℕ → Option Slot → List (List StackFrame) → Type 0
 Pops old q None new = (slice_index_or old q [] ≡ []) × (new ≡ old)
 Pops old q (Some into) new = (fs : List StackFrame) × (f : StackFrame) × (slice_index_or old q [] ≡ fs ++ f ∷ []) × (f.into ≡ into) × (new ≡ slice_set old q fs)
+
+-- the entry stands in that slot
+abbrev pub IsIn : List Entry → ℕ → Entry → Type 0
+IsIn slots at entry = (at < length slots) × (entry ≡ slice_index_or slots at Empty)

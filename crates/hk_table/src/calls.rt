@@ -1,24 +1,39 @@
 //! The calls, each handed to its row.
 
-ghost use Rattle.std.specs.Prelude.{◌≡◌, ◌<◌, ◌^◌, true, length};
+ghost use Rattle.std.specs.Prelude.{◌≡◌, ◌<◌, ◌+◌, ◌^◌, true, not, length, IsTrue, IfOk, OnOk, OnErr};
+ghost use Rattle.hk_model.specs.declared.calls.Reply.TheVariants.{Done};
 ghost use Rattle.hk_model.specs.State.{process};
-ghost use Rattle.hk_model.specs.Processors.{is_running};
-ghost use Rattle.hk_model.specs.Rule.{has_room, outcome};
-ghost use Rattle.hk_table.specs.Giving.{Gives, WantsOnly};
+ghost use Rattle.hk_model.specs.Processors.{is_running, may_step, code_found, entered_code};
+ghost use Rattle.hk_model.specs.Rule.{outcome, rule, answered, settled, counted};
+ghost use Rattle.hk_model.specs.Walking.{walk};
+ghost use Rattle.hk_table.specs.Giving.{Gives, WantsOnly, TakesOne, takes_memory};
+ghost use Rattle.hk_table.specs.Joined.{FewNumbers};
+ghost use Rattle.hk_table.specs.Told.{AllNamedStand};
 
 use crate::parts::Parts;
 use hk_calls::Stop;
-use hk_model::{Answer, Call, Proc};
+use hk_model::{Acted, Answer, Call, Entry, NoMemory, Path, Proc, Reply};
 use std::alloc::Global;
 
+// The reply that says an answer.
+fn answered(answer: Answer) -> Reply
+    ensures { result ≡ answered answer }
+{
+    match answer {
+        Answer::Done => Reply::Done,
+        Answer::Word(word) => Reply::Word(word),
+        Answer::Waits => Reply::Waits,
+    }
+}
+
 impl Parts {
-    /// What a call of a process that runs does, where there is room for one more object, before objects vanish and the event
-    /// is counted. Only Add, Append, Copy and Enter may want memory.
+    /// What a call of a process that runs does, before objects vanish and the event is counted. Only Add, Append, Copy and
+    /// Enter may want memory.
     #[tactic(auto, using(crate::proofs::Wanting::wants_any))]
     pub(crate) fn serve(&mut self, alloc: Global, proc: Proc, call: &Call) -> Result<Answer, Stop>
         requires known { proc.0 < length self.old.processes }
         requires runs { is_running (process self.old proc).run ≡ true }
-        requires room { has_room self.old.objects ≡ true }
+        requires named { AllNamedStand self.old }
         requires next_name { self.old.next_name.0 < 2 ^ 63 }
         requires next_inc { self.old.next_inc.0 < 2 ^ 63 }
         ensures row { Gives self.old (outcome self.old proc (process self.old proc).current call.now) result self.new }
@@ -52,5 +67,76 @@ impl Parts {
             Call::V { of } => Ok(self.give_token(proc, of)?),
             Call::Yield => Ok(self.yield_up(proc)),
         }
+    }
+    // Makes a call of a process that runs: what nothing names then vanishes, where it is answered.
+    fn reply_to(&mut self, alloc: Global, proc: Proc, call: &Call) -> Result<Reply, NoMemory>
+        requires known { proc.0 < length self.old.processes }
+        requires runs { is_running (process self.old proc).run ≡ true }
+        requires named { AllNamedStand self.old }
+        requires next_name { self.old.next_name.0 < 2 ^ 63 }
+        requires next_inc { self.old.next_inc.0 < 2 ^ 63 }
+        ensures reply { IfOk result (λ reply. settled self.old (outcome self.old proc (process self.old proc).current call.now) ≡ (reply, counted (self.old.events + 1) self.new)) }
+        ensures numbers { OnOk result (TakesOne self.old self.new) }
+        ensures memory { OnErr result (takes_memory call.now ≡ true) }
+        ensures err { OnErr result (self.new ≡ self.old) }
+    {
+        match self.serve(alloc, proc, call) {
+            Ok(answer) => {
+                self.settle();
+                Ok(answered(answer))
+            }
+            Err(Stop::Refused(refusal)) => Ok(Reply::No(refusal)),
+            Err(Stop::OutOfMemory) => Err(NoMemory),
+        }
+    }
+
+    // The code of the procedure that a path leads to.
+    fn code_at(&mut self, proc: Proc, path: &Path) -> Option<u16>
+        requires { proc.0 < length self.old.processes }
+        ensures value { result ≡ code_found self.old (walk self.old (process self.old proc).current path.now) }
+        ensures same { self.new ≡ self.old }
+    {
+        match self.walk(proc, path) {
+            Ok(Entry::Held(cap)) => self.code_of(cap.name),
+            _ => None,
+        }
+    }
+
+    // The code of the procedure that a call enters if it is answered Done.
+    fn code_entered(&mut self, proc: Proc, call: &Call) -> Option<u16>
+        requires { proc.0 < length self.old.processes }
+        ensures value { result ≡ entered_code self.old (process self.old proc).current call.now Done }
+        ensures same { self.new ≡ self.old }
+    {
+        match call {
+            Call::Enter { proc: path, .. } => self.code_at(proc, path),
+            _ => None,
+        }
+    }
+
+    /// Makes a call of a process that runs. It is one event, refused or not. NoMemory is want of memory of an Add, an
+    /// Append, a Copy or an Enter, and changes nothing.
+    pub(crate) fn act(&mut self, alloc: Global, proc: Proc, call: &Call) -> Result<Acted, NoMemory>
+        requires known { proc.0 < length self.old.processes }
+        requires runs { is_running (process self.old proc).run ≡ true }
+        requires below { IsTrue (may_step self.old) }
+        requires named { AllNamedStand self.old }
+        requires numbers { FewNumbers self.old }
+        ensures reply { IfOk result (λ acted. rule self.old proc call.now ≡ (acted.reply, self.new)) }
+        ensures code { IfOk result (λ acted. acted.code ≡ entered_code self.old (process self.old proc).current call.now acted.reply) }
+        ensures gone { IfOk result (λ acted. acted.gone ≡ not (is_running (process self.new proc).run)) }
+        ensures numbers { OnOk result (FewNumbers self.new) }
+        ensures memory { OnErr result (takes_memory call.now ≡ true) }
+        ensures err { OnErr result (self.new ≡ self.old) }
+    {
+        let events = self.next_event();
+        let code = self.code_entered(proc, call);
+        let reply = self.reply_to(alloc, proc, call)?;
+        self.set_events(events);
+        Ok(Acted {
+            reply,
+            code: if reply == Reply::Done { code } else { None },
+            gone: self.rests(proc),
+        })
     }
 }

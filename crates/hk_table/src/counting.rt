@@ -1,6 +1,7 @@
 //! Counting what is named, where it stands (`docs/RULES.md`, "Objects that vanish").
 
 ghost use Rattle.std.specs.Prelude.{[], ◌∷◌};
+ghost use Rattle.hk_table.specs.Settled.{stack_names};
 ghost use Rattle.hk_model.specs.Keeping.{entry_names};
 ghost use Rattle.hk_reclaim.specs.Naming.{named_in};
 ghost use Rattle.hk_table.specs.Held.{CanHold, CanRelease, CanReleaseInside, Holds, Releases, HoldsInside, ReleasesInside};
@@ -9,6 +10,7 @@ use crate::finding::slot_of;
 use hk_model::{Entry, Name};
 use hk_objects::Objects;
 use hk_reclaim::{Counts, entry_name};
+use hk_spaces::Stack;
 
 /// A name comes from outside.
 pub(crate) fn hold_name(objects: &Objects, counts: &mut Counts, name: Name)
@@ -127,5 +129,25 @@ pub(crate) fn release_entries_inside(objects: &Objects, counts: &mut Counts, ent
 {
     for entry in entries {
         release_entry_inside(objects, counts, entry);
+    }
+}
+
+/// What the frames of a process name comes from outside.
+pub(crate) fn hold_stack(objects: &Objects, counts: &mut Counts, stack: &Stack)
+    requires { CanHold objects.now.slots (stack_names stack.now) counts.old }
+    ensures { Holds objects.now.slots (stack_names stack.now) counts.old counts.new }
+{
+    for at in 0..stack.depth() {
+        hold_entries(objects, counts, stack.frame(at).space.as_slice());
+    }
+}
+
+/// What the frames of a process named from outside goes.
+pub(crate) fn release_stack(objects: &Objects, counts: &mut Counts, stack: &Stack)
+    requires { CanRelease objects.now.slots (stack_names stack.now) counts.old }
+    ensures { Releases objects.now.slots (stack_names stack.now) counts.old counts.new }
+{
+    for at in 0..stack.depth() {
+        release_entries(objects, counts, stack.frame(at).space.as_slice());
     }
 }

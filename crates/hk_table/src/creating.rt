@@ -1,9 +1,10 @@
-//! The calls that make objects, Create and Copy, where there is room for one more.
+//! The calls that make objects, Create and Copy.
 
-ghost use Rattle.std.specs.Prelude.{◌≡◌, ◌<◌, ◌^◌, true, length};
+ghost use Rattle.std.specs.Prelude.{◌≡◌, ◌<◌, ◌^◌, length};
 ghost use Rattle.hk_model.specs.State.{process};
-ghost use Rattle.hk_model.specs.Rule.{has_room, create_object, copy_object};
+ghost use Rattle.hk_model.specs.Rule.{create_object, copy_object};
 ghost use Rattle.hk_table.specs.Giving.{Answers, Gives};
+ghost use Rattle.hk_table.specs.Told.{AllNamedStand};
 
 use crate::objects::{NewObject, can_be_created, creating};
 use crate::parts::Parts;
@@ -14,8 +15,8 @@ use std::alloc::Global;
 use std::marker::PhantomData;
 
 impl Parts {
-    /// Create, where there is room: a new object by the template that the path leads to.
-    #[tactic(auto, using(crate::proofs::Makings::room_there), unfolding(hk_model::specs::Rule::create_object))]
+    /// Create: a new object by the template that the path leads to.
+    #[tactic(auto, unfolding(hk_model::specs::Rule::create_object))]
     pub(crate) fn create(
         &mut self,
         alloc: Global,
@@ -24,8 +25,8 @@ impl Parts {
         into: Slot,
     ) -> Result<Answer, Refusal>
         requires known { proc.0 < length self.old.processes }
-        requires room { has_room self.old.objects ≡ true }
         requires next { self.old.next_name.0 < 2 ^ 63 }
+        requires named { AllNamedStand self.old }
         ensures { Answers self.old (create_object self.old (process self.old proc).current path.now into) result self.new }
     {
         let _ = PhantomData::<Template>; // so that the check knows what an Entry holds
@@ -39,11 +40,11 @@ impl Parts {
         let words = Words::new(alloc);
         let entries = Entries::new(alloc);
         let new = NewObject { of, words, entries };
-        Ok(self.add_object(proc, slot, new, give))
+        self.add_object(proc, slot, new, give)
     }
 
-    /// Copy, where there is room: a new object with the words and entries of another.
-    #[tactic(auto, using(crate::proofs::Makings::room_there), unfolding(hk_model::specs::Rule::copy_object))]
+    /// Copy: a new object with the words and entries of another.
+    #[tactic(auto, unfolding(hk_model::specs::Rule::copy_object))]
     pub(crate) fn copy(
         &mut self,
         alloc: Global,
@@ -52,13 +53,13 @@ impl Parts {
         into: Slot,
     ) -> Result<Answer, Stop>
         requires known { proc.0 < length self.old.processes }
-        requires room { has_room self.old.objects ≡ true }
         requires next { self.old.next_name.0 < 2 ^ 63 }
+        requires named { AllNamedStand self.old }
         ensures { Gives self.old (copy_object self.old (process self.old proc).current path.now into) result self.new }
     {
         let slot = slot_at(into, path.len() as u8)?;
         let cap = self.target(proc, path, Wanted::General, Rights::COPY)?;
         let new = self.copy_of(alloc, &cap)?;
-        Ok(self.add_object(proc, slot, new, cap.rights))
+        Ok(self.add_object(proc, slot, new, cap.rights)?)
     }
 }

@@ -1,14 +1,30 @@
 //! The incarnations of calls: how many a process has, one more, and one that goes (`docs/RULES.md`, "Calls of procedures").
 
-ghost use Rattle.std.specs.Prelude.{◌≡◌, ◌<◌, ◌^◌, true, length, OnOk, OnErr};
+ghost use Rattle.std.specs.Prelude.{◌≡◌, ◌<◌, ◌^◌, [], true, length, slice_index_or, OnOk, OnErr};
 ghost use Rattle.hk_model.specs.State.{incarnation, process};
 ghost use Rattle.hk_model.specs.Processors.{is_running, ended};
 ghost use Rattle.hk_model.specs.Rule.{depth, enter, called_incarnation};
+ghost use Rattle.hk_table.specs.Held.{CanRelease, Releases};
 ghost use Rattle.hk_table.specs.Returns.{GoesBack};
+ghost use Rattle.hk_table.specs.Settled.{stack_names};
 
+use crate::counting::{hold_entries, release_entries, release_stack};
 use crate::parts::Parts;
+use crate::stacks::Stacks;
 use hk_model::{Name, NoMemory, Proc, ProcessState, Slot};
+use hk_objects::Objects;
+use hk_reclaim::Counts;
 use hk_spaces::{Space, StackFrame};
+
+// What the frames of a process named from outside goes.
+fn release_frames(objects: &Objects, counts: &mut Counts, stacks: &Stacks, proc: Proc)
+    requires { CanRelease objects.now.slots (stack_names (slice_index_or stacks.now.stacks proc.0 [])) counts.old }
+    ensures { Releases objects.now.slots (stack_names (slice_index_or stacks.now.stacks proc.0 [])) counts.old counts.new }
+{
+    if let Some(stack) = stacks.as_slice().get(proc.0 as usize) {
+        release_stack(objects, counts, stack);
+    }
+}
 
 impl Parts {
     /// How many incarnations a process has.
@@ -36,6 +52,7 @@ impl Parts {
         ensures err { OnErr result (self.new ≡ self.old) }
     {
         let _deep = self.stacks.depth(proc);
+        let _slots = space.as_slice(); // so that the check knows how many slots there are
         let inc = self.stacks.next();
         let frame = StackFrame {
             space,
@@ -45,6 +62,11 @@ impl Parts {
             procedure: Some(procedure),
         };
         self.stacks.push(proc, frame)?;
+        hold_entries(
+            &self.objects,
+            &mut self.counts,
+            self.stacks.top_slots(proc),
+        );
         self.processes.set_current(proc, inc);
         Ok(())
     }
@@ -55,6 +77,11 @@ impl Parts {
         requires { is_running (process self.old proc).run ≡ true }
         ensures { GoesBack self.old proc (process self.old proc).current result self.new }
     {
+        release_entries(
+            &self.objects,
+            &mut self.counts,
+            self.stacks.top_slots(proc),
+        );
         let Some(into) = self.stacks.pop(proc) else {
             self.processes.set_run(proc, ProcessState::Ended);
             return None;
@@ -76,6 +103,7 @@ impl Parts {
         requires { is_running (process self.old proc).run ≡ true }
         ensures { self.new ≡ ended self.old proc }
     {
+        release_frames(&self.objects, &mut self.counts, &self.stacks, proc);
         self.stacks.clear(proc);
         self.processes.set_run(proc, ProcessState::Ended);
     }

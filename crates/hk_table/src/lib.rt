@@ -2,13 +2,13 @@
 //! (`docs/RULES.md`, "The table of the calls").
 //!
 //! Its state is that of the rule table, told from its parts. The files are by subject: `stacks` has the name spaces of the
-//! calls, `table` these with the objects and the queues, `born` and `opening` the state in which a world opens, `processors`
-//! the dispatch and what a processor runs, `finding` and `reads` the objects by name, `walks` and `targets` the tests that the
-//! calls share, `frames` the incarnations that come and go, `making` and `objects` what is made.
+//! calls, `parts` these with the objects, the queues and the counts, `born`, `counted` and `opening` the state in which a world
+//! opens, `processors` the dispatch, the halt and what a processor runs, `finding` and `reads` the objects by name, `walks` and
+//! `targets` the tests that the calls share, `frames` the incarnations that come and go, `making` and `objects` what is made.
 //! The calls: `words`, `lists`, `slots`, `templates`, `semaphores`, `procedures` and `creating`; `calls` hands each to its row.
-//! The state as plain data: `queued`, `shown` and `shows`. What vanishes: `settling`, over slots and counts alone, since the
-//! calls do not count yet. `counting` raises and lowers the counts by what names come and go, and `laws` says what the counts
-//! from outside are to be, and what each change of frames and processes is to them.
+//! The state as plain data: `queued`, `shown` and `shows`. `counting` raises and lowers the counts by what names come and go,
+//! `settling` and `vanishing` take away what nothing names or reaches by them, and `laws` says what the counts from outside
+//! are to be, and what each change of frames and processes is to them. `table` is the kernel over the parts.
 //!
 //! What is not in a list of objects or frames is found by its number: nothing here grows with the number of objects,
 //! incarnations or processes but the opening and the state as plain data.
@@ -16,6 +16,7 @@
 
 mod born;
 mod calls;
+mod counted;
 mod counting;
 mod creating;
 mod finding;
@@ -39,6 +40,7 @@ mod stacks;
 mod table;
 mod targets;
 mod templates;
+mod vanishing;
 mod walks;
 mod words;
 

@@ -5,8 +5,10 @@ ghost use Rattle.hk_model.specs.declared.entries.Entry.TheVariants.{Held};
 ghost use Rattle.hk_model.specs.declared.calls.Answer.TheVariants.{Done};
 ghost use Rattle.hk_model.specs.State.{object, process};
 ghost use Rattle.hk_model.specs.Targets.{create_form};
-ghost use Rattle.hk_model.specs.Rule.{can_be_created, copied, has_room, plain_object};
-ghost use Rattle.hk_table.specs.Additions.{object_made};
+ghost use Rattle.hk_model.specs.Rule.{can_be_created, copied, plain_object};
+ghost use Rattle.hk_table.specs.Giving.{Answers};
+ghost use Rattle.hk_table.specs.Rooms.{object_made_in_room};
+ghost use Rattle.hk_table.specs.Told.{AllNamedStand};
 
 use crate::parts::Parts;
 use hk_model::{Answer, Cap, Entries, Entry, Name, Proc, Refusal, Template, Words};
@@ -103,24 +105,26 @@ impl Parts {
         })
     }
 
-    /// A new object where there is room, and a capability for it in a slot.
+    /// A new object, and a capability for it in a slot. It takes no memory.
+    ///
+    /// `Full` where there is no room for it; then nothing changes.
     pub(crate) fn add_object(
         &mut self,
         proc: Proc,
         slot: usize,
         new: NewObject,
         rights: Rights,
-    ) -> Answer
+    ) -> Result<Answer, Refusal>
         requires known { proc.0 < length self.old.processes }
         requires slot { slot < 64 }
-        requires room { has_room self.old.objects ≡ true }
         requires next { self.old.next_name.0 < 2 ^ 63 }
-        ensures answer { result ≡ Done }
-        ensures state { object_made self.old self.old.objects (process self.old proc).current slot (plain_object new.of new.words new.entries) rights ≡ Ok (Done, self.new) }
+        requires named { AllNamedStand self.old }
+        ensures { Answers self.old (object_made_in_room self.old (process self.old proc).current slot (plain_object new.of new.words new.entries) rights) result self.new }
     {
+        self.make_room()?;
         let name = self.objects.next_name();
         self.make(new.of, new.words, new.entries);
         self.set_slot(proc, slot, Entry::Held(Cap { name, rights }));
-        Answer::Done
+        Ok(Answer::Done)
     }
 }

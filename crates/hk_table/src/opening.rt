@@ -6,11 +6,13 @@ ghost use Rattle.hk_model.specs.declared.objects.Process.{Process};
 ghost use Rattle.hk_model.specs.Processors.{is_running};
 ghost use Rattle.hk_model.specs.Opening.{all_ready, proc_numbers, opening};
 ghost use Rattle.hk_table.specs.Joined.{FewNumbers};
+ghost use Rattle.hk_table.specs.Told.{AllNamedStand};
 
 use crate::born::objects_of;
+use crate::counted::counted;
 use crate::parts::Parts;
 use crate::stacks::Stacks;
-use hk_model::{Born, Inc, Name, NoMemory, Proc, Process, ProcessState, Task, World};
+use hk_model::{Born, Inc, NoMemory, Proc, Process, ProcessState, Task, World};
 use hk_queues::Queues;
 use hk_running::Processes;
 use hk_walk::Walker;
@@ -81,6 +83,7 @@ impl Parts {
     pub(crate) fn open(alloc: Global, world: &World) -> Result<Parts, NoMemory>
         ensures state { IfOk result (λ parts. parts ≡ opening world.now) }
         ensures numbers { IfOk result (λ parts. FewNumbers parts) }
+        ensures named { IfOk result (λ parts. AllNamedStand parts) }
     {
         let born = born_of(world);
         let tasks = tasks_of(world);
@@ -89,13 +92,16 @@ impl Parts {
         let queues = all_queued(alloc, tasks)?;
         let stacks = Stacks::open(alloc, world)?;
         let walker = Walker::with(alloc, REMEMBERED)?;
+        let counts = counted(alloc, &objects, &stacks)?;
+        let first_new = objects.next_name();
         Ok(Parts {
             objects,
             queues,
             processes,
             stacks,
             walker,
-            first_new: Name(7 + born.len() as u64),
+            counts,
+            first_new,
             events: 0,
             limit: world.limit(),
         })

@@ -6,6 +6,7 @@ use crate::stacks::Stacks;
 use hk_model::Name;
 use hk_objects::Objects;
 use hk_queues::Queues;
+use hk_reclaim::Counts;
 use hk_running::Processes;
 use hk_walk::Walker;
 use std::marker::Model;
@@ -19,6 +20,8 @@ pub struct Parts {
     pub(crate) stacks: Stacks,
     // What was walked lately.
     pub(crate) walker: Walker,
+    // How often each object is named.
+    pub(crate) counts: Counts,
     pub(crate) first_new: Name,
     pub(crate) events: u32,
     pub(crate) limit: u32,
@@ -29,7 +32,7 @@ impl Model for Parts {
     ghost use Rattle.hk_objects.specs.Slots.{standing};
     ghost use Rattle.hk_table.specs.Whole.{whole};
     ghost use Rattle.hk_table.specs.Stacked.{live_from};
-    ghost use Rattle.hk_table.specs.Joined.{IsJoined};
+    ghost use Rattle.hk_table.specs.Told.{AreParts};
 
     ghost Value = { State };
 
@@ -45,5 +48,5 @@ impl Model for Parts {
       limit = t.limit;
     } };
 
-    ghost invariant = { λ t. IsJoined t.objects t.queues t.processes t.stacks t.walker };
+    ghost invariant = { λ t. AreParts t.objects t.queues t.processes t.stacks t.walker t.first_new t.counts };
 }

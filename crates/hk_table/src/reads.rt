@@ -1,12 +1,25 @@
 //! The parts of an object, by its name. Of a name that no object has, they are those of an object with nothing in it.
 
-ghost use Rattle.std.specs.Prelude.{◌≡◌, ◌<◌, ◌≤◌, ◌∷◌, ◌++◌, [], IfOk, OnOk, OnErr, length, slice_set};
+ghost use Rattle.std.specs.Prelude.{◌≡◌, ◌<◌, ◌≤◌, ◌∷◌, ◌++◌, [], IfOk, OnOk, OnErr, IfSome, IsSome, length, slice_set, slice_index_or};
+ghost use Rattle.hk_model.specs.declared.entries.Entry.TheVariants.{Empty};
+ghost use Rattle.hk_objects.specs.Slots.{place};
 ghost use Rattle.hk_model.specs.State.{object, put_object};
 ghost use Rattle.hk_model.specs.Refusing.{item_at};
 
+use crate::counting::{hold_entry_inside, release_entry_inside};
 use crate::finding::slot_of;
 use crate::parts::Parts;
 use hk_model::{Entry, Name, NoMemory, Param, Refusal};
+use hk_objects::{Objects, SlotNo};
+
+// The entry at an index of the object in a slot.
+fn entry_in(objects: &Objects, slot: SlotNo, at: u32) -> Entry
+    requires stands { IsSome (place objects.now.slots slot.0) }
+    requires at { IfSome (place objects.now.slots slot.0) (λ e. at < length e.1.entries) }
+    ensures { IfSome (place objects.now.slots slot.0) (λ e. result ≡ slice_index_or e.1.entries at Empty) }
+{
+    objects.entries(slot)[at as usize]
+}
 
 impl Parts {
     /// The type of an object.
@@ -90,6 +103,16 @@ impl Parts {
         }
     }
 
+    /// The code of an object. None exactly where it has none.
+    pub(crate) fn code_of(&self, name: Name) -> Option<u16>
+        ensures { result ≡ (object self.now name).code }
+    {
+        match slot_of(&self.objects, name) {
+            Some(slot) => self.objects.code(slot),
+            None => None,
+        }
+    }
+
     /// The entry at an index of an object.
     ///
     /// `Range` where the object has no such entry.
@@ -109,6 +132,9 @@ impl Parts {
         ensures { self.new ≡ put_object self.old name (record (object self.old name) { entries = slice_set (object self.old name).entries at entry }) }
     {
         if let Some(slot) = slot_of(&self.objects, name) {
+            let old = entry_in(&self.objects, slot, at);
+            hold_entry_inside(&self.objects, &mut self.counts, &entry);
+            release_entry_inside(&self.objects, &mut self.counts, &old);
             self.objects.set_entry(slot, at, entry);
             self.walker.forget();
         }
@@ -123,6 +149,7 @@ impl Parts {
         match slot_of(&self.objects, name) {
             Some(slot) => {
                 self.objects.append(slot, entry)?;
+                hold_entry_inside(&self.objects, &mut self.counts, &entry);
                 self.walker.forget();
                 Ok(())
             }

@@ -42,6 +42,7 @@ impl Parts {
     {
         match slot_of(&self.objects, name) {
             Some(slot) => {
+                self.counts.hold_outside(slot);
                 self.queues.wait(slot.0, proc);
                 self.processes.set_run(proc, ProcessState::Waiting(name));
             }
@@ -88,6 +89,7 @@ impl Parts {
         };
         match self.queues.first_waiting(slot.0) {
             Some(first) => {
+                self.counts.release_outside(slot, name);
                 self.queues.wake(slot.0);
                 self.queues.ready(first);
                 self.processes.set_run(first, ProcessState::Ready);

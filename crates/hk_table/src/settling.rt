@@ -11,7 +11,7 @@ ghost use Rattle.hk_reclaim.specs.Kept.{HasLost, only};
 ghost use Rattle.hk_reclaim.specs.Naming.{stands};
 ghost use Rattle.hk_reclaim.specs.Tally.{IsCounted, SameOutside};
 ghost use Rattle.hk_table.specs.Joined.{AreQueued};
-ghost use Rattle.hk_table.specs.Settled.{Tells};
+ghost use Rattle.hk_table.specs.Settled.{Tells, FreesUncounted};
 ghost use Rattle.hk_table.specs.Waits.{AreWaitsCounted};
 ghost use Rattle.hk_table.specs.Whole.{whole};
 ghost use Rattle.hk_walk.specs.Walks.{seen, AreRight};
@@ -27,6 +27,7 @@ pub(crate) fn settle(objects: &mut Objects, counts: &mut Counts) -> bool
     ensures kept { (s : State) (waiting : List (List Proc)) → Tells s objects.old.slots waiting counts.old → standing (whole objects.new.slots waiting) ≡ kept_objects s }
     ensures queued { (q : Queued) (ps : List Process) → AreWaitsCounted objects.old.slots ps counts.old → AreQueued objects.old.slots q ps → AreQueued objects.new.slots q ps }
     ensures left { objects.new.slots ≡ only (stands objects.new.slots) objects.old.slots }
+    ensures free { FreesUncounted objects.old.slots objects.new.slots counts.old }
     ensures next { objects.new.next ≡ objects.old.next }
     ensures removed { IsTrue result ↔ HasLost objects.old.slots objects.new.slots }
     ensures counted { IsCounted objects.new.slots counts.new }
@@ -40,11 +41,11 @@ pub(crate) fn settle(objects: &mut Objects, counts: &mut Counts) -> bool
 /// The objects that no names lead to vanish: the rooted ones of each state that the slots tell are left. Whether one has
 /// gone.
 pub(crate) fn collect(objects: &mut Objects, counts: &mut Counts) -> bool
-    requires counted { IsCounted objects.old.slots counts.old }
-    requires settled { counts.old.pending ≡ [] }
+    requires { IsCounted objects.old.slots counts.old }
     ensures rooted { (s : State) (waiting : List (List Proc)) → Tells s objects.old.slots waiting counts.old → standing (whole objects.new.slots waiting) ≡ rooted_objects s }
     ensures queued { (q : Queued) (ps : List Process) → AreWaitsCounted objects.old.slots ps counts.old → AreQueued objects.old.slots q ps → AreQueued objects.new.slots q ps }
     ensures left { objects.new.slots ≡ only (stands objects.new.slots) objects.old.slots }
+    ensures free { FreesUncounted objects.old.slots objects.new.slots counts.old }
     ensures next { objects.new.next ≡ objects.old.next }
     ensures removed { IsTrue result ↔ HasLost objects.old.slots objects.new.slots }
     ensures counted { IsCounted objects.new.slots counts.new }
@@ -60,6 +61,8 @@ pub(crate) fn settle_and_forget(objects: &mut Objects, counts: &mut Counts, walk
     requires { IsCounted objects.old.slots counts.old }
     ensures kept { (s : State) (waiting : List (List Proc)) → Tells s objects.old.slots waiting counts.old → standing (whole objects.new.slots waiting) ≡ kept_objects s }
     ensures queued { (q : Queued) (ps : List Process) → AreWaitsCounted objects.old.slots ps counts.old → AreQueued objects.old.slots q ps → AreQueued objects.new.slots q ps }
+    ensures left { objects.new.slots ≡ only (stands objects.new.slots) objects.old.slots }
+    ensures free { FreesUncounted objects.old.slots objects.new.slots counts.old }
     ensures next { objects.new.next ≡ objects.old.next }
     ensures counted { IsCounted objects.new.slots counts.new }
     ensures outside { SameOutside counts.old counts.new }
@@ -73,10 +76,11 @@ pub(crate) fn settle_and_forget(objects: &mut Objects, counts: &mut Counts, walk
 
 /// The objects that no names lead to vanish, as with `collect`; where one has gone, no walk is remembered.
 pub(crate) fn collect_and_forget(objects: &mut Objects, counts: &mut Counts, walker: &mut Walker)
-    requires counted { IsCounted objects.old.slots counts.old }
-    requires settled { counts.old.pending ≡ [] }
+    requires { IsCounted objects.old.slots counts.old }
     ensures rooted { (s : State) (waiting : List (List Proc)) → Tells s objects.old.slots waiting counts.old → standing (whole objects.new.slots waiting) ≡ rooted_objects s }
     ensures queued { (q : Queued) (ps : List Process) → AreWaitsCounted objects.old.slots ps counts.old → AreQueued objects.old.slots q ps → AreQueued objects.new.slots q ps }
+    ensures left { objects.new.slots ≡ only (stands objects.new.slots) objects.old.slots }
+    ensures free { FreesUncounted objects.old.slots objects.new.slots counts.old }
     ensures next { objects.new.next ≡ objects.old.next }
     ensures counted { IsCounted objects.new.slots counts.new }
     ensures outside { SameOutside counts.old counts.new }

@@ -7,6 +7,7 @@ ghost use Rattle.hk_model.specs.Targets.{not_empty};
 ghost use Rattle.hk_model.specs.Rule.{load_entry, drop_slot, restrict_slot};
 ghost use Rattle.hk_table.specs.Giving.{Answers};
 
+use crate::counting::{hold_entry, release_entry};
 use crate::parts::Parts;
 use hk_calls::slot_at;
 use hk_merge::held;
@@ -43,6 +44,11 @@ impl Parts {
         requires at { at < 256 }
         ensures { self.new ≡ put_slot self.old (process self.old proc).current at entry }
     {
+        let Some(old) = self.stacks.at_top(proc, at) else {
+            return;
+        };
+        hold_entry(&self.objects, &mut self.counts, &entry);
+        release_entry(&self.objects, &mut self.counts, &old);
         self.stacks.set_top(proc, Slot(at as u8), entry);
     }
 

@@ -3,11 +3,12 @@
 //! An incarnation is a frame of its process's stack, and the frame below it is its caller. So the current incarnation of a
 //! process is found without a search.
 
-ghost use Rattle.std.specs.Prelude.{◌≡◌, ◌<◌, ◌≤◌, ◌+◌, ◌-◌, ◌++◌, ◌∷◌, ◌^◌, [], IfOk, OnOk, OnErr, length, option_copied, option_map, replicate, slice_set, slice_index_or};
+ghost use Rattle.std.specs.Prelude.{◌≡◌, ◌<◌, ◌≤◌, ◌+◌, ◌-◌, ◌++◌, ◌∷◌, ◌^◌, [], IfOk, OnOk, OnErr, IfSome, IfNone, length, option_copied, option_map, replicate, slice_set, slice_index_or};
 ghost use Rattle.hk_model.specs.declared.entries.Entry.TheVariants.{Empty};
 ghost use Rattle.hk_spaces.specs.declared.stack.StackFrame.{StackFrame};
 ghost use Rattle.hk_spaces.specs.Slots.{with_top};
-ghost use Rattle.hk_table.specs.Stacked.{base_frame, base_stacks, top_of, slots_of, with_top_of, with_frame, Pops, AreNumbered};
+ghost use Rattle.hk_table.specs.Small.{AreSmallStacks};
+ghost use Rattle.hk_table.specs.Stacked.{base_frame, base_stacks, top_of, slots_of, with_top_of, with_frame, Pops, AreNumbered, IsIn};
 
 use hk_model::{Entries, Entry, Inc, NoMemory, Proc, Slot, World};
 use hk_spaces::{Space, Stack, StackFrame};
@@ -130,6 +131,7 @@ impl Stacks {
     pub(crate) fn open(alloc: Global, world: &World) -> Result<Stacks, NoMemory>
         ensures stacks { IfOk result (λ s. s.stacks ≡ base_stacks 0 world.now.tasks) }
         ensures next { IfOk result (λ s. s.next.0 ≡ length world.now.tasks) }
+        ensures small { IfOk result (λ s. AreSmallStacks s.stacks) }
     {
         let tasks = world.tasks();
         let mut all = Vec::with_capacity(alloc, tasks.len())?;
@@ -145,6 +147,7 @@ impl Stacks {
     /// The stacks by process.
     pub(crate) fn as_slice(&self) -> &[Stack]
         ensures value { result.now ≡ self.now.stacks }
+        ensures numbered { AreNumbered self.now.stacks self.now.next }
     {
         self.all.as_slice()
     }
@@ -170,6 +173,18 @@ impl Stacks {
         match self.top(proc) {
             Some(frame) => frame.space.as_slice(),
             None => &[],
+        }
+    }
+
+    /// What stands in a slot of the top frame of a process. None exactly where it has no such slot.
+    pub(crate) fn at_top(&self, proc: Proc, at: usize) -> Option<Entry>
+        ensures some { IfSome result (λ entry. IsIn (slots_of (top_of (slice_index_or self.now.stacks proc.0 []))) at entry) }
+        ensures none { IfNone result (length (slots_of (top_of (slice_index_or self.now.stacks proc.0 []))) ≤ at) }
+        ensures numbered { AreNumbered self.now.stacks self.now.next }
+    {
+        match self.top_slots(proc).get(at) {
+            Some(entry) => Some(*entry),
+            None => None,
         }
     }
 

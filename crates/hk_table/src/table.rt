@@ -1,12 +1,10 @@
 //! The table kernel.
 
-ghost use Rattle.std.specs.Prelude.{◌≡◌, ◌<◌, not, IsTrue, IfOk, IfSome, IfNone, Some, None};
+ghost use Rattle.std.specs.Prelude.{◌≡◌, IfOk};
 ghost use Rattle.hk_model.specs.Opening.{opening};
-ghost use Rattle.hk_model.specs.Snapshots.{shown};
-ghost use Rattle.hk_model.specs.Processors.{runner, running_on, may_step, dispatched, is_over};
 
 use crate::parts::Parts;
-use hk_model::{Cpu, Inc, NoMemory, Proc, Snapshot, World};
+use hk_model::{Acted, Call, Cpu, Inc, Kernel, NoMemory, Proc, Snapshot, World};
 use std::alloc::Global;
 use std::marker::Model;
 
@@ -20,12 +18,13 @@ pub struct Table {
 impl Model for Table {
     ghost use Rattle.hk_model.specs.State.{State};
     ghost use Rattle.hk_table.specs.Joined.{FewNumbers};
+    ghost use Rattle.hk_table.specs.Told.{AllNamedStand};
 
     ghost Value = { State };
 
     ghost view = { λ t. t.parts };
 
-    ghost invariant = { λ t. FewNumbers t.parts };
+    ghost invariant = { λ t. FewNumbers t.parts × AllNamedStand t.parts };
 }
 
 impl Table {
@@ -36,44 +35,47 @@ impl Table {
         let parts = Parts::open(alloc, world)?;
         Ok(Table { parts })
     }
+}
 
-    /// The process that the processor runs, and its current incarnation. None exactly where it runs nothing.
-    pub fn current(&self, cpu: Cpu) -> Option<(Proc, Inc)>
-        ensures { result ≡ running_on self.now cpu }
-    {
+impl Kernel for Table {
+    ghost use Rattle.hk_model.specs.State.{State};
+    ghost use Rattle.hk_table.specs.Giving.{takes_memory};
+
+    ghost state = { λ t. t };
+
+    ghost wants = { λ call. takes_memory call };
+
+    fn act(&mut self, alloc: Global, cpu: Cpu, call: Call) -> Result<Acted, NoMemory> {
+        match self.parts.runner(cpu) {
+            Some(proc) => self.parts.act(alloc, proc, &call),
+            None => unreachable!(),
+        }
+    }
+
+    fn dispatch(&mut self, cpu: Cpu) -> Option<Proc> {
+        self.parts.dispatch(cpu)
+    }
+
+    fn halt(&mut self, cpu: Cpu) {
+        match self.parts.runner(cpu) {
+            Some(proc) => self.parts.halt(proc),
+            None => unreachable!(),
+        }
+    }
+
+    fn current(&self, cpu: Cpu) -> Option<(Proc, Inc)> {
         self.parts.current(cpu)
     }
 
-    /// Whether no process is ready and none runs.
-    pub fn over(&self) -> bool
-        ensures { result ≡ is_over self.now }
-    {
+    fn over(&self) -> bool {
         self.parts.over()
     }
 
-    /// Whether the events number the limit.
-    pub fn limit_reached(&self) -> bool
-        ensures { result ≡ not (may_step self.now) }
-    {
+    fn limit_reached(&self) -> bool {
         self.parts.limit_reached()
     }
 
-    /// The state as plain data. NoMemory is want of memory.
-    pub fn snapshot(&self, alloc: Global) -> Result<Snapshot, NoMemory>
-        ensures { IfOk result (λ s. s ≡ shown self.now) }
-    {
+    fn snapshot(&self, alloc: Global) -> Result<Snapshot, NoMemory> {
         self.parts.shown(alloc)
-    }
-
-    /// Gives the processor the first ready process, which is one event. None exactly where none is ready; then nothing
-    /// changes.
-    pub fn dispatch(&mut self, cpu: Cpu) -> Option<Proc>
-        requires cpu { cpu.0 < 16 }
-        requires idle { runner self.old cpu ≡ None }
-        requires below { IsTrue (may_step self.old) }
-        ensures given { IfSome result (λ proc. dispatched self.old cpu ≡ Some (proc, self.new)) }
-        ensures none { IfNone result ((dispatched self.old cpu ≡ None) × (self.new ≡ self.old)) }
-    {
-        self.parts.dispatch(cpu)
     }
 }

@@ -6,7 +6,7 @@ use Rattle.hk_reclaim.proofs.counts.Counts.collect.Goals as goal
 
 pub returns-clause-reached : goal.returns-clause-reached
 returns-clause-reached c =
-    let room : IsInRoom c.args.objects.now.slots c.size-size.result = λ k some. rw (c.size-size.ensures, c.self.view_is) (c.requires.counted.room k some) in
+    let room : IsInRoom c.args.objects.now.slots c.size-size.result = λ k some. rw (c.size-size.ensures, c.self.view_is) (c.requires.room k some) in
     (collected c.first_new-first_new.result c.outside.result.now c.args.objects.now.slots c.drop_pending-removed.new.objects.slots c.mark_reached.new.marks.slots c.size-size.result
     c.args.self.now c.self.inside.numbers c.release_lost.new.numbers c.drop_pending-removed.new.numbers c.read_apart.ensures room
     c.self.view_is c.first_new-first_new.ensures c.outside.ensures.value
@@ -15,7 +15,7 @@ returns-clause-reached c =
 
 pub returns-clause-counted : goal.returns-clause-counted
 returns-clause-counted c =
-    let room : IsInRoom c.args.objects.now.slots c.size-size.result = λ k some. rw (c.size-size.ensures, c.self.view_is) (c.requires.counted.room k some) in
+    let room : IsInRoom c.args.objects.now.slots c.size-size.result = λ k some. rw (c.size-size.ensures, c.self.view_is) (c.requires.room k some) in
     (collected c.first_new-first_new.result c.outside.result.now c.args.objects.now.slots c.drop_pending-removed.new.objects.slots c.mark_reached.new.marks.slots c.size-size.result
     c.args.self.now c.self.inside.numbers c.release_lost.new.numbers c.drop_pending-removed.new.numbers c.read_apart.ensures room
     c.self.view_is c.first_new-first_new.ensures c.outside.ensures.value

@@ -11,7 +11,7 @@ returns-in-Some c =
     item_some c.top_slots.result.now c.args.at 0 c.in-Some.entry.now c.in-Some.ensures.lookup.3.0 c.in-Some.ensures.lookup.1
     ∙ ap (λ (es : List Entry). item_at es c.args.at 0) (rw (← c.self.view_is)
     (slots_told c.self.inside.objects c.self.inside.queues c.self.inside.processes c.self.inside.stacks c.self.inside.first_new c.self.inside.events c.self.inside.limit c.args.proc
-    c.top_slots.result.now c.top_slots.ensures.numbered (c.self.invariant.current c.args.proc.0 known) c.top_slots.ensures.value))
+    c.top_slots.result.now c.top_slots.ensures.numbered (c.self.invariant.joined.current c.args.proc.0 known) c.top_slots.ensures.value))
 
 pub returns-in-None : goal.returns-in-None
 returns-in-None c =
@@ -19,4 +19,4 @@ returns-in-None c =
     item_none c.top_slots.result.now c.args.at 0 c.in-None.ensures.lookup.3
     ∙ ap (λ (es : List Entry). item_at es c.args.at 0) (rw (← c.self.view_is)
     (slots_told c.self.inside.objects c.self.inside.queues c.self.inside.processes c.self.inside.stacks c.self.inside.first_new c.self.inside.events c.self.inside.limit c.args.proc
-    c.top_slots.result.now c.top_slots.ensures.numbered (c.self.invariant.current c.args.proc.0 known) c.top_slots.ensures.value))
+    c.top_slots.result.now c.top_slots.ensures.numbered (c.self.invariant.joined.current c.args.proc.0 known) c.top_slots.ensures.value))

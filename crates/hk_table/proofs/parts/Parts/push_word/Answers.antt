@@ -1,6 +1,7 @@
 use Rattle.std.proofs.Common.{◌<◌, ◌∷◌, ◌++◌, [], length, refl, sym, subst}
 use Rattle.hk_model.specs.State.{State, object}
 use Rattle.hk_table.proofs.Whole.{holds_inside}
+use Rattle.hk_table.proofs.ObjectTelling.{some_place, part_counted}
 use Rattle.hk_table.proofs.PartReads.{part_joined, part_told, missing_told}
 use Rattle.hk_table.proofs.parts.Parts.push_word.Goals as goal
 
@@ -10,9 +11,14 @@ add-requires-clause-room c =
     (λ o. length o.words) (λ b procs. refl) (λ m. m < 4096) (subst (λ (s : State). length (object s c.args.name).words < 4096) (sym c.self.view_is) c.requires)
 
 pub invariant_of-self-in-Some : goal.invariant_of-self-in-Some
-invariant_of-self-in-Some c =
-    part_joined c.self.inside.objects c.add.new.self c.self.inside.queues c.self.inside.processes c.self.inside.stacks c.self.inside.walker c.in-Some.slot.0
-    (λ b. record b { words = b.words ++ c.args.word ∷ [] }) (λ b. refl) c.self.invariant c.in_ok-add-in-Some.ensures.ok
+invariant_of-self-in-Some c = record {
+  joined = part_joined c.self.inside.objects c.add.new.self c.self.inside.queues c.self.inside.processes c.self.inside.stacks c.self.inside.walker c.in-Some.slot.0
+      (λ b. record b { words = b.words ++ c.args.word ∷ [] }) (λ b. refl) c.self.invariant.joined c.in_ok-add-in-Some.ensures.ok;
+  told =
+      let w = some_place c.self.inside.objects.slots c.in-Some.slot.0 c.args.name c.in-Some.ensures.found in
+      part_counted c.self.inside.objects c.self.inside.stacks.stacks c.self.inside.processes c.in-Some.slot.0 w.0 w.1
+      (λ b. record b { words = b.words ++ c.args.word ∷ [] }) c.add.new.self c.self.inside.first_new c.self.inside.counts refl refl c.self.invariant.told c.in_ok-add-in-Some.ensures.ok;
+}
 
 pub returns-in_ok-add-in-Some-clause-ok : goal.returns-in_ok-add-in-Some-clause-ok
 returns-in_ok-add-in-Some-clause-ok c =

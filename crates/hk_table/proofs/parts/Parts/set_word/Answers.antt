@@ -1,6 +1,7 @@
 use Rattle.std.proofs.Common.{◌<◌, length, set, refl, sym, subst}
 use Rattle.hk_model.specs.State.{State, object}
 use Rattle.hk_table.proofs.Whole.{words_inside}
+use Rattle.hk_table.proofs.ObjectTelling.{some_place, part_counted}
 use Rattle.hk_table.proofs.PartReads.{part_joined, part_told, missing_told}
 use Rattle.hk_table.proofs.parts.Parts.set_word.Goals as goal
 
@@ -10,9 +11,14 @@ put-requires-clause-at c =
     (subst (λ (s : State). c.args.at < length (object s c.args.name).words) (sym c.self.view_is) c.requires)
 
 pub invariant_of-self : goal.invariant_of-self
-invariant_of-self c =
-    part_joined c.self.inside.objects c.put.new.self c.self.inside.queues c.self.inside.processes c.self.inside.stacks c.self.inside.walker c.in-Some.slot.0
-    (λ b. record b { words = set b.words c.args.at c.args.word }) (λ b. refl) c.self.invariant c.put.ensures
+invariant_of-self c = record {
+  joined = part_joined c.self.inside.objects c.put.new.self c.self.inside.queues c.self.inside.processes c.self.inside.stacks c.self.inside.walker c.in-Some.slot.0
+      (λ b. record b { words = set b.words c.args.at c.args.word }) (λ b. refl) c.self.invariant.joined c.put.ensures;
+  told =
+      let w = some_place c.self.inside.objects.slots c.in-Some.slot.0 c.args.name c.in-Some.ensures.found in
+      part_counted c.self.inside.objects c.self.inside.stacks.stacks c.self.inside.processes c.in-Some.slot.0 w.0 w.1
+      (λ b. record b { words = set b.words c.args.at c.args.word }) c.put.new.self c.self.inside.first_new c.self.inside.counts refl refl c.self.invariant.told c.put.ensures;
+}
 
 pub returns-in-Some : goal.returns-in-Some
 returns-in-Some c =

@@ -1,5 +1,6 @@
 use Rattle.std.proofs.Common.{◌∙◌, arith}
 use Rattle.hk_table.proofs.Bases.{next_stack, base_numbered}
+use Rattle.hk_table.proofs.OpenCounts.{base_small}
 use Rattle.hk_table.proofs.stacks.Stacks.open.Goals as goal
 
 pub loop-n-preserved : goal.loop-n-preserved
@@ -10,3 +11,8 @@ loop-n-preserved c =
 
 pub invariant_of-result : goal.invariant_of-result
 invariant_of-result c = base_numbered c.tasks-tasks.result.now c.loop-n.n c.loop-n.all.items c.loop-n-test.false c.loop-n.invariant
+
+pub returns-clause-small : goal.returns-clause-small
+returns-clause-small c =
+    base_small c.args.world.now c.tasks-tasks.result.now c.loop-n.n c.loop-n.all.items c.tasks-tasks.ensures.valid c.tasks-tasks.ensures.value c.loop-n-test.false
+    c.loop-n.invariant

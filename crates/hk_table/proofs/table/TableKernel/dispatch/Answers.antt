@@ -1,0 +1,6 @@
+use Rattle.hk_table.proofs.Named.{dispatch_leaves}
+use Rattle.hk_table.proofs.table.TableKernel.dispatch.Goals as goal
+
+pub invariant_of-self : goal.invariant_of-self
+invariant_of-self c =
+    dispatch_leaves c.self.inside.parts c.dispatch.new.self c.args.cpu c.dispatch.result c.dispatch.ensures.given c.dispatch.ensures.none c.self.invariant
