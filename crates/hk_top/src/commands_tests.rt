@@ -2,7 +2,7 @@
 
 ghost use Rattle.std.specs.Prelude.{◌≡◌, [], ◌∷◌, IfOk, codes, map, string_bytes};
 
-use crate::{Maps, answer, hydra, status};
+use crate::{Maker, Maps, Slots, answer, hydra, status};
 use hk_io::{Bytes, Out, Sink, Source, SureBytes, SureOut};
 use hk_model::{Cpu, Kernel};
 use hk_procs::Gate;
@@ -108,5 +108,29 @@ fn tells_faults_of_reading_and_writing(rt: HostRuntime) -> Result<(), Fail> {
         status::WRITE_FAULT
     );
     assert_eq!(rt; output.taken(), b"hydra 1\nob".as_slice());
+    Ok(())
+}
+
+// The summary of the generated world of three processes, on kernels of this maker.
+fn summary<M: Maker, R: Threads + Wait + Sync>(
+    rt: &R,
+    alloc: Global,
+    kernels: &M,
+) -> Result<Out, Fail> {
+    let gen = words(alloc, &["gen", "3"])?;
+    let mut input = source(alloc, Vec::new(alloc))?;
+    let mut output = sink(alloc, Vec::new(alloc))?;
+    let (_status, _kernel) = hydra(rt, alloc, &gen, &mut input, &mut output, &Open, kernels);
+    Ok(output)
+}
+
+#[test]
+fn both_kernels_make_one_run(rt: HostRuntime) -> Result<(), Fail> {
+    let alloc = rt.alloc();
+    let maps = summary(&rt, alloc, &Maps)?;
+    let slots = summary(&rt, alloc, &Slots)?;
+    let text = b"gen 3\nobjects 10\nlines 1806\nchanges 300\nend done\n";
+    assert_eq!(rt; maps.taken(), text.as_slice());
+    assert_eq!(rt; slots.taken(), text.as_slice());
     Ok(())
 }

@@ -20,5 +20,5 @@ pub mod status;
 mod words;
 
 pub use commands::{answer, hydra};
-pub use maker::{Maker, Maps};
+pub use maker::{Maker, Maps, Slots};
 pub use printed::{one_processor_runs_alone, printed_record_is_legal, whole_run_is_one};

@@ -4,6 +4,7 @@ ghost use Rattle.std.specs.Prelude.{◌≡◌};
 
 use hk_model::{Kernel, NoMemory, World};
 use hk_plain::Plain;
+use hk_table::Table;
 use std::alloc::Global;
 
 /// It makes kernels of one type.
@@ -28,5 +29,17 @@ impl Maker for Maps {
 
     fn make(&self, alloc: Global, world: &World) -> Result<Plain, NoMemory> {
         Plain::new(alloc, world)
+    }
+}
+
+/// It makes table kernels, which keep their objects in slots (`docs/ARCHITECTURE.md`, "The table kernel").
+#[derive(Clone, Copy, PartialEq, Eq, Debug)]
+pub struct Slots;
+
+impl Maker for Slots {
+    type Made = Table;
+
+    fn make(&self, alloc: Global, world: &World) -> Result<Table, NoMemory> {
+        Table::new(alloc, world)
     }
 }

@@ -4,7 +4,7 @@
 use hk_io::{StdIn, StdOut};
 use hk_model::Cpu;
 use hk_procs::Gate;
-use hk_top::{Maps, hydra, status};
+use hk_top::{Slots, hydra, status};
 use std::env;
 use std::io::ErrorKind;
 use std::process::ExitCode;
@@ -41,7 +41,7 @@ fn main(rt: HostRuntime) -> ExitCode {
         &mut input,
         &mut output,
         &Open,
-        &Maps,
+        &Slots,
     );
     ExitCode::from(status)
 }
