@@ -32,7 +32,7 @@ impl Maker for Maps {
     }
 }
 
-/// It makes table kernels, which keep their objects in slots (`docs/ARCHITECTURE.md`, "The table kernel").
+/// It makes table kernels, which keep their objects in slots (`docs/PROMISES.md`, "The table kernel").
 #[derive(Clone, Copy, PartialEq, Eq, Debug)]
 pub struct Slots;
 
