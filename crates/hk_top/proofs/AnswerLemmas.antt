@@ -154,11 +154,11 @@ illegal_due a Told w lines end v n cause (Err error) w_is lines_are end_is is v_
 -- what is due to an input
 
 -- the command reads something
-abbrev pub Reads : Command → Type 0
-Reads (command.Gen count) = ⊥
-Reads c = Unit {0}
+abbrev pub TakesInput : Command → Type 0
+TakesInput (command.Gen count) = ⊥
+TakesInput c = Unit {0}
 
-pub reads_alone : (c : Command) → ReadsAlone c → Reads c
+pub reads_alone : (c : Command) → ReadsAlone c → TakesInput c
 reads_alone command.Run alone = tt
 reads_alone (command.RunOn cpus) alone = tt
 reads_alone command.Show alone = tt
@@ -186,7 +186,7 @@ alone_reads (command.Back count) alone other = tt
 alone_reads (command.Gen count) alone other = absurd (other count refl)
 
 -- the most bytes that the words of a command may read
-at_most : (c : Command) → Reads c → IsInRange c → ReadsAtMost (words_of c) (byte_limit c)
+at_most : (c : Command) → TakesInput c → IsInRange c → ReadsAtMost (words_of c) (byte_limit c)
 at_most command.Run reads range = inl (inl refl, refl)
 at_most (command.RunOn cpus) reads range = inl (inr (inl (cpus, (refl, range))), refl)
 at_most command.Show reads range = inl (inr (inr (inl refl)), refl)
@@ -199,14 +199,14 @@ at_most (command.Trace line) reads range = inr (inl (inr (inr (inl (line, (refl,
 at_most (command.Back count) reads range = inr (inl (inr (inr (inr (count, (refl, range)))), refl))
 at_most (command.Gen count) reads range = absurd reads
 
-pub read_due : {before after : Option (List ℕ)} {bytes same text : List ℕ} {status : ℕ} {made : Option State} (c : Command) (limit : ℕ) → Reads c → IsInRange c → limit ≡ byte_limit c
+pub read_due : {before after : Option (List ℕ)} {bytes same text : List ℕ} {status : ℕ} {made : Option State} (c : Command) (limit : ℕ) → TakesInput c → IsInRange c → limit ≡ byte_limit c
     → Consumes before after bytes → IsAtEnd after → length bytes ≤ limit → same ≡ bytes
     → DueTo (words_of c) same status text made → Due (words_of c) before after status text made
 read_due {before} {after} {bytes} {same} {text} {status} {made} c limit reads range limit_is taken end few is due =
     read bytes status text made (record { taken = taken; end = end; limit = limit; at_most = subst (λ n. ReadsAtMost (words_of c) n) (sym limit_is) (at_most c reads range); few = few })
     (subst (λ b. DueTo (words_of c) b status text made) is due)
 
-pub too_long_due : {before after : Option (List ℕ)} {status : ℕ} {text : List ℕ} {made : Option State} (c : Command) (limit : ℕ) → Reads c → IsInRange c → limit ≡ byte_limit c
+pub too_long_due : {before after : Option (List ℕ)} {status : ℕ} {text : List ℕ} {made : Option State} (c : Command) (limit : ℕ) → TakesInput c → IsInRange c → limit ≡ byte_limit c
     → Took before after (λ bytes. limit < length bytes) → (status ≡ 3) × (text ≡ too_long_text) × (made ≡ None)
     → Due (words_of c) before after status text made
 too_long_due c limit reads range limit_is took h = rw (h.0, h.1, h.2) (too_long limit (subst (λ n. ReadsAtMost (words_of c) n) (sym limit_is) (at_most c reads range)) took)
@@ -253,7 +253,7 @@ of_reads words limit (inr (inl h)) = inr (inl h.0)
 of_reads words limit (inr (inr h)) = inr (inr h.0)
 
 -- the words of a command that reads something are those of such a command
-pub is_reading : (c : Command) → Reads c → IsInRange c → IsReading (words_of c)
+pub is_reading : (c : Command) → TakesInput c → IsInRange c → IsReading (words_of c)
 is_reading c reads range = of_reads (words_of c) (byte_limit c) (at_most c reads range)
 
 -- the words of each command are those of a command
@@ -283,7 +283,7 @@ refused_served state c bytes line cause due served reads is told due_is none = r
 
 -- what is due where the source was not read to its end
 pub unread_due : {K : Type 0} (state : K → State) (c : Command) (limit : ℕ) (before after : Option (List ℕ)) (r : Result (Vec ℕ Global) ReadError) (error : ReadError)
-    (out : Result (Served K) Silence) → Reads c → IsInRange c → limit ≡ byte_limit c → r ≡ Err error
+    (out : Result (Served K) Silence) → TakesInput c → IsInRange c → limit ≡ byte_limit c → r ≡ Err error
     → Took before after (λ bytes. IsErrOf r ReadError.TooLong ↔ (limit < length bytes)) → IfOk out (λ served. (error ≡ ReadError.TooLong) × IsTooLong served)
     → IfOk out (λ served. Due (words_of c) before after served.due.status served.due.text (option_map state served.kernel))
 unread_due state c limit before after r error (Ok served) reads range limit_is is took h =

@@ -54,10 +54,11 @@ module _ {words : List (List ℕ)} {before after : Option (List ℕ)} (bytes : L
 -- what is due where a world is generated
 due_summed : {words : List (List ℕ)} {before after : Option (List ℕ)} (count : ℕ) → IsGen words count → {status : ℕ} {text : List ℕ} {made : Option State}
     → Due words before after status text made → IsSummed count status text made
-due_summed {words} {before} {after} count gen (read got _ _ _ was due) = absurd (gen_reads_nothing (count, gen) (of_reading was.at_most))
-due_summed {words} {before} {after} count gen (summed other _ _ _ mine h same) = subst (λ n. IsSummed n _ _ _) (one_count mine gen) h
-due_summed {words} {before} {after} count gen (usage none same) = absurd (none (inr (count, gen)))
-due_summed {words} {before} {after} count gen (too_long most mine took) = absurd (gen_reads_nothing (count, gen) (of_reading mine))
+due_summed {words} {before} {after} count gen {status} {text} {made} (read got _ _ _ was due) = absurd (gen_reads_nothing (count, gen) (of_reading was.at_most))
+due_summed {words} {before} {after} count gen {status} {text} {made} (summed other _ _ _ mine h same) =
+    subst (λ (n : ℕ). IsSummed n status text made) (one_count mine gen) h
+due_summed {words} {before} {after} count gen {status} {text} {made} (usage none same) = absurd (none (inr (count, gen)))
+due_summed {words} {before} {after} count gen {status} {text} {made} (too_long most mine took) = absurd (gen_reads_nothing (count, gen) (of_reading mine))
 
 module _ {words : List (List ℕ)} {input output : Stream} where
   complete_reading : {status : ℕ} {made : Option State} → Answer words input output status made

@@ -7,3 +7,4 @@ pub mod Ends
 pub mod FoundLegal
 pub mod WordLemmas
 pub mod OneRun
+pub mod States

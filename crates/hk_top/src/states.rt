@@ -10,7 +10,6 @@ use hk_program::Machine;
 use std::alloc::Global;
 
 /// The state behind these lines of a world's history. NoMemory is want of memory.
-#[tactic(auto, using(hk_report::proofs::Replaying::step_moves))]
 pub(crate) fn state_behind(
     alloc: Global,
     world: &World,

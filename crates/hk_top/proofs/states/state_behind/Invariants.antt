@@ -3,10 +3,8 @@ use Rattle.std.proofs.Common.{◌≡◌}
 use Rattle.std.specs.Prelude.{drop}
 use Rattle.hk_model.specs.Running.{opened, after_lines}
 use Rattle.hk_program.specs.Machines.{IsSound}
+use Rattle.hk_top.proofs.States.{Going}
 use Rattle.hk_top.proofs.states.state_behind.Given as goal
 
 abbrev pub invariant-loop-line : goal.invariant-loop-line
-invariant-loop-line l = record {
-  sound : IsSound l.world l.machine;
-  leads : after_lines l.world l.machine (drop l.line-index l.lines) ≡ after_lines l.world (opened l.world) l.lines;
-}
+invariant-loop-line l = Going (IsSound l.world l.machine) (after_lines l.world l.machine (drop l.line-index l.lines) ≡ after_lines l.world (opened l.world) l.lines)
