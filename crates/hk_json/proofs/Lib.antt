@@ -1,5 +1,5 @@
-pub mod Fields
 pub mod Known
+pub mod Lists
 pub mod Places
 pub mod Plain
 pub mod Said

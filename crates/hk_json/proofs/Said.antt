@@ -40,7 +40,7 @@ use Rattle.hk_print.proofs.ItemByItem.{canon_is}
 use Rattle.hk_print.proofs.StepByStep.{label_spelled}
 use Rattle.hk_json.specs.Values.{number_value, entry_value, param_value, step_value, kind_value, object_value, code_value, task_value, value}
 use Rattle.hk_json.specs.Scripts.{values_in, entry_said, param_said, word_said, object_said, process_said, label_said, steps_said, is_place, goes_to, code_said, script_said}
-use Rattle.hk_json.proofs.Fields.{values_again}
+use Rattle.hk_json.proofs.Lists.{values_again}
 use Rattle.hk_json.proofs.Places.{place_again, goes_where}
 
 -- lists

@@ -39,7 +39,7 @@ three key value next other last third = object (member key value (member next ot
 abbrev pub body_value : Body → Data
 body_value (WordsAre words) = null
 body_value EmptyEntry = null
-body_value (CapEntry object rights) = two (codes "cap") (string object) (codes "rights") (string rights)
+body_value (CapEntry held rights) = two (codes "cap") (string held) (codes "rights") (string rights)
 body_value (AmplifyEntry kind check give) = three (codes "amplify") (string kind) (codes "check") (string check) (codes "give") (string give)
 body_value (CreateEntry of give) = two (codes "create") (string of) (codes "give") (string give)
 body_value (ParamIs kind check give) = three (codes "check") (string check) (codes "give") (string give) (codes "of") (string kind)
