@@ -26,6 +26,9 @@ script_declares d w h same = ap (λ (x : Data). world (script_said x)) same ∙ 
 -- so the world that the script declares is the only one whose value this can be, and where that is not its value, it is that of none
 pub gives_world : (d : Data) (r : Result WorldValue JsonError) → IfOk r (λ v. (d ≡ value v) × (world (script_said d) ≡ Ok v))
     → (IsErrOf r BadJson → (w : WorldValue) → world (script_said d) ≡ Ok w → d ≡ value w → ⊥) → (w : WorldValue) → IsWorld w → d ≡ value w → GivesWorld r w
-gives_world d (Ok v) ok bad w h same = let both : Ok v ≡ Ok w = sym ok.1 ∙ script_declares d w h same in inl both
+gives_world d (Ok v) ok bad w h same =
+    let both = sym ok.1 ∙ script_declares d w h same in
+    let one : v ≡ w = cc in
+    inl (ap (λ (x : WorldValue). Ok x) one)
 gives_world d (Err NoMemory) ok bad w h same = inr refl
 gives_world d (Err BadJson) ok bad w h same = absurd (bad refl w (script_declares d w h same) same)

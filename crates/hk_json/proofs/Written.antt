@@ -39,12 +39,12 @@ single_item d =
     cond (has (codes "count") d) (item (SemaphoreIs (text_at (codes "name") d) (number_at (codes "count") d)) []) (item (TypeIs (text_at (codes "name") d)) [])
 
 pub plain_said : (d : Data) → has (codes "words") d ≡ true → object_said d ≡ plain_item d
-plain_said d yes = ap (λ (b : Bool). cond b (plain_item d) (cond (has (codes "params") d) (procedure_item d) (single_item d))) yes
+plain_said d words = ap (λ (b : Bool). cond b (plain_item d) (cond (has (codes "params") d) (procedure_item d) (single_item d))) words
 
 pub procedure_said : (d : Data) → has (codes "words") d ≡ false → has (codes "params") d ≡ true → object_said d ≡ procedure_item d
-procedure_said d no yes =
-    ap (λ (b : Bool). cond b (plain_item d) (cond (has (codes "params") d) (procedure_item d) (single_item d))) no
-    ∙ ap (λ (b : Bool). cond b (procedure_item d) (single_item d)) yes
+procedure_said d words params =
+    ap (λ (b : Bool). cond b (plain_item d) (cond (has (codes "params") d) (procedure_item d) (single_item d))) words
+    ∙ ap (λ (b : Bool). cond b (procedure_item d) (single_item d)) params
 
 -- instructions
 
