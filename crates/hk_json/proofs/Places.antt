@@ -1,11 +1,10 @@
 -- The text of an instruction names the place that it jumps to, and the text of an instruction that does not jump names none.
-use Rattle.std.proofs.Common.{◌≡◌, ℕ, ◌+◌, ◌<◌, ◌≤◌, ◌^◌, ◌&&◌, ◌||◌, not, Bool, true, false, cond, eqb, List, [], ◌∷◌, ◌++◌, length, drop, map, get_or, refl, sym, ap, ◌∙◌, arith, Option, Some}
+use Rattle.std.proofs.Common.{◌≡◌, ℕ, ◌+◌, ◌<◌, ◌≤◌, ◌^◌, ◌&&◌, ◌||◌, not, Bool, true, false, cond, eqb, List, [], ◌∷◌, ◌++◌, length, map, refl, sym, ap, ◌∙◌, arith, Option, Some}
 use Rattle.std.proofs.Common.{None}
 use Rattle.std.specs.Prelude.{codes}
 use Rattle.std.specs.List.{AllByRecursion, list_all, list_any, join_with_byte}
 use Rattle.std.specs.Fmt.{decimal}
 use Rattle.std.proofs.lemmas.Bool.{and_parts, and_from, false≢true}
-use Rattle.std.proofs.lemmas.List.{drop_more}
 use Rattle.std.proofs.lemmas.Bool.Decides.{nat_tests}
 use Rattle.hk_rights.specs.Rights.{IsRightsWord}
 use Rattle.hk_model.specs.declared.names.Slot.{Slot}
@@ -45,30 +44,21 @@ is_space b = eqb b 32
 
 behind_none : (behind xs : List ℕ) → list_any is_space xs ≡ false → behind_last_space behind xs ≡ behind
 behind_none behind [] h = refl
-behind_none behind (x ∷ xs) h = go (is_space x) h
+behind_none behind (x ∷ xs) h = go (is_space x) h (behind_none behind xs)
   where
-    go : (b : Bool) → (b || list_any is_space xs) ≡ false → cond b (behind_last_space xs xs) (behind_last_space behind xs) ≡ behind
-    go true k = absurd (false≢true (sym k))
-    go false k = behind_none behind xs k
+    go : (b : Bool) → (b || list_any is_space xs) ≡ false → (list_any is_space xs ≡ false → behind_last_space behind xs ≡ behind)
+        → cond b (behind_last_space xs xs) (behind_last_space behind xs) ≡ behind
+    go true k rest = absurd (false≢true (sym k))
+    go false k rest = rest k
 
 behind_one : (behind xs ys : List ℕ) → list_any is_space xs ≡ false → behind_last_space behind (xs ++ 32 ∷ ys) ≡ behind_last_space ys ys
 behind_one behind [] ys h = refl
-behind_one behind (x ∷ xs) ys h = go (is_space x) h
+behind_one behind (x ∷ xs) ys h = go (is_space x) h (behind_one behind xs ys)
   where
-    go : (b : Bool) → (b || list_any is_space xs) ≡ false
+    go : (b : Bool) → (b || list_any is_space xs) ≡ false → (list_any is_space xs ≡ false → behind_last_space behind (xs ++ 32 ∷ ys) ≡ behind_last_space ys ys)
         → cond b (behind_last_space (xs ++ 32 ∷ ys) (xs ++ 32 ∷ ys)) (behind_last_space behind (xs ++ 32 ∷ ys)) ≡ behind_last_space ys ys
-    go true k = absurd (false≢true (sym k))
-    go false k = behind_one behind xs ys k
-
--- the same by the places of a text
-
-pub behind_space : (behind text : List ℕ) (at d : ℕ) → at < length text → eqb (get_or text at d) 32 ≡ true
-    → behind_last_space (drop (at + 1) text) (drop (at + 1) text) ≡ behind_last_space behind (drop at text)
-behind_space behind text at d inside e = rw (drop_more text at d inside, e) refl
-
-pub behind_other : (behind text : List ℕ) (at d : ℕ) → at < length text → eqb (get_or text at d) 32 ≡ false
-    → behind_last_space behind (drop (at + 1) text) ≡ behind_last_space behind (drop at text)
-behind_other behind text at d inside e = rw (drop_more text at d inside, e) refl
+    go true k rest = absurd (false≢true (sym k))
+    go false k rest = rest k
 
 -- the last piece of a line
 abbrev pub last_piece : Piece → List Piece → Piece

@@ -8,35 +8,43 @@ use Rattle.serde_json.specs.Data.{Data}
 use Rattle.serde_json.specs.View.{view}
 use Rattle.serde_json.specs.declared.value.Value.{Value}
 use Rattle.hk_format.specs.declared.syntax.Body.{Body}
-use Rattle.hk_format.specs.declared.syntax.Body.TheVariants.{CapEntry, AmplifyEntry, CreateEntry, ParamIs, LabelIs}
+use Rattle.hk_format.specs.declared.syntax.Body.TheVariants.{LabelIs}
+use Rattle.hk_format.specs.declared.syntax.Head.TheVariants.{TypeIs, ObjectIs, SemaphoreIs, ProcedureIs}
+use Rattle.hk_format.specs.declared.syntax.Item.{Item}
 use Rattle.hk_format.specs.declared.syntax.Part.{Part}
-use Rattle.hk_format.specs.Canonical.{part, label_text}
+use Rattle.hk_format.specs.Canonical.{item, part, word_parts, label_text}
 use Rattle.hk_print.specs.ItemTexts.{body_text, parts_text}
-use Rattle.hk_print.proofs.Pieces.{cap_text, amplify_text, create_text, param_text}
-use Rattle.hk_json.specs.Scripts.{label_said, steps_said, goes_to, text_said}
-
--- lines inside items
-
-pub cap_line : (object rights : List ℕ) → body_text (CapEntry object rights) ≡ codes "cap " ++ (object ++ 32 ∷ (rights ++ 10 ∷ []))
-cap_line object rights = rw (cap_text object rights) (ap (λ (t : List ℕ). codes "cap " ++ t) (append_assoc object (32 ∷ rights) (10 ∷ [])))
-
-three_line : (first second third : List ℕ) → (first ++ 32 ∷ (second ++ 32 ∷ third)) ++ 10 ∷ [] ≡ first ++ 32 ∷ (second ++ 32 ∷ (third ++ 10 ∷ []))
-three_line first second third =
-    append_assoc first (32 ∷ (second ++ 32 ∷ third)) (10 ∷ []) ∙ ap (λ (t : List ℕ). first ++ 32 ∷ t) (append_assoc second (32 ∷ third) (10 ∷ []))
-
-pub amplify_line : (kind check give : List ℕ) → body_text (AmplifyEntry kind check give) ≡ codes "amplify " ++ (kind ++ 32 ∷ (check ++ 32 ∷ (give ++ 10 ∷ [])))
-amplify_line kind check give = rw (amplify_text kind check give) (ap (λ (t : List ℕ). codes "amplify " ++ t) (three_line kind check give))
-
-pub create_line : (of give : List ℕ) → body_text (CreateEntry of give) ≡ codes "create " ++ (of ++ 32 ∷ (give ++ 10 ∷ []))
-create_line of give = rw (create_text of give) (ap (λ (t : List ℕ). codes "create " ++ t) (append_assoc of (32 ∷ give) (10 ∷ [])))
-
-pub param_line : (kind check give : List ℕ) → body_text (ParamIs kind check give) ≡ codes "param " ++ (kind ++ 32 ∷ (check ++ 32 ∷ (give ++ 10 ∷ [])))
-param_line kind check give = rw (param_text kind check give) (ap (λ (t : List ℕ). codes "param " ++ t) (three_line kind check give))
+use Rattle.hk_json.specs.Scripts.{has, text_at, number_at, list_at, parts_said, entry_said, param_said, word_said, object_said, label_said, steps_said, goes_to, text_said}
 
 -- the lines of a list, as the parts of an item
 pub parts_written : (said : Data → Body) (ds : List Data) → parts_text (map (λ (d : Data). part (said d)) ds) ≡ flat_map (λ (d : Data). body_text (said d)) ds
 parts_written said [] = refl
 parts_written said (d ∷ ds) = ap (λ (t : List ℕ). body_text (said d) ++ t) (parts_written said ds)
+
+-- the item of an object, by the key that only its kind has
+
+-- an object with words
+abbrev pub plain_item : Data → Item
+plain_item d =
+    item (ObjectIs (text_at (codes "name") d) (text_at (codes "type") d)) (word_parts (map word_said (list_at (codes "words") d)) ++ parts_said entry_said (codes "entries") d)
+
+-- a procedure
+abbrev pub procedure_item : Data → Item
+procedure_item d =
+    item (ProcedureIs (text_at (codes "name") d) (text_at (codes "code") d)) (parts_said param_said (codes "params") d ++ parts_said entry_said (codes "entries") d)
+
+-- what has neither words nor parameters
+abbrev pub single_item : Data → Item
+single_item d =
+    cond (has (codes "count") d) (item (SemaphoreIs (text_at (codes "name") d) (number_at (codes "count") d)) []) (item (TypeIs (text_at (codes "name") d)) [])
+
+pub plain_said : (d : Data) → has (codes "words") d ≡ true → object_said d ≡ plain_item d
+plain_said d words = ap (λ (b : Bool). cond b (plain_item d) (cond (has (codes "params") d) (procedure_item d) (single_item d))) words
+
+pub procedure_said : (d : Data) → has (codes "words") d ≡ false → has (codes "params") d ≡ true → object_said d ≡ procedure_item d
+procedure_said d words params =
+    ap (λ (b : Bool). cond b (plain_item d) (cond (has (codes "params") d) (procedure_item d) (single_item d))) words
+    ∙ ap (λ (b : Bool). cond b (procedure_item d) (single_item d)) params
 
 -- instructions
 

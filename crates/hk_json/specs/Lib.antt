@@ -1,3 +1,4 @@
 pub mod Values
 pub mod Readings
 pub mod Scripts
+pub mod Templates

@@ -8,6 +8,7 @@ mod entries;
 mod errors;
 mod fields;
 mod lines;
+mod members;
 mod objects;
 mod reading;
 mod script;

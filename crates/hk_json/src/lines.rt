@@ -6,6 +6,7 @@ ghost use Rattle.serde_json.specs.Data.{Data};
 ghost use Rattle.serde_json.specs.View.{view};
 ghost use Rattle.hk_print.specs.ItemTexts.{body_text};
 ghost use Rattle.hk_json.specs.Scripts.{entry_said, param_said};
+ghost use Rattle.hk_json.specs.Templates.{amplify_said, create_said};
 
 use crate::fields::{has, text_at};
 use hk_model::NoMemory;
@@ -29,18 +30,36 @@ fn write_entry(out: &mut String, entry: &Value) -> Result<(), NoMemory>
         let object = text_at(entry, "cap");
         let rights = text_at(entry, "rights");
         write!(out, "cap {object} {rights}\n")?;
-    } else if has(entry, "amplify") {
-        let kind = text_at(entry, "amplify");
-        let check = text_at(entry, "check");
-        let give = text_at(entry, "give");
-        write!(out, "amplify {kind} {check} {give}\n")?;
-    } else if has(entry, "create") {
-        let of = text_at(entry, "create");
-        let give = text_at(entry, "give");
-        write!(out, "create {of} {give}\n")?;
-    } else {
-        out.push_str("empty\n")?;
+        return Ok(());
     }
+    if has(entry, "amplify") {
+        return write_amplify(out, entry);
+    }
+    if has(entry, "create") {
+        return write_create(out, entry);
+    }
+    out.push_str("empty\n")?;
+    Ok(())
+}
+
+/// Writes the line of an amplification template.
+fn write_amplify(out: &mut String, entry: &Value) -> Result<(), NoMemory>
+    ensures { OnOk result (string_bytes out.new ≡ string_bytes out.old ++ body_text (amplify_said (view entry.now))) }
+{
+    let kind = text_at(entry, "amplify");
+    let check = text_at(entry, "check");
+    let give = text_at(entry, "give");
+    write!(out, "amplify {kind} {check} {give}\n")?;
+    Ok(())
+}
+
+/// Writes the line of a creation template.
+fn write_create(out: &mut String, entry: &Value) -> Result<(), NoMemory>
+    ensures { OnOk result (string_bytes out.new ≡ string_bytes out.old ++ body_text (create_said (view entry.now))) }
+{
+    let of = text_at(entry, "create");
+    let give = text_at(entry, "give");
+    write!(out, "create {of} {give}\n")?;
     Ok(())
 }
 

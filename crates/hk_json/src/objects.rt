@@ -1,16 +1,18 @@
 //! The values of objects (`docs/FORMATS.md`, "Worlds as JSON").
 
-ghost use Rattle.std.specs.Prelude.{◌≡◌, IfOk};
+ghost use Rattle.std.specs.Prelude.{◌≡◌, IfOk, codes};
+ghost use Rattle.serde_json.specs.Data.{string};
 ghost use Rattle.serde_json.specs.View.{view};
 ghost use Rattle.hk_model.specs.WorldValue.{IsKind};
 ghost use Rattle.hk_model.specs.declared.world.Kind.TheVariants as kind;
-ghost use Rattle.hk_format.specs.Names.{Names, spoken};
-ghost use Rattle.hk_json.specs.Values.{list_value, number_value, object_value, kind_value};
+ghost use Rattle.hk_format.specs.Names.{spoken};
+ghost use Rattle.hk_json.specs.Values.{list_value, number_value, three, object_value, kind_value};
 
 use crate::entries::{entries_value, params_value};
+use crate::members::put_text;
 use hk_model::{Born, Entries, Kind, Name, NoMemory, Params, Words, World};
 use hk_print::{code_label, object_label};
-use serde_json::{Value, json};
+use serde_json::{Map, Value, json, put};
 use std::alloc::Global;
 
 /// The list of the values of a world's objects. The only error is want of memory.
@@ -44,7 +46,7 @@ fn object_value(alloc: Global, world: &World, object: &Born) -> Result<Value, No
 
 /// The value of a semaphore with so many tokens.
 fn semaphore_value(alloc: Global, label: &str, count: u32) -> Result<Value, NoMemory>
-    ensures { IfOk result (λ v. (names : Names) → view v ≡ kind_value names label.now (kind.Semaphore count)) }
+    ensures { IfOk result (λ v. view v ≡ three (codes "count") (number_value count) (codes "kind") (string (codes "semaphore")) (codes "name") (string label.now)) }
 {
     Ok(json!(in alloc; {"count": count, "kind": "semaphore", "name": label})?)
 }
@@ -61,12 +63,15 @@ fn plain_value(
     requires { IsKind world.now (kind.Plain of words.now entries.now) }
     ensures { IfOk result (λ v. view v ≡ kind_value (spoken world.now) label.now (kind.Plain of words.now entries.now)) }
 {
-    let words = words_value(alloc, words.as_slice())?;
+    let mut members = Map::new(alloc);
     let entries = entries_value(alloc, world, entries.as_slice())?;
-    let of = object_label(world, of);
-    Ok(
-        json!(in alloc; {"entries": entries, "kind": "object", "name": label, "type": of, "words": words})?,
-    )
+    put(&mut members, alloc, "entries", entries)?;
+    put_text(&mut members, alloc, "kind", "object")?;
+    put_text(&mut members, alloc, "name", label)?;
+    put_text(&mut members, alloc, "type", object_label(world, of))?;
+    let words = words_value(alloc, words.as_slice())?;
+    put(&mut members, alloc, "words", words)?;
+    Ok(Value::Object(members))
 }
 
 /// The list of words.
@@ -92,10 +97,13 @@ fn procedure_value(
     requires { IsKind world.now (kind.Procedure code params.now entries.now) }
     ensures { IfOk result (λ v. view v ≡ kind_value (spoken world.now) label.now (kind.Procedure code params.now entries.now)) }
 {
-    let params = params_value(alloc, world, params.as_slice())?;
+    let mut members = Map::new(alloc);
+    put_text(&mut members, alloc, "code", code_label(world, code))?;
     let entries = entries_value(alloc, world, entries.as_slice())?;
-    let code = code_label(world, code);
-    Ok(
-        json!(in alloc; {"code": code, "entries": entries, "kind": "procedure", "name": label, "params": params})?,
-    )
+    put(&mut members, alloc, "entries", entries)?;
+    put_text(&mut members, alloc, "kind", "procedure")?;
+    put_text(&mut members, alloc, "name", label)?;
+    let params = params_value(alloc, world, params.as_slice())?;
+    put(&mut members, alloc, "params", params)?;
+    Ok(Value::Object(members))
 }

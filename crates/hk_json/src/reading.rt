@@ -10,6 +10,7 @@ ghost use Rattle.hk_format.specs.Worlds.{world};
 ghost use Rattle.hk_json.specs.declared.errors.JsonError.TheVariants.{BadJson};
 ghost use Rattle.hk_json.specs.Values.{value};
 ghost use Rattle.hk_json.specs.Readings.{Reads, GivesWorld};
+ghost use Rattle.hk_json.specs.Scripts.{script_said};
 
 use crate::errors::JsonError;
 use crate::script::script_said;
@@ -49,16 +50,36 @@ fn reading(alloc: Global, bytes: &[u8]) -> Result<Value, JsonError>
     }
 }
 
-/// The world whose value this is: the world that its script declares, if it has this value.
-/// `BadJson` where the value is that of no world.
+/// The world whose value this is. `BadJson` where the value is that of no world.
 fn world_said(alloc: Global, reading: &Value) -> Result<World, JsonError>
     requires { depth (view reading.now) ≤ max_depth }
     ensures ok { IfOk result (λ w. view reading.now ≡ value w) }
     ensures bad { IsErrOf result BadJson → (w : WorldValue) → IsWorld w → view reading.now ≡ value w → ⊥ }
     ensures again { (w : WorldValue) → IsWorld w → view reading.now ≡ value w → GivesWorld result w }
 {
+    world_declared(alloc, reading)
+}
+
+/// The world that the script of a value declares, if it has this value. `BadJson` where it has not, and
+/// where the script declares none.
+fn world_declared(alloc: Global, reading: &Value) -> Result<World, JsonError>
+    requires { depth (view reading.now) ≤ max_depth }
+    ensures ok { IfOk result (λ w. (view reading.now ≡ value w) × (world (script_said (view reading.now)) ≡ Ok w)) }
+    ensures bad { IsErrOf result BadJson → (w : WorldValue) → world (script_said (view reading.now)) ≡ Ok w → view reading.now ≡ value w → ⊥ }
+{
     let script = script_said(alloc, reading)?;
-    let world = world_of_script(alloc, script.as_bytes())?;
+    match world_of_script(alloc, script.as_bytes()) {
+        Ok(world) => if_known(alloc, reading, world),
+        Err(error) => Err(error),
+    }
+}
+
+/// The world, if this is its value, and else `BadJson`.
+fn if_known(alloc: Global, reading: &Value, world: World) -> Result<World, JsonError>
+    requires { depth (view reading.now) ≤ max_depth }
+    ensures ok { IfOk result (λ w. (w ≡ world) × (view reading.now ≡ value w)) }
+    ensures bad { IsErrOf result BadJson → view reading.now ≡ value world → ⊥ }
+{
     let known = value_of(alloc, &world)?;
     if same(alloc, reading, &known)? {
         Ok(world)
@@ -71,6 +92,7 @@ fn world_said(alloc: Global, reading: &Value) -> Result<World, JsonError>
 const MOST_BYTES: usize = 4294967293;
 
 /// The world that a script declares. `BadJson` where it declares none.
+#[tactic(auto, using(hk_text::proofs::LineCount::lines_few))]
 fn world_of_script(alloc: Global, script: &[u8]) -> Result<World, JsonError>
     ensures ok { IfOk result (λ w. world script.now ≡ Ok w) }
     ensures bad { IsErrOf result BadJson → (w : WorldValue) → world script.now ≡ Ok w → ⊥ }

@@ -1,6 +1,6 @@
 //! The JSON text of a world (`docs/FORMATS.md`, "Worlds as JSON").
 
-ghost use Rattle.std.specs.Prelude.{◌≡◌, IfOk};
+ghost use Rattle.std.specs.Prelude.{◌≡◌, IfOk, IsUtf8, string_bytes};
 ghost use Rattle.serde_json.specs.Written.{compact_text};
 ghost use Rattle.hk_json.specs.Values.{value};
 ghost use Rattle.hk_json.specs.Readings.{Reads};
@@ -17,5 +17,14 @@ pub fn json_text(alloc: Global, world: &World) -> Result<Text, NoMemory>
 {
     let value = value_of(alloc, world)?;
     let text = value.to_string(alloc)?;
-    Ok(Text::from_string(text))
+    Ok(letters(text))
+}
+
+/// A string as a text, whose bytes are UTF-8.
+fn letters(text: String) -> Text
+    ensures same { result ≡ string_bytes text }
+    ensures utf8 { IsUtf8 result }
+{
+    let _bytes = text.as_str().as_bytes();
+    Text::from_string(text)
 }

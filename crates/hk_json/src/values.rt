@@ -11,20 +11,22 @@ use crate::entries::entries_value;
 use crate::objects::objects_value;
 use hk_model::{Code, Instr, NoMemory, Task, World};
 use hk_print::{code_label, instr_text};
-use serde_json::{Value, json};
+use serde_json::{Map, Value, json, put};
 use std::alloc::Global;
 
 /// The value of a world. The only error is want of memory.
 pub(crate) fn value_of(alloc: Global, world: &World) -> Result<Value, NoMemory>
     ensures { IfOk result (λ v. view v ≡ value world.now) }
 {
+    let mut members = Map::new(alloc);
     let codes = codes_value(alloc, world)?;
+    put(&mut members, alloc, "codes", codes)?;
+    put(&mut members, alloc, "limit", Value::from(world.limit()))?;
     let objects = objects_value(alloc, world)?;
+    put(&mut members, alloc, "objects", objects)?;
     let processes = processes_value(alloc, world)?;
-    let limit = world.limit();
-    Ok(
-        json!(in alloc; {"codes": codes, "limit": limit, "objects": objects, "processes": processes})?,
-    )
+    put(&mut members, alloc, "processes", processes)?;
+    Ok(Value::Object(members))
 }
 
 /// The list of the values of a world's codes.
