@@ -7,4 +7,4 @@ pub mod Ends
 pub mod FoundLegal
 pub mod WordLemmas
 pub mod OneRun
-pub mod States
+pub mod Going

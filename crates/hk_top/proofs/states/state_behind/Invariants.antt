@@ -3,7 +3,7 @@ use Rattle.std.proofs.Common.{◌≡◌}
 use Rattle.std.specs.Prelude.{drop}
 use Rattle.hk_model.specs.Running.{opened, after_lines}
 use Rattle.hk_program.specs.Machines.{IsSound}
-use Rattle.hk_top.proofs.States.{Going}
+use Rattle.hk_top.proofs.Going.{Going}
 use Rattle.hk_top.proofs.states.state_behind.Given as goal
 
 abbrev pub invariant-loop-line : goal.invariant-loop-line
