@@ -276,7 +276,7 @@ few_from n families (d ∷ ds) h =
 
 -- the lines of the changes can be numbered
 pub few_changes : (families : List (List Begun)) (ds : List Doing) (found : List BareChange) → length ds < 2 ^ 32 → found ≡ changes_from 0 families ds → AreFew found
-few_changes families ds found few h = subst AreFew (sym h) (few_from 0 families ds few)
+few_changes families ds found few h = subst AreFew (sym h) (few_from 0 families ds (omega (arith, few)))
 
 -- what was found is the list of the definitions
 pub report_is : (w : WorldValue) (lines : List Line) (first : Inc) (ds : List Doing) (histories : List History) (params : List (List Entry)) (families : List (List Begun))

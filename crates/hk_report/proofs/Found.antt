@@ -36,6 +36,9 @@ use Rattle.hk_report.proofs.Onwards.{reached, arrived, IsBy, Leads, onward_leads
 option_same : {X : Type 0} {x y : X} → Some x ≡ Some y → x ≡ y
 option_same h = cc
 
+none_some : {X : Type 0} (x : X) → None ≡ Some x → ⊥
+none_some x h = cc
+
 name_is : (x y : Name) → (x.0 == y.0) ≡ true → x ≡ y
 name_is x y h = ap (λ (n : ℕ). let z : Name = record { 0 = n } in z) (eqb-true x.0 y.0 h)
 
@@ -56,15 +59,16 @@ held_direct wanted (Some cap) h = (cap, refl, h)
 
 direct_first : (wanted : Name) (index : ℕ) (entries : List Entry) (arg : ℕ) → direct_param wanted index entries ≡ Some arg → FirstDirect wanted index entries arg
 direct_first wanted index [] arg h = absurd (cc)
-direct_first wanted index (entry ∷ entries) arg h = by (is_direct wanted entry) refl h
+direct_first wanted index (entry ∷ entries) arg h = by (λ g. direct_first wanted (index + 1) entries arg g) (is_direct wanted entry) refl h
   where
-    by : (b : Bool) → is_direct wanted entry ≡ b → cond b (Some index) (direct_param wanted (index + 1) entries) ≡ Some arg → FirstDirect wanted index (entry ∷ entries) arg
-    by true e g =
+    by : (direct_param wanted (index + 1) entries ≡ Some arg → FirstDirect wanted (index + 1) entries arg) → (b : Bool) → is_direct wanted entry ≡ b
+        → cond b (Some index) (direct_param wanted (index + 1) entries) ≡ Some arg → FirstDirect wanted index (entry ∷ entries) arg
+    by later true e g =
         let found = held_direct wanted (cap_of entry) e in
         let same : index ≡ arg = option_same g in
         record { place = 0; at_place = omega (arith, same); cap = found.0; is = found.1; passes = found.2; first = λ other held k p. omega arith }
-    by false e g =
-        let rest = direct_first wanted (index + 1) entries arg g in
+    by later false e g =
+        let rest = later g in
         let where_is = rest.at_place in
         record {
           place = suc rest.place;
@@ -83,13 +87,14 @@ direct_first wanted index (entry ∷ entries) arg h = by (is_direct wanted entry
 direct_none : (wanted : Name) (index : ℕ) (entries : List Entry) → direct_param wanted index entries ≡ None → (other : ℕ) (held : Cap)
     → option_and_then cap_of (slice_get entries other) ≡ Some held → is_direct_cap wanted held ≡ true → ⊥
 direct_none wanted index [] h other held k p = absurd (cc)
-direct_none wanted index (entry ∷ entries) h other held k p = by (is_direct wanted entry) refl h other k
+direct_none wanted index (entry ∷ entries) h other held k p = by (λ g o q. direct_none wanted (index + 1) entries g o held q p) (is_direct wanted entry) refl h other k
   where
-    by : (b : Bool) → is_direct wanted entry ≡ b → cond b (Some index) (direct_param wanted (index + 1) entries) ≡ None → (other : ℕ)
+    by : (direct_param wanted (index + 1) entries ≡ None → (other : ℕ) → option_and_then cap_of (slice_get entries other) ≡ Some held → ⊥) → (b : Bool)
+        → is_direct wanted entry ≡ b → cond b (Some index) (direct_param wanted (index + 1) entries) ≡ None → (other : ℕ)
         → option_and_then cap_of (slice_get (entry ∷ entries) other) ≡ Some held → ⊥
-    by true e g other k = absurd (cc)
-    by false e g zero k = true≢false (sym (ap (is_direct_held wanted) k ∙ p) ∙ e)
-    by false e g (suc other) k = direct_none wanted (index + 1) entries g other held k p
+    by later true e g other k = absurd (cc)
+    by later false e g zero k = true≢false (sym (ap (is_direct_held wanted) k ∙ p) ∙ e)
+    by later false e g (suc other) k = later g other k
 
 module _ (made : Name → Bool) (histories : List History) (k : ℕ) (level : Name → Latest) where
   -- a parameter from where the rest can be made, and none before it
@@ -109,12 +114,13 @@ module _ (made : Name → Bool) (histories : List History) (k : ℕ) (level : Na
 
   start_first : (index : ℕ) (entries : List Entry) (start : Start) → first_start made histories k level index entries ≡ Some start → FirstStart index entries start
   start_first index [] start h = absurd (cc)
-  start_first index (entry ∷ entries) start h = by (onward_at made histories k level entry) refl h
+  start_first index (entry ∷ entries) start h = by (λ g. start_first (index + 1) entries start g) (onward_at made histories k level entry) refl h
     where
-      by : (o : Option Onward) → onward_at made histories k level entry ≡ o
+      by : (first_start made histories k level (index + 1) entries ≡ Some start → FirstStart (index + 1) entries start) → (o : Option Onward)
+          → onward_at made histories k level entry ≡ o
           → elim o as (λ x. Option Start) [ Some onward ↦ Some (started made histories index onward) | None ↦ first_start made histories k level (index + 1) entries ] ≡ Some start
           → FirstStart index (entry ∷ entries) start
-      by (Some onward) e g =
+      by later (Some onward) e g =
           let found = from_cap (cap_of entry) onward e in
           let same : started made histories index onward ≡ start = option_same g in
           let number = ap (λ (s : Start). s.arg) same in
@@ -126,8 +132,8 @@ module _ (made : Name → Bool) (histories : List History) (k : ℕ) (level : Na
             onward_is = found.2 ∙ ap (λ (s : Start). Some s.onward) same;
             first = λ other held o l p. omega arith;
           }
-      by None e g =
-          let rest = start_first (index + 1) entries start g in
+      by later None e g =
+          let rest = later g in
           let where_is = rest.at_place in
           record {
             place = suc rest.place;
@@ -146,22 +152,19 @@ module _ (made : Name → Bool) (histories : List History) (k : ℕ) (level : Na
               absurd (none_some onward both)
           before rest (suc other) held onward l p = let m = rest.first other held onward l p in omega (arith, m)
 
-          none_some : (onward : Onward) → None ≡ Some onward → ⊥
-          none_some onward h = cc
-
   start_none : (index : ℕ) (entries : List Entry) → first_start made histories k level index entries ≡ None → (other : ℕ) (held : Cap) (onward : Onward)
       → option_and_then cap_of (slice_get entries other) ≡ Some held → first_onward made histories level (arrived_by k held) ≡ Some onward → ⊥
   start_none index [] h other held onward l p = absurd (cc)
-  start_none index (entry ∷ entries) h other held onward l p = by (onward_at made histories k level entry) refl h other l
+  start_none index (entry ∷ entries) h other held onward l p = by (λ g o q. start_none (index + 1) entries g o held onward q p) (onward_at made histories k level entry) refl h other l
     where
-      by : (o : Option Onward) → onward_at made histories k level entry ≡ o
+      by : (first_start made histories k level (index + 1) entries ≡ None → (other : ℕ) → option_and_then cap_of (slice_get entries other) ≡ Some held → ⊥)
+          → (o : Option Onward) → onward_at made histories k level entry ≡ o
           → elim o as (λ x. Option Start) [ Some onward ↦ Some (started made histories index onward) | None ↦ first_start made histories k level (index + 1) entries ] ≡ None
           → (other : ℕ) → option_and_then cap_of (slice_get (entry ∷ entries) other) ≡ Some held → ⊥
-      by (Some onward) e g other l = absurd (cc)
-      by None e g zero l =
-          let both : None ≡ Some onward = sym e ∙ ap (option_and_then (λ (cap : Cap). first_onward made histories level (arrived_by k cap))) l ∙ p in
-          cc
-      by None e g (suc other) l = start_none (index + 1) entries g other held onward l p
+      by later (Some first) e g other l = absurd (cc)
+      by later None e g zero l =
+          none_some onward (sym e ∙ ap (option_and_then (λ (cap : Cap). first_onward made histories level (arrived_by k cap))) l ∙ p)
+      by later None e g (suc other) l = later g other l
 
 -- ---- keys
 

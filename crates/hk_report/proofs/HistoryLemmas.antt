@@ -12,8 +12,9 @@ use Rattle.hk_report.specs.declared.histories.History.{History}
 use Rattle.hk_report.specs.Histories.{relisted, no_history, history_of, touched, opened_below, finished_below}
 
 -- what is known where a list gets its entries index by index
-pub record Relisting (maker now spans : Type 0) : Type 0 where
+pub record Relisting (maker count now spans : Type 0) : Type 0 where
   pub makes : maker
+  pub counts : count
   pub stands : now
   pub stood : spans
 
@@ -110,7 +111,7 @@ opened_beyond s (suc n) x l =
 
 pub opened_within : (s : State) (n : ℕ) (x : Name) → x.0 < n → history_of (opened_below s n) x ≡ relisted 0 None (object s x).entries no_history
 opened_within s zero x l = absurd (omega (arith, l))
-opened_within s (suc n) x l = by (x.0 == n) refl
+opened_within s (suc n) x l = by (λ g. opened_within s n x g) (x.0 == n) refl
   where
     here : (y : Name) → x ≡ y → y ≡ numbered n → history_of (opened_below s (suc n)) x ≡ relisted 0 None (object s x).entries no_history
     here y e f =
@@ -119,11 +120,12 @@ opened_within s (suc n) x l = by (x.0 == n) refl
         (touched_same 0 None (object s (numbered n)).entries (numbered n) (opened_below s n)
         ∙ ap (relisted 0 None (object s (numbered n)).entries) (opened_beyond s n (numbered n) (omega arith)))
 
-    by : (b : Bool) → (x.0 == n) ≡ b → history_of (opened_below s (suc n)) x ≡ relisted 0 None (object s x).entries no_history
-    by true e = here (numbered n) (name_is x (numbered n) (eqb-true x.0 n e)) refl
-    by false e =
+    by : (x.0 < n → history_of (opened_below s n) x ≡ relisted 0 None (object s x).entries no_history) → (b : Bool) → (x.0 == n) ≡ b
+        → history_of (opened_below s (suc n)) x ≡ relisted 0 None (object s x).entries no_history
+    by later true e = here (numbered n) (name_is x (numbered n) (eqb-true x.0 n e)) refl
+    by later false e =
         touched_other 0 None (object s (numbered n)).entries (numbered n) (opened_below s n) x e
-        ∙ opened_within s n x (let f = eqb-false x.0 n e in elim (cases_lt x.0 n) [ inl g ↦ g | inr g ↦ absurd (f (omega (arith, l, g))) ])
+        ∙ later (let f = eqb-false x.0 n e in elim (cases_lt x.0 n) [ inl g ↦ g | inr g ↦ absurd (f (omega (arith, l, g))) ])
 
 pub finished_beyond : (moment n : ℕ) (hs : List History) (x : Name) → n ≤ x.0 → history_of (finished_below moment n hs) x ≡ history_of hs x
 finished_beyond moment zero hs x l = refl
@@ -132,16 +134,17 @@ finished_beyond moment (suc n) hs x l =
 
 pub finished_within : (moment n : ℕ) (hs : List History) (x : Name) → x.0 < n → history_of (finished_below moment n hs) x ≡ relisted moment None [] (history_of hs x)
 finished_within moment zero hs x l = absurd (omega (arith, l))
-finished_within moment (suc n) hs x l = by (x.0 == n) refl
+finished_within moment (suc n) hs x l = by (λ g. finished_within moment n hs x g) (x.0 == n) refl
   where
-    by : (b : Bool) → (x.0 == n) ≡ b → history_of (finished_below moment (suc n) hs) x ≡ relisted moment None [] (history_of hs x)
-    by true e =
+    by : (x.0 < n → history_of (finished_below moment n hs) x ≡ relisted moment None [] (history_of hs x)) → (b : Bool) → (x.0 == n) ≡ b
+        → history_of (finished_below moment (suc n) hs) x ≡ relisted moment None [] (history_of hs x)
+    by later true e =
         subst (λ (z : Name). history_of (finished_below moment (suc n) hs) z ≡ relisted moment None [] (history_of hs z)) (sym (name_is x (numbered n) (eqb-true x.0 n e)))
         (touched_same moment None [] (numbered n) (finished_below moment n hs)
         ∙ ap (relisted moment None []) (finished_beyond moment n hs (numbered n) (omega arith)))
-    by false e =
+    by later false e =
         touched_other moment None [] (numbered n) (finished_below moment n hs) x e
-        ∙ finished_within moment n hs x (let f = eqb-false x.0 n e in elim (cases_lt x.0 n) [ inl g ↦ g | inr g ↦ absurd (f (omega (arith, l, g))) ])
+        ∙ later (let f = eqb-false x.0 n e in elim (cases_lt x.0 n) [ inl g ↦ g | inr g ↦ absurd (f (omega (arith, l, g))) ])
 
 -- the history of an object at the end
 pub ended_history : (moment : ℕ) (hs : List History) (x : Name)

@@ -13,4 +13,5 @@ mod Found
 mod Relists
 mod Replays
 mod Makers
+mod ReasonLemmas
 mod Explained

@@ -336,35 +336,35 @@ module _ (w : WorldValue) (lines : List Line) (steps : AreStepsOf w lines) where
 
     shows_under : (ps : List Followed) → All Links ps → has_begun (told_call b) (map told_call (calls_with inc ps)) ≡ true → is_under w lines b.moment b.call inc ≡ true
     shows_under [] all h = absurd (false≢true h)
-    shows_under (p ∷ ps) all h = by (is_one_of inc p.under) refl h
+    shows_under (p ∷ ps) all h = by (λ g. shows_under ps all.1 g) (is_one_of inc p.under) refl h
       where
-        by : (x : Bool) → is_one_of inc p.under ≡ x
+        by : (has_begun (told_call b) (map told_call (calls_with inc ps)) ≡ true → is_under w lines b.moment b.call inc ≡ true) → (x : Bool) → is_one_of inc p.under ≡ x
             → has_begun (told_call b) (map told_call (calls_of (cond x (p ∷ filter (λ (q : Followed). is_one_of inc q.under) ps) (filter (λ (q : Followed). is_one_of inc q.under) ps)))) ≡ true
             → is_under w lines b.moment b.call inc ≡ true
-        by false e g = shows_under ps all.1 g
-        by true e g = on (same_begun (told_call b) (told_call p.of)) refl g
+        by later false e g = later g
+        by later true e g = on (same_begun (told_call b) (told_call p.of)) refl g
           where
             on : (y : Bool) → same_begun (told_call b) (told_call p.of) ≡ y → (y || has_begun (told_call b) (map told_call (calls_with inc ps))) ≡ true
                 → is_under w lines b.moment b.call inc ≡ true
             on true f k = subst (λ (c : Beginning). is_under w lines c.moment c.call inc ≡ true) (sym (begun_is b p.of f)) (all.0 inc ∙ e)
-            on false f k = shows_under ps all.1 k
+            on false f k = later k
 
     under_shown : (ps : List Followed) → All Links ps → Has (calls_of ps) b → is_under w lines b.moment b.call inc ≡ true
         → has_begun (told_call b) (map told_call (calls_with inc ps)) ≡ true
     under_shown [] all h g = absurd h
-    under_shown (p ∷ ps) all h g = by (is_one_of inc p.under) refl h
+    under_shown (p ∷ ps) all h g = by (λ f. under_shown ps all.1 f g) (is_one_of inc p.under) refl h
       where
         more : (y : Bool) → has_begun (told_call b) (map told_call (calls_with inc ps)) ≡ true → (y || has_begun (told_call b) (map told_call (calls_with inc ps))) ≡ true
         more true k = refl
         more false k = k
 
-        by : (x : Bool) → is_one_of inc p.under ≡ x → (p.of ≡ b) ⊎ Has (calls_of ps) b
+        by : (Has (calls_of ps) b → has_begun (told_call b) (map told_call (calls_with inc ps)) ≡ true) → (x : Bool) → is_one_of inc p.under ≡ x → (p.of ≡ b) ⊎ Has (calls_of ps) b
             → has_begun (told_call b) (map told_call (calls_of (cond x (p ∷ filter (λ (q : Followed). is_one_of inc q.under) ps) (filter (λ (q : Followed). is_one_of inc q.under) ps)))) ≡ true
-        by true e (inl f) =
+        by later true e (inl f) =
             ap (λ (y : Bool). y || has_begun (told_call b) (map told_call (calls_with inc ps))) (subst (λ (c : Beginning). same_begun (told_call b) (told_call c) ≡ true) (sym f) (itself b))
-        by true e (inr f) = more (same_begun (told_call b) (told_call p.of)) (under_shown ps all.1 f g)
-        by false e (inl f) = absurd (true≢false (sym (sym (all.0 inc) ∙ subst (λ (c : Beginning). is_under w lines c.moment c.call inc ≡ true) (sym f) g) ∙ e))
-        by false e (inr f) = under_shown ps all.1 f g
+        by later true e (inr f) = more (same_begun (told_call b) (told_call p.of)) (later f)
+        by later false e (inl f) = absurd (true≢false (sym (sym (all.0 inc) ∙ subst (λ (c : Beginning). is_under w lines c.moment c.call inc ≡ true) (sym f) g) ∙ e))
+        by later false e (inr f) = later f
 
   abbrev families : List (List Begun)
   families = families_after 0 (doings w (opened w) lines) (replicate (opened w).state.next_inc.0 [])

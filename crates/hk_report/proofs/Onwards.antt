@@ -455,15 +455,16 @@ module _ (at : ℕ → State) (made test : Name → Bool) (test_is : (x : Name) 
     -- moments never fall
     follow_later : (hops : List Hop) (from there : Reached) → follow at made hops from ≡ Some there → from.moment ≤ there.moment
     follow_later [] from there h = let e = ap (λ (o : Option Reached). elim o as (λ x. ℕ) [ None ↦ 0 | Some r ↦ r.moment ]) h in omega (arith, e)
-    follow_later (hop ∷ hops) from there h = by (hop_to at made hop from) refl h
+    follow_later (hop ∷ hops) from there h = by (λ to g. follow_later hops to there g) (hop_to at made hop from) refl h
       where
-        by : (o : Option Reached) → hop_to at made hop from ≡ o → option_and_then (follow at made hops) o ≡ Some there → from.moment ≤ there.moment
-        by None e g = absurd (cc)
-        by (Some to) e g =
+        by : ((to : Reached) → follow at made hops to ≡ Some there → to.moment ≤ there.moment) → (o : Option Reached) → hop_to at made hop from ≡ o
+            → option_and_then (follow at made hops) o ≡ Some there → from.moment ≤ there.moment
+        by later None e g = absurd (cc)
+        by later (Some to) e g =
             let s = hop_shown from hop to e in
             let late = s.late in
             let m = to_moment from hop to s.cap s.onward_is in
-            let rest = follow_later hops to there g in
+            let rest = later to g in
             omega (arith, late, m, rest)
 
     pub way_by_end : (n : ℕ) (from : Arrived) (hops : List Hop) → Way n from hops → from.moment ≤ end
@@ -603,15 +604,17 @@ module _ (at : ℕ → State) (made test : Name → Bool) (test_is : (x : Name) 
         → Least n from (hops_down test histories wanted (last + 1) n from)
     least_down zero from by_end there good = least_here from (end_shown from good)
     least_down (suc n) from by_end there good =
-        by (first_onward test histories (level_at test histories wanted (last + 1) n) from) refl
+        by (λ x. least_down n x) (first_onward test histories (level_at test histories wanted (last + 1) n) from) refl
         (sym (next_good n (level_at test histories wanted (last + 1) n) (levels n) from) ∙ good)
       where
-        by : (x : Option Onward) → first_onward test histories (level_at test histories wanted (last + 1) n) from ≡ x → is_some x ≡ true
-            → Least (suc n) from (elim x as (λ y. List Hop) [ None ↦ [] | Some onward ↦ onward.hop ∷ hops_down test histories wanted (last + 1) n onward.to ])
-        by None e h = absurd (true≢false (sym h))
-        by (Some o) e h =
+        by : ((x : Arrived) → x.moment ≤ end → stands (at x.moment) x.name ≡ true → is_good x (level_at test histories wanted (last + 1) n x.name) ≡ true
+            → Least n x (hops_down test histories wanted (last + 1) n x))
+            → (x : Option Onward) → first_onward test histories (level_at test histories wanted (last + 1) n) from ≡ x → is_some x ≡ true
+            → Least (suc n) from (elim x as (λ y. List Hop) [ None ↦ [] | Some on ↦ on.hop ∷ hops_down test histories wanted (last + 1) n on.to ])
+        by rest None e h = absurd (true≢false (sym h))
+        by rest (Some o) e h =
             let leads = onward_leads (level_at test histories wanted (last + 1) n) from by_end there o e in
-            least_on n from by_end there o e (hops_down test histories wanted (last + 1) n o.to) (least_down n o.to leads.by_end leads.there leads.good)
+            least_on n from by_end there o e (hops_down test histories wanted (last + 1) n o.to) (rest o.to leads.by_end leads.there leads.good)
 
     pub good_by_onward : (n : ℕ) (from : Arrived) (o : Onward) → first_onward test histories (level_at test histories wanted (last + 1) n) from ≡ Some o
         → is_good from (level_at test histories wanted (last + 1) (suc n) from.name) ≡ true

@@ -98,15 +98,17 @@ ended_at : (moment : ℕ) (entries : List Entry) (index : ℕ) (olds : List (Opt
     → EndedAt moment entries index olds span
 ended_at moment entries index [] span h = absurd h
 ended_at moment entries index (old ∷ olds) span h =
-    by (has_cases (added (ended_by moment index old (cap_at entries index))) (ended moment entries (index + 1) olds) span h)
+    by (λ g. ended_at moment entries (index + 1) olds span g)
+    (has_cases (added (ended_by moment index old (cap_at entries index))) (ended moment entries (index + 1) olds) span h)
   where
-    by : Has (added (ended_by moment index old (cap_at entries index))) span ⊎ Has (ended moment entries (index + 1) olds) span → EndedAt moment entries index (old ∷ olds) span
-    by (inl g) = record {
+    by : (Has (ended moment entries (index + 1) olds) span → EndedAt moment entries (index + 1) olds span)
+        → Has (added (ended_by moment index old (cap_at entries index))) span ⊎ Has (ended moment entries (index + 1) olds) span → EndedAt moment entries index (old ∷ olds) span
+    by later (inl g) = record {
       at = 0;
       is = ap (λ (n : ℕ). ended_by moment n old (cap_at entries n)) (plus_zero index) ∙ added_is (ended_by moment index old (cap_at entries index)) span g;
     }
-    by (inr g) =
-        let rest = ended_at moment entries (index + 1) olds span g in
+    by later (inr g) =
+        let rest = later g in
         record { at = suc rest.at; is = ap (λ (n : ℕ). ended_by moment n (slice_index_or olds rest.at None) (cap_at entries n)) (plus_suc index rest.at) ∙ rest.is }
 
 at_ended : (moment : ℕ) (entries : List Entry) (index : ℕ) (olds : List (Option Since)) (i : ℕ) (span : Span)
@@ -234,22 +236,22 @@ listed_stands s x index cap h = by (lookup (same_name x) s.objects) h
 
 module _ (at : ℕ → State) (x : Name) where
   -- what stands at an index stands there since, at the moments below one
-  record Opens (n index : ℕ) (s : Since) : Type 0 where
-    before : s.from < n
-    begins : stands (at s.from) x ≡ true
-    holds : (m : ℕ) → s.from ≤ m → m < n → stands (at m) x ≡ true → listed_cap (at m) x index ≡ Some s.cap
+  pub record Opens (n index : ℕ) (s : Since) : Type 0 where
+    pub before : s.from < n
+    pub begins : stands (at s.from) x ≡ true
+    pub holds : (m : ℕ) → s.from ≤ m → m < n → stands (at m) x ≡ true → listed_cap (at m) x index ≡ Some s.cap
 
-  record Closed (n : ℕ) (span : Span) : Type 0 where
-    before : span.from < n
-    ends : span.until ≤ n
-    begins : stands (at span.from) x ≡ true
-    holds : (m : ℕ) → span.from ≤ m → m < span.until → m < n → stands (at m) x ≡ true → listed_cap (at m) x span.index ≡ Some span.cap
+  pub record Closed (n : ℕ) (span : Span) : Type 0 where
+    pub before : span.from < n
+    pub ends : span.until ≤ n
+    pub begins : stands (at span.from) x ≡ true
+    pub holds : (m : ℕ) → span.from ≤ m → m < span.until → m < n → stands (at m) x ≡ true → listed_cap (at m) x span.index ≡ Some span.cap
 
-  record IsSinceAt (h : History) (m index : ℕ) (cap : Cap) : Type 0 where
-    since : Since
-    is : now_at h index ≡ Some since
-    cap_same : since.cap ≡ cap
-    from : since.from ≤ m
+  pub record IsSinceAt (h : History) (m index : ℕ) (cap : Cap) : Type 0 where
+    pub since : Since
+    pub is : now_at h index ≡ Some since
+    pub cap_same : since.cap ≡ cap
+    pub from : since.from ≤ m
 
   -- what a history tells of the moments below one
   pub record Past (n : ℕ) (h : History) : Type 0 where

@@ -8,12 +8,10 @@ use Rattle.hk_model.specs.WorldValue.{WorldValue}
 use Rattle.hk_model.specs.Running.{Machine, step, moved}
 
 -- what is known of a machine on its way through a history
-pub record Replaying (sound machine turns given lists : Type 0) : Type 0 where
+pub record Replaying (sound machine turns : Type 0) : Type 0 where
   pub is_sound : sound
   pub leads : machine
   pub keeps : turns
-  pub gives : given
-  pub notes : lists
 
 -- the machine that a step leaves
 pub step_moves : (w : WorldValue) (m : Machine) (cpu : Cpu) (made : Option Line) (new : Machine) → IfSome made (λ line. step w m cpu ≡ Some (line, new))

@@ -5,6 +5,7 @@ use mathlib.Core.Logic.{inl, inr}
 use Rattle.std.proofs.lemmas.Bool.{cases_lt}
 use Rattle.std.proofs.lemmas.List.{append-nil, append_assoc, length-append}
 use Rattle.hk_model.specs.declared.names.Name.{Name}
+use Rattle.hk_model.specs.declared.entries.Entry.{Entry}
 use Rattle.hk_model.specs.declared.reaches.Hop.{Hop}
 use Rattle.hk_report.specs.declared.histories.History.{History}
 use Rattle.hk_report.specs.declared.hops.Arrived.{Arrived}
@@ -12,7 +13,7 @@ use Rattle.hk_report.specs.declared.hops.Latest.{Latest}
 use Rattle.hk_report.specs.declared.hops.Level.{Level}
 use Rattle.hk_report.specs.declared.hops.Onward.{Onward}
 use Rattle.hk_report.specs.Hops.{latest_at}
-use Rattle.hk_report.specs.Searches.{first_onward, level_at, levels_below, hops_down}
+use Rattle.hk_report.specs.Searches.{first_onward, first_start, level_at, levels_below, hops_down}
 
 -- what is known on the way down
 pub record Going (within goes : Type 0) : Type 0 where
@@ -24,11 +25,6 @@ pub record Seeking (level levels none : Type 0) : Type 0 where
   pub last : level
   pub all : levels
   pub fewer : none
-
--- what is known while changes are told
-pub record Explaining (few told : Type 0) : Type 0 where
-  pub left : few
-  pub done : told
 
 -- ---- levels
 
@@ -93,6 +89,33 @@ module _ (made : Name → Bool) (histories : List History) (wanted : Name) (befo
       let c = length_below n in
       let e : n ≡ length levels = omega (arith, a, b, c) in
       all ∙ ap (levels_below made histories wanted before) e
+
+  -- what the search has come to
+  pub found_is : (levels slice : List Level) (n : ℕ) (first : Hop) (to : Arrived) (none one all : List Hop)
+      → map latest_at levels ≡ levels_below made histories wanted before n → slice ≡ levels → none ≡ [] → one ≡ none ++ first ∷ []
+      → all ≡ one ++ hops_down made histories wanted before (length slice) to → all ≡ first ∷ hops_down made histories wanted before n to
+  found_is levels slice n first to none one all h same none_is one_is all_is =
+      let a = ap (length {A = Name → Latest}) h in
+      let b = length_mapped latest_at levels in
+      let c = length_below n in
+      let d = ap (length {A = Level}) same in
+      let e : length slice ≡ n = omega (arith, a, b, c, d) in
+      all_is
+      ∙ ap (λ (xs : List Hop). xs ++ hops_down made histories wanted before (length slice) to) (one_is ∙ ap (λ (xs : List Hop). xs ++ first ∷ []) none_is)
+      ∙ ap (λ (k : ℕ). first ∷ hops_down made histories wanted before k to) e
+
+  -- one level more from which no parameter starts
+  pub none_fewer : (k : ℕ) (params : List Entry) (n : ℕ) (level : Name → Latest) → level ≡ level_at made histories wanted before n
+      → first_start made histories k level 0 params ≡ None
+      → ((less : ℕ) → less < n → first_start made histories k (level_at made histories wanted before less) 0 params ≡ None)
+      → (less : ℕ) → less < n + 1 → first_start made histories k (level_at made histories wanted before less) 0 params ≡ None
+  none_fewer k params n level same none fewer less l = elim (cases_lt less n) [
+    | inl g ↦ fewer less g
+    | inr g ↦
+        let e : n ≡ less = omega (arith, g, l) in
+        ap (λ (m : ℕ). first_start made histories k (level_at made histories wanted before m) 0 params) (sym e)
+        ∙ ap (λ (f : Name → Latest). first_start made histories k f 0 params) (sym same) ∙ none
+  ]
 
   -- ---- one step down
 

@@ -126,7 +126,10 @@ fn padded(
     now: &[Option<Since>],
     count: usize,
 ) -> Result<Vec<Option<Since>>, NoMemory>
-    ensures { IfOk result (λ all. all.items ≡ padded now.now count) }
+    requires now { length now.now ≤ entry_limit }
+    requires count { count ≤ entry_limit }
+    ensures all { IfOk result (λ all. all.items ≡ padded now.now count) }
+    ensures few { IfOk result (λ all. length all.items ≤ entry_limit) }
 {
     let mut all = Vec::from_slice(alloc, now)?;
     let missing = count.saturating_sub(now.len());

@@ -206,6 +206,7 @@ fn moment_of(hop: &Hop) -> u32
 }
 
 // Whether a hop comes before another: by its moment, then its index, then an entry before what is handed.
+#[tactic(auto, using(crate::proofs::HopLemmas::moment_first, crate::proofs::HopLemmas::index_first, crate::proofs::HopLemmas::handed_last))]
 fn comes_before(a: &Hop, b: &Hop) -> bool
     ensures { result ≡ is_lt (slice_cmp nat_cmp (hop_key a.now) (hop_key b.now)) }
 {
@@ -351,6 +352,7 @@ impl<'a> Ground<'a> {
     }
 
     /// The level of one hop more. NoMemory is want of memory.
+    #[tactic(auto, using(crate::proofs::HopLemmas::level_next))]
     pub(crate) fn next_level(&self, alloc: Global, level: &Level) -> Result<Level, NoMemory>
         ensures { IfOk result (λ next. latest_at next ≡ next_latest (is_made self.now.families.now self.now.begun self.now.histories.now) self.now.histories.now (latest_at level.now)) }
     {

@@ -71,6 +71,7 @@ impl<'a> Grounds<'a> {
     }
 
     /// These changes, each with its reason. NoMemory is want of memory.
+    #[tactic(auto, using(crate::proofs::ReasonLemmas::few_at, crate::proofs::ReasonLemmas::told_none, crate::proofs::ReasonLemmas::told_all))]
     pub(crate) fn explain_all(
         &self,
         alloc: Global,

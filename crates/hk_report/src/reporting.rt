@@ -7,7 +7,7 @@ ghost use Rattle.hk_report.specs.Families.{told_change};
 
 use crate::families::{BareChange, changes_of};
 use crate::reasons::Grounds;
-use crate::replay::replayed;
+use crate::replay::{histories_told, params_given, replayed};
 use hk_model::{Change, Line, NoMemory, World};
 use std::alloc::Global;
 
@@ -45,10 +45,13 @@ pub fn report(alloc: Global, world: &World, lines: &[Line]) -> Result<Vec<Change
     let _limit = world.limit();
     let replay = replayed(alloc, world, lines)?;
     let families = changes_of(alloc, replay.first, replay.doings.as_slice())?;
+    let histories = histories_told(alloc, world, lines)?;
+    let params = params_given(alloc, world, lines)?;
     let grounds = Grounds {
-        histories: replay.histories.as_slice(),
+        histories: histories.as_slice(),
         families: families.calls.as_slice(),
-        params: replay.params.as_slice(),
+        params: params.as_slice(),
     };
-    grounds.explain_all(alloc, families.changes.as_slice())
+    let changes = grounds.explain_all(alloc, families.changes.as_slice())?;
+    Ok(changes)
 }

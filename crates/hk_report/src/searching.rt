@@ -83,6 +83,7 @@ impl<'a> Search<'a> {
     }
 
     // The hops that are left, behind those that are there, with these levels.
+    #[tactic(auto, using(crate::proofs::SearchLemmas::level_is, crate::proofs::SearchLemmas::goes_some, crate::proofs::SearchLemmas::goes_none))]
     fn go_down(
         &self,
         hops: &mut Items<Hop>,
@@ -109,6 +110,7 @@ impl<'a> Search<'a> {
 
     // The least reach of at least one hop: with fewer hops first. Where a reach is there, the levels
     // end at the number of its hops.
+    #[tactic(auto, using(crate::proofs::SearchLemmas::as_many, crate::proofs::SearchLemmas::none_fewer))]
     fn least_behind(&self, alloc: Global) -> Result<Reach, NoMemory>
         requires { length self.now.params.now ≤ 8 }
         ensures { IfOk result (λ reach. IsFoundBehind (is_made self.now.ground.families.now self.now.ground.begun self.now.ground.histories.now) self.now.ground.histories.now self.now.wanted self.now.before self.now.ground.begun.moment self.now.params.now reach) }

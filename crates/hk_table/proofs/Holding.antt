@@ -4,10 +4,9 @@ use Rattle.std.proofs.Common.{get_or-set_same, get_or-set_other, length-set, Opt
 use Rattle.std.proofs.lemmas.Bool.{cases_eq}
 use Rattle.hk_links.specs.Chained.{without}
 use Rattle.hk_model.specs.declared.names.Name.{Name}
-use Rattle.hk_model.specs.declared.entries.Template.TheVariants as template
 use Rattle.hk_objects.specs.declared.body.Body.{Body}
 use Rattle.hk_objects.specs.Slots.{name_at, AreApart}
-use Rattle.hk_reclaim.specs.Naming.{times, named}
+use Rattle.hk_reclaim.specs.Naming.{times}
 use Rattle.hk_reclaim.specs.Tally.{Tally, raised, lowered, released, due, owing}
 use Rattle.hk_reclaim.proofs.Counting.{times_none, times_same, times_other, due_other, due_same, counted_same, owing_nothing, releasable, released_name}
 use Rattle.hk_reclaim.proofs.Keeping.{hold_outside_counted, release_outside_counted, hold_inside_counted}

@@ -1,7 +1,7 @@
 -- One more object in the slots of a table.
 use Rattle.std.proofs.Common.{◌≡◌, ◌≢◌, ℕ, suc, ◌+◌, ◌<◌, ◌⊎◌, inl, inr, true, List, [], ◌∷◌}
 use Rattle.std.proofs.Common.{length, map, set, Option, Some, None, refl, sym, ap, ◌∙◌, subst, arith, ⊎_elim, option_map}
-use Rattle.std.proofs.Common.{get_or-set_other, Ok}
+use Rattle.std.proofs.Common.{get_or-set_other}
 use Rattle.std.specs.Prelude.{slice_set, slice_index_or}
 use Rattle.std.specs.Map.{lookup}
 use Rattle.std.specs.Option.{unwrap_or}
@@ -14,8 +14,8 @@ use Rattle.hk_model.specs.declared.names.Proc.{Proc}
 use Rattle.hk_model.specs.declared.entries.Entry.{Entry}
 use Rattle.hk_model.specs.declared.objects.Object.{Object}
 use Rattle.hk_model.specs.declared.objects.Process.{Process}
-use Rattle.hk_model.specs.State.{State, name_cmp, same_name, object, no_object}
-use Rattle.hk_model.specs.Rule.{plain_object, add_beside, has_room, room_made}
+use Rattle.hk_model.specs.State.{name_cmp, same_name, object, no_object}
+use Rattle.hk_model.specs.Rule.{plain_object, add_beside, has_room}
 use Rattle.hk_objects.specs.declared.body.Body.{Body}
 use Rattle.hk_objects.specs.Shelf.{Shelf, new_body}
 use Rattle.hk_objects.specs.Slots.{standing, place, name_at}
@@ -43,7 +43,7 @@ standing_many ps ws =
 pub has_place : (ps : List (Option (Name × Body))) (ws : List (List Proc)) → has_room (standing (whole ps ws)) ≡ true → length (standing ps) < 65536
 has_place ps ws h = let same = standing_many ps ws in let low : length (standing (whole ps ws)) < 65536 = grind (arith, nat_tests) in omega (arith, same, low)
 
-length-whole : (ps : List (Option (Name × Body))) (ws : List (List Proc)) → length (whole ps ws) ≡ length ps
+pub length-whole : (ps : List (Option (Name × Body))) (ws : List (List Proc)) → length (whole ps ws) ≡ length ps
 length-whole [] ws = refl
 length-whole (p ∷ ps) [] = ap suc (length-whole ps [])
 length-whole (p ∷ ps) (x ∷ ws) = ap suc (length-whole ps ws)
@@ -126,7 +126,3 @@ made_told objects new q ps st first_new events limit s of words entries free low
       objects = made_objects objects.slots s objects.next (new_body of words entries) free low fresh q.waiting (free_waiters objects.slots q ps s h free) i;
       next_name = record { 0 = objects.next.0 + 1 };
     })
-
--- where there is room all objects stay
-pub room_there : (s : State) → has_room s.objects ≡ true → room_made s ≡ Ok s.objects
-room_there s h = rw h refl

@@ -1,13 +1,11 @@
 -- Whatever is named stands, at each moment.
-use Rattle.std.proofs.Common.{◌≡◌, ℕ, ◌+◌, List, [], ◌∷◌, Option, Some, None, Result, Ok, Err, IfSome, IfNone, IfOk, OnOk, OnErr, refl, sym, ap, ◌∙◌, subst, true, arith}
+use Rattle.std.proofs.Common.{◌≡◌, ◌+◌, List, [], ◌∷◌, Option, Some, None, Result, Ok, Err, IfSome, IfNone, IfOk, OnOk, OnErr, refl, sym, ap, subst, arith}
 use Rattle.hk_model.specs.declared.names.Cpu.{Cpu}
-use Rattle.hk_model.specs.declared.names.Name.{Name}
 use Rattle.hk_model.specs.declared.names.Proc.{Proc}
 use Rattle.hk_model.specs.declared.calls.Call.{Call}
 use Rattle.hk_model.specs.declared.calls.Refusal.{Refusal}
 use Rattle.hk_model.specs.declared.calls.Reply.{Reply}
 use Rattle.hk_model.specs.State.{State}
-use Rattle.hk_model.specs.Keeping.{are_supporting, stands}
 use Rattle.hk_model.specs.Opening.{opening}
 use Rattle.hk_model.specs.Processors.{runner, dispatched, dispatched_from, halted}
 use Rattle.hk_model.specs.Rule.{rule}

@@ -1,22 +1,20 @@
 -- The counts of a table, as its objects change and come.
-use Rattle.std.proofs.Common.{◌≡◌, ◌≢◌, ℕ, zero, suc, ◌+◌, ◌-◌, ◌<◌, ◌≤◌, ◌^◌, true, false, List, [], ◌∷◌, ◌++◌, length, get_or, set, Option, Some, None, IsSome, refl, sym, ap, ◌∙◌, subst, arith}
+use Rattle.std.proofs.Common.{◌≡◌, ◌≢◌, ℕ, ◌+◌, ◌<◌, ◌≤◌, List, [], ◌∷◌, ◌++◌, length, get_or, set, Option, Some, None, IsSome, refl, sym, ap, ◌∙◌, subst, arith}
 use Rattle.std.proofs.Common.{⊎_elim, option_map, get_or-set_same, get_or-set_other, length-set}
-use Rattle.std.specs.Prelude.{slice_index_or}
 use Rattle.std.proofs.lemmas.Bool.{cases_eq}
-use Rattle.hk_links.specs.Chained.{without}
 use Rattle.hk_model.specs.declared.names.Name.{Name}
 use Rattle.hk_model.specs.declared.entries.Entry.{Entry}
-use Rattle.hk_model.specs.declared.entries.Entry.TheVariants.{Empty, Held}
+use Rattle.hk_model.specs.declared.entries.Entry.TheVariants.{Empty}
 use Rattle.hk_model.specs.declared.objects.Process.{Process}
 use Rattle.hk_model.specs.Keeping.{entry_names}
 use Rattle.hk_objects.specs.declared.body.Body.{Body}
-use Rattle.hk_objects.specs.Shelf.{Shelf, new_body}
-use Rattle.hk_objects.specs.Slots.{place, name_at, change, AreApart}
+use Rattle.hk_objects.specs.Shelf.{Shelf}
+use Rattle.hk_objects.specs.Slots.{place, name_at, change}
 use Rattle.hk_objects.proofs.Standing.{name_at_change, within_some}
 use Rattle.hk_reclaim.specs.Naming.{times, named_in, names_of, names_in, namings}
-use Rattle.hk_reclaim.specs.Tally.{Tally, raised, lowered, released, due, owing, AreCounted}
-use Rattle.hk_reclaim.proofs.Counting.{times_none, times-cons, times_same, times_other}
-use Rattle.hk_reclaim.proofs.Keeping.{namings_set, made_counted}
+use Rattle.hk_reclaim.specs.Tally.{Tally, due, owing, AreCounted}
+use Rattle.hk_reclaim.proofs.Counting.{times_none, times-cons}
+use Rattle.hk_reclaim.proofs.Keeping.{namings_set}
 use Rattle.hk_reclaim.proofs.Settling.{name_of_some, some_name}
 use Rattle.hk_spaces.specs.declared.stack.StackFrame.{StackFrame}
 use Rattle.hk_table.specs.Held.{AreHeld, CanHold, CanReleaseInside, HoldsInside, ReleasesInside}
@@ -25,8 +23,8 @@ use Rattle.hk_table.specs.Small.{AreSmall}
 use Rattle.hk_table.specs.Told.{AreTold}
 use Rattle.hk_table.proofs.FrameNames.{times-append}
 use Rattle.hk_table.proofs.FrameSums.{space_written}
-use Rattle.hk_table.proofs.Holding.{Slots, owed_same, released_here}
-use Rattle.hk_table.proofs.NameBounds.{names_are_few, entry_within, entries_within}
+use Rattle.hk_table.proofs.Holding.{Slots, owed_same}
+use Rattle.hk_table.proofs.NameBounds.{names_are_few, entry_within}
 
 -- counts depend on the names in the slots alone
 counted_renamed : (ps qs : Slots) (owed : Name → ℕ) (t : Tally) → ((k : ℕ) → name_at qs k ≡ name_at ps k) → AreCounted ps owed t → AreCounted qs owed t

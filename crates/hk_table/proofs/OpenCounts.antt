@@ -1,9 +1,9 @@
 -- The counts of a world that opens.
-use Rattle.std.proofs.Common.{◌≡◌, ℕ, zero, suc, ◌+◌, ◌-◌, ◌*◌, ◌<◌, ◌≤◌, false, true, List, [], ◌∷◌, ◌++◌, length, get_or, take, replicate, Option, Some, None, IfSome, IsSome, refl, sym, ap, ◌∙◌, subst, arith, ◌↔◌, ◌≢◌, ⊎_elim, option_map}
+use Rattle.std.proofs.Common.{◌≡◌, ℕ, zero, suc, ◌+◌, ◌-◌, ◌*◌, ◌<◌, ◌≤◌, List, [], ◌∷◌, ◌++◌, length, get_or, take, replicate, Option, Some, None, IfSome, IsSome, refl, sym, ap, ◌∙◌, subst, arith, ◌≢◌, ⊎_elim, option_map}
 use Rattle.std.proofs.lemmas.Bool.{cases_eq}
 use Rattle.hk_model.specs.declared.objects.ProcessState.TheVariants.{Ready}
-use Rattle.std.specs.Prelude.{slice_get, slice_index_or}
-use Rattle.std.proofs.lemmas.List.{take_more, length-take-le, length-append, length-replicate}
+use Rattle.std.specs.Prelude.{slice_index_or}
+use Rattle.std.proofs.lemmas.List.{take_all, take_more, length-take-le, length-append, length-replicate}
 use Rattle.std.proofs.lemmas.List.Sums.{sum_by-cons}
 use Rattle.hk_model.specs.declared.names.Name.{Name}
 use Rattle.hk_model.specs.declared.entries.Entry.{Entry}
@@ -30,6 +30,7 @@ use Rattle.hk_table.specs.Told.{AreTold}
 use Rattle.hk_table.proofs.FrameNames.{times-append}
 use Rattle.hk_table.proofs.Holding.{Slots, held_same, owed_same}
 use Rattle.hk_table.proofs.NameBounds.{one_name, entries_within, objects_within, names_are_few}
+use Rattle.hk_table.proofs.Opens.{as_many_stacks}
 use Rattle.hk_table.proofs.Telling.{stack_names_sum}
 
 -- ---- the names of one object
@@ -72,12 +73,6 @@ namings_end (q ∷ ps) p n = let a = namings-cons q (ps ++ p ∷ []) n in let b 
 
 pub namings_next : (ps : Slots) (i : ℕ) (n : Name) → i < length ps → namings (take (i + 1) ps) n ≡ namings (take i ps) n + times n (names_in (place ps i))
 namings_next ps i n low = ap (λ (qs : Slots). namings qs n) (take_more ps i None low) ∙ namings_end (take i ps) (place ps i) n
-
-take_whole : (ps : Slots) (i : ℕ) → length ps ≤ i → take i ps ≡ ps
-take_whole [] zero all = refl
-take_whole [] (suc i) all = refl
-take_whole (p ∷ ps) zero all = absurd (omega (arith, all))
-take_whole (p ∷ ps) (suc i) all = ap (λ (qs : Slots). p ∷ qs) (take_whole ps i (omega (arith, all)))
 
 place_take : (ps : Slots) (i k : ℕ) (e : Name × Body) → place (take i ps) k ≡ Some e → (k < i) × (place ps k ≡ Some e)
 place_take [] zero k e here = absurd (cc)
@@ -124,7 +119,7 @@ module _ (ps : Slots) (room : length ps ≡ 65536) (i : ℕ) (start t : Tally) (
 
 pub first_all : (ps : Slots) (room : length ps ≡ 65536) (i : ℕ) (start t : Tally) → 65536 ≤ i → AreFirstHeld ps i start t → AreHeld ps (λ n. 0) (namings ps) t
 first_all ps room i start t high h =
-    owed_same ps (λ n. 0) (namings (take i ps)) (namings ps) t (λ n. ap (λ (qs : Slots). namings qs n) (take_whole ps i (omega (arith, room, high)))) h.held
+    owed_same ps (λ n. 0) (namings (take i ps)) (namings ps) t (λ n. ap (λ (qs : Slots). namings qs n) (take_all i ps (omega (arith, room, high)))) h.held
 
 pub first_few : (ps : Slots) (room : length ps ≡ 65536) (i : ℕ) (start t : Tally) → 65536 ≤ i → AreFirstHeld ps i start t → (k : ℕ) (e : Name × Body) → place ps k ≡ Some e
     → length e.1.entries ≤ 256
@@ -212,10 +207,6 @@ base_frames n [] q = omega arith
 base_frames n (t ∷ ts) zero = omega arith
 base_frames n (t ∷ ts) (suc q) = base_frames (n + 1) ts q
 
-base_many : (n : ℕ) (tasks : List Task) → length (base_stacks n tasks) ≡ length tasks
-base_many n [] = refl
-base_many n (t ∷ ts) = let h = base_many (n + 1) ts in omega (arith, h)
-
 base_space : (es : List Entry) → length es ≤ 64 → length (es ++ replicate (64 - length es) Empty) ≤ 64
 base_space es few =
     let a = length-append es (replicate (64 - length es) Empty) in let b = length-replicate {A = Entry} (64 - length es) Empty in omega (arith, a, b, few)
@@ -230,18 +221,12 @@ base_spaces w n (t ∷ ts) all zero zero f here =
 base_spaces w n (t ∷ ts) all zero (suc k) f here = absurd (cc)
 base_spaces w n (t ∷ ts) all (suc q) k f here = base_spaces w (n + 1) ts all.1 q k f here
 
-take_tasks : (ts : List Task) (i : ℕ) → length ts ≤ i → take i ts ≡ ts
-take_tasks [] zero all = refl
-take_tasks [] (suc i) all = refl
-take_tasks (t ∷ ts) zero all = absurd (omega (arith, all))
-take_tasks (t ∷ ts) (suc i) all = ap (λ (xs : List Task). t ∷ xs) (take_tasks ts i (omega (arith, all)))
-
 pub base_small : (w : WorldValue) (tasks : List Task) (i : ℕ) (stacks : List (List StackFrame)) → IsWorld w → tasks ≡ w.tasks → length tasks ≤ i
     → stacks ≡ base_stacks 0 (take i tasks) → AreSmallStacks stacks
 base_small w tasks i stacks world same all is =
-    let e : stacks ≡ base_stacks 0 w.tasks = is ∙ ap (base_stacks 0) (take_tasks tasks i all ∙ same) in
+    let e : stacks ≡ base_stacks 0 w.tasks = is ∙ ap (base_stacks 0) (take_all i tasks all ∙ same) in
     subst (λ (ss : List (List StackFrame)). AreSmallStacks ss) (sym e) (record {
-      many = let a = base_many 0 w.tasks in let b = world.few_tasks in omega (arith, a, b);
+      many = let a = as_many_stacks 0 w.tasks in let b = world.few_tasks in omega (arith, a, b);
       frames = λ q. base_frames 0 w.tasks q;
       spaces = λ q k f here. base_spaces w 0 w.tasks world.tasks_are q k f here;
     })

@@ -84,7 +84,7 @@ as_many_ready : (n : ℕ) (tasks : List Task) → length (all_ready n tasks) ≡
 as_many_ready n [] = refl
 as_many_ready n (t ∷ ts) = let h = as_many_ready (n + 1) ts in omega (arith, h)
 
-as_many_stacks : (n : ℕ) (tasks : List Task) → length (base_stacks n tasks) ≡ length tasks
+pub as_many_stacks : (n : ℕ) (tasks : List Task) → length (base_stacks n tasks) ≡ length tasks
 as_many_stacks n [] = refl
 as_many_stacks n (t ∷ ts) = let h = as_many_stacks (n + 1) ts in omega (arith, h)
 

@@ -1,5 +1,5 @@
 -- The process that a processor runs.
-use Rattle.std.proofs.Common.{◌≡◌, ℕ, suc, ◌+◌, ◌<◌, Bool, true, false, cond, List, [], ◌∷◌, length, Option, Some, None, IfSome, refl, sym, ap, ◌∙◌, subst, arith}
+use Rattle.std.proofs.Common.{◌≡◌, ℕ, suc, ◌+◌, ◌<◌, Bool, true, false, cond, List, [], ◌∷◌, length, Option, Some, None, IfSome, refl, sym, ap, ◌∙◌, arith}
 use Rattle.hk_model.specs.declared.names.Cpu.{Cpu}
 use Rattle.hk_model.specs.declared.names.Proc.{Proc}
 use Rattle.hk_model.specs.declared.objects.Process.{Process}

@@ -1,13 +1,11 @@
 -- The names of the frames of stacks, one frame behind the other.
-use Rattle.std.proofs.Common.{◌≡◌, ℕ, zero, suc, ◌+◌, ◌<◌, ◌≤◌, List, [], ◌∷◌, ◌++◌, length, get_or, drop, Option, Some, refl, ap, ◌∙◌, sym, subst, arith}
+use Rattle.std.proofs.Common.{◌≡◌, ℕ, zero, suc, ◌+◌, ◌<◌, ◌≤◌, List, [], ◌∷◌, ◌++◌, length, get_or, drop, Some, refl, ap, ◌∙◌, sym, subst, arith}
 use Rattle.std.specs.Prelude.{slice_get, slice_index_or}
 use Rattle.std.proofs.lemmas.List.{drop_all}
 use Rattle.std.specs.List.{flat_map}
 use Rattle.hk_model.specs.declared.names.Name.{Name}
-use Rattle.hk_reclaim.specs.Naming.{named_in}
 use Rattle.hk_reclaim.specs.Tally.{Tally}
 use Rattle.hk_spaces.specs.declared.stack.StackFrame.{StackFrame}
-use Rattle.hk_table.specs.Settled.{stack_names}
 use Rattle.hk_table.proofs.Stepping.{IsStepwise}
 
 -- the stack of a process that was read

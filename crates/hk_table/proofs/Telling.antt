@@ -1,5 +1,5 @@
 -- The counts of a table, as its frames and processes change.
-use Rattle.std.proofs.Common.{◌≡◌, ℕ, zero, suc, ◌+◌, ◌-◌, ◌<◌, ◌≤◌, true, List, [], ◌∷◌, ◌++◌, length, get_or, set, Option, Some, None, refl, sym, ap, ◌∙◌, subst, arith}
+use Rattle.std.proofs.Common.{◌≡◌, ℕ, zero, suc, ◌+◌, ◌-◌, ◌<◌, ◌≤◌, true, List, [], ◌∷◌, ◌++◌, length, set, Option, Some, None, refl, sym, ap, ◌∙◌, subst, arith}
 use Rattle.std.proofs.Common.{⊎_elim, length-set}
 use Rattle.std.specs.Prelude.{slice_get, slice_index_or, drop}
 use Rattle.std.proofs.lemmas.Bool.{cases_lt}
@@ -26,9 +26,9 @@ use Rattle.hk_running.specs.Runners.{process_at, with_run, with_current}
 use Rattle.hk_spaces.specs.declared.stack.StackFrame.{StackFrame}
 use Rattle.hk_spaces.specs.Slots.{with_slot, with_changed, with_top}
 use Rattle.hk_table.specs.Held.{AreHeld, CanHold, CanRelease, Holds, Releases}
-use Rattle.hk_table.specs.Settled.{stack_names, stack_namings, frame_namings, wait_namings, outside_namings}
+use Rattle.hk_table.specs.Settled.{stack_names, stack_namings, frame_namings, outside_namings}
 use Rattle.hk_table.specs.Small.{AreSmall}
-use Rattle.hk_table.specs.Stacked.{Stacked, frame_at, top_of, slots_of, with_top_of, with_frame, Pops}
+use Rattle.hk_table.specs.Stacked.{Stacked, top_of, slots_of, with_top_of, with_frame, Pops}
 use Rattle.hk_table.specs.Joined.{AreQueued}
 use Rattle.hk_table.specs.Told.{AreTold}
 use Rattle.hk_table.proofs.QueueMoves.{split_first, first_queued}
@@ -213,10 +213,10 @@ can_release_top o stacks ps first t q slots h is = (
   λ n. outside_namings n stacks ps - times n (named_in slots),
   namings o.slots,
   held_same o.slots (λ n. outside_namings n stacks ps) (owing (λ n. outside_namings n stacks ps - times n (named_in slots)) (named_in slots)) (namings o.slots) t (λ n.
-  let a = stack_within n stacks q in
-  let b = top_within n (slice_index_or stacks q []) in
-  let k : times n (named_in slots) ≡ times n (named_in (slots_of (top_of (slice_index_or stacks q [])))) = ap (λ (xs : List Entry). times n (named_in xs)) is in
-  omega (arith, a, b, k)) h.held,
+      let a = stack_within n stacks q in
+      let b = top_within n (slice_index_or stacks q []) in
+      let k : times n (named_in slots) ≡ times n (named_in (slots_of (top_of (slice_index_or stacks q [])))) = ap (λ (xs : List Entry). times n (named_in xs)) is in
+      omega (arith, a, b, k)) h.held,
 )
 
 small_popped : (o : Shelf) (old new : List (List StackFrame)) (ps : List Process) (q : ℕ) (into : Option Slot) → Pops old q into new → AreSmall o.slots old ps → AreSmall o.slots new ps

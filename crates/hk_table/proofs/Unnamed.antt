@@ -1,14 +1,13 @@
 -- What no object has as its name is named nowhere, where whatever is named stands.
-use Rattle.std.proofs.Common.{◌≡◌, ℕ, ◌+◌, ◌<◌, ◌≤◌, Bool, true, ◌||◌, List, [], ◌∷◌, ◌++◌, Option, Some, None, refl, sym, ap, ◌∙◌, subst, arith, ⊎_elim, option_map}
+use Rattle.std.proofs.Common.{◌≡◌, ℕ, ◌<◌, ◌≤◌, true, List, [], ◌∷◌, Option, Some, None, refl, sym, ap, ◌∙◌, subst, arith, ⊎_elim, option_map}
 use Rattle.std.specs.Prelude.{filter}
 use Rattle.std.proofs.lemmas.Bool.{cases_lt}
 use Rattle.std.proofs.lemmas.List.Folds.{list_any-append}
 use Rattle.hk_model.specs.declared.names.Name.{Name}
-use Rattle.hk_model.specs.declared.names.Proc.{Proc}
 use Rattle.hk_model.specs.declared.objects.Object.{Object}
 use Rattle.hk_model.specs.declared.objects.Process.{Process}
 use Rattle.hk_model.specs.State.{State, same_name}
-use Rattle.hk_model.specs.Keeping.{outer_names, object_names, names_with, is_among, is_opening, are_supporting, stands}
+use Rattle.hk_model.specs.Keeping.{outer_names, object_names, names_with, is_among, is_opening, are_supporting}
 use Rattle.std.specs.List.{flat_map}
 use Rattle.hk_objects.specs.declared.body.Body.{Body}
 use Rattle.hk_objects.specs.Shelf.{Shelf}
@@ -17,7 +16,6 @@ use Rattle.hk_queues.specs.Queued.{Queued}
 use Rattle.hk_reclaim.specs.Naming.{times, names_in, namings}
 use Rattle.hk_reclaim.specs.Tally.{Tally}
 use Rattle.hk_reclaim.proofs.Counting.{times_none, namer}
-use Rattle.hk_spaces.specs.declared.stack.StackFrame.{StackFrame}
 use Rattle.hk_table.specs.Settled.{Tells, outside_namings}
 use Rattle.hk_table.specs.Stacked.{Stacked, AreNumbered}
 use Rattle.hk_table.specs.Told.{AreTold, AllNamedStand}

@@ -1,7 +1,7 @@
 -- The parts of a table where objects vanish.
-use Rattle.std.proofs.Common.{◌≡◌, ℕ, zero, suc, ◌+◌, ◌<◌, ◌≤◌, ◌⊎◌, Bool, true, false, cond, not, List, [], ◌∷◌, length, map, Option, Some, None, Ok, Err, refl, sym, ap, ◌∙◌, subst, arith}
+use Rattle.std.proofs.Common.{◌≡◌, ℕ, zero, suc, ◌+◌, ◌≤◌, Bool, true, false, cond, List, [], ◌∷◌, length, Option, Some, None, refl, sym, ap, ◌∙◌, arith}
 use Rattle.std.proofs.Common.{⊎_elim, option_map}
-use Rattle.std.specs.Prelude.{filter, slice_index, nat_lt}
+use Rattle.std.specs.Prelude.{filter, slice_index}
 use Rattle.std.specs.BTreeMap.{insert_entry}
 use Rattle.std.proofs.lemmas.List.{length-map}
 use Rattle.std.proofs.lemmas.Bool.Decides.{nat_tests}
@@ -11,27 +11,27 @@ use Rattle.hk_model.specs.declared.names.Proc.{Proc}
 use Rattle.hk_model.specs.declared.objects.Object.{Object}
 use Rattle.hk_model.specs.declared.objects.Process.{Process}
 use Rattle.hk_model.specs.State.{State, name_cmp}
-use Rattle.hk_model.specs.Keeping.{rooted_objects, members}
+use Rattle.hk_model.specs.Keeping.{rooted_objects}
 use Rattle.hk_model.specs.Rule.{has_room}
 use Rattle.hk_model.proofs.Keeping.{rooted_leaves}
 use Rattle.hk_objects.specs.declared.body.Body.{Body}
 use Rattle.hk_objects.specs.Shelf.{Shelf}
-use Rattle.hk_objects.specs.Slots.{standing, placed, place, name_at}
+use Rattle.hk_objects.specs.Slots.{standing, place, name_at}
 use Rattle.hk_queues.specs.Queued.{Queued}
 use Rattle.hk_reclaim.specs.Kept.{only}
-use Rattle.hk_reclaim.specs.Naming.{stands, namings}
+use Rattle.hk_reclaim.specs.Naming.{stands}
 use Rattle.hk_reclaim.specs.Tally.{Tally, IsCounted, SameOutside}
 use Rattle.hk_spaces.specs.declared.stack.StackFrame.{StackFrame}
 use Rattle.hk_walk.specs.Remembered.{Remembered}
 use Rattle.hk_walk.specs.Walks.{seen, AreRight}
 use Rattle.hk_table.specs.Joined.{AreQueued, IsJoined}
-use Rattle.hk_table.specs.Settled.{FreesUncounted, outside_namings}
+use Rattle.hk_table.specs.Settled.{FreesUncounted}
 use Rattle.hk_table.specs.Stacked.{Stacked}
 use Rattle.hk_table.specs.Told.{AreTold}
 use Rattle.hk_table.specs.Waits.{AreWaitsCounted}
 use Rattle.hk_table.specs.Whole.{whole}
 use Rattle.hk_table.proofs.Holding.{Slots}
-use Rattle.hk_table.proofs.Makings.{standing_many}
+use Rattle.hk_table.proofs.Makings.{length-whole}
 
 only_place : (S : Name → Bool) (ps : Slots) (k : ℕ) (e : Name × Body) → place (only S ps) k ≡ Some e → place ps k ≡ Some e
 only_place S [] k e here = here
@@ -94,11 +94,6 @@ standing_few : (ps : List (Option (Name × Object))) → length (standing ps) �
 standing_few [] = omega arith
 standing_few (None ∷ ps) = let w = standing_few ps in omega (arith, w)
 standing_few (Some e ∷ ps) = let w = standing_few ps in let v = insert_many e.0 e.1 (standing ps) in omega (arith, w, v)
-
-length-whole : (ps : Slots) (ws : List (List Proc)) → length (whole ps ws) ≡ length ps
-length-whole [] ws = refl
-length-whole (p ∷ ps) [] = ap suc (length-whole ps [])
-length-whole (p ∷ ps) (x ∷ ws) = ap suc (length-whole ps ws)
 
 pub whole_few : (ps : Slots) (ws : List (List Proc)) → length ps ≡ 65536 → length (standing (whole ps ws)) ≤ 65536
 whole_few ps ws room = let a = standing_few (whole ps ws) in let b = length-whole ps ws in omega (arith, a, b, room)

@@ -58,11 +58,7 @@ fn hold_stacks(objects: &Objects, counts: &mut Counts, stacks: &[Stack])
 }
 
 /// The counts of a world that opens: of what its objects name, and the frames of its processes. NoMemory is want of memory.
-pub(crate) fn counted(
-    alloc: Global,
-    objects: &Objects,
-    stacks: &Stacks,
-) -> Result<Counts, NoMemory>
+pub(crate) fn counted(alloc: Global, objects: &Objects, stacks: &Stacks) -> Result<Counts, NoMemory>
     requires { AreSmallStacks stacks.now.stacks }
     ensures { IfOk result (λ t. (ps : List Process) → length ps ≤ 256 → ((n : Name) → wait_namings n ps ≡ 0) → AreTold objects.now stacks.now.stacks ps objects.now.next t) }
 {

@@ -62,11 +62,7 @@ impl Parts {
             procedure: Some(procedure),
         };
         self.stacks.push(proc, frame)?;
-        hold_entries(
-            &self.objects,
-            &mut self.counts,
-            self.stacks.top_slots(proc),
-        );
+        hold_entries(&self.objects, &mut self.counts, self.stacks.top_slots(proc));
         self.processes.set_current(proc, inc);
         Ok(())
     }
@@ -77,11 +73,7 @@ impl Parts {
         requires { is_running (process self.old proc).run ≡ true }
         ensures { GoesBack self.old proc (process self.old proc).current result self.new }
     {
-        release_entries(
-            &self.objects,
-            &mut self.counts,
-            self.stacks.top_slots(proc),
-        );
+        release_entries(&self.objects, &mut self.counts, self.stacks.top_slots(proc));
         let Some(into) = self.stacks.pop(proc) else {
             self.processes.set_run(proc, ProcessState::Ended);
             return None;

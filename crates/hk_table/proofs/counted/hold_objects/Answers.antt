@@ -1,4 +1,3 @@
-use Rattle.std.proofs.Common.{arith}
 use Rattle.hk_table.proofs.OpenCounts.{first_none, first_place, first_more, first_all, first_few}
 use Rattle.hk_table.proofs.counted.hold_objects.Goals as goal
 

@@ -8,9 +8,12 @@ pub release_outside-requires-clause-held : goal.release_outside-requires-clause-
 release_outside-requires-clause-held c = some_outside c.args.objects.now.slots c.args.counts.now c.in-Some.slot.0 c.args.name c.in-Some.ensures.found c.requires
 
 pub returns-in-Some : goal.returns-in-Some
-returns-in-Some c = (ap (λ (t : Tally). t.first_new) c.release_outside.ensures, λ outer owed h.
-    subst (λ (t : Tally). AreHeld c.args.objects.now.slots outer owed t) (sym c.release_outside.ensures)
-    (released_here c.args.objects.now.slots outer owed c.args.counts.now c.in-Some.slot.0 c.args.name c.in-Some.ensures.apart c.in-Some.ensures.found c.in-Some.ensures.low h))
+returns-in-Some c = (
+  ap (λ (t : Tally). t.first_new) c.release_outside.ensures,
+  λ outer owed h.
+      subst (λ (t : Tally). AreHeld c.args.objects.now.slots outer owed t) (sym c.release_outside.ensures)
+      (released_here c.args.objects.now.slots outer owed c.args.counts.now c.in-Some.slot.0 c.args.name c.in-Some.ensures.apart c.in-Some.ensures.found c.in-Some.ensures.low h),
+)
 
 pub returns-in_default : goal.returns-in_default
 returns-in_default c = (refl, λ outer owed h. released_nowhere c.args.objects.now.slots outer owed c.args.counts.now c.args.name c.in_default.ensures.none h)

@@ -1,10 +1,10 @@
-use Rattle.std.proofs.Common.{◌≡◌, ◌≤◌, List, [], length, ap, refl, sym, subst, ◌∙◌}
+use Rattle.std.proofs.Common.{◌≡◌, ◌≤◌, List, [], length, sym, subst}
 use Rattle.std.specs.Prelude.{slice_index_or}
 use Rattle.std.proofs.lemmas.List.{get_or_past}
 use Rattle.hk_spaces.specs.declared.stack.StackFrame.{StackFrame}
 use Rattle.hk_table.specs.Held.{CanRelease, Releases}
 use Rattle.hk_table.specs.Settled.{stack_names}
-use Rattle.hk_table.proofs.Stepping.{releasing, IsStepwise}
+use Rattle.hk_table.proofs.Stepping.{releasing}
 use Rattle.hk_table.proofs.StackNames.{stack_is}
 use Rattle.hk_table.proofs.frames.release_frames.Goals as goal
 

@@ -29,7 +29,7 @@ invariant_of-self-2 c =
       joined = call_joined c.self.inside.objects c.self.inside.queues c.self.inside.processes c.set_current.new.self c.self.inside.stacks c.push.new.self c.self.inside.walker c.args.proc _
           c.next-inc.result (subst (λ (s : State). c.args.proc.0 < length s.processes) (sym c.self.view_is) c.requires.known) c.self.invariant.joined c.depth-deep.ensures.numbered
           c.next-inc.ensures c.next-inc.ensures c.in_ok-push.ensures.ok c.set_current.ensures;
-      told = 
+      told =
           let known : c.args.proc.0 < length c.self.inside.processes = subst (λ (s : State). c.args.proc.0 < length s.processes) (sym c.self.view_is) c.requires.known in
           let low : c.args.proc.0 < length c.self.inside.stacks.stacks = omega (arith, c.self.invariant.joined.stacked, known) in
           let few : length c.args.space ≤ 64 = subst (λ (es : List Entry). length es ≤ 64) c.as_slice-slots.ensures.value (omega (arith, c.as_slice-slots.ensures.all)) in

@@ -1,8 +1,5 @@
-use Rattle.std.proofs.Common.{◌<◌, ◌^◌, Ok, length, refl, sym, subst}
-use Rattle.hk_model.specs.State.{State}
-use Rattle.hk_model.specs.Rule.{plain_object}
+use Rattle.std.proofs.Common.{Ok}
 use Rattle.hk_table.proofs.Named.{room_named}
-use Rattle.hk_table.proofs.Rooms.{made_in_room}
 use Rattle.hk_table.proofs.parts.Parts.add_object.Goals as goal
 
 pub make-requires-clause-named : goal.make-requires-clause-named

@@ -1,4 +1,3 @@
-use Rattle.std.proofs.Common.{sym}
 use Rattle.hk_table.proofs.Rooms.{full_is}
 use Rattle.hk_table.proofs.WhatIsLeft.{whole_few}
 use Rattle.hk_table.proofs.parts.Parts.is_full.Goals as goal

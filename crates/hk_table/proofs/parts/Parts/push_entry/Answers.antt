@@ -14,13 +14,13 @@ append-requires-clause-room c =
 
 pub hold_entry_inside-requires : goal.hold_entry_inside-requires
 hold_entry_inside-requires c =
-      let w = some_place c.self.inside.objects.slots c.in-Some.slot.0 c.args.name c.in-Some.ensures.found in
-      let room : length w.0.1.entries < 256 =
-      subst (λ (p : Option (Name × Body)). IfSome p (λ e. length e.1.entries < 256)) w.1
-      (holds_inside c.self.inside.objects.slots c.self.inside.queues.waiting c.in-Some.slot.0 c.args.name c.in-Some.ensures.apart c.in-Some.ensures.found (λ b. length b.entries)
-      (λ o. length o.entries) (λ b procs. refl) (λ m. m < 256) (subst (λ (s : State). length (object s c.args.name).entries < 256) (sym c.self.view_is) c.requires)) in
-      grown_can c.self.inside.objects c.append.new.self c.self.inside.stacks.stacks c.self.inside.processes c.self.inside.first_new c.self.inside.counts
-      c.in-Some.slot.0 w.0 w.1 c.args.entry room c.self.invariant.told c.in_ok-append-in-Some.ensures.ok
+    let w = some_place c.self.inside.objects.slots c.in-Some.slot.0 c.args.name c.in-Some.ensures.found in
+    let room : length w.0.1.entries < 256 =
+    subst (λ (p : Option (Name × Body)). IfSome p (λ e. length e.1.entries < 256)) w.1
+    (holds_inside c.self.inside.objects.slots c.self.inside.queues.waiting c.in-Some.slot.0 c.args.name c.in-Some.ensures.apart c.in-Some.ensures.found (λ b. length b.entries)
+    (λ o. length o.entries) (λ b procs. refl) (λ m. m < 256) (subst (λ (s : State). length (object s c.args.name).entries < 256) (sym c.self.view_is) c.requires)) in
+    grown_can c.self.inside.objects c.append.new.self c.self.inside.stacks.stacks c.self.inside.processes c.self.inside.first_new c.self.inside.counts
+    c.in-Some.slot.0 w.0 w.1 c.args.entry room c.self.invariant.told c.in_ok-append-in-Some.ensures.ok
 
 pub invariant_of-self-in-Some : goal.invariant_of-self-in-Some
 invariant_of-self-in-Some c = record {

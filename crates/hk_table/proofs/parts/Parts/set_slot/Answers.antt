@@ -1,4 +1,4 @@
-use Rattle.std.proofs.Common.{◌<◌, length, refl, sym, subst, ap}
+use Rattle.std.proofs.Common.{◌<◌, length, sym, subst, ap}
 use Rattle.hk_model.specs.State.{State}
 use Rattle.hk_table.specs.Stacked.{Stacked}
 use Rattle.hk_table.proofs.SlotWrites.{past_slots}

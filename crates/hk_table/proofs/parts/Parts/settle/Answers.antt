@@ -1,4 +1,3 @@
-use Rattle.std.proofs.Common.{sym}
 use Rattle.hk_table.proofs.Opens.{told}
 use Rattle.hk_table.proofs.Unnamed.{tells_told}
 use Rattle.hk_table.proofs.WhatIsLeft.{waits_counted, left_counted, left_joined}
