@@ -187,11 +187,8 @@ fn byte_limit(command: Command) -> usize
     ensures { result ≡ byte_limit command }
 {
     match command {
-        Command::Run
-        | Command::RunOn(_)
-        | Command::Show
-        | Command::Bound
-        | Command::Json => SCRIPT_BYTES,
+        Command::Run | Command::RunOn(_) | Command::Show | Command::Bound | Command::Json =>
+            SCRIPT_BYTES,
         Command::Check | Command::Confine | Command::Trace(_) | Command::Back(_) => RECORD_BYTES,
         Command::Unjson => JSON_BYTES,
         Command::Gen(_) => 0,

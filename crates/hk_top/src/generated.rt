@@ -54,7 +54,9 @@ fn summary_text<K: Kernel>(
     let changes = changes_under(alloc, world, run.lines.as_slice())?.len();
     let lines = run.lines.len();
     let end = end_text(run.end);
-    let text = format!(in alloc; "gen {count}\nobjects {objects}\nlines {lines}\nchanges {changes}\n{end}\n")?;
+    let text = format!(in alloc;
+        "gen {count}\nobjects {objects}\nlines {lines}\nchanges {changes}\n{end}\n"
+    )?;
     Ok(Text::from_string(text))
 }
 

@@ -8,7 +8,6 @@ ghost use Rattle.hk_format.specs.Canonical.{canon};
 ghost use Rattle.hk_format.specs.Texts.{ended_line};
 ghost use Rattle.serde_json.specs.Written.{compact_text};
 ghost use Rattle.hk_json.specs.Values.{value};
-
 ghost use Rattle.hk_model.specs.Opening.{opening};
 ghost use Rattle.hk_model.specs.Running.{AreStepsOf};
 ghost use Rattle.hk_model.specs.declared.verdicts.Verdict.TheVariants.{Legal};

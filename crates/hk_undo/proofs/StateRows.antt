@@ -55,7 +55,7 @@ reading = record {
 }
 
 reading-text : state_text reading 2 ≡ text (
-      codes "moment 2" ∷ codes "object 7 1" ∷ codes "words 7" ∷ codes "incarnation 0 0 base" ∷ codes "slot 0 cap 7 GETDATA" ∷ codes "process 0 running 0" ∷ codes "next 8 1" ∷ []
+    codes "moment 2" ∷ codes "object 7 1" ∷ codes "words 7" ∷ codes "incarnation 0 0 base" ∷ codes "slot 0 cap 7 GETDATA" ∷ codes "process 0 running 0" ∷ codes "next 8 1" ∷ []
     )
 unfolding digits right_table right_numbers name_of rights_text
 reading-text = refl
@@ -83,18 +83,18 @@ calling = record {
 }
 
 calling-text : state_text calling 40 ≡ text (
-      codes "moment 40"
-      ∷ codes "object 7 0"
-      ∷ codes "object 8 2" ∷ codes "words 1 2" ∷ codes "entries 2" ∷ codes "entry 1 amplify any LOAD -"
-      ∷ codes "object 9 3" ∷ codes "count 0" ∷ codes "waiters 2 1"
-      ∷ codes "object 10 4" ∷ codes "entries 1" ∷ codes "entry 0 create 7 ENV" ∷ codes "code 3"
-      ∷ codes "object 11 7" ∷ codes "entries 0"
-      ∷ codes "incarnation 0 0 base" ∷ codes "slot 1 cap 10 A0"
-      ∷ codes "incarnation 5 0 by 0 into 6 of 10 confined" ∷ codes "slot 0 cap 8 LOAD+MODIFY"
-      ∷ codes "process 0 ready" ∷ codes "process 1 waiting 9" ∷ codes "process 2 waiting 9" ∷ codes "process 3 ended"
-      ∷ codes "ready 0"
-      ∷ codes "next 12 6"
-      ∷ []
+    codes "moment 40"
+    ∷ codes "object 7 0"
+    ∷ codes "object 8 2" ∷ codes "words 1 2" ∷ codes "entries 2" ∷ codes "entry 1 amplify any LOAD -"
+    ∷ codes "object 9 3" ∷ codes "count 0" ∷ codes "waiters 2 1"
+    ∷ codes "object 10 4" ∷ codes "entries 1" ∷ codes "entry 0 create 7 ENV" ∷ codes "code 3"
+    ∷ codes "object 11 7" ∷ codes "entries 0"
+    ∷ codes "incarnation 0 0 base" ∷ codes "slot 1 cap 10 A0"
+    ∷ codes "incarnation 5 0 by 0 into 6 of 10 confined" ∷ codes "slot 0 cap 8 LOAD+MODIFY"
+    ∷ codes "process 0 ready" ∷ codes "process 1 waiting 9" ∷ codes "process 2 waiting 9" ∷ codes "process 3 ended"
+    ∷ codes "ready 0"
+    ∷ codes "next 12 6"
+    ∷ []
     )
 unfolding digits right_table right_numbers name_of rights_text
 calling-text = refl

@@ -17,12 +17,7 @@ fn is_listed(of: Name) -> bool
 }
 
 // Writes the lines of an object's list, where its type has one.
-fn write_list(
-    alloc: Global,
-    out: &mut String,
-    of: Name,
-    entries: &[Entry],
-) -> Result<(), NoMemory>
+fn write_list(alloc: Global, out: &mut String, of: Name, entries: &[Entry]) -> Result<(), NoMemory>
     ensures { OnOk result (string_bytes out.new ≡ string_bytes out.old ++ list_lines of entries.now) }
 {
     if !is_listed(of) {
@@ -34,12 +29,7 @@ fn write_list(
 }
 
 // Writes the tokens of a semaphore, and who waits for one.
-fn write_tokens(
-    out: &mut String,
-    of: Name,
-    count: u32,
-    waiters: &[Proc],
-) -> Result<(), NoMemory>
+fn write_tokens(out: &mut String, of: Name, count: u32, waiters: &[Proc]) -> Result<(), NoMemory>
     ensures { OnOk result (string_bytes out.new ≡ string_bytes out.old ++ semaphore_lines of count waiters.now) }
 {
     if of.0 != 3 {
