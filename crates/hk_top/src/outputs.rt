@@ -380,10 +380,12 @@ fn taken_back(alloc: Global, audit: &Audit, count: u32) -> Result<DueText, NoMem
 }
 
 // The state before the last lines, so many, as a text.
+#[tactic(auto, using(crate::proofs::Going::lines_few))]
 fn state_left(alloc: Global, world: &World, lines: &[Line], count: u32) -> Result<DueText, NoMemory>
     requires { AreStepsOf world.now lines.now }
     ensures { IfOk result (λ due. (due.status ≡ 0) × TellsState count world.now lines.now due.text) }
 {
+    let _limit = world.limit();
     let left = lines.len().saturating_sub(count as usize);
     let state = state_behind(alloc, world, &lines[..left])?;
     Ok(DueText {

@@ -1,4 +1,5 @@
-use Rattle.std.proofs.Common.{refl}
+use Rattle.std.proofs.Common.{refl, subst, sym}
+use Rattle.hk_top.specs.Words.{IsReading}
 use Rattle.hk_top.specs.Outputs.{usage}
 use Rattle.hk_top.proofs.AnswerLemmas.{said, answered}
 use Rattle.hk_top.proofs.Complete.{complete}
@@ -17,3 +18,6 @@ returns-in_default-clause-complete g c = complete (returns-in_default-clause-ans
 
 pub returns-clause-complete : goal.returns-clause-complete
 returns-clause-complete g c = complete (returns-clause-answer g c)
+
+pub returns-clause-untouched : goal.returns-clause-untouched
+returns-clause-untouched g c none = c.due-due.ensures.untouched (λ reads. none (subst IsReading (sym c.in-Some.ensures.0) reads))
