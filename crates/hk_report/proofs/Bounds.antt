@@ -1,12 +1,10 @@
 -- From which moments a hop and the rest of a way can be made, and whether one is there at a moment.
-use Rattle.std.proofs.Common.{◌≡◌, ℕ, zero, suc, ◌+◌, ◌<◌, ◌≤◌, List, [], ◌∷◌, Bool, true, false, Option, Some, None, refl, sym, ◌∙◌, ap, arith, cond}
-use Rattle.std.specs.Prelude.{◌&&◌, ◌||◌, nat_lt, is_some, ◌⊎◌}
-use mathlib.Core.Logic.{inl, inr}
+use Rattle.std.proofs.Common.{◌≡◌, ℕ, List, [], ◌∷◌, Bool, true, false, Option, Some, None, refl, sym, ◌∙◌, ap, arith, cond}
+use Rattle.std.specs.Prelude.{◌&&◌, ◌||◌, nat_lt, is_some}
 use Rattle.std.specs.List.{list_any}
-use Rattle.std.proofs.lemmas.Bool.{true≢false, lt-ltb, ltb-true, le-ltb, ltb-false, cases_lt}
+use Rattle.std.proofs.lemmas.Bool.{true≢false, lt-ltb, ltb-true, le-ltb, ltb-false}
 use Rattle.hk_rights.specs.Rights.{has, modify_right, unconf_right}
 use Rattle.hk_model.specs.declared.names.Name.{Name}
-use Rattle.hk_model.specs.declared.entries.Cap.{Cap}
 use Rattle.hk_report.specs.declared.histories.Span.{Span}
 use Rattle.hk_report.specs.declared.hops.Arrived.{Arrived}
 use Rattle.hk_report.specs.declared.hops.Latest.{Latest}

@@ -1,7 +1,7 @@
 -- What the search finds of each change is its reason.
-use Rattle.std.proofs.Common.{◌≡◌, ℕ, zero, suc, ◌+◌, ◌-◌, ◌<◌, ◌≤◌, ◌^◌, List, [], ◌∷◌, ◌++◌, length, map, replicate, Bool, true, false, Option, Some, None, refl, sym, ◌∙◌, ap, arith, subst, take, drop, slice_get}
+use Rattle.std.proofs.Common.{◌≡◌, ℕ, zero, suc, ◌+◌, ◌-◌, ◌<◌, ◌≤◌, ◌^◌, List, [], ◌∷◌, ◌++◌, length, map, replicate, Bool, true, false, Option, Some, None, refl, sym, ◌∙◌, ap, arith, subst, take, slice_get}
 use Rattle.std.proofs.Common.{option_and_then}
-use Rattle.std.specs.Prelude.{◌⊎◌, filter, slice_index_or}
+use Rattle.std.specs.Prelude.{slice_index_or}
 use mathlib.Core.Logic.{inl, inr}
 use Rattle.std.specs.List.{Contains}
 use Rattle.std.proofs.lemmas.Bool.{true≢false, cases_lt}
@@ -12,14 +12,13 @@ use Rattle.hk_model.specs.declared.entries.Entry.{Entry}
 use Rattle.hk_model.specs.declared.entries.Entry.TheVariants.{Empty, Held, Form}
 use Rattle.hk_model.specs.declared.lines.Line.{Line}
 use Rattle.hk_model.specs.declared.reaches.Reach.{Reach}
-use Rattle.hk_model.specs.declared.reaches.Reach.TheVariants.{Made, Param}
 use Rattle.hk_model.specs.declared.reaches.Change.{Change}
 use Rattle.hk_model.specs.WorldValue.{WorldValue, IsWorld}
 use Rattle.hk_model.specs.State.{State, object, incarnation}
 use Rattle.hk_model.specs.Keeping.{stands}
 use Rattle.hk_model.specs.Places.{SlotOf, EntryOf, standing, cap_of}
-use Rattle.hk_model.specs.Running.{Machine, opened, moved, after_lines, machine_at, state_at, AreSteps, AreStepsOf}
-use Rattle.hk_model.specs.Lines.{done_call, enters_call, param_count, changed, line_before, told}
+use Rattle.hk_model.specs.Running.{Machine, opened, moved, after_lines, machine_at, state_at, AreStepsOf}
+use Rattle.hk_model.specs.Lines.{done_call, param_count, changed, line_before, told}
 use Rattle.hk_model.specs.Under.{is_under, is_made_under, IsCall, parameters}
 use Rattle.hk_model.specs.Reaches.{listed_cap}
 use Rattle.hk_model.specs.Confinement.{IsConfinedCall, IsChange}
@@ -42,7 +41,7 @@ use Rattle.hk_report.specs.Doings.{before_line, doings, given_params, params_giv
 use Rattle.hk_report.specs.Families.{told_call, told_change, change_under, changes_by, changes_from, families_by, families_after}
 use Rattle.hk_report.specs.Histories.{told_histories}
 use Rattle.hk_report.specs.Hops.{is_made}
-use Rattle.hk_report.specs.Searches.{direct_param, IsFoundBehind, IsFoundBy, IsFound}
+use Rattle.hk_report.specs.Searches.{direct_param, IsFoundBy, IsFound}
 use Rattle.hk_report.specs.Reasons.{params_at, IsReasonedBy, IsTold, AreTold, AreFew}
 use Rattle.hk_report.proofs.Listed.{changer_lives, live_numbered, changes_found}
 use Rattle.hk_report.proofs.Spans.{has_all}

@@ -1,12 +1,12 @@
 -- The confined calls so far, with the incarnations that are under each: a line adds the incarnation that it makes to the calls
 -- that its own is under, and says no more of who has a number.
-use Rattle.std.proofs.Common.{◌≡◌, ℕ, zero, suc, ◌+◌, ◌<◌, List, [], ◌∷◌, ◌++◌, length, map, Bool, true, false, Option, Some, None, refl, sym, ◌∙◌, ap, arith, cond, subst}
+use Rattle.std.proofs.Common.{◌≡◌, ℕ, zero, suc, ◌+◌, ◌<◌, List, [], ◌∷◌, ◌++◌, length, map, Bool, true, false, Some, None, refl, sym, ◌∙◌, ap, arith, cond, subst}
 use Rattle.std.specs.Prelude.{◌||◌, filter, option_map, slice_index_or, ◌⊎◌}
 use mathlib.Core.Logic.{inl, inr}
 use Rattle.std.specs.List.{list_any}
 use Rattle.std.proofs.lemmas.Bool.{true≢false, false_from_ne_true}
 use Rattle.std.proofs.lemmas.Bool.Decides.{nat_tests}
-use Rattle.std.proofs.lemmas.List.{append-nil, map-append, get_or_append_left, get_or-append-add}
+use Rattle.std.proofs.lemmas.List.{append-nil, map-append, get_or_append_left}
 use Rattle.std.proofs.lemmas.List.Elements.{filter-append}
 use Rattle.hk_model.specs.declared.names.Inc.{Inc}
 use Rattle.hk_model.specs.declared.lines.Line.{Line}
@@ -17,7 +17,7 @@ use Rattle.hk_model.specs.Changes.{Beginning, confined_by}
 use Rattle.hk_model.proofs.NamesStand.{All, all_more, all_append, all_map, all_each}
 use Rattle.hk_model.proofs.Standing.{inc_same}
 use Rattle.hk_model.proofs.Turns.{Enters, Turn, Still, Enter, Leave, Halt}
-use Rattle.hk_model.proofs.UnderLemmas.{under_more, under_still, member_cases, member_new, one_itself}
+use Rattle.hk_model.proofs.UnderLemmas.{under_more, member_cases, member_new, one_itself}
 use Rattle.hk_model.proofs.Histories.{LineKnown, enters_turn}
 use Rattle.hk_report.specs.declared.doings.Entered.{Entered}
 use Rattle.hk_report.specs.declared.families.Begun.{Begun}

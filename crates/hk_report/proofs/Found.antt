@@ -1,8 +1,7 @@
 -- What is found is the least reach.
-use Rattle.std.proofs.Common.{◌≡◌, ℕ, zero, suc, ◌+◌, ◌<◌, ◌≤◌, List, [], ◌∷◌, ◌++◌, length, Bool, true, false, Option, Some, None, refl, sym, ◌∙◌, ap, arith, cond, subst, slice_get}
+use Rattle.std.proofs.Common.{◌≡◌, ℕ, zero, suc, ◌+◌, ◌<◌, ◌≤◌, List, [], ◌∷◌, length, Bool, true, false, Option, Some, None, refl, sym, ◌∙◌, ap, arith, cond, subst, slice_get}
 use Rattle.std.proofs.Common.{option_and_then, option_map}
-use Rattle.std.specs.Prelude.{◌&&◌, ◌||◌, ◌==◌, nat_lt, is_some, ◌⊎◌, IsTrue}
-use mathlib.Core.Logic.{inl, inr}
+use Rattle.std.specs.Prelude.{◌&&◌, ◌==◌, IsTrue}
 use Rattle.std.specs.List.{flat_map}
 use Rattle.std.specs.Cmp.{first_so, second_so, ranked}
 use Rattle.std.specs.Ordering.{nat_cmp, MatchOrdering}
@@ -15,11 +14,10 @@ use Rattle.hk_model.specs.declared.entries.Cap.{Cap}
 use Rattle.hk_model.specs.declared.entries.Entry.{Entry}
 use Rattle.hk_model.specs.declared.reaches.Hop.{Hop}
 use Rattle.hk_model.specs.declared.reaches.Reach.{Reach}
-use Rattle.hk_model.specs.declared.reaches.Reach.TheVariants.{Param}
 use Rattle.hk_model.specs.State.{State}
 use Rattle.hk_model.specs.Keeping.{stands}
 use Rattle.hk_model.specs.Places.{cap_of}
-use Rattle.hk_model.specs.Reaches.{Reached, reached_by, listed_cap, follow, param_reached, reach, IsReach}
+use Rattle.hk_model.specs.Reaches.{Reached, reached_by, listed_cap, follow, IsReach}
 use Rattle.hk_model.specs.Changes.{hop_key, reach_key, is_at_most, IsLeastReach}
 use Rattle.hk_report.specs.declared.histories.History.{History}
 use Rattle.hk_report.specs.declared.hops.Arrived.{Arrived}
@@ -29,9 +27,9 @@ use Rattle.hk_report.specs.declared.searching.Start.{Start}
 use Rattle.hk_report.specs.Histories.{history_of}
 use Rattle.hk_report.specs.Hops.{arrived_by}
 use Rattle.hk_report.specs.Searches.{is_direct, is_direct_held, is_direct_cap, direct_param, first_onward, onward_at, started, first_start, level_at, hops_down, IsFoundBehind}
-use Rattle.hk_report.proofs.Keys.{hop_then, first_less, first_same}
+use Rattle.hk_report.proofs.Keys.{first_less, first_same}
 use Rattle.hk_report.proofs.Spans.{SpansTell}
-use Rattle.hk_report.proofs.Onwards.{reached, arrived, IsBy, Leads, onward_leads, first_by, Way, GoesOn, goes_on, way_by_end, levels, Least, least_down, good_by_onward}
+use Rattle.hk_report.proofs.Onwards.{reached, arrived, IsBy, first_by, Way, GoesOn, goes_on, way_by_end, levels, Least, least_down, good_by_onward}
 
 option_same : {X : Type 0} {x y : X} → Some x ≡ Some y → x ≡ y
 option_same h = cc

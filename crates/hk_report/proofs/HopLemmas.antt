@@ -1,8 +1,7 @@
 -- Which of two hops comes first, and the level of one hop more, as code finds them.
-use Rattle.std.proofs.Common.{◌≡◌, ℕ, zero, suc, ◌<◌, List, [], ◌∷◌, map, Bool, true, false, refl, sym, ◌∙◌, ap, arith, cond}
+use Rattle.std.proofs.Common.{◌≡◌, ℕ, zero, suc, ◌<◌, List, [], ◌∷◌, map, Bool, true, false, refl, sym, ◌∙◌, ap, arith}
 use Rattle.std.specs.Prelude.{nat_lt, slice_index_or}
 use Rattle.std.specs.Cmp.{ranked}
-use Rattle.std.specs.Cmp.Lexicographic.{slice_cmp}
 use Rattle.std.specs.Ordering.{nat_cmp, is_lt, ordering_then, MatchOrdering}
 use Rattle.std.specs.declared.cmp.Ordering.{Ordering}
 use Rattle.std.specs.declared.cmp.Ordering.TheVariants.{Less, Equal, Greater}
@@ -11,7 +10,6 @@ use Rattle.hk_model.specs.declared.names.Name.{Name}
 use Rattle.hk_model.specs.declared.reaches.Hop.{Hop}
 use Rattle.hk_model.specs.declared.reaches.Hop.TheVariants as hop_by
 use Rattle.hk_model.specs.Reaches.{index_of, moment_of, is_handed}
-use Rattle.hk_model.specs.Changes.{hop_key}
 use Rattle.hk_report.specs.declared.histories.History.{History}
 use Rattle.hk_report.specs.declared.hops.Latest.{Latest}
 use Rattle.hk_report.specs.declared.hops.Level.TheVariants as level_by

@@ -8,7 +8,6 @@ use Rattle.hk_model.specs.declared.names.Name.{Name}
 use Rattle.hk_model.specs.declared.names.Inc.{Inc}
 use Rattle.hk_model.specs.declared.entries.Cap.{Cap}
 use Rattle.hk_model.specs.declared.entries.Entry.{Entry}
-use Rattle.hk_model.specs.declared.entries.Entry.TheVariants.{Held}
 use Rattle.hk_model.specs.declared.calls.Call.{Call}
 use Rattle.hk_model.specs.declared.calls.Call.TheVariants as call
 use Rattle.hk_model.specs.declared.calls.Refusal.{Refusal}
@@ -29,7 +28,7 @@ use Rattle.hk_model.proofs.Activations.{activation}
 use Rattle.hk_model.proofs.ActivationLists.{activation_live}
 use Rattle.hk_model.proofs.EventCounts.{events_next, opened_events}
 use Rattle.hk_model.proofs.Turns.{walks_live}
-use Rattle.hk_model.proofs.CallShown.{HasTarget, Shown, ShownIf, shown_each}
+use Rattle.hk_model.proofs.CallShown.{HasTarget, ShownIf, shown_each}
 use Rattle.hk_model.proofs.Histories.{Sound, LineKnown, known_each, opening_sound, enters_turn}
 use Rattle.hk_program.proofs.Machines.{lines_within}
 use Rattle.hk_report.specs.declared.doings.Doing.{Doing}

@@ -1,8 +1,7 @@
 -- Who made each object: it was made under a call exactly where its maker is under the call.
-use Rattle.std.proofs.Common.{◌≡◌, ℕ, zero, suc, ◌+◌, ◌<◌, ◌≤◌, List, [], ◌∷◌, ◌++◌, length, map, Bool, true, false, Option, Some, None, refl, sym, ◌∙◌, ap, arith, cond, subst, take, drop, slice_get}
-use Rattle.std.specs.Prelude.{◌==◌, ◌&&◌, ◌||◌, ◌⊎◌, IsTrue, filter, is_some, slice_index_or, replicate}
+use Rattle.std.proofs.Common.{◌≡◌, ℕ, zero, suc, ◌+◌, ◌<◌, ◌≤◌, List, [], ◌∷◌, ◌++◌, length, map, Bool, true, false, Option, Some, None, refl, sym, ◌∙◌, ap, arith, cond, subst, take, drop}
+use Rattle.std.specs.Prelude.{◌==◌, ◌&&◌, ◌||◌, ◌⊎◌, IsTrue, filter, slice_index_or, replicate}
 use mathlib.Core.Logic.{inl, inr}
-use Rattle.std.specs.List.{list_any}
 use Rattle.std.specs.Cmp.{first_so, second_so}
 use Rattle.std.proofs.lemmas.Bool.{true≢false, false≢true, false_from_ne_true, eqb-true, eqb-false, eq-eqb}
 use Rattle.hk_model.specs.declared.names.Name.{Name}
@@ -20,7 +19,7 @@ use Rattle.hk_model.specs.Lines.{done_call, makes_object, enters_call, told}
 use Rattle.hk_model.specs.Under.{is_one_of, is_live, is_under, made_by, is_made_under, IsCall}
 use Rattle.hk_model.specs.Changes.{Beginning, confined_calls}
 use Rattle.hk_model.proofs.Standing.{name_same, name_laws}
-use Rattle.hk_model.proofs.Steps.{moved_holds, told_last, first_steps, line_steps}
+use Rattle.hk_model.proofs.Steps.{moved_holds, told_last, first_steps}
 use Rattle.hk_model.proofs.NextNames.{next_up, next_made}
 use Rattle.hk_model.proofs.CallShown.{ShownIf, shown_each}
 use Rattle.hk_model.proofs.Turns.{walks_live}
@@ -29,17 +28,16 @@ use Rattle.hk_model.proofs.NamesStand.{All}
 use Rattle.hk_model.proofs.Histories.{Sound, LineKnown, known_each}
 use Rattle.hk_confine.proofs.Settling.{is_among, turn_up}
 use Rattle.hk_confine.proofs.Begins.{earlier_out}
-use Rattle.hk_report.specs.declared.doings.Doing.{Doing}
 use Rattle.hk_report.specs.declared.families.Begun.{Begun}
 use Rattle.hk_report.specs.declared.histories.History.{History}
 use Rattle.hk_report.specs.Doings.{doing, doings}
 use Rattle.hk_report.specs.Families.{told_call, families_after}
-use Rattle.hk_report.specs.Histories.{relisted, no_history, history_of, touched, touched_name, maker_of, noted, opened_below, finished_below, histories_after, histories_at_end, told_histories}
+use Rattle.hk_report.specs.Histories.{history_of, touched, touched_name, maker_of, noted, opened_below, finished_below, histories_after, histories_at_end, told_histories}
 use Rattle.hk_report.specs.Hops.{same_begun, has_begun, is_made}
 use Rattle.hk_report.proofs.Followed.{Followed, calls_of, calls_with}
-use Rattle.hk_report.proofs.Listed.{live_numbered, opened_sound, take_zero, drop_zero, FamiliesEnd, families_end}
-use Rattle.hk_report.proofs.HistoryLemmas.{name_is, touched_same, touched_other, opened_beyond, opened_within, ended_history}
-use Rattle.hk_report.proofs.Replays.{makes_only, made_name}
+use Rattle.hk_report.proofs.Listed.{live_numbered, opened_sound, families_end}
+use Rattle.hk_report.proofs.HistoryLemmas.{name_is, touched_same, touched_other}
+use Rattle.hk_report.proofs.Replays.{made_name}
 
 -- ---- who is noted as the maker
 

@@ -1,12 +1,11 @@
 -- Levels tell from where the rest of a way can be made, and going down them gives the first way.
-use Rattle.std.proofs.Common.{◌≡◌, ℕ, zero, suc, ◌+◌, ◌<◌, ◌≤◌, List, [], ◌∷◌, ◌++◌, length, map, Bool, true, false, Option, Some, None, refl, sym, ◌∙◌, ap, arith, cond, subst}
+use Rattle.std.proofs.Common.{◌≡◌, ℕ, zero, suc, ◌+◌, ◌≤◌, List, [], ◌∷◌, ◌++◌, length, Bool, true, false, Option, Some, None, refl, sym, ◌∙◌, ap, arith, cond, subst}
 use Rattle.std.proofs.Common.{option_and_then}
-use Rattle.std.specs.Prelude.{◌&&◌, ◌||◌, ◌==◌, nat_lt, nat_le, is_some, ◌⊎◌, IfSome, slice_index_or}
+use Rattle.std.specs.Prelude.{◌&&◌, ◌||◌, ◌==◌, nat_lt, nat_le, is_some, ◌⊎◌}
 use mathlib.Core.Logic.{inl, inr}
 use Rattle.std.specs.List.{list_any, flat_map}
 use Rattle.std.specs.Cmp.{first_so, second_so}
-use Rattle.std.proofs.lemmas.Bool.{true≢false, lt-ltb, ltb-true, le-ltb, ltb-false, leb-true, le-leb, eqb-true, eq-eqb, cases_lt}
-use Rattle.std.proofs.lemmas.Bool.Decides.{nat_tests}
+use Rattle.std.proofs.lemmas.Bool.{true≢false, lt-ltb, ltb-true, le-ltb, ltb-false, leb-true, le-leb, eqb-true, eq-eqb}
 use Rattle.hk_rights.specs.Rights.{has, modify_right, unconf_right}
 use Rattle.hk_model.specs.declared.names.Name.{Name}
 use Rattle.hk_model.specs.declared.entries.Cap.{Cap}
@@ -14,7 +13,7 @@ use Rattle.hk_model.specs.declared.reaches.Hop.{Hop}
 use Rattle.hk_model.specs.declared.reaches.Hop.TheVariants as hop_by
 use Rattle.hk_model.specs.State.{State}
 use Rattle.hk_model.specs.Keeping.{stands}
-use Rattle.hk_model.specs.Reaches.{index_of, moment_of, is_handed, Reached, reached_by, handed_over, listed_cap, onward, hop_to, follow}
+use Rattle.hk_model.specs.Reaches.{index_of, moment_of, Reached, reached_by, handed_over, listed_cap, onward, hop_to, follow}
 use Rattle.hk_model.specs.Changes.{hop_key, is_at_most}
 use Rattle.hk_model.proofs.Members.{Has}
 use Rattle.hk_model.proofs.NamesStand.{All}
@@ -23,12 +22,12 @@ use Rattle.hk_report.specs.declared.histories.History.{History}
 use Rattle.hk_report.specs.declared.hops.Arrived.{Arrived}
 use Rattle.hk_report.specs.declared.hops.Latest.{Latest}
 use Rattle.hk_report.specs.declared.hops.Onward.{Onward}
-use Rattle.hk_report.specs.Histories.{history_of, no_history}
-use Rattle.hk_report.specs.Hops.{later, arrived_by, arrived_whole, latest_end, no_latest, ends_before, is_good, entry_onward, handed_onward, earlier, onward_over, first_from, latest_from, next_latest, comes_before}
+use Rattle.hk_report.specs.Histories.{history_of}
+use Rattle.hk_report.specs.Hops.{later, arrived_by, arrived_whole, latest_end, no_latest, ends_before, is_good, entry_onward, handed_onward, earlier, onward_over, first_from, next_latest, comes_before}
 use Rattle.hk_report.specs.Searches.{first_onward, level_at, hops_down}
 use Rattle.hk_report.proofs.Keys.{NotAfter, sooner, not_before, before_then, not_after_then, hop_then}
 use Rattle.hk_report.proofs.Bounds.{some_first, good_from}
-use Rattle.hk_report.proofs.Spans.{all_has, Stood, SpanAt, SpansTell}
+use Rattle.hk_report.proofs.Spans.{Stood, SpanAt, SpansTell}
 
 -- where a way has come to, as the definitions tell it and as the search does
 abbrev pub reached : Arrived → Reached

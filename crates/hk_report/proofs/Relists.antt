@@ -1,7 +1,7 @@
 -- What the history of a list tells, as the list gets its entries at one moment after another.
-use Rattle.std.proofs.Common.{◌≡◌, ℕ, zero, suc, ◌+◌, ◌-◌, ◌<◌, ◌≤◌, List, [], ◌∷◌, ◌++◌, length, replicate, Bool, true, false, Option, Some, None, refl, sym, ◌∙◌, ap, arith, cond, subst, slice_get}
+use Rattle.std.proofs.Common.{◌≡◌, ℕ, zero, suc, ◌+◌, ◌-◌, ◌<◌, ◌≤◌, List, [], ◌∷◌, ◌++◌, length, replicate, Bool, true, false, Option, Some, None, refl, sym, ◌∙◌, ap, arith, subst, slice_get}
 use Rattle.std.proofs.Common.{option_and_then, option_map}
-use Rattle.std.specs.Prelude.{◌&&◌, ◌==◌, ◌⊎◌, slice_index_or, is_some}
+use Rattle.std.specs.Prelude.{◌==◌, ◌⊎◌, slice_index_or, is_some}
 use mathlib.Core.Logic.{inl, inr}
 use Rattle.std.specs.Map.{lookup}
 use Rattle.std.specs.Option.{unwrap_or}
@@ -18,7 +18,6 @@ use Rattle.hk_model.specs.Keeping.{stands}
 use Rattle.hk_model.specs.Places.{cap_of}
 use Rattle.hk_model.specs.Reaches.{listed_cap}
 use Rattle.hk_model.proofs.Members.{Has, has_left, has_right, has_cases}
-use Rattle.hk_model.proofs.NamesStand.{All}
 use Rattle.hk_report.specs.declared.histories.Since.{Since}
 use Rattle.hk_report.specs.declared.histories.Span.{Span}
 use Rattle.hk_report.specs.declared.histories.History.{History}

@@ -1,31 +1,27 @@
 -- The histories that a replay has noted tell what has stood in each list.
-use Rattle.std.proofs.Common.{◌≡◌, ℕ, zero, suc, ◌+◌, ◌<◌, ◌≤◌, List, [], ◌∷◌, length, Bool, true, false, Option, Some, None, refl, sym, ◌∙◌, ap, arith, subst, take, drop, slice_get}
+use Rattle.std.proofs.Common.{◌≡◌, ℕ, suc, ◌+◌, ◌≤◌, List, [], ◌∷◌, length, Bool, true, false, Option, Some, None, refl, sym, ◌∙◌, ap, arith, subst, drop, slice_get}
 use Rattle.std.proofs.Common.{option_and_then, option_map}
 use Rattle.std.specs.Prelude.{◌==◌, ◌⊎◌, is_some}
 use mathlib.Core.Logic.{inl, inr}
-use Rattle.std.specs.Map.{lookup}
 use Rattle.std.specs.Option.{unwrap_or}
 use Rattle.std.proofs.lemmas.Bool.{true≢false, eqb-true, eq-eqb, cases_lt}
 use Rattle.hk_model.specs.declared.names.Name.{Name}
-use Rattle.hk_model.specs.declared.names.Inc.{Inc}
 use Rattle.hk_model.specs.declared.calls.Call.{Call}
 use Rattle.hk_model.specs.declared.calls.Call.TheVariants as call
 use Rattle.hk_model.specs.declared.lines.Line.{Line}
 use Rattle.hk_model.specs.declared.objects.Object.{Object}
 use Rattle.hk_model.specs.WorldValue.{WorldValue}
-use Rattle.hk_model.specs.State.{State, object, no_object, same_name}
+use Rattle.hk_model.specs.State.{State, object, no_object}
 use Rattle.hk_model.specs.Keeping.{stands}
 use Rattle.hk_model.specs.Places.{cap_of, named_by}
-use Rattle.hk_model.specs.Running.{Machine, opened, moved, after_lines, machine_at, state_at, AreSteps, AreStepsOf}
-use Rattle.hk_model.specs.Lines.{done_call, makes_object, changes_path, changed}
+use Rattle.hk_model.specs.Running.{Machine, opened, moved, after_lines, machine_at, state_at, AreStepsOf}
+use Rattle.hk_model.specs.Lines.{done_call, makes_object, changes_path}
 use Rattle.hk_model.specs.Effects.{there, Becomes, Stays, Goes, Changes, IsNew}
 use Rattle.hk_model.specs.Reaches.{listed_cap}
 use Rattle.hk_model.proofs.Steps.{moved_holds, after_next, line_steps}
 use Rattle.hk_model.proofs.CallShown.{ShownIf, shown_each}
 use Rattle.hk_model.proofs.KindsStay.{leaves_others, objects_given_at}
-use Rattle.hk_report.specs.declared.doings.Doing.{Doing}
 use Rattle.hk_report.specs.declared.histories.History.{History}
-use Rattle.hk_report.specs.Named.{named_change}
 use Rattle.hk_report.specs.Doings.{doing}
 use Rattle.hk_report.specs.Histories.{relisted, no_history, history_of, touched, touched_name, maker_of, noted, opened_below, histories_after, histories_at_end, told_histories}
 use Rattle.hk_report.proofs.Listed.{changed_named, drop_get, drop_next, take_zero, drop_zero}

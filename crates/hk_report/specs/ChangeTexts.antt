@@ -1,5 +1,5 @@
 -- The list of changes as text. docs/FORMATS.md, "Statuses and outputs".
-use Rattle.std.specs.Prelude.{ℕ, List, [], ◌∷◌, ◌++◌, length, codes}
+use Rattle.std.specs.Prelude.{ℕ, List, ◌++◌, length, codes}
 use Rattle.std.specs.List.{flat_map}
 use Rattle.std.specs.Fmt.{decimal}
 use Rattle.hk_model.specs.declared.reaches.Hop.{Hop}

@@ -1,6 +1,6 @@
 -- Under which confined calls each incarnation is, by number, and what is changed under them. docs/RULES.md, "Changes and
 -- their reasons".
-use Rattle.std.specs.Prelude.{ℕ, ◌+◌, Bool, true, false, List, [], ◌∷◌, ◌++◌, map, slice_index_or, Option, Some, None}
+use Rattle.std.specs.Prelude.{ℕ, ◌+◌, true, false, List, [], ◌∷◌, ◌++◌, map, slice_index_or, Option, Some, None}
 use Rattle.hk_model.specs.declared.names.Name.{Name}
 use Rattle.hk_model.specs.Changes as changes
 use Rattle.hk_report.specs.declared.doings.Entered.{Entered}

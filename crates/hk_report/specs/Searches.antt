@@ -1,6 +1,6 @@
 -- The search for the least reach, hop by hop over levels of what can be done in so many hops. docs/RULES.md, "Changes and
 -- their reasons".
-use Rattle.std.specs.Prelude.{◌≡◌, ◌⊎◌, ℕ, zero, suc, ◌+◌, ◌<◌, ◌==◌, ◌&&◌, Bool, true, false, List, [], ◌∷◌, ◌++◌, Option, Some, None, option_map, if◌then◌else◌}
+use Rattle.std.specs.Prelude.{◌≡◌, ℕ, zero, suc, ◌+◌, ◌<◌, ◌==◌, ◌&&◌, Bool, false, List, [], ◌∷◌, ◌++◌, Option, Some, None, if◌then◌else◌}
 use Rattle.std.specs.Option.{option_and_then}
 use Rattle.hk_rights.specs.Rights.{has, modify_right}
 use Rattle.hk_model.specs.declared.names.Name.{Name}

@@ -1,10 +1,7 @@
-use Rattle.std.proofs.Common.{◌≡◌, ℕ, List, ◌∷◌, sym, ◌∙◌, ap}
+use Rattle.std.proofs.Common.{List, sym, ◌∙◌, ap}
 use Rattle.hk_model.specs.declared.names.Name.{Name}
-use Rattle.hk_model.specs.declared.entries.Entry.{Entry}
 use Rattle.hk_model.specs.declared.reaches.Hop.{Hop}
-use Rattle.hk_model.specs.declared.reaches.Reach.{Reach}
 use Rattle.hk_model.specs.declared.reaches.Reach.TheVariants.{Param}
-use Rattle.hk_report.specs.declared.histories.History.{History}
 use Rattle.hk_report.specs.declared.hops.Latest.{Latest}
 use Rattle.hk_report.specs.Hops.{is_made}
 use Rattle.hk_report.specs.Searches.{first_start}
