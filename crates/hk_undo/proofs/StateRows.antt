@@ -16,7 +16,7 @@ use Rattle.hk_model.specs.declared.snapshot.Snapshot.{Snapshot}
 use Rattle.hk_model.specs.Targets.{TYPE, DATA, UNIVERSAL, SEMAPHORE, PROCEDURE}
 use Rattle.hk_format.specs.RightsTexts.{rights_text}
 use Rattle.hk_format.specs.Texts.{ended_line}
-use Rattle.hk_undo.specs.StateTexts.{state_text}
+use Rattle.hk_undo.specs.StateTexts.{incarnation_line, incarnation_lines, state_text}
 
 abbrev name : ℕ → Name
 name n = record { 0 = n }
@@ -57,7 +57,7 @@ reading = record {
 reading-text : state_text reading 2 ≡ text (
     codes "moment 2" ∷ codes "object 7 1" ∷ codes "words 7" ∷ codes "incarnation 0 0 base" ∷ codes "slot 0 cap 7 GETDATA" ∷ codes "process 0 running 0" ∷ codes "next 8 1" ∷ []
     )
-unfolding digits right_table right_numbers name_of rights_text
+unfolding digits right_table right_numbers name_of rights_text incarnation_line incarnation_lines
 reading-text = refl
 
 -- a type, a list with an entry that is Empty, a semaphore at which two wait, and a procedure that was called confined
@@ -96,5 +96,5 @@ calling-text : state_text calling 40 ≡ text (
     ∷ codes "next 12 6"
     ∷ []
     )
-unfolding digits right_table right_numbers name_of rights_text
+unfolding digits right_table right_numbers name_of rights_text incarnation_line incarnation_lines
 calling-text = refl

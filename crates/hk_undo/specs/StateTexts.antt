@@ -78,11 +78,14 @@ beginning live (Some caller) (Some procedure) =
     codes "by " ++ decimal caller.0 ++ codes " into " ++ decimal live.into.0 ++ codes " of " ++ decimal procedure.0
     ++ (if live.confined then codes " confined" else codes " open")
 
--- an incarnation: `incarnation I PROC` with how it began, and its slots
-abbrev pub incarnation_lines : Live → List ℕ
-incarnation_lines live =
+-- `incarnation I PROC` with how it began
+unfoldable pub incarnation_line : Live → List ℕ
+incarnation_line live =
     ended_line (codes "incarnation " ++ decimal live.inc.0 ++ codes " " ++ decimal live.proc.0 ++ codes " " ++ beginning live live.caller live.procedure)
-    ++ place_lines (codes "slot ") 0 live.slots
+
+-- an incarnation, and its slots
+unfoldable pub incarnation_lines : Live → List ℕ
+incarnation_lines live = incarnation_line live ++ place_lines (codes "slot ") 0 live.slots
 
 -- `ready`, `running CPU`, `waiting NAME` or `ended`
 abbrev pub run_text : ProcessState → List ℕ

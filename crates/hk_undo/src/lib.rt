@@ -1,4 +1,4 @@
-//! Lines taken back (`docs/RULES.md`, "Lines taken back").
+//! States as text (`docs/FORMATS.md`, "The text of a state").
 //!
 //! `texts` has a state as text, and `objects`, `places` and `processes` its parts.
 #![tactic(auto)]
@@ -6,6 +6,8 @@
 mod objects;
 mod places;
 mod processes;
+#[cfg(test)]
+mod tests;
 mod texts;
 
 pub use hk_model::{NoMemory, Snapshot, Text};

@@ -2,7 +2,7 @@
 
 ghost use Rattle.std.specs.Prelude.{◌≡◌, ◌++◌, OnOk, string_bytes};
 ghost use Rattle.std.specs.List.{flat_map};
-ghost use Rattle.hk_undo.specs.StateTexts.{beginning, incarnation_lines, process_lines, run_text};
+ghost use Rattle.hk_undo.specs.StateTexts.{beginning, incarnation_line, incarnation_lines, process_lines, run_text};
 
 use crate::places::write_places;
 use hk_model::{Live, NoMemory, ProcessState};
@@ -22,14 +22,24 @@ fn write_beginning(out: &mut String, live: &Live) -> Result<(), NoMemory>
     Ok(())
 }
 
-// Writes the lines of an incarnation.
-fn write_incarnation(alloc: Global, out: &mut String, live: &Live) -> Result<(), NoMemory>
-    ensures { OnOk result (string_bytes out.new ≡ string_bytes out.old ++ incarnation_lines live.now) }
+// Writes the first line of an incarnation.
+#[tactic(auto, unfolding(crate::specs::StateTexts::incarnation_line))]
+fn write_line(out: &mut String, live: &Live) -> Result<(), NoMemory>
+    ensures { OnOk result (string_bytes out.new ≡ string_bytes out.old ++ incarnation_line live.now) }
 {
     let (inc, proc) = (live.inc.0, live.proc.0);
     write!(out, "incarnation {inc} {proc} ")?;
     write_beginning(out, live)?;
     out.push_str("\n")?;
+    Ok(())
+}
+
+// Writes the lines of an incarnation.
+#[tactic(auto, unfolding(crate::specs::StateTexts::incarnation_lines))]
+fn write_incarnation(alloc: Global, out: &mut String, live: &Live) -> Result<(), NoMemory>
+    ensures { OnOk result (string_bytes out.new ≡ string_bytes out.old ++ incarnation_lines live.now) }
+{
+    write_line(out, live)?;
     write_places(alloc, out, "slot ", live.slots.as_slice())
 }
 

@@ -6,4 +6,4 @@ use Rattle.hk_undo.proofs.processes.write_processes.Given as goal
 -- with the lines to come it is the whole text
 abbrev pub invariant-loop-number : goal.invariant-loop-number
 invariant-loop-number l =
-    string_bytes l.out ++ process_lines l.number (drop l.number l.runs) ≡ string_bytes l.initial.out ++ process_lines 0 l.runs
+    string_bytes l.out ++ process_lines l.number-counter (drop l.number-counter l.runs) ≡ string_bytes l.initial.out ++ process_lines 0 l.runs
