@@ -117,10 +117,10 @@ fn summary<M: Maker, R: Threads + Wait + Sync>(
     alloc: Global,
     kernels: &M,
 ) -> Result<Out, Fail> {
-    let gen = words(alloc, &["gen", "3"])?;
+    let asked = words(alloc, &["gen", "3"])?;
     let mut input = source(alloc, Vec::new(alloc))?;
     let mut output = sink(alloc, Vec::new(alloc))?;
-    let (_status, _kernel) = hydra(rt, alloc, &gen, &mut input, &mut output, &Open, kernels);
+    let (_status, _kernel) = hydra(rt, alloc, &asked, &mut input, &mut output, &Open, kernels);
     Ok(output)
 }
 
