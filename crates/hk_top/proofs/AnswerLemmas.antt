@@ -94,10 +94,10 @@ json_due bytes w (Err error) is h = tt
 
 -- what is due to the bytes of a JSON text
 
-pub unjson_due : (bytes : List ℕ) (w : WorldValue) (r : Result DueText NoMemory) → Reads bytes (value w) → IfOk r (λ due. (due.status ≡ 0) × (due.text ≡ canon w))
+pub unjson_due : (bytes : List ℕ) (w : WorldValue) (r : Result DueText NoMemory) → IsWorld w → Reads bytes (value w) → IfOk r (λ due. (due.status ≡ 0) × (due.text ≡ canon w))
     → IfOk r (λ due. DueTo (words_of command.Unjson) bytes due.status due.text None)
-unjson_due bytes w (Ok due) reads h = rw (h.0, h.1) (world_of w refl reads)
-unjson_due bytes w (Err error) reads h = tt
+unjson_due bytes w (Ok due) valid reads h = rw (h.0, h.1) (world_of w refl valid reads)
+unjson_due bytes w (Err error) valid reads h = tt
 
 pub bad_json_due : (bytes : List ℕ) (r : Result DueText NoMemory) → ((w : WorldValue) → IsWorld w → Reads bytes (value w) → ⊥)
     → IfOk r (λ due. (due.status ≡ 3) × (due.text ≡ bad_json_text)) → IfOk r (λ due. DueTo (words_of command.Unjson) bytes due.status due.text None)
@@ -233,7 +233,7 @@ speaks (chains_of a line status text traces is h) = check_speaks h
 speaks (changes_of a status text confines is h) = check_speaks h
 speaks (state_of a count status text back is h) = check_speaks h
 speaks (json_of w json is) = (λ e. absurd (cc), λ e. absurd (cc))
-speaks (world_of w unjson reads) = (λ e. absurd (cc), λ e. absurd (cc))
+speaks (world_of w unjson valid reads) = (λ e. absurd (cc), λ e. absurd (cc))
 speaks (json_refused unjson none) = (λ e. absurd (cc), λ e. absurd (cc))
 speaks (script_refused line cause reads is) = (λ e. absurd (cc), λ e. absurd (cc))
 speaks (record_refused line cause reads is) = (λ e. absurd (cc), λ e. absurd (cc))

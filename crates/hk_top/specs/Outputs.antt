@@ -150,7 +150,7 @@ pub data DueTo (words : List (List ℕ)) (bytes : List ℕ) : ℕ → List ℕ �
   -- 0: the bytes are the script of a world, and the text is its JSON, on one line
   json_of : (w : WorldValue) → IsJson words → world bytes ≡ Ok w → DueTo words bytes 0 (ended_line (compact_text (value w))) None
   -- 0: the bytes are read as the value of a world, and the text is its canonical script
-  world_of : (w : WorldValue) → IsUnjson words → Reads bytes (value w) → DueTo words bytes 0 (canon w) None
+  world_of : (w : WorldValue) → IsUnjson words → IsWorld w → Reads bytes (value w) → DueTo words bytes 0 (canon w) None
   -- 0, 8: the bytes are a record, and the text is the verdict on it
   verdict_of : (a : Audited) (status : ℕ) (text : List ℕ) → IsCheck words → audit bytes ≡ Ok a → IsChecked a TellsLegal status text → DueTo words bytes status text None
   -- 0, 8: the bytes are a record, and the text is the chains of what a line of it used, or the verdict on it

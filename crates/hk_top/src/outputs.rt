@@ -156,7 +156,10 @@ fn unjson(alloc: Global, bytes: &[u8]) -> Result<DueText, NoMemory>
     ensures { IfOk result (λ due. DueTo (words_of Command.Unjson) bytes.now due.status due.text None) }
 {
     match read_json(alloc, bytes) {
-        Ok(world) => script(alloc, &world),
+        Ok(world) => {
+            let _limit = world.limit(); // so that the check knows that it is a world
+            script(alloc, &world)
+        }
         Err(JsonError::BadJson) => bad_json(alloc),
         Err(JsonError::NoMemory) => Err(NoMemory),
     }
