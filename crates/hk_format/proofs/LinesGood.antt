@@ -75,12 +75,12 @@ line_good p ps pieces few =
     rw (pieces, short)
 
 -- a piece that some text of at most so many bytes spells
-record Fits (p : Piece) (most : ℕ) : Type 0 where
+record IsWithin (p : Piece) (most : ℕ) : Type 0 where
   piece : is_piece p ≡ true
   short : length (spell p) ≤ most
 
 IsShort : Piece → Type 0
-IsShort p = Fits p 160
+IsShort p = IsWithin p 160
 
 short_pieces : (ps : List Piece) → AllByRecursion IsShort ps → (list_all is_piece ps ≡ true) × (line_size ps ≤ 161 * length ps)
 unfolding IsShort line_size
@@ -105,7 +105,7 @@ and_short here rest = record { all = (here, rest.all) }
 few_good : {p : Piece} {ps : List Piece} → AreShort (p ∷ ps) → length (p ∷ ps) ≤ 6 → is_line (p ∷ ps) ≡ true
 few_good {p} {ps} h few = let all = short_pieces (p ∷ ps) h.all in let bytes = all.1 in line_good p ps all.0 (omega arith)
 
-wider : {p : Piece} {n : ℕ} → Fits p n → n ≤ 160 → IsShort p
+wider : {p : Piece} {n : ℕ} → IsWithin p n → n ≤ 160 → IsShort p
 unfolding IsShort
 wider f most = record { piece = f.piece; short = let s = f.short in omega arith }
 
@@ -115,7 +115,7 @@ word_short : (t : List ℕ) → IsTrue (is_word t) → IsShort (Word t)
 unfolding IsShort
 word_short t h = record { piece = h; short = let few = leb-true (length t) 32 (and_parts (is_lower (first t) && list_all is_word_byte t) (leb (length t) 32) h).1 in omega arith }
 
-number_fits : (n : ℕ) → n < 2 ^ 32 → Fits (Number n) 10
+number_fits : (n : ℕ) → n < 2 ^ 32 → IsWithin (Number n) 10
 number_fits n h = record { piece = le-leb n 4294967295 (omega arith); short = length-decimal-le 10 n (omega arith) (omega arith) (omega arith) }
 
 number_short : (n : ℕ) → n < 2 ^ 32 → IsShort (Number n)
@@ -172,7 +172,7 @@ type_text_short : (t : List ℕ) → IsTypeText t → length t ≤ 32 → IsShor
 unfolding IsShort
 type_text_short t h few = go (is_word t) refl h
   where
-    go : (b : Bool) → is_word t ≡ b → IsTrue (b || is_upper t) → Fits (cond b (Word t) (Upper t)) 160
+    go : (b : Bool) → is_word t ≡ b → IsTrue (b || is_upper t) → IsWithin (cond b (Word t) (Upper t)) 160
     go true e k = record { piece = e; short = omega arith }
     go false e k = record { piece = k; short = omega arith }
 
@@ -229,7 +229,7 @@ rights_short : (r : ℕ) → IsRightsWord r → IsShort (rights_piece (rights_te
 unfolding IsShort
 rights_short r word = go (same_text (rights_text r) (codes "-")) (rights_good r word)
   where
-    go : (b : Bool) → IsTrue (b || is_upper (rights_text r)) → Fits (cond b Dash (Upper (rights_text r))) 160
+    go : (b : Bool) → IsTrue (b || is_upper (rights_text r)) → IsWithin (cond b Dash (Upper (rights_text r))) 160
     go true k = record { piece = refl; short = omega arith }
     go false k = record { piece = k; short = let size = rights_size r in omega arith }
 

@@ -1,5 +1,6 @@
 -- The texts of entries and of parameters, by whatever gives each name a text: a label, or a number. docs/FORMATS.md, "Grammar".
 use Rattle.std.specs.Prelude.{ℕ, List, Option, Some, None, codes}
+use Rattle.std.specs.Fmt.{decimal}
 use Rattle.hk_model.specs.declared.names.Name.{Name}
 use Rattle.hk_model.specs.declared.entries.Entry.{Entry}
 use Rattle.hk_model.specs.declared.entries.Entry.TheVariants.{Empty, Held, Form}
@@ -14,6 +15,10 @@ use Rattle.hk_format.specs.Texts.{spell_line}
 -- what gives each name its text
 abbrev pub Speller : Type 0
 Speller = Name → List ℕ
+
+-- names are told as numbers
+abbrev pub by_number : Speller
+by_number name = decimal name.0
 
 -- names that have a text
 

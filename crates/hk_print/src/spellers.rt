@@ -44,11 +44,11 @@ impl Speller for World {
 pub struct ByNumber;
 
 impl Speller for ByNumber {
-    ghost use Rattle.std.specs.Fmt.{decimal};
+    ghost use Rattle.hk_format.specs.EntryTexts.{by_number};
 
     ghost spells = { λ _ _. Unit {0} };
 
-    ghost name_text = { λ _ name. decimal name.0 };
+    ghost name_text = { λ _ name. by_number name };
 
     fn spell(&self, alloc: Global, name: Name) -> Result<String, NoMemory> {
         let number = name.0;

@@ -5,7 +5,7 @@ use Rattle.std.specs.Fmt.{decimal}
 use Rattle.hk_model.specs.declared.lines.Line.{Line}
 use Rattle.hk_model.specs.declared.lines.What.{What}
 use Rattle.hk_format.specs.AuditLines.{what_pieces}
-use Rattle.hk_format.specs.EntryTexts.{Speller, entry_text}
+use Rattle.hk_format.specs.EntryTexts.{by_number, entry_text}
 use Rattle.hk_format.specs.Pieces.{Piece, spell}
 use Rattle.hk_format.specs.Texts.{ended_line}
 use Rattle.hk_trace.specs.declared.chains.Place.{Place}
@@ -15,10 +15,6 @@ use Rattle.hk_trace.specs.declared.chains.Link.{Link}
 use Rattle.hk_trace.specs.declared.chains.Origin.{Origin}
 use Rattle.hk_trace.specs.declared.chains.Origin.TheVariants.{Opening, Made}
 use Rattle.hk_trace.specs.declared.chains.Chain.{Chain}
-
--- names are told as numbers
-abbrev pub by_number : Speller
-by_number name = decimal name.0
 
 -- `slot INC S` or `entry NAME I`
 abbrev pub place_text : Place → List ℕ

@@ -8,7 +8,7 @@ use mathlib.Core.Option.{some, some-ne-none, some-injective}
 use mathlib.Core.Option as maybe
 use Rattle.atomic_table.specs.Table.{State, step, gives, put_back, rest, Allows}
 use Rattle.hk_turn.specs.declared.view.View.{View}
-use Rattle.hk_turn.specs.Rule.{Fits, HoldsTurn, KeepsRule}
+use Rattle.hk_turn.specs.Rule.{ViewFits, HoldsTurn, KeepsRule}
 use Rattle.hk_turn.specs.Steps.{AtSeat, GivesBack, IsHolder, MayGiveBack}
 use Rattle.hk_turn.proofs.Places.{each_set}
 use Rattle.hk_turn.proofs.Prefixes.{prefix_longer, goes_nowhere, goes_further}
@@ -19,8 +19,8 @@ module _ {T E : Type 0} (stands : T → List E → Type 0) (owner : E → ℕ) (
   Rule = KeepsRule stands owner seats
 
   -- what a view of the list knows stays so where the list grows by entries of another number
-  fits_longer : (list more : List E) (top number : ℕ) (u : View E) → All (λ e. owner e ≡ number) more → u.number ≢ number → Fits owner list seats top u
-      → Fits owner (list ++ more) seats top u
+  fits_longer : (list more : List E) (top number : ℕ) (u : View E) → All (λ e. owner e ≡ number) more → u.number ≢ number → ViewFits owner list seats top u
+      → ViewFits owner (list ++ more) seats top u
   fits_longer list more top number u mine other h = record {
     goes_on = goes_further owner u.number u.seen list more h.goes_on (λ k d l is. other (sym is ∙ mine k d l));
     lists_told = λ k d l. prefix_longer _ _ more (h.lists_told k d l);
@@ -57,7 +57,7 @@ module _ {T E : Type 0} (stands : T → List E → Type 0) (owner : E → ℕ) (
                 (λ j u apart e h. absurd (apart ((r.holding.each j u e h).1 ∙ sym k.1)));
             someone = λ no. absurd (omega arith);
           };
-          fits = each_set (λ i u. 0 < u.weight → Fits owner list seats r.top u) s.views id w
+          fits = each_set (λ i u. 0 < u.weight → ViewFits owner list seats r.top u) s.views id w
               (λ _. record {
                 goes_on = goes_nowhere owner v.number list;
                 lists_told = subst (λ l. All (λ t. IsPrefix t l) v.lists_told) (sym grown) (λ i d l. prefix_longer _ _ more (fit.lists_told i d l));
@@ -65,7 +65,7 @@ module _ {T E : Type 0} (stands : T → List E → Type 0) (owner : E → ℕ) (
                 seats_are = fit.seats_are;
                 below = fit.below;
               })
-              (λ j u apart e p. subst (λ l. Fits owner l seats r.top u) (sym grown)
+              (λ j u apart e p. subst (λ l. ViewFits owner l seats r.top u) (sym grown)
               (fits_longer r.list more r.top v.number u mine (λ is. apart (r.seated.apart j id u v e at p some_weight is)) (r.fits j u e p)));
           owned =
               subst (All (λ e. owner e < r.top)) (sym grown) (All-append (λ e. owner e < r.top) r.list more r.owned

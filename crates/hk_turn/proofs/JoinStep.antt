@@ -10,7 +10,7 @@ use Rattle.atomic_table.specs.Table.{State, Joins}
 use Rattle.atomic_table.proofs.Lists.{set_else}
 use Rattle.hk_turn.specs.declared.view.View.{View}
 use Rattle.hk_turn.specs.Views.{spent_view, joined_view}
-use Rattle.hk_turn.specs.Rule.{Fits, HoldsTurn, KeepsRule}
+use Rattle.hk_turn.specs.Rule.{ViewFits, HoldsTurn, KeepsRule}
 use Rattle.hk_turn.proofs.Places.{one_there, each_set}
 use Rattle.hk_turn.proofs.Prefixes.{goes_longer_if, prefix_of_goes}
 use Rattle.hk_turn.proofs.Seating.{seated_join}
@@ -49,8 +49,8 @@ module _ {T E : Type 0} (stands : T → List E → Type 0) (owner : E → ℕ) (
               λ h. let k = r.holding.someone h in let out = apart_from r.holder k.0 k.1 k.2
               in (k.0, set_else mid other r.holder spent_view out.1 ∙ (set_else s.views id r.holder w out.0 ∙ k.1), k.2);
         };
-        fits = each_set (λ i z. 0 < z.weight → Fits owner r.list seats r.top z) mid other spent_view (λ no. absurd (omega arith))
-            (λ j z _ e. each_set (λ i z. 0 < z.weight → Fits owner r.list seats r.top z) s.views id w
+        fits = each_set (λ i z. 0 < z.weight → ViewFits owner r.list seats r.top z) mid other spent_view (λ no. absurd (omega arith))
+            (λ j z _ e. each_set (λ i z. 0 < z.weight → ViewFits owner r.list seats r.top z) s.views id w
             (λ _. record {
               goes_on =
                   goes_longer_if owner v.number v.seen u.seen r.list mine.goes_on (prefix_of_goes owner u.number u.seen r.list theirs.goes_on)

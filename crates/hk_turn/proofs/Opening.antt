@@ -7,7 +7,7 @@ use lib.ListN.{get_elem?}
 use Rattle.atomic_table.specs.Table.{State, opening}
 use Rattle.hk_turn.specs.declared.view.View.{View}
 use Rattle.hk_turn.specs.Views.{opening_view}
-use Rattle.hk_turn.specs.Rule.{Fits, HoldsTurn, KeepsRule}
+use Rattle.hk_turn.specs.Rule.{ViewFits, HoldsTurn, KeepsRule}
 use Rattle.hk_turn.proofs.Places.{within, each_set}
 use Rattle.hk_turn.proofs.Prefixes.{goes_nowhere}
 
@@ -41,7 +41,7 @@ module _ {T E : Type 0} (stands : T → List E → Type 0) (owner : E → ℕ) (
           each = only (λ i u. u.holds ≡ true → HoldsTurn [] 0 0 i u) (λ no. absurd (true≢false (sym no)));
           someone = λ no. absurd (omega arith);
         };
-        fits = only (λ i u. 0 < u.weight → Fits owner [] seats 1 u) (λ _. record {
+        fits = only (λ i u. 0 < u.weight → ViewFits owner [] seats 1 u) (λ _. record {
           goes_on = goes_nowhere owner 0 [];
           lists_told = All-nil (λ t. IsPrefix t []);
           known = omega arith;

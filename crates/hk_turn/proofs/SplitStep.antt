@@ -10,7 +10,7 @@ use Rattle.atomic_table.specs.Table.{State, Splits}
 use Rattle.atomic_table.proofs.Lists.{set_here, set_else, at_longer}
 use Rattle.hk_turn.specs.declared.view.View.{View}
 use Rattle.hk_turn.specs.Views.{blank_view, maker_after_split, split_view}
-use Rattle.hk_turn.specs.Rule.{Fits, HoldsTurn, KeepsRule}
+use Rattle.hk_turn.specs.Rule.{ViewFits, HoldsTurn, KeepsRule}
 use Rattle.hk_turn.specs.Steps.{AtSeat}
 use Rattle.hk_turn.proofs.Places.{one_there, within, at_new, each_set}
 use Rattle.hk_turn.proofs.Seating.{seated_split}
@@ -27,7 +27,7 @@ module _ {T E : Type 0} (stands : T → List E → Type 0) (owner : E → ℕ) (
       let is : id ≡ r.maker = r.seated.no_other id v at (omega arith) makes in
       let m = r.seated.makes in
       let top_is : v.made ≡ r.top = ap (λ (u : View E). u.made) (one_there s.views id r.maker v m.0 is at m.1) ∙ m.2 in
-      let higher : (u : View E) → Fits owner r.list seats r.top u → Fits owner r.list seats (r.top + 1) u = λ u h. record
+      let higher : (u : View E) → ViewFits owner r.list seats r.top u → ViewFits owner r.list seats (r.top + 1) u = λ u h. record
       { goes_on = h.goes_on; lists_told = h.lists_told; known = h.known; seats_are = h.seats_are; below = (let b = h.below in omega arith) } in
       let mine = r.fits id v at (omega arith) in record {
         list = r.list;
@@ -58,10 +58,10 @@ module _ {T E : Type 0} (stands : T → List E → Type 0) (owner : E → ℕ) (
               (λ apart. (k.0, at_longer after (split_view v ∷ []) r.holder k.0 (set_else s.views id r.holder (maker_after_split v) apart ∙ k.1), k.2));
         };
         fits = λ i u e. ⊎_elim
-            (λ (old : get_elem? after i ≡ some u). each_set (λ i u. 0 < u.weight → Fits owner r.list seats (r.top + 1) u) s.views id (maker_after_split v)
+            (λ (old : get_elem? after i ≡ some u). each_set (λ i u. 0 < u.weight → ViewFits owner r.list seats (r.top + 1) u) s.views id (maker_after_split v)
             (λ _. record { goes_on = mine.goes_on; lists_told = mine.lists_told; known = mine.known; seats_are = mine.seats_are; below = (let b = mine.below in omega arith) })
             (λ j u _ e p. higher u (r.fits j u e p)) i u old)
-            (λ (new : (i ≡ length after) × (split_view v ≡ u)) _. subst (Fits owner r.list seats (r.top + 1)) new.1 record {
+            (λ (new : (i ≡ length after) × (split_view v ≡ u)) _. subst (ViewFits owner r.list seats (r.top + 1)) new.1 record {
               goes_on = (r.list, refl, λ k d l own. let o = r.owned k d l in absurd (omega arith));
               lists_told = All-nil (λ t. IsPrefix t r.list);
               known = omega arith;

@@ -7,7 +7,7 @@ use prog.Atomic.{either}
 use Rattle.atomic_table.specs.Table.{State, step, keeps, takes, stepped, Valid, carried_after, Allows}
 use Rattle.atomic_table.proofs.Lists.{set_here, exchanged}
 use Rattle.hk_turn.specs.declared.view.View.{View}
-use Rattle.hk_turn.specs.Rule.{Fits, HoldsTurn, KeepsRule}
+use Rattle.hk_turn.specs.Rule.{ViewFits, HoldsTurn, KeepsRule}
 use Rattle.hk_turn.specs.Steps.{AtSeat, Tries}
 use Rattle.hk_turn.proofs.Places.{within, each_set}
 use Rattle.hk_turn.proofs.Seating.{seated_set}
@@ -42,7 +42,7 @@ module _ {T E : Type 0} (stands : T → List E → Type 0) (owner : E → ℕ) (
               (λ j u _ e h. let k = (r.holding.each j u e h).0 in absurd (omega arith));
           someone = λ _. (w, set_here s.views id w (within s.views id v at), refl);
         };
-        fits = each_set (λ i u. 0 < u.weight → Fits owner r.list seats r.top u) s.views id w
+        fits = each_set (λ i u. 0 < u.weight → ViewFits owner r.list seats r.top u) s.views id w
             (λ _. record { goes_on = fit.goes_on; lists_told = fit.lists_told; known = fit.known; seats_are = fit.seats_are; below = fit.below }) (λ j u _ e. r.fits j u e);
         owned = r.owned;
       }

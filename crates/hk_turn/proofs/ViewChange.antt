@@ -7,7 +7,7 @@ use lib.ListN.{get_elem?}
 use Rattle.atomic_table.specs.Table.{State}
 use Rattle.atomic_table.proofs.Lists.{set_here, set_else}
 use Rattle.hk_turn.specs.declared.view.View.{View}
-use Rattle.hk_turn.specs.Rule.{Fits, HoldsTurn, KeepsRule}
+use Rattle.hk_turn.specs.Rule.{ViewFits, HoldsTurn, KeepsRule}
 use Rattle.hk_turn.proofs.Places.{one_there, within, each_set}
 use Rattle.hk_turn.proofs.Seating.{seated_set}
 
@@ -18,7 +18,7 @@ module _ {T E : Type 0} (stands : T → List E → Type 0) (owner : E → ℕ) (
   -- the view of one seat changes, and keeps its number, its weight, its count of passes made, and the turn
   pub view_change_keeps_rule : (s : State (Option T) (View E)) (r : Rule s) (id : ℕ) (v w : View E) → get_elem? s.views id ≡ some v → w.number ≡ v.number → w.weight ≡ v.weight
       → w.made ≡ v.made → w.holds ≡ v.holds → w.found ≡ v.found → 0 < v.weight
-      → Fits owner r.list seats r.top w → Rule record { words = set s.words 0 (get_or s.words 0 0); homes = s.homes; views = set s.views id w }
+      → ViewFits owner r.list seats r.top w → Rule record { words = set s.words 0 (get_or s.words 0 0); homes = s.homes; views = set s.views id w }
   view_change_keeps_rule s r id v w at number weighs made holds found some_weight fits = record {
     list = r.list;
     held_count = r.held_count;
@@ -42,6 +42,6 @@ module _ {T E : Type 0} (stands : T → List E → Type 0) (owner : E → ℕ) (
           ))
           (λ apart. (k.0, set_else s.views id r.holder w apart ∙ k.1, k.2));
     };
-    fits = each_set (λ i u. 0 < u.weight → Fits owner r.list seats r.top u) s.views id w (λ _. fits) (λ j u _ e. r.fits j u e);
+    fits = each_set (λ i u. 0 < u.weight → ViewFits owner r.list seats r.top u) s.views id w (λ _. fits) (λ j u _ e. r.fits j u e);
     owned = r.owned;
   }

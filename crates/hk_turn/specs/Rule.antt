@@ -18,7 +18,7 @@ abbrev pub GoesOn : {E : Type 0} → (E → ℕ) → ℕ → List E → List E �
 GoesOn {E} owner number seen list = (rest : List E) × (list ≡ seen ++ rest) × All (λ e. owner e ≢ number) rest
 
 -- what a view that is not spent knows of the list
-pub record Fits {E : Type 0} (owner : E → ℕ) (list : List E) (seats top : ℕ) (v : View E) : Type 0 where
+pub record ViewFits {E : Type 0} (owner : E → ℕ) (list : List E) (seats top : ℕ) (v : View E) : Type 0 where
   -- it has seen a prefix of the list with all entries of its number
   pub goes_on : GoesOn owner v.number v.seen list
   -- so have the views that it took in, but for the entries
@@ -74,6 +74,6 @@ pub record KeepsRule {T E : Type 0} (stands : T → List E → Type 0) (owner : 
   -- who sits at the table, who holds the turn, and what each knows
   pub seated : Seated seats top maker table.views
   pub holding : Holding list held_count holder table.views
-  pub fits : (i : ℕ) (v : View E) → get_elem? table.views i ≡ some v → 0 < v.weight → Fits owner list seats top v
+  pub fits : (i : ℕ) (v : View E) → get_elem? table.views i ≡ some v → 0 < v.weight → ViewFits owner list seats top v
   -- each entry is owned by a pass that was made
   pub owned : All (λ e. owner e < top) list

@@ -13,12 +13,8 @@ use Rattle.hk_model.specs.declared.snapshot.Seen.{Seen}
 use Rattle.hk_model.specs.declared.snapshot.Live.{Live}
 use Rattle.hk_model.specs.declared.snapshot.Snapshot.{Snapshot}
 use Rattle.hk_model.specs.Targets.{SEMAPHORE, kernel_types, is_listed}
-use Rattle.hk_format.specs.EntryTexts.{Speller, entry_text}
+use Rattle.hk_format.specs.EntryTexts.{by_number, entry_text}
 use Rattle.hk_format.specs.Texts.{ended_line}
-
--- names are told as numbers
-abbrev pub by_number : Speller
-by_number name = decimal name.0
 
 -- ` N` for each number
 abbrev pub spaced : List ℕ → List ℕ
