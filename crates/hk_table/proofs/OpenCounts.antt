@@ -37,14 +37,14 @@ use Rattle.hk_table.proofs.Telling.{stack_names_sum}
 
 module _ (ps : Slots) (t : Tally) (h : HasPlace ps t) where
   pub type_can : (of : Name) → CanHold ps (of ∷ []) t
-  type_can of = (h.0, h.1, h.2, λ n. let a = h.3 n in let b = one_name n of in omega (arith, a, b))
+  type_can of = (h.0, h.1, h.2, λ n. let a : h.0 n + h.1 n ≤ 257 * 65536 = h.3 n in let b = one_name n of in omega (arith, a, b))
 
   pub entries_can : (of : Name) (u : Tally) (entries : List Entry) → length entries ≤ 256 → HoldsInside ps (of ∷ []) t u → CanHold ps (named_in entries) u
   entries_can of u entries few f = (
     h.0,
     owing h.1 (of ∷ []),
     f.1 h.0 h.1 h.2,
-    λ n. let a = h.3 n in let b = one_name n of in let c = entries_within n entries in omega (arith, a, b, c, few),
+    λ n. let a : h.0 n + h.1 n ≤ 257 * 65536 = h.3 n in let b = one_name n of in let c = entries_within n entries in omega (arith, a, b, c, few),
   )
 
 pub object_held : (ps : Slots) (t u v : Tally) (e : Name × Body) (of : Name) (entries : List Entry) → of ≡ e.1.of → entries ≡ e.1.entries → HoldsInside ps (of ∷ []) t u
@@ -103,7 +103,8 @@ module _ (ps : Slots) (room : length ps ≡ 65536) (i : ℕ) (start t : Tally) (
     λ n.
         let a : namings (take i ps) n ≤ length (take i ps) * 257 = objects_within n (take i ps) (λ k e here. let w = place_take ps i k e here in h.few k e w.0 w.1) in
         let b : length (take i ps) ≡ i = length-take-le i ps (omega (arith, low, room)) in
-        omega (arith, a, b, low),
+        let c : namings (take i ps) n ≤ 257 * 65536 = omega (arith, a, b, low) in
+        c,
   )
 
   pub first_more : (u : Tally) → HoldsInside ps (names_in (place ps i)) t u → IfSome (place ps i) (λ e. length e.1.entries ≤ 256) → AreFirstHeld ps (i + 1) start u

@@ -1,6 +1,7 @@
 -- Counts of what is named from outside and by objects, as names come and go. docs/RULES.md, "Objects that vanish".
-use Rattle.std.specs.Prelude.{◌≡◌, ℕ, ◌+◌, ◌<◌, ◌≤◌, ◌^◌, List, length, Option, Some, None, slice_index}
+use Rattle.std.specs.Prelude.{◌≡◌, ℕ, ◌+◌, ◌*◌, ◌<◌, ◌≤◌, ◌^◌, List, length, Option, Some, None, slice_index}
 use Rattle.hk_model.specs.declared.names.Name.{Name}
+use Rattle.hk_model.specs.Limits.{entry_limit, object_limit}
 use Rattle.hk_objects.specs.declared.body.Body.{Body}
 use Rattle.hk_objects.specs.Slots.{name_at}
 use Rattle.hk_reclaim.specs.Naming.{times}
@@ -42,6 +43,7 @@ HoldsInside slots names old new = (new.first_new ≡ old.first_new) × ((outer o
 abbrev pub ReleasesInside : List (Option (Name × Body)) → List Name → Tally → Tally → Type 0
 ReleasesInside slots names old new = (new.first_new ≡ old.first_new) × ((outer owed : Name → ℕ) → AreHeld slots outer (owing owed names) old → AreHeld slots outer owed new)
 
--- the counts are right, and there is place in each for the names of one object
+-- the counts are right, and there is place in each for the names of one object: no more has come to it than all objects name, each its
+-- type and its entries
 abbrev pub HasPlace : List (Option (Name × Body)) → Tally → Type 0
-HasPlace slots t = (outer : Name → ℕ) × (owed : Name → ℕ) × AreHeld slots outer owed t × ((n : Name) → outer n + owed n ≤ 16842752)
+HasPlace slots t = (outer : Name → ℕ) × (owed : Name → ℕ) × AreHeld slots outer owed t × ((n : Name) → outer n + owed n ≤ object_limit * (entry_limit + 1))
