@@ -41,7 +41,8 @@ run_kept : (ps : List Process) (proc : Proc) (inc : Inc) (n : ℕ) → proc.0 < 
 run_kept ps proc inc n low =
     ⊎_elim
     (λ (same : n ≡ proc.0).
-    ap (λ (k : ℕ). (process_at (with_current ps proc inc) k).run) same ∙ ap (λ (p : Process). p.run) (set_same ended ps proc.0 (record (process_at ps proc.0) { current = inc }) low)
+    ap (λ (k : ℕ). (process_at (with_current ps proc inc) k).run) same ∙ ap (λ (p : Process). p.run)
+        (set_same ended ps proc.0 (record (process_at ps proc.0) { current = inc }) low)
     ∙ ap (λ (k : ℕ). (process_at ps k).run) (sym same))
     (λ (other : n ≡ proc.0 → ⊥). ap (λ (p : Process). p.run) (set_other ended ps proc.0 n (record (process_at ps proc.0) { current = inc }) other))
     (cases_eq n proc.0)
@@ -166,7 +167,8 @@ module _ (objects : Shelf) (q : Queued) (ps : List Process) (st : Stacked) (w : 
       subst (λ (v : List Process). IsJoined objects q v now w) (sym g)
       (current_joined objects q ps st now w proc caller low h many others here (omega (arith, n)) (omega (arith, n, low')))
 
-  pub end_joined : (new : List Process) → is_running (process_at ps proc.0).run ≡ true → None ≡ option_map (λ (g : StackFrame). g.inc) (top_of (slice_index_or now.stacks proc.0 []))
+  pub end_joined : (new : List Process) → is_running (process_at ps proc.0).run ≡ true
+      → None ≡ option_map (λ (g : StackFrame). g.inc) (top_of (slice_index_or now.stacks proc.0 []))
       → new ≡ with_run ps proc Ended → IsJoined objects q new now w
   end_joined new runs e g =
       let mid : IsJoined objects q ps now w = record {

@@ -19,7 +19,8 @@ use Rattle.hk_table.proofs.Whole.{object_in}
 abbrev pub read : {A B : Type 0} → (A → B) → Name × A → Name × B
 read f e = (e.0, f e.1)
 
-pub insert-read : {A B : Type 0} (f : A → B) (es : List (Name × A)) (n : Name) (o : A) → map (read f) (insert_entry name_cmp es n o) ≡ insert_entry name_cmp (map (read f) es) n (f o)
+pub insert-read : {A B : Type 0} (f : A → B) (es : List (Name × A)) (n : Name) (o : A)
+    → map (read f) (insert_entry name_cmp es n o) ≡ insert_entry name_cmp (map (read f) es) n (f o)
 insert-read f [] n o = refl
 insert-read f (e ∷ es) n o = grind (arith, nat_tests, insert-read f es n o)
 

@@ -36,7 +36,8 @@ pub record IsMaking (o : Shelf) (stacks : List (List StackFrame)) (ps : List Pro
   pub unowed : namings o.slots n ≡ 0
   pub told : AreTold o stacks ps first t
 
-pub making : (o : Shelf) (q : Queued) (ps : List Process) (st : Stacked) (first : Name) (events limit : ℕ) (t : Tally) (s : ℕ) (entries : List Entry) → AreNumbered st.stacks st.next
+pub making : (o : Shelf) (q : Queued) (ps : List Process) (st : Stacked) (first : Name) (events limit : ℕ) (t : Tally) (s : ℕ) (entries : List Entry)
+    → AreNumbered st.stacks st.next
     → AreTold o st.stacks ps first t → AreApart o.slots → ((k : ℕ) (m : Name) → name_at o.slots k ≡ Some m → m.0 < o.next.0) → s < length o.slots → place o.slots s ≡ None
     → length entries ≤ 256 → AllNamedStand (told o q ps st first events limit) → IsMaking o st.stacks ps first t s o.next entries
 making o q ps st first events limit t s entries numbered h apart above low free few named =
@@ -177,11 +178,13 @@ module _ (o : Shelf) (stacks : List (List StackFrame)) (ps : List Process) (firs
   pub made_read : (new : Slots) → new ≡ made → (es : List Entry) → IfSome (place new s) (λ e. es ≡ e.1.entries) → es ≡ entries
   made_read new is es read = subst (λ (p : Option (Name × Body)). IfSome p (λ e. es ≡ e.1.entries)) (made_there new is) read
 
-  module _ (new : Shelf) (is : new.slots ≡ made) (apart : AreApart new.slots) (u : Tally) (settled : u ≡ record (released raised_there s n) { outside = lowered (raised t.outside s) s }) where
+  module _ (new : Shelf) (is : new.slots ≡ made) (apart : AreApart new.slots) (u : Tally)
+      (settled : u ≡ record (released raised_there s n) { outside = lowered (raised t.outside s) s }) where
     made_ready : AreHeld new.slots (λ m. outside_namings m stacks ps) (namings o.slots) u
     made_ready =
         subst (λ (v : Tally). AreHeld new.slots (λ m. outside_namings m stacks ps) (namings o.slots) v) (sym settled)
-        (subst (λ (v : Slots). AreHeld v (λ m. outside_namings m stacks ps) (namings o.slots) (record (released raised_there s n) { outside = lowered (raised t.outside s) s })) (sym is)
+        (subst (λ (v : Slots). AreHeld v (λ m. outside_namings m stacks ps) (namings o.slots) (record (released raised_there s n) { outside = lowered (raised t.outside s) s }))
+            (sym is)
         (made_settled (subst (λ (v : Slots). AreApart v) is apart)))
 
     pub made_can : CanHold new.slots (of ∷ []) u

@@ -72,7 +72,8 @@ names_within n (Some e) h =
     let w : cond (n.0 == e.1.of.0) 1 0 ≤ 1 = once (n.0 == e.1.of.0) in
     omega (arith, few, w, times-cons n e.1.of (named_in e.1.entries), entries_within n e.1.entries)
 
-pub objects_within : (n : Name) (slots : List (Option (Name × Body))) → ((k : ℕ) (e : Name × Body) → place slots k ≡ Some e → length e.1.entries ≤ 256) → namings slots n ≤ length slots * 257
+pub objects_within : (n : Name) (slots : List (Option (Name × Body))) → ((k : ℕ) (e : Name × Body) → place slots k ≡ Some e → length e.1.entries ≤ 256)
+    → namings slots n ≤ length slots * 257
 unfolding namings
 objects_within n slots few =
     sum_within (λ p. times n (names_in p)) 257 slots (λ k p here. names_within n p (λ e is. few k e (place_some slots k p here ∙ is)))

@@ -143,7 +143,8 @@ module _ (o : Shelf) (stacks : List (List StackFrame)) (ps : List Process) (firs
 -- ---- an entry more
 
 named_behind : (n : Name) (es : List Entry) (entry : Entry) → times n (named_in (es ++ entry ∷ [])) ≡ times n (named_in es) + times n (entry_names entry)
-named_behind n [] entry = let z : times n (named_in []) ≡ 0 = times_none n in let w = times-append n (entry_names entry) [] in let y : times n [] ≡ 0 = times_none n in omega (arith, z, w, y)
+named_behind n [] entry = let z : times n (named_in []) ≡ 0 = times_none n in let w = times-append n (entry_names entry) [] in let y : times n [] ≡ 0 = times_none n in
+    omega (arith, z, w, y)
 named_behind n (x ∷ es) entry =
     omega (
       arith,

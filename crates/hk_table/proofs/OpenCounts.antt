@@ -242,6 +242,7 @@ free_held ps s t none = by (place ps s) none where
 pub place_held : (ps : Slots) (s : ℕ) (n : Name) (t u v : Tally) (of : Name) (entries : List Entry) → Some n ≡ name_at ps s → IfSome (place ps s) (λ e. of ≡ e.1.of)
     → IfSome (place ps s) (λ e. entries ≡ e.1.entries) → HoldsInside ps (of ∷ []) t u → HoldsInside ps (named_in entries) u v → HoldsInside ps (names_in (place ps s)) t v
 place_held ps s n t u v of entries named type all f g = by (place ps s) named type all where
-  by : (p : Option (Name × Body)) → Some n ≡ option_map (λ (e : Name × Body). e.0) p → IfSome p (λ e. of ≡ e.1.of) → IfSome p (λ e. entries ≡ e.1.entries) → HoldsInside ps (names_in p) t v
+  by : (p : Option (Name × Body)) → Some n ≡ option_map (λ (e : Name × Body). e.0) p → IfSome p (λ e. of ≡ e.1.of) → IfSome p (λ e. entries ≡ e.1.entries)
+      → HoldsInside ps (names_in p) t v
   by None e a b = absurd (cc)
   by (Some q) e a b = object_held ps t u v q of entries a b f g

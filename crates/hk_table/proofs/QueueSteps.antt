@@ -62,7 +62,8 @@ once_end proc (x ∷ xs) once out =
     )
 
 -- a process that runs is in no list
-pub idle_running : (slots : List (Option (Name × Body))) (q : Queued) (ps : List Process) (proc : Proc) → AreQueued slots q ps → is_running (process_at ps proc.0).run ≡ true → IsIdle q proc
+pub idle_running : (slots : List (Option (Name × Body))) (q : Queued) (ps : List Process) (proc : Proc) → AreQueued slots q ps → is_running (process_at ps proc.0).run ≡ true
+    → IsIdle q proc
 idle_running slots q ps proc h runs = record {
   unready = bool_false (is_queued proc q.ready) (λ in'. let e : is_running Ready ≡ true = ap is_running (sym (h.ready proc in')) ∙ runs in absurd (cc));
   awake = λ s low. bool_false (is_queued proc (waiters q s)) (λ in'.
@@ -151,7 +152,8 @@ yield_move slots q r ps proc h idle e = subst (λ (v : Queued). IsMove slots q v
 })
 
 -- a process that runs waits in no list
-pub stray_move : (slots : List (Option (Name × Body))) (q : Queued) (ps : List Process) (proc : Proc) (run : ProcessState) → AreQueued slots q ps → IsIdle q proc → IsMove slots q q proc run
+pub stray_move : (slots : List (Option (Name × Body))) (q : Queued) (ps : List Process) (proc : Proc) (run : ProcessState) → AreQueued slots q ps → IsIdle q proc
+    → IsMove slots q q proc run
 stray_move slots q ps proc run h idle = record {
   processes = refl;
   many = refl;

@@ -36,7 +36,8 @@ module _ {X : Type 0} where
   insert_first n o (e ∷ es) h = let k : n.0 < e.0.0 = h.0 in grind (arith, nat_tests)
 
   -- the three cases of a place in the order
-  pub three : (n m : Name) (P : List (Name × X) → Type 0) (a b c : List (Name × X)) → (n.0 < m.0 → P a) → (n.0 ≡ m.0 → P b) → (m.0 < n.0 → P c) → P (match_ordering (name_cmp n m) a b c)
+  pub three : (n m : Name) (P : List (Name × X) → Type 0) (a b c : List (Name × X)) → (n.0 < m.0 → P a) → (n.0 ≡ m.0 → P b) → (m.0 < n.0 → P c)
+      → P (match_ordering (name_cmp n m) a b c)
   three n m P a b c l e g =
       ⊎_elim
       (λ (low : n.0 < m.0). let k : match_ordering (name_cmp n m) a b c ≡ a = grind (arith, nat_tests) in subst P (sym k) (l low))
@@ -47,7 +48,8 @@ module _ {X : Type 0} where
       (cases_lt n.0 m.0)
 
   pub there : (n : Name) (e : Name × X) (es : List (Name × X)) → n.0 ≡ e.0.0 → lookup (same_name n) (e ∷ es) ≡ None → ⊥
-  there n e es same absent = let k : same_name n e.0 ≡ true = grind (arith, nat_tests) in absurd (let h : cond true (Some e.1) (lookup (same_name n) es) ≡ None = subst (λ (b : Bool). cond b (Some e.1) (lookup (same_name n) es) ≡ None) k absent in cc)
+  there n e es same absent = let k : same_name n e.0 ≡ true = grind (arith, nat_tests) in
+      absurd (let h : cond true (Some e.1) (lookup (same_name n) es) ≡ None = subst (λ (b : Bool). cond b (Some e.1) (lookup (same_name n) es) ≡ None) k absent in cc)
 
   pub elsewhere : (n : Name) (e : Name × X) (es : List (Name × X)) → e.0.0 < n.0 → lookup (same_name n) (e ∷ es) ≡ None → lookup (same_name n) es ≡ None
   elsewhere n e es high absent = let k : same_name n e.0 ≡ false = grind (arith, nat_tests) in subst (λ (b : Bool). cond b (Some e.1) (lookup (same_name n) es) ≡ None) k absent
@@ -106,4 +108,5 @@ module _ {X : Type 0} where
   standing_kept p (Some e ∷ ps) apart =
       let rest : standing (map (option_filter p) ps) ≡ filter p (standing ps) = standing_kept p ps (apart_tail (Some e) ps apart) in
       let absent : lookup (same_name e.0) (standing ps) ≡ None = lookup-absent ps e.0 (λ k named. let h : suc k ≡ 0 = apart (suc k) 0 e.0 named refl in absurd (omega arith)) in
-      kept_one (p e) e (standing (map (option_filter p) ps)) ∙ ap (λ xs. cond (p e) (insert_entry name_cmp xs e.0 e.1) xs) rest ∙ sym (filter_insert p e.0 e.1 (standing ps) (rising_standing ps) absent)
+      kept_one (p e) e (standing (map (option_filter p) ps)) ∙ ap (λ xs. cond (p e) (insert_entry name_cmp xs e.0 e.1) xs) rest
+          ∙ sym (filter_insert p e.0 e.1 (standing ps) (rising_standing ps) absent)

@@ -99,8 +99,10 @@ top_put stacks next q inc slot entry h current = by (top_of (slice_index_or stac
       current_one stacks next q inc h current ∙ ap (incarnation_or_none (record { 0 = q }) (slice_index_or stacks q [])) e in
       ap (λ (o : Option StackFrame). live_from 0 (set stacks q (with_changed (slice_index_or stacks q []) k o slot entry))) e
       ∙ put_frame 0 stacks q k f (with_slot f slot entry) e refl (λ p j g there number. h.apart p q j k g f there e number)
-      ∙ ap (λ (m : ℕ). set_value (same_inc f.inc) (live_from 0 stacks) (incarnation_of (record { 0 = m }) (caller_at None (slice_index_or stacks q []) k) (with_slot f slot entry))) z
-      ∙ ap (λ (i : Inc). set_value (same_inc i) (live_from 0 stacks) (written (incarnation_of (record { 0 = q }) (caller_at None (slice_index_or stacks q []) k) f) slot entry)) (sym same)
+      ∙ ap (λ (m : ℕ). set_value (same_inc f.inc) (live_from 0 stacks) (incarnation_of (record { 0 = m }) (caller_at None (slice_index_or stacks q []) k)
+          (with_slot f slot entry))) z
+      ∙ ap (λ (i : Inc). set_value (same_inc i) (live_from 0 stacks) (written (incarnation_of (record { 0 = q }) (caller_at None (slice_index_or stacks q []) k) f) slot entry))
+          (sym same)
       ∙ ap (λ (i : Incarnation). set_value (same_inc inc) (live_from 0 stacks) (written i slot entry)) (sym is)
 
 -- stacks whose frames have the same numbers
@@ -143,7 +145,8 @@ current_same old new inc n s h =
     (ap (λ (m : ℕ). number_of (frame_at new n (m - 1))) (s.many n) ∙ s.numbers n (length (slice_index_or old n []) - 1)) h
 
 -- the frames of a stack in which one has another name space
-numbers_put : (fs : List StackFrame) (k : ℕ) (f g : StackFrame) → slice_get fs k ≡ Some f → g.inc ≡ f.inc → (j : ℕ) → number_of (slice_get (set fs k g) j) ≡ number_of (slice_get fs j)
+numbers_put : (fs : List StackFrame) (k : ℕ) (f g : StackFrame) → slice_get fs k ≡ Some f → g.inc ≡ f.inc → (j : ℕ)
+    → number_of (slice_get (set fs k g) j) ≡ number_of (slice_get fs j)
 numbers_put [] k f g here same j = refl
 numbers_put (x ∷ fs) zero f g here same zero = let e : x ≡ f = cc in ap (λ (i : Inc). Some i) (same ∙ sym (ap (λ (y : StackFrame). y.inc) e))
 numbers_put (x ∷ fs) zero f g here same (suc j) = refl
@@ -154,7 +157,8 @@ top_numbers : (fs : List StackFrame) (slot : ℕ) (entry : Entry) (j : ℕ) → 
 top_numbers fs slot entry j = by (top_of fs) refl where
   by : (o : Option StackFrame) → top_of fs ≡ o → number_of (slice_get (with_changed fs (length fs - 1) (top_of fs) slot entry) j) ≡ number_of (slice_get fs j)
   by None e = ap (λ (o : Option StackFrame). number_of (slice_get (with_changed fs (length fs - 1) o slot entry) j)) e
-  by (Some f) e = ap (λ (o : Option StackFrame). number_of (slice_get (with_changed fs (length fs - 1) o slot entry) j)) e ∙ numbers_put fs (length fs - 1) f (with_slot f slot entry) e refl j
+  by (Some f) e = ap (λ (o : Option StackFrame). number_of (slice_get (with_changed fs (length fs - 1) o slot entry) j)) e
+      ∙ numbers_put fs (length fs - 1) f (with_slot f slot entry) e refl j
 
 pub top_many : (fs : List StackFrame) (slot : ℕ) (entry : Entry) → length (with_top fs slot entry) ≡ length fs
 top_many fs slot entry = by (top_of fs) where
@@ -191,7 +195,8 @@ pub top_same : (stacks : List (List StackFrame)) (q slot : ℕ) (entry : Entry) 
 top_same stacks q slot entry = record {
   many = placed_put (λ (fs : List StackFrame). length fs) stacks q (with_top (slice_index_or stacks q []) slot entry) (top_many (slice_index_or stacks q []) slot entry);
   numbers = λ p k.
-      placed_put (λ (fs : List StackFrame). number_of (slice_get fs k)) stacks q (with_top (slice_index_or stacks q []) slot entry) (top_numbers (slice_index_or stacks q []) slot entry k) p;
+      placed_put (λ (fs : List StackFrame). number_of (slice_get fs k)) stacks q (with_top (slice_index_or stacks q []) slot entry)
+          (top_numbers (slice_index_or stacks q []) slot entry k) p;
 }
 
 -- and a slot past those of the top frame of a process
@@ -199,7 +204,8 @@ pub past_slots : (stacks : List (List StackFrame)) (q slot : ℕ) (entry : Entry
     → stacks ≡ with_top_of stacks q slot entry
 past_slots stacks q slot entry past =
     sym (ap (set stacks q) (sym (by (top_of (slice_index_or stacks q [])) refl past)) ∙ set-get_or stacks q []) where
-      by : (o : Option StackFrame) → top_of (slice_index_or stacks q []) ≡ o → length (slots_of o) ≤ slot → slice_index_or stacks q [] ≡ with_top (slice_index_or stacks q []) slot entry
+      by : (o : Option StackFrame) → top_of (slice_index_or stacks q []) ≡ o → length (slots_of o) ≤ slot
+          → slice_index_or stacks q [] ≡ with_top (slice_index_or stacks q []) slot entry
       by None e low =
           sym (ap (λ (o : Option StackFrame). with_changed (slice_index_or stacks q []) (length (slice_index_or stacks q []) - 1) o slot entry) e)
       by (Some f) e low = past_top (slice_index_or stacks q []) slot entry f e low

@@ -99,7 +99,8 @@ space_put : (fs : List StackFrame) (k : ℕ) (f g : StackFrame) → slice_get fs
     → ((j : ℕ) (x : StackFrame) → slice_get fs j ≡ Some x → length x.space ≤ 64) → (j : ℕ) (x : StackFrame) → slice_get (set fs k g) j ≡ Some x → length x.space ≤ 64
 space_put [] k f g here same all j x there = all j x there
 space_put (y ∷ fs) zero f g here same all zero x there =
-    let e : g ≡ x = cc in let w : length f.space ≤ 64 = all 0 f here in let l : length x.space ≡ length g.space = ap (λ (z : StackFrame). length z.space) (sym e) in omega (arith, w, l, same)
+    let e : g ≡ x = cc in let w : length f.space ≤ 64 = all 0 f here in let l : length x.space ≡ length g.space = ap (λ (z : StackFrame). length z.space) (sym e) in
+            omega (arith, w, l, same)
 space_put (y ∷ fs) zero f g here same all (suc j) x there = all (suc j) x there
 space_put (y ∷ fs) (suc k) f g here same all zero x there = all 0 x there
 space_put (y ∷ fs) (suc k) f g here same all (suc j) x there = space_put fs k f g here same (λ i z w. all (suc i) z w) j x there
@@ -146,7 +147,8 @@ module _ (o : Shelf) (stacks : List (List StackFrame)) (ps : List Process) (firs
       held_same o.slots (owing (λ n. outside_namings n stacks ps) (entry_names entry)) (owing (λ n. outside_namings n (with_top_of stacks q slot entry) ps) (entry_names old))
       (namings o.slots) u (λ n.
       let w = slot_written n stacks q slot entry low in
-      let e : times n (entry_names old) ≡ times n (entry_names (slice_index_or (slots_of (top_of (slice_index_or stacks q []))) slot Empty)) = ap (λ (x : Entry). times n (entry_names x)) is in
+      let e : times n (entry_names old) ≡ times n (entry_names (slice_index_or (slots_of (top_of (slice_index_or stacks q []))) slot Empty)) = ap
+              (λ (x : Entry). times n (entry_names x)) is in
       omega (arith, w, e)) (f.1 (λ n. outside_namings n stacks ps) (namings o.slots) h.held)
 
   pub slot_can : CanRelease o.slots (entry_names old) u
@@ -190,7 +192,8 @@ stack_within : (n : Name) (stacks : List (List StackFrame)) (q : ℕ) → stack_
 stack_within n stacks q =
     ⊎_elim
     (λ (low : q < length stacks). get_or-le-sum_by (stack_namings n) stacks q [] low)
-    (λ (high : length stacks ≤ q). let e : stack_namings n (slice_index_or stacks q []) ≡ stack_namings n [] = ap (stack_namings n) (get_or_past stacks q [] high) in omega (arith, e))
+    (λ (high : length stacks ≤ q). let e : stack_namings n (slice_index_or stacks q []) ≡ stack_namings n [] = ap (stack_namings n) (get_or_past stacks q [] high) in
+        omega (arith, e))
     (cases_lt q (length stacks))
 
 top_within : (n : Name) (fs : List StackFrame) → times n (named_in (slots_of (top_of fs))) ≤ stack_namings n fs
@@ -219,7 +222,8 @@ can_release_top o stacks ps first t q slots h is = (
       omega (arith, a, b, k)) h.held,
 )
 
-small_popped : (o : Shelf) (old new : List (List StackFrame)) (ps : List Process) (q : ℕ) (into : Option Slot) → Pops old q into new → AreSmall o.slots old ps → AreSmall o.slots new ps
+small_popped : (o : Shelf) (old new : List (List StackFrame)) (ps : List Process) (q : ℕ) (into : Option Slot) → Pops old q into new → AreSmall o.slots old ps
+    → AreSmall o.slots new ps
 small_popped o old new ps q None p h = subst (λ (s : List (List StackFrame)). AreSmall o.slots s ps) (sym p.1) h
 small_popped o old new ps q (Some into) p h =
     subst (λ (s : List (List StackFrame)). AreSmall o.slots s ps) (sym p.4)
@@ -256,7 +260,8 @@ module _ (o : Shelf) (stacks : List (List StackFrame)) (ps : List Process) (firs
   pub can_release_all : CanRelease o.slots (stack_names (slice_index_or stacks q [])) t
   can_release_all = (λ n. outside_namings n (set stacks q []) ps, namings o.slots, all_owed)
 
-  pub cleared_counted : (u : Tally) (new : List (List StackFrame)) → Releases o.slots (stack_names (slice_index_or stacks q [])) t u → new ≡ set stacks q [] → AreTold o new ps first u
+  pub cleared_counted : (u : Tally) (new : List (List StackFrame)) → Releases o.slots (stack_names (slice_index_or stacks q [])) t u → new ≡ set stacks q []
+      → AreTold o new ps first u
   cleared_counted u new g e =
       subst (λ (s : List (List StackFrame)). AreTold o s ps first u) (sym e) (record {
         held = g.1 (λ n. outside_namings n (set stacks q []) ps) (namings o.slots) all_owed;

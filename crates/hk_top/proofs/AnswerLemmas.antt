@@ -132,7 +132,8 @@ pub record_refused_due : (c : Command) (bytes : List ℕ) (line : ℕ) (cause : 
 record_refused_due c bytes line cause (Ok due) reads is h = rw (h.0, h.1) (record_refused line cause reads is)
 record_refused_due c bytes line cause (Err error) reads is h = tt
 
-pub legal_due : (a : Audited) (Told : WorldValue → List Line → List ℕ → Type 0) (w : WorldValue) (lines : List Line) (end : End) (v : Verdict) (r : Result DueText NoMemory) → w ≡ a.world → lines ≡ a.lines
+pub legal_due : (a : Audited) (Told : WorldValue → List Line → List ℕ → Type 0) (w : WorldValue) (lines : List Line) (end : End) (v : Verdict) (r : Result DueText NoMemory)
+    → w ≡ a.world → lines ≡ a.lines
     → end ≡ a.end → IsVerdict w lines end v → v ≡ Legal → IsLawful w lines
     → IfOk r (λ due. (due.status ≡ 0) × Told w lines due.text) → IfOk r (λ due. IsChecked a Told due.status due.text)
 legal_due a Told w lines end v (Ok due) w_is lines_are end_is is v_is laws h =
@@ -142,7 +143,8 @@ legal_due a Told w lines end v (Ok due) w_is lines_are end_is is v_is laws h =
     rw h.0 (legal due.text holds lawful told)
 legal_due a Told w lines end v (Err error) w_is lines_are end_is is v_is laws h = tt
 
-pub illegal_due : (a : Audited) (Told : WorldValue → List Line → List ℕ → Type 0) (w : WorldValue) (lines : List Line) (end : End) (v : Verdict) (n : ℕ) (cause : Misstep) (r : Result DueText NoMemory) → w ≡ a.world
+pub illegal_due : (a : Audited) (Told : WorldValue → List Line → List ℕ → Type 0) (w : WorldValue) (lines : List Line) (end : End) (v : Verdict) (n : ℕ) (cause : Misstep)
+    (r : Result DueText NoMemory) → w ≡ a.world
     → lines ≡ a.lines → end ≡ a.end → IsVerdict w lines end v → v ≡ Illegal n cause
     → IfOk r (λ due. (due.status ≡ 8) × (due.text ≡ verdict_text v)) → IfOk r (λ due. IsChecked a Told due.status due.text)
 illegal_due a Told w lines end v n cause (Ok due) w_is lines_are end_is is v_is h =
@@ -199,11 +201,13 @@ at_most (command.Trace line) reads range = inr (inl (inr (inr (inl (line, (refl,
 at_most (command.Back count) reads range = inr (inl (inr (inr (inr (count, (refl, range)))), refl))
 at_most (command.Gen count) reads range = absurd reads
 
-pub read_due : {before after : Option (List ℕ)} {bytes same text : List ℕ} {status : ℕ} {made : Option State} (c : Command) (limit : ℕ) → TakesInput c → IsInRange c → limit ≡ byte_limit c
+pub read_due : {before after : Option (List ℕ)} {bytes same text : List ℕ} {status : ℕ} {made : Option State} (c : Command) (limit : ℕ) → TakesInput c → IsInRange c
+    → limit ≡ byte_limit c
     → Consumes before after bytes → IsAtEnd after → length bytes ≤ limit → same ≡ bytes
     → DueTo (words_of c) same status text made → Due (words_of c) before after status text made
 read_due {before} {after} {bytes} {same} {text} {status} {made} c limit reads range limit_is taken end few is due =
-    read bytes status text made (record { taken = taken; end = end; limit = limit; at_most = subst (λ n. ReadsAtMost (words_of c) n) (sym limit_is) (at_most c reads range); few = few })
+    read bytes status text made (record { taken = taken; end = end; limit = limit; at_most = subst (λ n. ReadsAtMost (words_of c) n) (sym limit_is) (at_most c reads range); few
+        = few })
     (subst (λ b. DueTo (words_of c) b status text made) is due)
 
 pub too_long_due : {before after : Option (List ℕ)} {status : ℕ} {text : List ℕ} {made : Option State} (c : Command) (limit : ℕ) → TakesInput c → IsInRange c → limit ≡ byte_limit c
@@ -300,5 +304,6 @@ pub answered : {K : Type 0} (P : Type 0) (state : K → State) {words : List (Li
 answered {K} P state {words} {input} {output} c (Ok served) out range is due fault spoken quiet =
     let said_as : Answer words input output out.0 (option_map state served.kernel) = said (due_at (sym is) refl refl due) spoken.1 in
     subst (λ (k : Option K). Answer words input output out.0 (option_map state k)) (sym spoken.0) said_as
-answered {K} P state {words} {input} {output} c (Err silence.ReadFault) out range is due fault spoken quiet = rw quiet.0 (read_fault (subst IsReading (sym is) (fault refl).0) (fault refl).1)
+answered {K} P state {words} {input} {output} c (Err silence.ReadFault) out range is due fault spoken quiet = rw quiet.0
+    (read_fault (subst IsReading (sym is) (fault refl).0) (fault refl).1)
 answered {K} P state {words} {input} {output} c (Err silence.NoMemory) out range is due fault spoken quiet = rw quiet.0 (no_memory (of_command c range is))

@@ -178,7 +178,8 @@ uses_traced w lines steps law line = by line.what
         (and_parts (not (is_empty (standing (state_after w lines) l.place))) (not (is_refused_before c line.reply l.order l.step)) e).0))
 
 -- what is found of a line is what is traced
-pub found_traced : (w : WorldValue) (lines : List Line) (line : Line) (m : Machine) (writings : List Writing) (s : State) (us : List UsedPlace) (cs : List Chain) → AreStepsOf w lines
+pub found_traced : (w : WorldValue) (lines : List Line) (line : Line) (m : Machine) (writings : List Writing) (s : State) (us : List UsedPlace) (cs : List Chain)
+    → AreStepsOf w lines
     → DescentLaw w lines → m ≡ after_lines w (opened w) lines → writings ≡ writings_of w (opened w) lines → s ≡ m.state → us ≡ map (told_use s) (used s line)
     → cs ≡ map (chain_found writings) us → cs ≡ map (chain_after w lines) (used (state_after w lines) line)
 found_traced w lines line m writings s us cs steps law hm ht hs hu hc = rw (hc, hu, hs, ht, hm) (uses_traced w lines steps law line)

@@ -77,7 +77,8 @@ passed_few : (s : State) (inc : Inc) (path : List ℕ) → length (passed s inc 
 passed_few s inc [] = refl
 passed_few s inc (at ∷ rest) = let h = length_passed s (SlotOf inc at) rest in omega (arith, h)
 
-pub walked_few : (s : State) (inc : Inc) (path : List ℕ) (few : ℕ) (walked : List (Option Standing)) → walked ≡ map (held_at s) (passed s inc path) → few ≡ length path → few ≤ path_limit
+pub walked_few : (s : State) (inc : Inc) (path : List ℕ) (few : ℕ) (walked : List (Option Standing)) → walked ≡ map (held_at s) (passed s inc path) → few ≡ length path
+    → few ≤ path_limit
     → 0 + length walked < step_bound
 walked_few s inc path few walked w e n =
     let a = ap (length {A = Option Standing}) w in
@@ -85,7 +86,8 @@ walked_few s inc path few walked w e n =
     let c = passed_few s inc path in
     omega (arith, a, b, c)
 
-pub slots_few : (s : State) (inc : Inc) (step few : ℕ) (slots : List ℕ) (held : List (Option Standing)) → held ≡ held_slots s inc slots → few ≡ length slots → few ≤ argument_limit → step ≤ path_limit + 1
+pub slots_few : (s : State) (inc : Inc) (step few : ℕ) (slots : List ℕ) (held : List (Option Standing)) → held ≡ held_slots s inc slots → few ≡ length slots
+    → few ≤ argument_limit → step ≤ path_limit + 1
     → step + length held < step_bound
 slots_few s inc step few slots held h e n m =
     let a = ap (length {A = Option Standing}) h in

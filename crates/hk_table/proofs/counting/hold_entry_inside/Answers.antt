@@ -3,10 +3,13 @@ use Rattle.hk_table.proofs.Stepping.{holding_inside, one_can, one_done, none_don
 use Rattle.hk_table.proofs.counting.hold_entry_inside.Goals as goal
 
 pub hold_name_inside-requires : goal.hold_name_inside-requires
-hold_name_inside-requires c = one_can (λ names t. CanHold c.args.objects.now.slots names t) (λ names t u. HoldsInside c.args.objects.now.slots names t u) (holding_inside c.args.objects.now.slots) c.args.entry.now c.in-Some.name c.args.counts.now c.in-Some.ensures c.requires
+hold_name_inside-requires c = one_can (λ names t. CanHold c.args.objects.now.slots names t) (λ names t u. HoldsInside c.args.objects.now.slots names t u)
+    (holding_inside c.args.objects.now.slots) c.args.entry.now c.in-Some.name c.args.counts.now c.in-Some.ensures c.requires
 
 pub returns-in-Some : goal.returns-in-Some
-returns-in-Some c = one_done (λ names t. CanHold c.args.objects.now.slots names t) (λ names t u. HoldsInside c.args.objects.now.slots names t u) (holding_inside c.args.objects.now.slots) c.args.entry.now c.in-Some.name c.args.counts.now c.hold_name_inside.new.counts c.in-Some.ensures c.hold_name_inside.ensures
+returns-in-Some c = one_done (λ names t. CanHold c.args.objects.now.slots names t) (λ names t u. HoldsInside c.args.objects.now.slots names t u)
+    (holding_inside c.args.objects.now.slots) c.args.entry.now c.in-Some.name c.args.counts.now c.hold_name_inside.new.counts c.in-Some.ensures c.hold_name_inside.ensures
 
 pub returns-in_default : goal.returns-in_default
-returns-in_default c = none_done (λ names t. CanHold c.args.objects.now.slots names t) (λ names t u. HoldsInside c.args.objects.now.slots names t u) (holding_inside c.args.objects.now.slots) c.args.entry.now c.args.counts.now c.in_default.ensures
+returns-in_default c = none_done (λ names t. CanHold c.args.objects.now.slots names t) (λ names t u. HoldsInside c.args.objects.now.slots names t u)
+    (holding_inside c.args.objects.now.slots) c.args.entry.now c.args.counts.now c.in_default.ensures

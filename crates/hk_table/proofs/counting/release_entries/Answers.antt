@@ -9,14 +9,21 @@ pub loop-entry-init : goal.loop-entry-init
 loop-entry-init c = record { can = c.requires; more = λ final done. done }
 
 pub release_entry-requires : goal.release_entry-requires
-release_entry-requires c = next_can (λ names t. CanRelease c.args.objects.now.slots names t) (λ names t u. Releases c.args.objects.now.slots names t u) (releasing c.args.objects.now.slots) c.args.entries.now c.loop-entry.entry-index c.entry-item.result c.loop-entry.counts c.loop-entry-test.true (get_or_read c.args.entries.now c.loop-entry.entry-index c.entry-item.result c.loop-entry-test.true c.entry-item.is Empty) c.loop-entry.invariant.can
+release_entry-requires c = next_can (λ names t. CanRelease c.args.objects.now.slots names t) (λ names t u. Releases c.args.objects.now.slots names t u)
+    (releasing c.args.objects.now.slots) c.args.entries.now c.loop-entry.entry-index c.entry-item.result c.loop-entry.counts c.loop-entry-test.true
+    (get_or_read c.args.entries.now c.loop-entry.entry-index c.entry-item.result c.loop-entry-test.true c.entry-item.is Empty) c.loop-entry.invariant.can
 
 pub loop-entry-preserved : goal.loop-entry-preserved
 loop-entry-preserved c = record {
-  can = later_can (λ names t. CanRelease c.args.objects.now.slots names t) (λ names t u. Releases c.args.objects.now.slots names t u) (releasing c.args.objects.now.slots) c.args.entries.now c.loop-entry.entry-index c.entry-item.result c.loop-entry.counts c.release_entry.new.counts c.loop-entry-test.true (get_or_read c.args.entries.now c.loop-entry.entry-index c.entry-item.result c.loop-entry-test.true c.entry-item.is Empty) c.release_entry.ensures c.loop-entry.invariant.can;
+  can = later_can (λ names t. CanRelease c.args.objects.now.slots names t) (λ names t u. Releases c.args.objects.now.slots names t u) (releasing c.args.objects.now.slots)
+      c.args.entries.now c.loop-entry.entry-index c.entry-item.result c.loop-entry.counts c.release_entry.new.counts c.loop-entry-test.true
+      (get_or_read c.args.entries.now c.loop-entry.entry-index c.entry-item.result c.loop-entry-test.true c.entry-item.is Empty) c.release_entry.ensures c.loop-entry.invariant.can;
   more = λ final later. c.loop-entry.invariant.more final
-      (later_done (λ names t. CanRelease c.args.objects.now.slots names t) (λ names t u. Releases c.args.objects.now.slots names t u) (releasing c.args.objects.now.slots) c.args.entries.now c.loop-entry.entry-index c.entry-item.result c.loop-entry.counts c.release_entry.new.counts final c.loop-entry-test.true (get_or_read c.args.entries.now c.loop-entry.entry-index c.entry-item.result c.loop-entry-test.true c.entry-item.is Empty) c.release_entry.ensures later);
+      (later_done (λ names t. CanRelease c.args.objects.now.slots names t) (λ names t u. Releases c.args.objects.now.slots names t u) (releasing c.args.objects.now.slots)
+          c.args.entries.now c.loop-entry.entry-index c.entry-item.result c.loop-entry.counts c.release_entry.new.counts final c.loop-entry-test.true
+          (get_or_read c.args.entries.now c.loop-entry.entry-index c.entry-item.result c.loop-entry-test.true c.entry-item.is Empty) c.release_entry.ensures later);
 }
 
 pub returns : goal.returns
-returns c = c.loop-entry.invariant.more c.loop-entry.counts (all_done (λ names t. CanRelease c.args.objects.now.slots names t) (λ names t u. Releases c.args.objects.now.slots names t u) (releasing c.args.objects.now.slots) c.args.entries.now c.loop-entry.entry-index c.loop-entry.counts (omega arith))
+returns c = c.loop-entry.invariant.more c.loop-entry.counts (all_done (λ names t. CanRelease c.args.objects.now.slots names t)
+    (λ names t u. Releases c.args.objects.now.slots names t u) (releasing c.args.objects.now.slots) c.args.entries.now c.loop-entry.entry-index c.loop-entry.counts (omega arith))

@@ -26,7 +26,8 @@ hold_entries-requires c =
 pub invariant_of-self-2 : goal.invariant_of-self-2
 invariant_of-self-2 c =
     record {
-      joined = call_joined c.self.inside.objects c.self.inside.queues c.self.inside.processes c.set_current.new.self c.self.inside.stacks c.push.new.self c.self.inside.walker c.args.proc _
+      joined = call_joined c.self.inside.objects c.self.inside.queues c.self.inside.processes c.set_current.new.self c.self.inside.stacks c.push.new.self c.self.inside.walker
+          c.args.proc _
           c.next-inc.result (subst (λ (s : State). c.args.proc.0 < length s.processes) (sym c.self.view_is) c.requires.known) c.self.invariant.joined c.depth-deep.ensures.numbered
           c.next-inc.ensures c.next-inc.ensures c.in_ok-push.ensures.ok c.set_current.ensures;
       told =

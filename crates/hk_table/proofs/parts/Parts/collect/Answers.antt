@@ -8,13 +8,15 @@ collect_and_forget-requires c = c.self.invariant.told.held.counted
 
 pub invariant_of-self : goal.invariant_of-self
 invariant_of-self c = record {
-  joined = left_joined c.self.inside.objects c.collect_and_forget.new.objects c.self.inside.queues c.self.inside.processes c.self.inside.stacks c.self.inside.walker c.collect_and_forget.new.walker
+  joined = left_joined c.self.inside.objects c.collect_and_forget.new.objects c.self.inside.queues c.self.inside.processes c.self.inside.stacks c.self.inside.walker
+      c.collect_and_forget.new.walker
       c.self.invariant.joined
       (c.collect_and_forget.ensures.queued c.self.inside.queues c.self.inside.processes
       (waits_counted c.self.inside.objects c.self.inside.stacks.stacks c.self.inside.processes c.self.inside.first_new c.self.inside.counts c.self.invariant.told)
       c.self.invariant.joined.queued) (c.collect_and_forget.ensures.walks c.self.invariant.joined.right);
   told = left_counted c.self.inside.objects c.collect_and_forget.new.objects c.self.inside.stacks.stacks c.self.inside.processes c.self.inside.first_new c.self.inside.counts
-      c.collect_and_forget.new.counts c.self.invariant.told c.collect_and_forget.ensures.left c.collect_and_forget.ensures.free c.collect_and_forget.ensures.counted c.collect_and_forget.ensures.outside;
+      c.collect_and_forget.new.counts c.self.invariant.told c.collect_and_forget.ensures.left c.collect_and_forget.ensures.free c.collect_and_forget.ensures.counted
+          c.collect_and_forget.ensures.outside;
 }
 
 pub returns : goal.returns

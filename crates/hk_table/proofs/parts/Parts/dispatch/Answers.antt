@@ -16,6 +16,7 @@ invariant_of-self-2 c =
       joined = subst (λ (ps : List Process). IsJoined c.self.inside.objects c.next_ready.new.self ps c.self.inside.stacks c.self.inside.walker) (sym c.start.ensures)
           (dispatched_joined c.self.inside.objects c.self.inside.queues c.next_ready.new.self c.self.inside.processes c.self.inside.stacks c.self.inside.walker c.in_ok-first.first
           c.args.cpu c.self.invariant.joined c.in_ok-first.ensures.first c.in_ok-first.ensures.rest);
-      told = run_quiet c.self.inside.objects c.self.inside.stacks.stacks c.self.inside.processes c.start.new.self c.self.inside.first_new c.self.inside.counts c.self.inside.counts c.in_ok-first.first (Running c.args.cpu)
+      told = run_quiet c.self.inside.objects c.self.inside.stacks.stacks c.self.inside.processes c.start.new.self c.self.inside.first_new c.self.inside.counts
+          c.self.inside.counts c.in_ok-first.first (Running c.args.cpu)
           (ready_within c.self.inside.processes c.in_ok-first.first.0 was) c.self.invariant.told c.start.ensures refl (ap run_names was);
     }

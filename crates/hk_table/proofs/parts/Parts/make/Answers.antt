@@ -25,9 +25,11 @@ hold_outside-requires-clause-in_range c =
     let named : AllNamedStand (told c.self.inside.objects c.self.inside.queues c.self.inside.processes c.self.inside.stacks c.self.inside.first_new c.self.inside.events
     c.self.inside.limit) = subst (λ (s : State). AllNamedStand s) (sym c.self.view_is) c.requires.named in
     let m = making c.self.inside.objects c.self.inside.queues c.self.inside.processes c.self.inside.stacks c.self.inside.first_new c.self.inside.events c.self.inside.limit
-    c.self.inside.counts c.make-slot.result.0 c.args.entries c.as_slice-stacks.ensures.numbered c.self.invariant.told c.make-slot.ensures.apart c.make-slot.ensures.above c.make-slot.ensures.slot
+    c.self.inside.counts c.make-slot.result.0 c.args.entries c.as_slice-stacks.ensures.numbered c.self.invariant.told c.make-slot.ensures.apart c.make-slot.ensures.above
+        c.make-slot.ensures.slot
     c.make-slot.ensures.free few named in
-    made_range c.self.inside.objects c.self.inside.stacks.stacks c.self.inside.processes c.self.inside.first_new c.self.inside.counts c.make-slot.result.0 c.self.inside.objects.next c.args.of c.args.words c.args.entries m
+    made_range c.self.inside.objects c.self.inside.stacks.stacks c.self.inside.processes c.self.inside.first_new c.self.inside.counts c.make-slot.result.0
+        c.self.inside.objects.next c.args.of c.args.words c.args.entries m
 
 pub hold_outside-requires-clause-few : goal.hold_outside-requires-clause-few
 hold_outside-requires-clause-few c =
@@ -35,9 +37,11 @@ hold_outside-requires-clause-few c =
     let named : AllNamedStand (told c.self.inside.objects c.self.inside.queues c.self.inside.processes c.self.inside.stacks c.self.inside.first_new c.self.inside.events
     c.self.inside.limit) = subst (λ (s : State). AllNamedStand s) (sym c.self.view_is) c.requires.named in
     let m = making c.self.inside.objects c.self.inside.queues c.self.inside.processes c.self.inside.stacks c.self.inside.first_new c.self.inside.events c.self.inside.limit
-    c.self.inside.counts c.make-slot.result.0 c.args.entries c.as_slice-stacks.ensures.numbered c.self.invariant.told c.make-slot.ensures.apart c.make-slot.ensures.above c.make-slot.ensures.slot
+    c.self.inside.counts c.make-slot.result.0 c.args.entries c.as_slice-stacks.ensures.numbered c.self.invariant.told c.make-slot.ensures.apart c.make-slot.ensures.above
+        c.make-slot.ensures.slot
     c.make-slot.ensures.free few named in
-    made_few c.self.inside.objects c.self.inside.stacks.stacks c.self.inside.processes c.self.inside.first_new c.self.inside.counts c.make-slot.result.0 c.self.inside.objects.next c.args.of c.args.words c.args.entries m
+    made_few c.self.inside.objects c.self.inside.stacks.stacks c.self.inside.processes c.self.inside.first_new c.self.inside.counts c.make-slot.result.0
+        c.self.inside.objects.next c.args.of c.args.words c.args.entries m
 
 pub release_outside-requires-clause-in_range : goal.release_outside-requires-clause-in_range
 release_outside-requires-clause-in_range c =
@@ -45,9 +49,12 @@ release_outside-requires-clause-in_range c =
     let named : AllNamedStand (told c.self.inside.objects c.self.inside.queues c.self.inside.processes c.self.inside.stacks c.self.inside.first_new c.self.inside.events
     c.self.inside.limit) = subst (λ (s : State). AllNamedStand s) (sym c.self.view_is) c.requires.named in
     let m = making c.self.inside.objects c.self.inside.queues c.self.inside.processes c.self.inside.stacks c.self.inside.first_new c.self.inside.events c.self.inside.limit
-    c.self.inside.counts c.make-slot.result.0 c.args.entries c.as_slice-stacks.ensures.numbered c.self.invariant.told c.make-slot.ensures.apart c.make-slot.ensures.above c.make-slot.ensures.slot
+    c.self.inside.counts c.make-slot.result.0 c.args.entries c.as_slice-stacks.ensures.numbered c.self.invariant.told c.make-slot.ensures.apart c.make-slot.ensures.above
+        c.make-slot.ensures.slot
     c.make-slot.ensures.free few named in
-    subst (λ (t : Tally). c.make-slot.result.0 < length t.total) (sym c.hold_outside.ensures) (made_range_still c.self.inside.objects c.self.inside.stacks.stacks c.self.inside.processes c.self.inside.first_new c.self.inside.counts c.make-slot.result.0 c.self.inside.objects.next c.args.of c.args.words c.args.entries m)
+    subst (λ (t : Tally). c.make-slot.result.0 < length t.total) (sym c.hold_outside.ensures)
+        (made_range_still c.self.inside.objects c.self.inside.stacks.stacks c.self.inside.processes c.self.inside.first_new c.self.inside.counts c.make-slot.result.0
+        c.self.inside.objects.next c.args.of c.args.words c.args.entries m)
 
 pub release_outside-requires-clause-held : goal.release_outside-requires-clause-held
 release_outside-requires-clause-held c =
@@ -55,9 +62,12 @@ release_outside-requires-clause-held c =
     let named : AllNamedStand (told c.self.inside.objects c.self.inside.queues c.self.inside.processes c.self.inside.stacks c.self.inside.first_new c.self.inside.events
     c.self.inside.limit) = subst (λ (s : State). AllNamedStand s) (sym c.self.view_is) c.requires.named in
     let m = making c.self.inside.objects c.self.inside.queues c.self.inside.processes c.self.inside.stacks c.self.inside.first_new c.self.inside.events c.self.inside.limit
-    c.self.inside.counts c.make-slot.result.0 c.args.entries c.as_slice-stacks.ensures.numbered c.self.invariant.told c.make-slot.ensures.apart c.make-slot.ensures.above c.make-slot.ensures.slot
+    c.self.inside.counts c.make-slot.result.0 c.args.entries c.as_slice-stacks.ensures.numbered c.self.invariant.told c.make-slot.ensures.apart c.make-slot.ensures.above
+        c.make-slot.ensures.slot
     c.make-slot.ensures.free few named in
-    subst (λ (t : Tally). 0 < get_or t.outside c.make-slot.result.0 0) (sym c.hold_outside.ensures) (made_some c.self.inside.objects c.self.inside.stacks.stacks c.self.inside.processes c.self.inside.first_new c.self.inside.counts c.make-slot.result.0 c.self.inside.objects.next c.args.of c.args.words c.args.entries m)
+    subst (λ (t : Tally). 0 < get_or t.outside c.make-slot.result.0 0) (sym c.hold_outside.ensures)
+        (made_some c.self.inside.objects c.self.inside.stacks.stacks c.self.inside.processes c.self.inside.first_new c.self.inside.counts c.make-slot.result.0
+        c.self.inside.objects.next c.args.of c.args.words c.args.entries m)
 
 pub hold_name_inside-requires : goal.hold_name_inside-requires
 hold_name_inside-requires c =
@@ -65,7 +75,8 @@ hold_name_inside-requires c =
     let named : AllNamedStand (told c.self.inside.objects c.self.inside.queues c.self.inside.processes c.self.inside.stacks c.self.inside.first_new c.self.inside.events
     c.self.inside.limit) = subst (λ (s : State). AllNamedStand s) (sym c.self.view_is) c.requires.named in
     let m = making c.self.inside.objects c.self.inside.queues c.self.inside.processes c.self.inside.stacks c.self.inside.first_new c.self.inside.events c.self.inside.limit
-    c.self.inside.counts c.make-slot.result.0 c.args.entries c.as_slice-stacks.ensures.numbered c.self.invariant.told c.make-slot.ensures.apart c.make-slot.ensures.above c.make-slot.ensures.slot
+    c.self.inside.counts c.make-slot.result.0 c.args.entries c.as_slice-stacks.ensures.numbered c.self.invariant.told c.make-slot.ensures.apart c.make-slot.ensures.above
+        c.make-slot.ensures.slot
     c.make-slot.ensures.free few named in
     let t : Tally = c.self.inside.counts in
     let s : ℕ = c.make-slot.result.0 in
@@ -73,7 +84,9 @@ hold_name_inside-requires c =
     c.release_outside.ensures
     ∙ ap (λ (n : Name). let v : Tally = record t { outside = raised t.outside s; total = raised t.total s; pending = without s t.pending } in
     let w : Tally = record (released v s n) { outside = lowered v.outside s } in w) c.next_name-name.ensures.name in
-    made_can c.self.inside.objects c.self.inside.stacks.stacks c.self.inside.processes c.self.inside.first_new c.self.inside.counts c.make-slot.result.0 c.self.inside.objects.next c.args.of c.args.words c.args.entries m c.make-slot.new.objects (ap (λ (v : Shelf). v.slots) c.make-slot.ensures.made) c.next_name-apart.ensures.apart c.release_outside.new.self settled
+    made_can c.self.inside.objects c.self.inside.stacks.stacks c.self.inside.processes c.self.inside.first_new c.self.inside.counts c.make-slot.result.0
+        c.self.inside.objects.next c.args.of c.args.words c.args.entries m c.make-slot.new.objects (ap (λ (v : Shelf). v.slots) c.make-slot.ensures.made)
+        c.next_name-apart.ensures.apart c.release_outside.new.self settled
 
 pub entries-requires : goal.entries-requires
 entries-requires c =
@@ -81,9 +94,11 @@ entries-requires c =
     let named : AllNamedStand (told c.self.inside.objects c.self.inside.queues c.self.inside.processes c.self.inside.stacks c.self.inside.first_new c.self.inside.events
     c.self.inside.limit) = subst (λ (s : State). AllNamedStand s) (sym c.self.view_is) c.requires.named in
     let m = making c.self.inside.objects c.self.inside.queues c.self.inside.processes c.self.inside.stacks c.self.inside.first_new c.self.inside.events c.self.inside.limit
-    c.self.inside.counts c.make-slot.result.0 c.args.entries c.as_slice-stacks.ensures.numbered c.self.invariant.told c.make-slot.ensures.apart c.make-slot.ensures.above c.make-slot.ensures.slot
+    c.self.inside.counts c.make-slot.result.0 c.args.entries c.as_slice-stacks.ensures.numbered c.self.invariant.told c.make-slot.ensures.apart c.make-slot.ensures.above
+        c.make-slot.ensures.slot
     c.make-slot.ensures.free few named in
-    made_stands c.self.inside.objects c.self.inside.stacks.stacks c.self.inside.processes c.self.inside.first_new c.self.inside.counts c.make-slot.result.0 c.self.inside.objects.next c.args.of c.args.words c.args.entries m c.make-slot.new.objects.slots (ap (λ (v : Shelf). v.slots) c.make-slot.ensures.made)
+    made_stands c.self.inside.objects c.self.inside.stacks.stacks c.self.inside.processes c.self.inside.first_new c.self.inside.counts c.make-slot.result.0
+        c.self.inside.objects.next c.args.of c.args.words c.args.entries m c.make-slot.new.objects.slots (ap (λ (v : Shelf). v.slots) c.make-slot.ensures.made)
 
 pub hold_entries_inside-requires : goal.hold_entries_inside-requires
 hold_entries_inside-requires c =
@@ -91,7 +106,8 @@ hold_entries_inside-requires c =
     let named : AllNamedStand (told c.self.inside.objects c.self.inside.queues c.self.inside.processes c.self.inside.stacks c.self.inside.first_new c.self.inside.events
     c.self.inside.limit) = subst (λ (s : State). AllNamedStand s) (sym c.self.view_is) c.requires.named in
     let m = making c.self.inside.objects c.self.inside.queues c.self.inside.processes c.self.inside.stacks c.self.inside.first_new c.self.inside.events c.self.inside.limit
-    c.self.inside.counts c.make-slot.result.0 c.args.entries c.as_slice-stacks.ensures.numbered c.self.invariant.told c.make-slot.ensures.apart c.make-slot.ensures.above c.make-slot.ensures.slot
+    c.self.inside.counts c.make-slot.result.0 c.args.entries c.as_slice-stacks.ensures.numbered c.self.invariant.told c.make-slot.ensures.apart c.make-slot.ensures.above
+        c.make-slot.ensures.slot
     c.make-slot.ensures.free few named in
     let t : Tally = c.self.inside.counts in
     let s : ℕ = c.make-slot.result.0 in
@@ -99,9 +115,13 @@ hold_entries_inside-requires c =
     c.release_outside.ensures
     ∙ ap (λ (n : Name). let v : Tally = record t { outside = raised t.outside s; total = raised t.total s; pending = without s t.pending } in
     let w : Tally = record (released v s n) { outside = lowered v.outside s } in w) c.next_name-name.ensures.name in
-    let read : c.entries.result.now ≡ c.args.entries = made_read c.self.inside.objects c.self.inside.stacks.stacks c.self.inside.processes c.self.inside.first_new c.self.inside.counts c.make-slot.result.0 c.self.inside.objects.next c.args.of c.args.words c.args.entries m c.make-slot.new.objects.slots (ap (λ (v : Shelf). v.slots) c.make-slot.ensures.made) c.entries.result.now c.entries.ensures.entries in
+    let read : c.entries.result.now ≡ c.args.entries = made_read c.self.inside.objects c.self.inside.stacks.stacks c.self.inside.processes c.self.inside.first_new
+            c.self.inside.counts c.make-slot.result.0 c.self.inside.objects.next c.args.of c.args.words c.args.entries m c.make-slot.new.objects.slots
+            (ap (λ (v : Shelf). v.slots) c.make-slot.ensures.made) c.entries.result.now c.entries.ensures.entries in
     subst (λ (es : List Entry). CanHold c.make-slot.new.objects.slots (named_in es) c.hold_name_inside.new.counts) (sym read)
-    (made_can_more c.self.inside.objects c.self.inside.stacks.stacks c.self.inside.processes c.self.inside.first_new c.self.inside.counts c.make-slot.result.0 c.self.inside.objects.next c.args.of c.args.words c.args.entries m c.make-slot.new.objects (ap (λ (v : Shelf). v.slots) c.make-slot.ensures.made) c.next_name-apart.ensures.apart c.release_outside.new.self settled c.hold_name_inside.new.counts c.hold_name_inside.ensures)
+    (made_can_more c.self.inside.objects c.self.inside.stacks.stacks c.self.inside.processes c.self.inside.first_new c.self.inside.counts c.make-slot.result.0
+        c.self.inside.objects.next c.args.of c.args.words c.args.entries m c.make-slot.new.objects (ap (λ (v : Shelf). v.slots) c.make-slot.ensures.made)
+        c.next_name-apart.ensures.apart c.release_outside.new.self settled c.hold_name_inside.new.counts c.hold_name_inside.ensures)
 
 pub invariant_of-self : goal.invariant_of-self
 invariant_of-self c =
@@ -109,7 +129,8 @@ invariant_of-self c =
     let named : AllNamedStand (told c.self.inside.objects c.self.inside.queues c.self.inside.processes c.self.inside.stacks c.self.inside.first_new c.self.inside.events
     c.self.inside.limit) = subst (λ (s : State). AllNamedStand s) (sym c.self.view_is) c.requires.named in
     let m = making c.self.inside.objects c.self.inside.queues c.self.inside.processes c.self.inside.stacks c.self.inside.first_new c.self.inside.events c.self.inside.limit
-    c.self.inside.counts c.make-slot.result.0 c.args.entries c.as_slice-stacks.ensures.numbered c.self.invariant.told c.make-slot.ensures.apart c.make-slot.ensures.above c.make-slot.ensures.slot
+    c.self.inside.counts c.make-slot.result.0 c.args.entries c.as_slice-stacks.ensures.numbered c.self.invariant.told c.make-slot.ensures.apart c.make-slot.ensures.above
+        c.make-slot.ensures.slot
     c.make-slot.ensures.free few named in
     let t : Tally = c.self.inside.counts in
     let s : ℕ = c.make-slot.result.0 in
@@ -119,12 +140,16 @@ invariant_of-self c =
     let w : Tally = record (released v s n) { outside = lowered v.outside s } in w) c.next_name-name.ensures.name in
     let fresh : (k : ℕ) → name_at c.self.inside.objects.slots k ≡ Some c.self.inside.objects.next → ⊥ =
     λ k named. let a = c.make-slot.ensures.above k c.self.inside.objects.next named in omega (arith, a) in
-    let read : c.entries.result.now ≡ c.args.entries = made_read c.self.inside.objects c.self.inside.stacks.stacks c.self.inside.processes c.self.inside.first_new c.self.inside.counts c.make-slot.result.0 c.self.inside.objects.next c.args.of c.args.words c.args.entries m c.make-slot.new.objects.slots (ap (λ (v : Shelf). v.slots) c.make-slot.ensures.made) c.entries.result.now c.entries.ensures.entries in
+    let read : c.entries.result.now ≡ c.args.entries = made_read c.self.inside.objects c.self.inside.stacks.stacks c.self.inside.processes c.self.inside.first_new
+            c.self.inside.counts c.make-slot.result.0 c.self.inside.objects.next c.args.of c.args.words c.args.entries m c.make-slot.new.objects.slots
+            (ap (λ (v : Shelf). v.slots) c.make-slot.ensures.made) c.entries.result.now c.entries.ensures.entries in
     record {
       joined = made_joined c.self.inside.objects c.make-slot.new.objects c.self.inside.queues c.self.inside.processes c.self.inside.stacks c.self.inside.walker c.make-slot.result.0
           c.self.inside.objects.next (new_body c.args.of c.args.words c.args.entries) c.make-slot.ensures.free c.make-slot.ensures.slot fresh c.self.invariant.joined
           (ap (λ (v : Shelf). v.slots) c.make-slot.ensures.made);
-      told = made_told_all c.self.inside.objects c.self.inside.stacks.stacks c.self.inside.processes c.self.inside.first_new c.self.inside.counts c.make-slot.result.0 c.self.inside.objects.next c.args.of c.args.words c.args.entries m c.make-slot.new.objects (ap (λ (v : Shelf). v.slots) c.make-slot.ensures.made) c.next_name-apart.ensures.apart c.release_outside.new.self settled c.hold_name_inside.new.counts c.hold_entries_inside.new.counts c.hold_name_inside.ensures
+      told = made_told_all c.self.inside.objects c.self.inside.stacks.stacks c.self.inside.processes c.self.inside.first_new c.self.inside.counts c.make-slot.result.0
+          c.self.inside.objects.next c.args.of c.args.words c.args.entries m c.make-slot.new.objects (ap (λ (v : Shelf). v.slots) c.make-slot.ensures.made)
+          c.next_name-apart.ensures.apart c.release_outside.new.self settled c.hold_name_inside.new.counts c.hold_entries_inside.new.counts c.hold_name_inside.ensures
           (subst (λ (es : List Entry). HoldsInside c.make-slot.new.objects.slots (named_in es) c.hold_name_inside.new.counts c.hold_entries_inside.new.counts) read
           c.hold_entries_inside.ensures);
     }
@@ -135,4 +160,5 @@ returns c =
     λ k named. let a = c.make-slot.ensures.above k c.self.inside.objects.next named in omega (arith, a) in
     rw (← c.self.view_is)
     (made_told c.self.inside.objects c.make-slot.new.objects c.self.inside.queues c.self.inside.processes c.self.inside.stacks c.self.inside.first_new c.self.inside.events
-    c.self.inside.limit c.make-slot.result.0 c.args.of c.args.words c.args.entries c.make-slot.ensures.free c.make-slot.ensures.slot fresh c.self.invariant.joined.queued c.make-slot.ensures.made)
+    c.self.inside.limit c.make-slot.result.0 c.args.of c.args.words c.args.entries c.make-slot.ensures.free c.make-slot.ensures.slot fresh c.self.invariant.joined.queued
+        c.make-slot.ensures.made)

@@ -19,21 +19,25 @@ hold_outside-requires-clause-in_range c = omega (arith, c.in-Some.ensures.low, c
 pub hold_outside-requires-clause-few : goal.hold_outside-requires-clause-few
 hold_outside-requires-clause-few c =
     few_total c.self.inside.objects.slots c.self.inside.counts c.in-Some.slot.0 c.args.name c.in-Some.ensures.found
-    (can_hold_entry c.self.inside.objects c.self.inside.stacks.stacks c.self.inside.processes c.self.inside.first_new c.self.inside.counts (Held (record { name = c.args.name; rights = 0 })) c.self.invariant.told)
+    (can_hold_entry c.self.inside.objects c.self.inside.stacks.stacks c.self.inside.processes c.self.inside.first_new c.self.inside.counts
+        (Held (record { name = c.args.name; rights = 0 })) c.self.invariant.told)
 
 pub invariant_of-self : goal.invariant_of-self
 invariant_of-self c =
     let runs : is_running (process_at c.self.inside.processes c.args.proc.0).run ≡ true =
     subst (λ (s : State). is_running (process s c.args.proc).run ≡ true) (sym c.self.view_is) c.requires in
     record {
-      joined = let idle : IsIdle c.self.inside.queues c.args.proc = idle_running c.self.inside.objects.slots c.self.inside.queues c.self.inside.processes c.args.proc c.self.invariant.joined.queued runs in
+      joined = let idle : IsIdle c.self.inside.queues c.args.proc = idle_running c.self.inside.objects.slots c.self.inside.queues c.self.inside.processes c.args.proc
+          c.self.invariant.joined.queued runs in
           let low : c.in-Some.slot.0 < length c.self.inside.queues.waiting = omega (arith, c.in-Some.ensures.low, c.self.invariant.joined.queued.lists) in
           subst (λ (ps : List Process). IsJoined c.self.inside.objects c.wait.new.self ps c.self.inside.stacks c.self.inside.walker) (sym c.set_run.ensures)
           (run_joined c.self.inside.objects c.self.inside.queues c.wait.new.self c.self.inside.processes c.self.inside.stacks c.self.inside.walker c.args.proc (Waiting c.args.name)
           (runs_within c.self.inside.processes c.args.proc runs) c.self.invariant.joined
-          (wait_move c.self.inside.objects.slots c.self.inside.queues c.wait.new.self c.self.inside.processes c.args.proc c.in-Some.slot.0 c.args.name c.self.invariant.joined.queued idle low
+          (wait_move c.self.inside.objects.slots c.self.inside.queues c.wait.new.self c.self.inside.processes c.args.proc c.in-Some.slot.0 c.args.name
+              c.self.invariant.joined.queued idle low
           c.in-Some.ensures.found c.wait.ensures));
-      told = run_held c.self.inside.objects c.self.inside.stacks.stacks c.self.inside.processes c.set_run.new.self c.self.inside.first_new c.self.inside.counts c.hold_outside.new.self c.args.proc (Waiting c.args.name)
+      told = run_held c.self.inside.objects c.self.inside.stacks.stacks c.self.inside.processes c.set_run.new.self c.self.inside.first_new c.self.inside.counts
+          c.hold_outside.new.self c.args.proc (Waiting c.args.name)
           (runs_within c.self.inside.processes c.args.proc runs) c.self.invariant.told c.set_run.ensures (c.args.name ∷ [])
           (runs_unnamed (process_at c.self.inside.processes c.args.proc.0).run runs) refl
           (held_holds c.self.inside.objects.slots c.self.inside.counts c.hold_outside.new.self c.in-Some.slot.0 c.args.name c.in-Some.ensures.apart c.in-Some.ensures.found
@@ -45,12 +49,15 @@ invariant_of-self-in-None c =
     let runs : is_running (process_at c.self.inside.processes c.args.proc.0).run ≡ true =
     subst (λ (s : State). is_running (process s c.args.proc).run ≡ true) (sym c.self.view_is) c.requires in
     record {
-      joined = let idle : IsIdle c.self.inside.queues c.args.proc = idle_running c.self.inside.objects.slots c.self.inside.queues c.self.inside.processes c.args.proc c.self.invariant.joined.queued runs in
+      joined = let idle : IsIdle c.self.inside.queues c.args.proc = idle_running c.self.inside.objects.slots c.self.inside.queues c.self.inside.processes c.args.proc
+          c.self.invariant.joined.queued runs in
           subst (λ (ps : List Process). IsJoined c.self.inside.objects c.self.inside.queues ps c.self.inside.stacks c.self.inside.walker) (sym c.set_run-in-None.ensures)
-          (run_joined c.self.inside.objects c.self.inside.queues c.self.inside.queues c.self.inside.processes c.self.inside.stacks c.self.inside.walker c.args.proc (Waiting c.args.name)
+          (run_joined c.self.inside.objects c.self.inside.queues c.self.inside.queues c.self.inside.processes c.self.inside.stacks c.self.inside.walker c.args.proc
+              (Waiting c.args.name)
           (runs_within c.self.inside.processes c.args.proc runs) c.self.invariant.joined
           (stray_move c.self.inside.objects.slots c.self.inside.queues c.self.inside.processes c.args.proc (Waiting c.args.name) c.self.invariant.joined.queued idle));
-      told = run_held c.self.inside.objects c.self.inside.stacks.stacks c.self.inside.processes c.set_run-in-None.new.self c.self.inside.first_new c.self.inside.counts c.self.inside.counts c.args.proc (Waiting c.args.name)
+      told = run_held c.self.inside.objects c.self.inside.stacks.stacks c.self.inside.processes c.set_run-in-None.new.self c.self.inside.first_new c.self.inside.counts
+          c.self.inside.counts c.args.proc (Waiting c.args.name)
           (runs_within c.self.inside.processes c.args.proc runs) c.self.invariant.told c.set_run-in-None.ensures (c.args.name ∷ [])
           (runs_unnamed (process_at c.self.inside.processes c.args.proc.0).run runs) refl
           (nowhere_holds c.self.inside.objects.slots c.self.inside.counts c.args.name c.in-None.ensures.none);

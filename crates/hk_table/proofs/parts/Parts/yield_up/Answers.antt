@@ -19,6 +19,8 @@ invariant_of-self c =
           (runs_within c.self.inside.processes c.args.proc runs) c.self.invariant.joined
           (yield_move c.self.inside.objects.slots c.self.inside.queues c.ready.new.self c.self.inside.processes c.args.proc c.self.invariant.joined.queued
           (idle_running c.self.inside.objects.slots c.self.inside.queues c.self.inside.processes c.args.proc c.self.invariant.joined.queued runs) c.ready.ensures));
-      told = run_quiet c.self.inside.objects c.self.inside.stacks.stacks c.self.inside.processes c.set_run.new.self c.self.inside.first_new c.self.inside.counts c.self.inside.counts c.args.proc Ready
-          (runs_within c.self.inside.processes c.args.proc runs) c.self.invariant.told c.set_run.ensures refl (runs_unnamed (process_at c.self.inside.processes c.args.proc.0).run runs);
+      told = run_quiet c.self.inside.objects c.self.inside.stacks.stacks c.self.inside.processes c.set_run.new.self c.self.inside.first_new c.self.inside.counts
+          c.self.inside.counts c.args.proc Ready
+          (runs_within c.self.inside.processes c.args.proc runs) c.self.invariant.told c.set_run.ensures refl
+              (runs_unnamed (process_at c.self.inside.processes c.args.proc.0).run runs);
     }
