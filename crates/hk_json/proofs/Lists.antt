@@ -1,7 +1,7 @@
 -- What stands at the keys of a value.
-use Rattle.std.proofs.Common.{◌≡◌, ℕ, Bool, List, [], ◌∷◌, map, refl, sym, ap, ◌∙◌, Option, Some, None}
-use Rattle.std.specs.Prelude.{is_some, option_map, unwrap_or}
-use Rattle.serde_json.specs.Data.{Data, Items, no_items}
+use Rattle.std.proofs.Common.{◌≡◌, ℕ, List, [], ◌∷◌, map, refl, ap, ◌∙◌, Option, Some, None}
+use Rattle.std.specs.Prelude.{is_some, option_map}
+use Rattle.serde_json.specs.Data.{Data}
 use Rattle.serde_json.specs.View.{view, items_of, items_view}
 use Rattle.serde_json.specs.declared.value.Value.{Value}
 use Rattle.hk_json.specs.Scripts.{values_in}

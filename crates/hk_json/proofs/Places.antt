@@ -1,10 +1,10 @@
 -- The text of an instruction names the place that it jumps to, and the text of an instruction that does not jump names none.
-use Rattle.std.proofs.Common.{◌≡◌, ℕ, ◌+◌, ◌<◌, ◌≤◌, ◌^◌, ◌&&◌, ◌||◌, not, Bool, true, false, cond, eqb, List, [], ◌∷◌, ◌++◌, length, map, refl, sym, ap, ◌∙◌, arith, Option, Some}
+use Rattle.std.proofs.Common.{◌≡◌, ℕ, ◌+◌, ◌<◌, ◌≤◌, ◌^◌, ◌&&◌, ◌||◌, not, Bool, true, false, cond, eqb, List, [], ◌∷◌, ◌++◌, map, refl, sym, ap, ◌∙◌, arith, Option, Some}
 use Rattle.std.proofs.Common.{None}
 use Rattle.std.specs.Prelude.{codes}
 use Rattle.std.specs.List.{AllByRecursion, list_all, list_any, join_with_byte}
 use Rattle.std.specs.Fmt.{decimal}
-use Rattle.std.proofs.lemmas.Bool.{and_parts, and_from, false≢true}
+use Rattle.std.proofs.lemmas.Bool.{and_parts, false≢true}
 use Rattle.std.proofs.lemmas.Bool.Decides.{nat_tests}
 use Rattle.hk_rights.specs.Rights.{IsRightsWord}
 use Rattle.hk_model.specs.declared.names.Slot.{Slot}
@@ -19,13 +19,12 @@ use Rattle.hk_model.specs.declared.instructions.Route.{Route}
 use Rattle.hk_model.specs.Labels.{is_digit, is_capital, same_text}
 use Rattle.hk_model.specs.WorldValue.{IsInstr, IsIndex, IsOperand, IsRoute, IsSlot, BeginsAtSlot}
 use Rattle.hk_format.specs.declared.syntax.Verb.TheVariants as verb
-use Rattle.hk_format.specs.Pieces.{Piece, Word, Upper, Dash, Number, Path, spell, spell_index, is_piece, is_number, is_names, is_upper}
+use Rattle.hk_format.specs.Pieces.{Piece, Word, Number, spell, spell_index, is_piece, is_number, is_upper}
 use Rattle.hk_format.specs.Texts.{is_none, spell_line}
 use Rattle.hk_format.specs.RightsTexts.{rights_text}
 use Rattle.hk_format.specs.Verbs.{verb_piece}
 use Rattle.hk_format.specs.Operands.{register_piece, slot_piece, operand_piece, steps_piece, route_piece, rights_piece, argument_pieces}
 use Rattle.hk_format.specs.Spelling.{written_pieces}
-use Rattle.hk_format.specs.Syntax.{IsRightsText}
 use Rattle.hk_format.specs.Canonical.{label_text, written_of, jumps_to}
 use Rattle.hk_format.proofs.Cutting.{none_of}
 use Rattle.hk_format.proofs.PieceAgain.{digits_number}

@@ -1,10 +1,9 @@
 -- The value of a world has no float, and is not deep.
-use Rattle.std.proofs.Common.{◌≡◌, ◌≤◌, ℕ, false, max, List, [], ◌∷◌, map, refl, arith}
+use Rattle.std.proofs.Common.{◌≡◌, ◌≤◌, ℕ, false, List, [], ◌∷◌, map, refl, arith}
 use Rattle.serde_json.specs.Data.{Data, depth, items_depth}
 use Rattle.serde_json.specs.Read.{max_depth}
 use Rattle.serde_json.specs.View.{items_of}
 use Rattle.serde_json.specs.Written.{has_float, items_have_float}
-use Rattle.hk_model.specs.declared.world.Born.{Born}
 use Rattle.hk_model.specs.declared.world.Code.{Code}
 use Rattle.hk_model.specs.declared.world.Kind.{Kind}
 use Rattle.hk_model.specs.declared.world.Kind.TheVariants as kind
@@ -13,7 +12,7 @@ use Rattle.hk_model.specs.WorldValue.{WorldValue}
 use Rattle.hk_format.specs.declared.syntax.Body.{Body}
 use Rattle.hk_format.specs.declared.syntax.Body.TheVariants.{WordsAre, EmptyEntry, CapEntry, AmplifyEntry, CreateEntry, ParamIs, LabelIs, StepIs}
 use Rattle.hk_format.specs.Names.{Names, spoken}
-use Rattle.hk_format.specs.Canonical.{entry_body, param_body, written_of}
+use Rattle.hk_format.specs.Canonical.{entry_body, param_body}
 use Rattle.hk_json.specs.Values.{number_value, body_value, entry_value, param_value, step_value, object_value, kind_value, code_value, task_value, value}
 
 -- no float

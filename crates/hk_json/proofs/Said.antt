@@ -1,5 +1,5 @@
 -- The script that the value of a world says is the canonical script of this world.
-use Rattle.std.proofs.Common.{◌≡◌, ℕ, ◌+◌, ◌<◌, ◌≤◌, ◌&&◌, Bool, true, false, cond, List, [], ◌∷◌, ◌++◌, length, map, refl, sym, ap, subst, ◌∙◌, arith, Ok}
+use Rattle.std.proofs.Common.{◌≡◌, ℕ, ◌+◌, ◌<◌, ◌≤◌, ◌&&◌, true, List, [], ◌∷◌, ◌++◌, length, map, refl, sym, ap, subst, ◌∙◌, arith, Ok}
 use Rattle.std.specs.Prelude.{codes}
 use Rattle.std.specs.List.{AllByRecursion, list_all, list_any, flat_map}
 use Rattle.std.proofs.lemmas.Bool.{and_parts, lt-ltb}
@@ -21,7 +21,7 @@ use Rattle.hk_model.specs.declared.world.Task.{Task}
 use Rattle.hk_model.specs.Limits.{word_bound}
 use Rattle.hk_model.specs.WorldValue.{WorldValue, IsWorld, IsWord32, IsKind, IsCode, IsInstr}
 use Rattle.hk_format.specs.declared.syntax.Body.{Body}
-use Rattle.hk_format.specs.declared.syntax.Body.TheVariants.{LabelIs, StepIs}
+use Rattle.hk_format.specs.declared.syntax.Body.TheVariants.{StepIs}
 use Rattle.hk_format.specs.declared.syntax.Head.TheVariants.{CodeIs}
 use Rattle.hk_format.specs.declared.syntax.Item.{Item}
 use Rattle.hk_format.specs.declared.syntax.Part.{Part}
@@ -29,12 +29,12 @@ use Rattle.hk_format.specs.Pieces.{Piece, is_piece}
 use Rattle.hk_format.specs.Texts.{is_line, spell_line}
 use Rattle.hk_format.specs.Spelling.{body_pieces, head_pieces, item_lines, written_pieces, header_line, end_line}
 use Rattle.hk_format.specs.Names.{Names, spoken}
-use Rattle.hk_format.specs.Canonical.{canon, part, entry_body, param_body, label_parts, code_parts, label_text, jumps_to, written_of}
+use Rattle.hk_format.specs.Canonical.{canon, part, entry_body, param_body, label_parts, code_parts, jumps_to, written_of}
 use Rattle.hk_format.specs.Canonical.{object_item, kind_item, code_item, task_item, limit_items, syntax_of}
 use Rattle.hk_format.specs.Worlds.{world}
 use Rattle.hk_format.proofs.LinesGood.{lines_good}
 use Rattle.hk_format.proofs.WorldAgain.{world_again}
-use Rattle.hk_print.specs.ItemTexts.{pieces_line, body_text, parts_text, item_text}
+use Rattle.hk_print.specs.ItemTexts.{pieces_line, parts_text, item_text}
 use Rattle.hk_print.proofs.Items.{item_spelled, parts_joined}
 use Rattle.hk_print.proofs.ItemByItem.{canon_is}
 use Rattle.hk_print.proofs.StepByStep.{label_spelled}

@@ -1,5 +1,5 @@
 -- The lines that the values say, as they are written.
-use Rattle.std.proofs.Common.{◌≡◌, ℕ, ◌+◌, ◌<◌, Bool, true, false, cond, List, [], ◌∷◌, ◌++◌, length, drop, map, get_or, refl, sym, ap, ◌∙◌, arith}
+use Rattle.std.proofs.Common.{◌≡◌, ℕ, ◌+◌, ◌<◌, Bool, true, false, cond, List, [], ◌∷◌, ◌++◌, length, drop, map, get_or, refl, ap, ◌∙◌}
 use Rattle.std.specs.Prelude.{codes}
 use Rattle.std.specs.List.{flat_map, list_any}
 use Rattle.std.proofs.lemmas.List.{drop_more}
@@ -11,7 +11,6 @@ use Rattle.hk_format.specs.declared.syntax.Body.{Body}
 use Rattle.hk_format.specs.declared.syntax.Body.TheVariants.{LabelIs}
 use Rattle.hk_format.specs.declared.syntax.Head.TheVariants.{TypeIs, ObjectIs, SemaphoreIs, ProcedureIs}
 use Rattle.hk_format.specs.declared.syntax.Item.{Item}
-use Rattle.hk_format.specs.declared.syntax.Part.{Part}
 use Rattle.hk_format.specs.Canonical.{item, part, word_parts, label_text}
 use Rattle.hk_print.specs.ItemTexts.{body_text, parts_text}
 use Rattle.hk_json.specs.Scripts.{has, text_at, number_at, list_at, parts_said, entry_said, param_said, word_said, object_said, label_said, steps_said, goes_to, text_said}

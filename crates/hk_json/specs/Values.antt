@@ -1,7 +1,7 @@
 -- The JSON value of a world, in the words of its script: what an item says is that of the canonical script, and here it has keys, which
 -- rise. docs/FORMATS.md, "Worlds as JSON".
 use Rattle.std.specs.Prelude.{ℕ, List, map, codes}
-use Rattle.serde_json.specs.Data.{Data, Members, null, number, string, array, object, unsigned, member, no_members}
+use Rattle.serde_json.specs.Data.{Data, null, number, string, array, object, unsigned, member, no_members}
 use Rattle.serde_json.specs.View.{items_of}
 use Rattle.hk_model.specs.declared.entries.Entry.{Entry}
 use Rattle.hk_model.specs.declared.entries.Param.{Param}

@@ -1,4 +1,4 @@
-use Rattle.std.proofs.Common.{Err, arith, ap, ◌∙◌, inl, inr, refl}
+use Rattle.std.proofs.Common.{Err, arith, ap, ◌∙◌, inr, refl}
 use Rattle.hk_text.proofs.LineCount.{lines_few}
 use Rattle.hk_top.specs.declared.words.Command.TheVariants as command
 use Rattle.hk_top.proofs.AnswerLemmas.{state_due, record_refused_due}

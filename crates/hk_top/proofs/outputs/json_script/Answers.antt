@@ -1,4 +1,4 @@
-use Rattle.std.proofs.Common.{Err, arith, inl, inr, refl, ap, ◌∙◌}
+use Rattle.std.proofs.Common.{Err, arith, inr, refl, ap, ◌∙◌}
 use Rattle.hk_text.proofs.LineCount.{lines_few}
 use Rattle.hk_top.specs.declared.words.Command.TheVariants as command
 use Rattle.hk_top.proofs.AnswerLemmas.{json_due, script_refused_due}

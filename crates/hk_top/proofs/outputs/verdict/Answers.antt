@@ -3,7 +3,6 @@ use Rattle.hk_model.specs.declared.verdicts.Verdict.{Verdict}
 use Rattle.hk_top.proofs.AnswerLemmas.{legal_due, illegal_due}
 use Rattle.hk_format.specs.CauseTexts.{verdict_text}
 use Rattle.hk_top.specs.Outputs.{TellsLegal}
-use Rattle.hk_model.specs.declared.verdicts.Verdict.TheVariants.{Legal}
 use Rattle.hk_top.proofs.outputs.verdict.Goals as goal
 
 pub returns-in-Legal : goal.returns-in-Legal
