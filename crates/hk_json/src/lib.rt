@@ -12,8 +12,6 @@ mod members;
 mod objects;
 mod reading;
 mod script;
-#[cfg(test)]
-mod tests;
 mod texts;
 mod values;
 

@@ -14,8 +14,6 @@ pub mod rights;
 pub mod script;
 mod shapes;
 pub mod spellers;
-#[cfg(test)]
-mod tests;
 pub mod words;
 
 pub use again::canonical_is_read_again;

@@ -45,6 +45,3 @@ mod walks;
 mod words;
 
 pub use table::Table;
-
-#[cfg(test)]
-mod tests;

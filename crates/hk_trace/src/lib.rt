@@ -13,8 +13,6 @@ mod chains;
 mod following;
 mod replay;
 mod standing;
-#[cfg(test)]
-mod tests;
 mod texts;
 mod tracing;
 mod using;

@@ -6,8 +6,6 @@
 mod objects;
 mod places;
 mod processes;
-#[cfg(test)]
-mod tests;
 mod texts;
 
 pub use hk_model::{NoMemory, Snapshot, Text};

@@ -1,9 +1,9 @@
 // The text of a small state.
 
-use crate::state_text;
 use hk_model::{
     Entries, Inc, Items, Live, Name, Params, Proc, ProcessState, Seen, Slot, Snapshot, Text, Words,
 };
+use hk_undo::state_text;
 use std::alloc::Global;
 use std::test::Fail;
 

