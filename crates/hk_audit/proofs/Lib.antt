@@ -24,3 +24,8 @@ mod RecordEvents
 mod RecordAudits
 mod ScriptLines
 pub mod RecordAgain
+mod Sizes
+mod ScriptCounts
+mod ScriptLengths
+mod LineLengths
+pub mod RecordLengths

@@ -9,6 +9,7 @@ mod audits;
 mod calls;
 mod events;
 mod forms;
+mod lengths;
 mod lines;
 mod parts;
 mod paths;
@@ -31,6 +32,7 @@ pub use again::{
     call_has_text_of_its_step, line_is_read_again, record_is_read_again, record_text_is_of_one,
 };
 pub use audits::{Audit, RecordError, read_record};
+pub use lengths::record_of_script_fits;
 pub use lines::line_text;
 pub use ranges::steps_have_texts;
 pub use reading::{read_body, read_line};

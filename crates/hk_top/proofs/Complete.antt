@@ -28,7 +28,7 @@ of_reading (inr (inl h)) = inr (inl h.0)
 of_reading (inr (inr h)) = inr (inr h.0)
 
 -- words that read have one limit
-one_limit : {words : List (List ℕ)} {limit other : ℕ} → ReadsAtMost words limit → ReadsAtMost words other → limit ≡ other
+pub one_limit : {words : List (List ℕ)} {limit other : ℕ} → ReadsAtMost words limit → ReadsAtMost words other → limit ≡ other
 one_limit (inl h) (inl g) = h.1 ∙ sym g.1
 one_limit (inl h) (inr (inl g)) = absurd (no_record h.0 g.0)
 one_limit (inl h) (inr (inr g)) = absurd (no_json h.0 g.0)
@@ -41,7 +41,7 @@ one_limit (inr (inr h)) (inr (inr g)) = h.1 ∙ sym g.1
 
 module _ {words : List (List ℕ)} {before after : Option (List ℕ)} (bytes : List ℕ) (limit : ℕ) (told : before ≡ Some bytes) (reads : ReadsAtMost words limit)
     (few : length bytes ≤ limit) where
-  due_told : {status : ℕ} {text : List ℕ} {made : Option State} → Due words before after status text made → DueTo words bytes status text made
+  pub due_told : {status : ℕ} {text : List ℕ} {made : Option State} → Due words before after status text made → DueTo words bytes status text made
   due_told {status} {text} {made} (read got _ _ _ was due) = subst (λ (b : List ℕ). DueTo words b status text made) (all_read before after bytes got told was.taken was.end) due
   due_told {status} {text} {made} (usage none same) = absurd (none (inl (of_reading reads)))
   due_told {status} {text} {made} (summed count _ _ _ gen h same) = absurd (gen_reads_nothing (count, gen) (of_reading reads))

@@ -5,6 +5,7 @@ pub mod Closing
 pub mod Complete
 pub mod Ends
 pub mod FoundLegal
+pub mod ReadWhole
 pub mod WordLemmas
 pub mod OneRun
 pub mod Going

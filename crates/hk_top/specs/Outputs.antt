@@ -176,7 +176,19 @@ pub record WasRead (words : List (List ℕ)) (before after : Option (List ℕ)) 
   pub at_most : ReadsAtMost words limit
   pub few : length bytes ≤ limit
 
--- the same, by what a source had before and after
+-- these bytes are the script of this world, and the text is the record of a run of it which some words had printed for a source
+-- that had them
+pub record IsPrinted (bytes : List ℕ) (w : WorldValue) (text : List ℕ) : Type 0 where
+  pub words : List (List ℕ)
+  pub before : Option (List ℕ)
+  pub after : Option (List ℕ)
+  pub was : WasRead words before after bytes
+  pub script : world bytes ≡ Ok w
+  pub status : ℕ
+  pub made : Option State
+  pub recorded : IsRecorded words w status text made
+
+-- what is due to words, by what a source had before and after
 pub data Due (words : List (List ℕ)) (before after : Option (List ℕ)) : ℕ → List ℕ → Option State → Type 0 where
   -- 0, 1, 3, 7, 8: the source was read
   read : (bytes : List ℕ) (status : ℕ) (text : List ℕ) (made : Option State) → WasRead words before after bytes → DueTo words bytes status text made

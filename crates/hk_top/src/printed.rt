@@ -1,6 +1,7 @@
 //! Laws of what is printed (`docs/FORMATS.md`, "Statuses and outputs").
 
-ghost use Rattle.std.specs.Prelude.{◌≡◌, ℕ, List, Option};
+ghost use Rattle.std.specs.Prelude.{◌≡◌, ◌≤◌, ℕ, List, Option, Some, length};
+ghost use Rattle.hk_model.specs.Limits.{record_bytes};
 ghost use Rattle.hk_model.specs.State.{State};
 ghost use Rattle.hk_model.specs.Legal.{IsLegal};
 ghost use Rattle.hk_format.specs.Records.{record_text};
@@ -8,7 +9,7 @@ ghost use Rattle.hk_format.specs.CauseTexts.{verdict_text};
 ghost use Rattle.hk_model.specs.declared.verdicts.Verdict.TheVariants.{Legal};
 ghost use Rattle.hk_top.specs.declared.words.Command.TheVariants as command;
 ghost use Rattle.hk_top.specs.Words.{words_of};
-ghost use Rattle.hk_top.specs.Outputs.{DueTo, IsRunBy, IsWholeRun};
+ghost use Rattle.hk_top.specs.Outputs.{Due, DueTo, IsPrinted, IsRunBy, IsWholeRun};
 
 use hk_model::{End, Line, World};
 
@@ -22,6 +23,21 @@ pub fn printed_record_is_legal(world: &World, lines: &[Line], end: End)
 {
     let _limit = world.limit();
     let _count = lines.len();
+}
+
+/// A record that `run` or `run N` prints for a script fits what `check` reads (`docs/RULES.md`, "Limits").
+/// So where a source tells the record's bytes and no others, nothing else is due to `check` than
+/// status 0 and `legal`, and never `line 0: TooLong`. The function does nothing; its contract is the
+/// law.
+pub fn printed_record_is_read_whole(source: &[u8], world: &World, text: &[u8])
+    requires { IsPrinted source.now world.now text.now }
+    ensures fits { length text.now ≤ record_bytes }
+    ensures legal { (after : Option (List ℕ)) (status : ℕ) (told : List ℕ) (made : Option State) → Due (words_of command.Check) (Some text.now) after status told made
+        → (status ≡ 0) × (told ≡ verdict_text Legal) }
+{
+    let _bytes = source.len();
+    let _limit = world.limit();
+    let _text = text.len();
 }
 
 /// What `run` prints is a function of its script: two whole runs of a world on processor 0 have the
