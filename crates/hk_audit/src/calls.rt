@@ -10,6 +10,7 @@ ghost use Rattle.hk_format.specs.Operands.{argument_pieces, path_piece, rights_s
 ghost use Rattle.hk_format.specs.Pieces.{spell, Word, Number};
 ghost use Rattle.hk_format.specs.Texts.{spell_line};
 
+use crate::numbers::{write_number, write_operand};
 use hk_model::{Args, Call, Making, NoMemory, Path, Slot};
 use hk_print::rights_text;
 use hk_rights::Rights;
@@ -57,9 +58,8 @@ fn word_alone(out: &mut String, word: &str) -> Result<(), NoMemory>
 fn slot_alone(out: &mut String, word: &str, slot: Slot) -> Result<(), NoMemory>
     ensures { OnOk result (string_bytes out.new ≡ string_bytes out.old ++ spell_line (Word word.now ∷ slot_piece slot ∷ [])) }
 {
-    let slot = slot.0;
-    write!(out, "{word} {slot}")?;
-    Ok(())
+    out.push_str(word)?;
+    write_operand(out, slot.0 as u64)
 }
 
 // A word, a slot and rights.
@@ -84,7 +84,7 @@ fn path_alone(out: &mut String, word: &str, path: &Path) -> Result<(), NoMemory>
     ensures { OnOk result (string_bytes out.new ≡ string_bytes out.old ++ spell_line (Word word.now ∷ path_piece path.now ∷ [])) }
 {
     out.push_str(word)?;
-    out.push_str(" ")?;
+    out.push(' ')?;
     write_path(out, path)
 }
 
@@ -94,8 +94,7 @@ fn path_number(out: &mut String, word: &str, path: &Path, number: u32) -> Result
     ensures { OnOk result (string_bytes out.new ≡ string_bytes out.old ++ spell_line (Word word.now ∷ path_piece path.now ∷ Number number ∷ [])) }
 {
     path_alone(out, word, path)?;
-    write!(out, " {number}")?;
-    Ok(())
+    write_operand(out, number as u64)
 }
 
 // A word, a path and a slot.
@@ -104,9 +103,7 @@ fn path_slot(out: &mut String, word: &str, path: &Path, slot: Slot) -> Result<()
     ensures { OnOk result (string_bytes out.new ≡ string_bytes out.old ++ spell_line (Word word.now ∷ path_piece path.now ∷ slot_piece slot ∷ [])) }
 {
     path_alone(out, word, path)?;
-    let slot = slot.0;
-    write!(out, " {slot}")?;
-    Ok(())
+    write_operand(out, slot.0 as u64)
 }
 
 // A word, a path and two numbers.
@@ -120,9 +117,8 @@ fn path_numbers(
     requires { IsPathValue path.now }
     ensures { OnOk result (string_bytes out.new ≡ string_bytes out.old ++ spell_line (Word word.now ∷ path_piece path.now ∷ Number first ∷ Number second ∷ [])) }
 {
-    path_alone(out, word, path)?;
-    write!(out, " {first} {second}")?;
-    Ok(())
+    path_number(out, word, path, first)?;
+    write_operand(out, second as u64)
 }
 
 // A word, a path, a number and a slot.
@@ -136,10 +132,8 @@ fn path_number_slot(
     requires { IsPathValue path.now }
     ensures { OnOk result (string_bytes out.new ≡ string_bytes out.old ++ spell_line (Word word.now ∷ path_piece path.now ∷ Number number ∷ slot_piece slot ∷ [])) }
 {
-    path_alone(out, word, path)?;
-    let slot = slot.0;
-    write!(out, " {number} {slot}")?;
-    Ok(())
+    path_number(out, word, path, number)?;
+    write_operand(out, slot.0 as u64)
 }
 
 // A word, a path and two slots.
@@ -153,11 +147,8 @@ fn path_slots(
     requires { IsPathValue path.now }
     ensures { OnOk result (string_bytes out.new ≡ string_bytes out.old ++ spell_line (Word word.now ∷ path_piece path.now ∷ slot_piece first ∷ slot_piece second ∷ [])) }
 {
-    path_alone(out, word, path)?;
-    let first = first.0;
-    let second = second.0;
-    write!(out, " {first} {second}")?;
-    Ok(())
+    path_slot(out, word, path, first)?;
+    write_operand(out, second.0 as u64)
 }
 
 // A word, a path, the slots of arguments and a last slot.
@@ -173,8 +164,7 @@ fn path_arguments(
 {
     path_alone(out, word, path)?;
     write_slots(out, args)?;
-    let into = into.0;
-    write!(out, " {into}")?;
+    write_operand(out, into.0 as u64)?;
     Ok(())
 }
 
@@ -183,7 +173,7 @@ fn write_slots(out: &mut String, args: &Args) -> Result<(), NoMemory>
     ensures { OnOk result (string_bytes out.new ≡ string_bytes out.old ++ flat_map (λ slot. 32 ∷ decimal slot) args.now) }
 {
     for slot in args.as_slice() {
-        write!(out, " {slot}")?;
+        write_operand(out, *slot as u64)?;
     }
     Ok(())
 }
@@ -221,10 +211,10 @@ fn write_path(out: &mut String, path: &Path) -> Result<(), NoMemory>
     ensures { OnOk result (string_bytes out.new ≡ string_bytes out.old ++ spell (path_piece path.now)) }
 {
     let indices = path.as_slice();
-    let first = indices[0];
-    write!(out, "{first}")?;
+    write_number(out, indices[0] as u64)?;
     for index in &indices[1..] {
-        write!(out, ".{index}")?;
+        out.push('.')?;
+        write_number(out, *index as u64)?;
     }
     Ok(())
 }

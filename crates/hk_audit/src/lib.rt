@@ -11,6 +11,7 @@ mod events;
 mod forms;
 mod lengths;
 mod lines;
+mod numbers;
 mod parts;
 mod paths;
 mod ranges;

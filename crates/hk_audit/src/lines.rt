@@ -1,12 +1,14 @@
 //! The text of an audit line (`docs/FORMATS.md`, "Audit lines and records").
 
-ghost use Rattle.std.specs.Prelude.{◌≡◌, ◌++◌, All, IfOk, OnOk, string_bytes};
+ghost use Rattle.std.specs.Prelude.{◌≡◌, ◌++◌, ◌∷◌, [], All, IfOk, OnOk, string_bytes};
+ghost use Rattle.std.specs.Fmt.{decimal};
 ghost use Rattle.hk_format.specs.LineRanges.{IsLine, IsWhat};
 ghost use Rattle.hk_format.specs.AuditLines.{line_text, what_pieces};
 ghost use Rattle.hk_format.specs.Records.{lines_text};
 ghost use Rattle.hk_format.specs.Texts.{spell_line};
 
 use crate::calls::write_call;
+use crate::numbers::{write_number, write_operand};
 use crate::replies::write_reply;
 use hk_model::{Line, NoMemory, Text, What};
 use std::alloc::Global;
@@ -37,14 +39,22 @@ fn write_line(alloc: Global, out: &mut String, line: &Line) -> Result<(), NoMemo
     requires { IsLine line.now }
     ensures { OnOk result (string_bytes out.new ≡ string_bytes out.old ++ line_text line.now) }
 {
-    let cpu = line.cpu.0;
-    let proc = line.proc.0;
-    let inc = line.inc.0;
-    write!(out, "{cpu} {proc} {inc} ")?;
+    write_actor(out, line)?;
     write_what(alloc, out, &line.what)?;
     out.push_str(" -> ")?;
     write_reply(out, &line.reply)?;
-    out.push_str("\n")?;
+    out.push('\n')?;
+    Ok(())
+}
+
+// Writes the numbers of the processor, the process and the incarnation, a space behind each.
+fn write_actor(out: &mut String, line: &Line) -> Result<(), NoMemory>
+    ensures { OnOk result (string_bytes out.new ≡ string_bytes out.old ++ (decimal line.now.cpu.0 ++ 32 ∷ (decimal line.now.proc.0 ++ 32 ∷ (decimal line.now.inc.0 ++ 32 ∷ [])))) }
+{
+    write_number(out, line.cpu.0 as u64)?;
+    write_operand(out, line.proc.0 as u64)?;
+    write_operand(out, line.inc.0)?;
+    out.push(' ')?;
     Ok(())
 }
 

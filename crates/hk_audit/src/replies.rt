@@ -1,9 +1,11 @@
 //! How replies are spelled in audit lines (`docs/FORMATS.md`, "Audit lines and records").
 
-ghost use Rattle.std.specs.Prelude.{◌≡◌, ◌++◌, OnOk, string_bytes};
+ghost use Rattle.std.specs.Prelude.{◌≡◌, ◌++◌, ◌∷◌, [], OnOk, string_bytes};
 ghost use Rattle.hk_format.specs.AuditLines.{full_word, refusal_pieces, reply_pieces};
+ghost use Rattle.hk_format.specs.Pieces.{Word, Number};
 ghost use Rattle.hk_format.specs.Texts.{spell_line};
 
+use crate::numbers::write_operand;
 use hk_model::{NoMemory, Refusal, Reply, What8};
 
 /// Writes a reply.
@@ -12,7 +14,7 @@ pub(crate) fn write_reply(out: &mut String, reply: &Reply) -> Result<(), NoMemor
 {
     match reply {
         Reply::Done => out.push_str("done")?,
-        Reply::Word(word) => write!(out, "word {word}")?,
+        Reply::Word(word) => word_number(out, "word", *word)?,
         Reply::Waits => out.push_str("waits")?,
         Reply::No(refusal) => write_refusal(out, refusal)?,
     }
@@ -24,23 +26,32 @@ fn write_refusal(out: &mut String, refusal: &Refusal) -> Result<(), NoMemory>
     ensures { OnOk result (string_bytes out.new ≡ string_bytes out.old ++ spell_line (refusal_pieces refusal.now)) }
 {
     match refusal {
-        Refusal::Range { step } => write!(out, "range {step}")?,
-        Refusal::Empty { step } => write!(out, "empty {step}")?,
-        Refusal::NotCap { step } => write!(out, "notcap {step}")?,
+        Refusal::Range { step } => word_number(out, "range", *step as u32)?,
+        Refusal::Empty { step } => word_number(out, "empty", *step as u32)?,
+        Refusal::NotCap { step } => word_number(out, "notcap", *step as u32)?,
         Refusal::Denied { step, right } => {
-            let name = right.name();
-            write!(out, "denied {step} {name}")?
+            word_number(out, "denied", *step as u32)?;
+            out.push(' ')?;
+            out.push_str(right.name())?
         }
-        Refusal::WrongType { step } => write!(out, "wrongtype {step}")?,
-        Refusal::BadTemplate { step } => write!(out, "badtemplate {step}")?,
+        Refusal::WrongType { step } => word_number(out, "wrongtype", *step as u32)?,
+        Refusal::BadTemplate { step } => word_number(out, "badtemplate", *step as u32)?,
         Refusal::Count => out.push_str("count")?,
         Refusal::Full { what } => {
-            let kind = kind_name(*what);
-            write!(out, "full {kind}")?
+            out.push_str("full ")?;
+            out.push_str(kind_name(*what))?
         }
         Refusal::Deep => out.push_str("deep")?,
     }
     Ok(())
+}
+
+// Writes a word and a number.
+fn word_number(out: &mut String, word: &str, n: u32) -> Result<(), NoMemory>
+    ensures { OnOk result (string_bytes out.new ≡ string_bytes out.old ++ spell_line (Word word.now ∷ Number n ∷ [])) }
+{
+    out.push_str(word)?;
+    write_operand(out, n as u64)
 }
 
 // The word for what has no room for one more.
