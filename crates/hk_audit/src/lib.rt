@@ -3,8 +3,6 @@
 #![tactic(auto)]
 
 mod again;
-#[cfg(test)]
-mod audit_tests;
 mod audits;
 mod calls;
 mod events;
@@ -17,16 +15,12 @@ mod paths;
 mod ranges;
 mod read_calls;
 mod read_replies;
-#[cfg(test)]
-mod read_tests;
 mod reading;
 mod record_lines;
 mod records;
 mod replies;
 mod rights;
 mod scripts;
-#[cfg(test)]
-mod tests;
 mod wanted;
 
 pub use again::{

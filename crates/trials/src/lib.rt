@@ -9,7 +9,13 @@ mod histories;
 #[cfg(test)]
 mod json;
 #[cfg(test)]
+mod lines_read;
+#[cfg(test)]
 mod print;
+#[cfg(test)]
+mod records_read;
+#[cfg(test)]
+mod records_written;
 #[cfg(test)]
 mod table;
 #[cfg(test)]

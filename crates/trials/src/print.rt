@@ -1,12 +1,7 @@
 // Parts of scripts as texts.
 
-ghost use Rattle.std.specs.Prelude.{◌≡◌, ◌<◌, ◌≤◌, []};
-ghost use Rattle.hk_model.specs.Limits.{event_limit};
-ghost use Rattle.hk_model.specs.WorldValue.{world_value};
-
-use hk_model::{
-    Cap, Entry, Index, Instr, Items, Name, NoMemory, Operand, Param, Route, Slot, World,
-};
+use crate::worlds::empty_world;
+use hk_model::{Cap, Entry, Index, Instr, Items, Name, NoMemory, Operand, Param, Route, Slot};
 use hk_print::{
     ByNumber, Speller, canonical_is_read_again, instr_text, operand_text, register_text, right_of,
     rights_text, route_text, script_text, write_entry, write_param,
@@ -14,19 +9,6 @@ use hk_print::{
 use hk_rights::{Right, Rights};
 use std::alloc::Global;
 use std::test::Fail;
-
-fn empty_world(alloc: Global, limit: u32) -> World
-    requires some { 0 < limit }
-    requires few { limit ≤ event_limit }
-    ensures { result ≡ world_value limit [] [] [] }
-{
-    World::new(
-        limit,
-        Items::new(alloc),
-        Items::new(alloc),
-        Items::new(alloc),
-    )
-}
 
 #[test]
 fn limits_are_written_where_they_are_unusual(rt: HostRuntime) -> Result<(), Fail> {

@@ -1,18 +1,17 @@
 // Each kind of call and of reply once, and small records, against texts that were written out by
 // hand.
 
-ghost use Rattle.std.specs.Prelude.{◌≡◌, ◌<◌, ◌≤◌, [], length, map};
-ghost use Rattle.hk_model.specs.Limits.{event_limit};
+ghost use Rattle.std.specs.Prelude.{◌≡◌, ◌≤◌, length, map};
 ghost use Rattle.hk_format.specs.LineRanges.{IsCall, IsLine, IsReply, IsPathValue, IsWhat};
-ghost use Rattle.hk_model.specs.WorldValue.{world_value};
 
-use crate::{
+use crate::worlds::empty_world;
+use hk_audit::{
     call_has_text_of_its_step, line_text, record_is_read_again, record_text, record_text_is_of_one,
     steps_have_texts,
 };
 use hk_model::{
-    Args, Call, Cpu, End, Frame, Inc, Instr, Items, Line, Making, NoMemory, Path, Proc, Refusal,
-    Reply, Slot, Text, What, What8, World,
+    Args, Call, Cpu, End, Frame, Inc, Instr, Line, Making, NoMemory, Path, Proc, Refusal, Reply,
+    Slot, Text, What, What8, World,
 };
 use hk_rights::{Right, Rights};
 use std::alloc::Global;
@@ -289,19 +288,6 @@ fn replies_are_written(rt: HostRuntime) -> Result<(), Fail> {
         assert_eq!(rt; text.as_str(), wanted.as_str());
     }
     Ok(())
-}
-
-fn empty_world(alloc: Global, limit: u32) -> World
-    requires some { 0 < limit }
-    requires few { limit ≤ event_limit }
-    ensures { result ≡ world_value limit [] [] [] }
-{
-    World::new(
-        limit,
-        Items::new(alloc),
-        Items::new(alloc),
-        Items::new(alloc),
-    )
 }
 
 // A line of process 1.

@@ -3,7 +3,7 @@
 
 ghost use Rattle.std.specs.Prelude.{◌<◌, ◌^◌, length};
 
-use crate::{Audit, RecordError, read_record};
+use hk_audit::{Audit, RecordError, read_record};
 use hk_format::{Cause, LoadCause, ParseCause, TextCause};
 use hk_model::{Cpu, End, Inc, Line, Proc, Reply, What};
 use std::alloc::Global;

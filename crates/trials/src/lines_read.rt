@@ -1,6 +1,6 @@
 // Lines that are read, and texts that are refused, against answers that were written out by hand.
 
-use crate::{read_body, read_line};
+use hk_audit::{read_body, read_line};
 use hk_model::{Args, Call, Cpu, Inc, Line, Making, Path, Proc, Refusal, Reply, Slot, What};
 use hk_rights::{Right, Rights};
 use std::test::Fail;
