@@ -1,6 +1,7 @@
 -- The frames of a process: the current one stands last in the list that is kept, and first in its view.
-use Rattle.std.specs.Prelude.{◌≡◌, ℕ, ◌-◌, ◌<◌, List, [], ◌∷◌, ◌++◌, length, drop, reverse, slice_index_or, slice_set, Bool, true, false, refl}
+use Rattle.std.specs.Prelude.{◌≡◌, ℕ, ◌-◌, ◌<◌, List, [], ◌∷◌, ◌++◌, length, drop, reverse, slice_index_or, slice_set, Bool, true, false, IsTrue, ◌↔◌, refl}
 use Rattle.std.proofs.Common.{arith, ◌∙◌, ap, sym, subst}
+use Rattle.std.proofs.lemmas.Bool.{false≢true}
 use Rattle.std.proofs.lemmas.List.{length-reverse, reverse-append, reverse-reverse}
 use Rattle.std.proofs.Math.Seq.{get_or-append_seam, set-append_seam}
 use Rattle.hk_model.specs.declared.calls.Reply.{Reply}
@@ -10,7 +11,7 @@ use Rattle.hk_model.specs.declared.frames.Todo.TheVariants.{Halt}
 use Rattle.hk_model.specs.Limits.{local_limit}
 use Rattle.hk_model.specs.WorldValue.{WorldValue}
 use Rattle.hk_model.specs.Control.{Context, behind, here, next, next_from, steps_of}
-use Rattle.hk_program.specs.Contexts.{IsFrame, AreFrames, has_frame, behind_top}
+use Rattle.hk_program.specs.Contexts.{IsFrame, AreFrames, behind_top}
 
 -- a current frame, and the frames once another is written over it
 pub record IsTop (frames : Context) (f : Frame) (over : Frame → Context) : Type 0 where
@@ -64,17 +65,17 @@ none_turned w frames none = rw none record { value = refl; fits = tt; others = r
 
 -- what an answer leaves of the frames
 pub record IsAnswered (w : WorldValue) (frames : Context) (reply : Reply) (some : Bool) (left : Context) : Type 0 where
-  pub some_is : some ≡ has_frame frames
+  pub some_is : IsTrue some ↔ (0 < length frames)
   pub value : left ≡ behind_top w frames reply
   pub fits : AreFrames w left
 
 pub top_answered : (w : WorldValue) (frames : Context) (f g : Frame) (over : Frame → Context) (reply : Reply) → IsTop frames f over → AreFrames w frames → IsFrame w g
     → g ≡ behind w f reply → IsAnswered w frames reply true (over g)
 top_answered w frames f g over reply top all fits e = rw (top.over_is g, top.is) record {
-  some_is = refl;
+  some_is = (λ h. omega arith, λ h. refl);
   value = ap (λ (x : Frame). x ∷ top.rest) e;
   fits = (fits, (subst (AreFrames w) top.is all).1);
 }
 
 pub none_answered : (w : WorldValue) (frames : Context) (reply : Reply) → frames ≡ [] → IsAnswered w frames reply false frames
-none_answered w frames reply none = rw none record { some_is = refl; value = refl; fits = tt }
+none_answered w frames reply none = rw none record { some_is = (λ h. absurd (false≢true h), λ h. absurd (omega (arith, h))); value = refl; fits = tt }

@@ -26,11 +26,6 @@ abbrev pub is_return : Call → Reply → Bool
 is_return (call.Leave give) Done = true
 is_return _ _ = false
 
--- there is a current frame
-abbrev pub has_frame : List Frame → Bool
-has_frame [] = false
-has_frame (f ∷ rest) = true
-
 -- the frames, the current one behind its answered call
 abbrev pub behind_top : WorldValue → List Frame → Reply → List Frame
 behind_top w [] reply = []

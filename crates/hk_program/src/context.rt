@@ -1,9 +1,9 @@
 //! The frames of a process.
 
-ghost use Rattle.std.specs.Prelude.{◌≡◌, ◌<◌, [], ◌∷◌, length, IfOk, IfSome, IfNone, slice_get, drop};
+ghost use Rattle.std.specs.Prelude.{◌≡◌, ◌<◌, [], ◌∷◌, length, IfOk, IfSome, IfNone, IsTrue, ◌↔◌, slice_get, drop};
 ghost use Rattle.hk_model.specs.Control as control;
 ghost use Rattle.hk_model.specs.Control.{new_frame};
-ghost use Rattle.hk_program.specs.Contexts.{AreFrames, has_frame, behind_top};
+ghost use Rattle.hk_program.specs.Contexts.{AreFrames, behind_top};
 
 use crate::answering::go_behind;
 use crate::running::run;
@@ -70,7 +70,7 @@ impl Context {
     /// (`docs/RULES.md`, "Control of a process").
     pub(crate) fn answer_top(&mut self, world: &World, reply: &Reply) -> bool
         requires { AreFrames world.now self.old }
-        ensures some { result ≡ has_frame self.old }
+        ensures some { IsTrue result ↔ (0 < length self.old) }
         ensures value { self.new ≡ behind_top world.now self.old reply.now }
         ensures fits { AreFrames world.now self.new }
     {
