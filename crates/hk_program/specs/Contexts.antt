@@ -1,12 +1,12 @@
 -- Contexts of a world. docs/RULES.md, "Control of a process".
-use Rattle.std.specs.Prelude.{Bool, true, false, ◌<◌, ◌≤◌, List, length}
+use Rattle.std.specs.Prelude.{Bool, true, false, ◌<◌, ◌≤◌, List, [], ◌∷◌, length}
 use Rattle.std.specs.List.{AllByRecursion}
 use Rattle.hk_model.specs.declared.calls.Call.{Call}
 use Rattle.hk_model.specs.declared.calls.Call.TheVariants as call
 use Rattle.hk_model.specs.declared.calls.Reply.{Reply}
 use Rattle.hk_model.specs.declared.calls.Reply.TheVariants.{Done}
 use Rattle.hk_model.specs.declared.frames.Frame.{Frame}
-use Rattle.hk_model.specs.Control.{steps_of}
+use Rattle.hk_model.specs.Control.{steps_of, behind}
 use Rattle.hk_model.specs.WorldValue.{WorldValue}
 
 -- a frame of a code of the world, at one of its instructions or at its end
@@ -25,3 +25,8 @@ Fits w frames = (0 < length frames) × AreFrames w frames
 abbrev pub is_return : Call → Reply → Bool
 is_return (call.Leave give) Done = true
 is_return _ _ = false
+
+-- the frames, the current one behind its answered call
+abbrev pub behind_top : WorldValue → List Frame → Reply → List Frame
+behind_top w [] reply = []
+behind_top w (f ∷ rest) reply = behind w f reply ∷ rest

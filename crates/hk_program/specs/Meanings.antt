@@ -13,10 +13,15 @@ abbrev pub call_in : Meaning → Option Call
 call_in (Calls c) = Some c
 call_in (Local f) = None
 
--- the changed frame, where it is local
-abbrev pub frame_in : Meaning → Option Frame
-frame_in (Calls c) = None
-frame_in (Local f) = Some f
+-- whether it is local
+abbrev pub is_local : Meaning → Bool
+is_local (Calls c) = false
+is_local (Local f) = true
+
+-- the frame that it leaves: a call leaves the frame as it was
+abbrev pub left_by : Frame → Meaning → Frame
+left_by f (Calls c) = f
+left_by f (Local g) = g
 
 -- what is next where no more local instructions may be run
 abbrev pub todo_in : Meaning → Todo

@@ -25,10 +25,9 @@ pub fn after(context: &mut Context, world: &World, call: &Call, acted: &Acted)
     ensures value { context.new ≡ control.after world.now context.old call.now acted.now.reply acted.now.code }
     ensures fits { AreFrames world.now context.new }
 {
-    let Some(frame) = context.top() else {
+    if !context.answer_top(world, &acted.reply) {
         return;
-    };
-    context.put_top(behind(world, &frame, &acted.reply));
+    }
     match acted.code {
         Some(code) => context.push(opened(code)),
         None => {
@@ -46,32 +45,28 @@ fn is_return(call: &Call, reply: &Reply) -> bool
     matches!((call, reply), (Call::Leave { .. }, Reply::Done))
 }
 
-// The frame behind an answered call.
-fn behind(world: &World, frame: &Frame, reply: &Reply) -> Frame
-    requires { IsFrame world.now frame.now }
-    ensures value { result ≡ control.behind world.now frame.now reply.now }
-    ensures fits { IsFrame world.now result }
+/// Puts a frame behind its answered call (`docs/RULES.md`, "Control of a process").
+pub(crate) fn go_behind(world: &World, frame: &mut Frame, reply: &Reply)
+    requires { IsFrame world.now frame.old }
+    ensures value { frame.new ≡ control.behind world.now frame.old reply.now }
+    ensures fits { IsFrame world.now frame.new }
 {
     let code = code_of(world, frame);
-    let mut next = *frame;
     if let Some(instr) = code.steps.as_slice().get(frame.at as usize) {
-        next = with_word(frame, instr, reply);
-        next.at += 1;
+        take_word(frame, instr, reply);
+        frame.at += 1;
     }
-    next.refused = matches!(reply, Reply::No(_));
-    next
+    frame.refused = matches!(reply, Reply::No(_));
 }
 
-// The frame with a word reply in the register that the instruction names.
-fn with_word(frame: &Frame, instr: &Instr, reply: &Reply) -> Frame
+// Puts a word reply into the register that the instruction names.
+fn take_word(frame: &mut Frame, instr: &Instr, reply: &Reply)
     requires { IsInstr code_limit instr.now }
-    ensures { result ≡ control.with_word frame.now (Some instr.now) reply.now }
+    ensures { frame.new ≡ control.with_word frame.old (Some instr.now) reply.now }
 {
-    let mut next = *frame;
     if let (Reply::Word(word), Some(reg)) = (reply, target_register(instr)) {
-        next.registers[reg as usize] = *word;
+        frame.registers[reg as usize] = *word;
     }
-    next
 }
 
 // The register that takes a word reply.

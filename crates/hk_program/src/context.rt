@@ -1,10 +1,14 @@
 //! The frames of a process.
 
-ghost use Rattle.std.specs.Prelude.{◌≡◌, ◌<◌, [], ◌∷◌, length, IfOk, IfSome, IfNone, slice_get, drop};
+ghost use Rattle.std.specs.Prelude.{◌≡◌, ◌<◌, [], ◌∷◌, length, IfOk, IfSome, IfNone, IsTrue, ◌↔◌, slice_get, drop};
+ghost use Rattle.hk_model.specs.Control as control;
 ghost use Rattle.hk_model.specs.Control.{new_frame};
+ghost use Rattle.hk_program.specs.Contexts.{AreFrames, behind_top};
 
+use crate::answering::go_behind;
+use crate::running::run;
 use hk_model::limits::DEPTH_LIMIT;
-use hk_model::{Frame, NoMemory};
+use hk_model::{Frame, NoMemory, Reply, Todo, World};
 use std::alloc::Global;
 use std::marker::Model;
 
@@ -44,6 +48,39 @@ impl Context {
         ensures { result ≡ slice_get self.now 0 }
     {
         self.frames.last().copied()
+    }
+
+    /// What is next in the current frame, which keeps what its local instructions changed
+    /// (`docs/RULES.md`, "Control of a process"). A context without a frame is halted.
+    #[tactic(auto, unfolding(hk_model::specs::Control::next))]
+    pub(crate) fn run_top(&mut self, world: &World) -> Todo
+        requires { AreFrames world.now self.old }
+        ensures value { (result, self.new) ≡ control.next world.now self.old }
+        ensures fits { AreFrames world.now self.new }
+        ensures depth { length self.new ≡ length self.old }
+        ensures others { drop 1 self.new ≡ drop 1 self.old }
+    {
+        match self.frames.last_mut() {
+            Some(frame) => run(world, frame),
+            None => Todo::Halt,
+        }
+    }
+
+    /// Puts the current frame behind its answered call, and says whether there is one
+    /// (`docs/RULES.md`, "Control of a process").
+    pub(crate) fn answer_top(&mut self, world: &World, reply: &Reply) -> bool
+        requires { AreFrames world.now self.old }
+        ensures some { IsTrue result ↔ (0 < length self.old) }
+        ensures value { self.new ≡ behind_top world.now self.old reply.now }
+        ensures fits { AreFrames world.now self.new }
+    {
+        match self.frames.last_mut() {
+            Some(frame) => {
+                go_behind(world, frame, reply);
+                true
+            }
+            None => false,
+        }
     }
 
     /// Writes over the current frame.

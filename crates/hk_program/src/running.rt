@@ -1,17 +1,17 @@
 //! What a process does next.
 
-ghost use Rattle.std.specs.Prelude.{◌≡◌, ◌≤◌, IfSome, drop, length};
+ghost use Rattle.std.specs.Prelude.{◌≡◌, ◌≤◌, drop, length};
 ghost use Rattle.hk_model.specs.Limits.{local_limit};
 ghost use Rattle.hk_model.specs.WorldValue.{IsCode};
 ghost use Rattle.hk_model.specs.Control as control;
 ghost use Rattle.hk_model.specs.Control.{here, next_from, steps_of};
 ghost use Rattle.hk_program.specs.Contexts.{AreFrames, IsFrame};
-ghost use Rattle.hk_program.specs.Meanings.{call_in, frame_in, todo_in};
+ghost use Rattle.hk_program.specs.Meanings.{call_in, is_local, left_by, todo_in};
 
 use crate::calling::call_of;
 use crate::codes::code_of;
 use crate::context::Context;
-use crate::stepping::stepped;
+use crate::stepping::step_local;
 use hk_model::limits::LOCAL_LIMIT;
 use hk_model::{Call, Code, Frame, Todo, World};
 
@@ -30,17 +30,13 @@ pub fn next(context: &mut Context, world: &World) -> Todo
     ensures depth { length context.new ≡ length context.old }
     ensures others { drop 1 context.new ≡ drop 1 context.old }
 {
-    let Some(mut frame) = context.top() else {
-        return Todo::Halt;
-    };
-    let todo = run(world, &mut frame);
-    context.put_top(frame);
-    todo
+    context.run_top(world)
 }
 
-// What is next in a frame of the world, which keeps what its local instructions changed.
+/// What is next in a frame of the world, which keeps what its local instructions changed
+/// (`docs/RULES.md`, "Control of a process").
 #[tactic(auto, using(crate::proofs::Locals::no_more_turns))]
-fn run(world: &World, frame: &mut Frame) -> Todo
+pub(crate) fn run(world: &World, frame: &mut Frame) -> Todo
     requires { IsFrame world.now frame.old }
     ensures value { let steps = steps_of world.now frame.old.code in
         (result, frame.new) ≡ next_from local_limit steps frame.old (here steps frame.old) }
@@ -63,23 +59,24 @@ fn run_locals(code: &Code, frame: &mut Frame)
     ensures code { frame.new.code ≡ frame.old.code }
 {
     for _turn in 0..LOCAL_LIMIT {
-        match step_here(code, frame) {
-            Some(next) => *frame = next,
-            None => return,
+        if !step_here(code, frame) {
+            return;
         }
     }
 }
 
-// The frame behind the local instruction that stands next, None exactly where none does.
-fn step_here(code: &Code, frame: &Frame) -> Option<Frame>
+// Makes the local instruction that stands next, and says whether one did.
+fn step_here(code: &Code, frame: &mut Frame) -> bool
     requires valid { IsCode code.now }
-    ensures value { result ≡ frame_in (here code.now.steps frame.now) }
-    ensures inside { IfSome result (λ next. next.at ≤ length code.now.steps) }
-    ensures code { IfSome result (λ next. next.code ≡ frame.now.code) }
+    requires inside { frame.old.at ≤ length code.now.steps }
+    ensures local { result ≡ is_local (here code.now.steps frame.old) }
+    ensures left { frame.new ≡ left_by frame.old (here code.now.steps frame.old) }
+    ensures inside { frame.new.at ≤ length code.now.steps }
+    ensures code { frame.new.code ≡ frame.old.code }
 {
     match code.steps.as_slice().get(frame.at as usize) {
-        Some(instr) => stepped(frame, instr),
-        None => None,
+        Some(instr) => step_local(frame, instr),
+        None => false,
     }
 }
 
