@@ -156,7 +156,7 @@ place_again len (instr.Restrict slot keep) few h ps = named (verb_piece verb.Res
 place_again len (instr.Look of reg) few h ps = named (verb_piece verb.Look) (route_piece of ∷ register_piece reg ∷ []) _ ps refl
 place_again len (instr.MakeTemplate of (making.Amplify check give) into) few h ps =
     named (verb_piece verb.Template) (route_piece of ∷ verb_piece verb.Amplify ∷ rights_piece (rights_text check) ∷ rights_piece (rights_text give) ∷ slot_piece into ∷ []) _ ps
-        (slot_none into h.2)
+    (slot_none into h.2)
 place_again len (instr.MakeTemplate of (making.Create give) into) few h ps =
     named (verb_piece verb.Template) (route_piece of ∷ verb_piece verb.Create ∷ rights_piece (rights_text give) ∷ slot_piece into ∷ []) _ ps (slot_none into h.2)
 place_again len (instr.Create by into) few h ps = named (verb_piece verb.Create) (route_piece by ∷ slot_piece into ∷ []) _ ps (slot_none into h.1)
@@ -164,7 +164,7 @@ place_again len (instr.Merge with cap into) few h ps = named (verb_piece verb.Me
 place_again len (instr.Copy of into) few h ps = named (verb_piece verb.Copy) (route_piece of ∷ slot_piece into ∷ []) _ ps (slot_none into h.1)
 place_again len (instr.Enter proc args into) few h ps =
     named (verb_piece verb.Call) (route_piece proc ∷ argument_pieces args into) _ ps
-        (ap (λ (p : Piece). place_labelled (spell p)) (last_argument (route_piece proc) args into) ∙ slot_none into h.2)
+    (ap (λ (p : Piece). place_labelled (spell p)) (last_argument (route_piece proc) args into) ∙ slot_none into h.2)
 place_again len (instr.Leave None) few h ps = named (verb_piece verb.Return) ([]) _ ps refl
 place_again len (instr.Leave (Some slot)) few h ps = named (verb_piece verb.Return) (slot_piece slot ∷ []) _ ps (slot_none slot h)
 place_again len (instr.P of) few h ps = named (verb_piece verb.P) (route_piece of ∷ []) _ ps (route_none of h)

@@ -42,7 +42,7 @@ run_kept ps proc inc n low =
     ⊎_elim
     (λ (same : n ≡ proc.0).
     ap (λ (k : ℕ). (process_at (with_current ps proc inc) k).run) same ∙ ap (λ (p : Process). p.run)
-        (set_same ended ps proc.0 (record (process_at ps proc.0) { current = inc }) low)
+    (set_same ended ps proc.0 (record (process_at ps proc.0) { current = inc }) low)
     ∙ ap (λ (k : ℕ). (process_at ps k).run) (sym same))
     (λ (other : n ≡ proc.0 → ⊥). ap (λ (p : Process). p.run) (set_other ended ps proc.0 n (record (process_at ps proc.0) { current = inc }) other))
     (cases_eq n proc.0)

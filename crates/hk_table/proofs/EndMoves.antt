@@ -94,7 +94,7 @@ all_gone (suc n) stacks next q size h =
     let same : (q == q) ≡ true = grind (arith, nat_tests) in
     let left : filter (is_other q) (live_from 0 (set stacks q w.0)) ≡ filter (is_other q) (live_from 0 (set (set stacks q w.0) q [])) =
     all_gone n (set stacks q w.0) next q (ap (λ (fs : List StackFrame). length fs) (stack_here stacks q q w.0 (split_low stacks next q w.0 w.1 h w.2) refl) ∙ w.3)
-        (pop_numbered stacks next q w.0 w.1 h w.2) in
+    (pop_numbered stacks next q w.0 w.1 h w.2) in
     ap (filter (is_other q)) (were stacks next q w.0 w.1 h w.2)
     ∙ filter-insert (is_other q) w.1.inc (incarnation_of (record { 0 = q }) (caller_at None w.0 (length w.0)) w.1) (live_from 0 (set stacks q w.0))
     (no_frame 0 (set stacks q w.0) w.1.inc (gone_number stacks next q w.0 w.1 h w.2)) (ap not same)

@@ -64,7 +64,7 @@ module _ (stacks : List (List StackFrame)) (next : Inc) (q : ℕ) (f : StackFram
       ⊎_elim (λ (old : slice_get (slice_index_or stacks q []) k ≡ Some h). inl (ap (λ (m : ℕ). frame_at stacks m k) same ∙ old))
       (λ (new : (k ≡ length (slice_index_or stacks q [])) × (h ≡ f)). inr (same, new.0, new.1))
       (last_or (slice_index_or stacks q []) f k h (sym (ap (λ (fs : List StackFrame). slice_get fs k) (stack_here stacks q p (slice_index_or stacks q [] ++ f ∷ []) low same))
-          ∙ e)))
+      ∙ e)))
       (λ (other : p ≡ q → ⊥). inl (sym (ap (λ (fs : List StackFrame). slice_get fs k) (stack_there stacks q p (slice_index_or stacks q [] ++ f ∷ []) other)) ∙ e))
       (cases_eq p q)
 

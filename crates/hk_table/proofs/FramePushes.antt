@@ -117,7 +117,7 @@ count_frames q proc caller (f ∷ fs) es one absent =
     (λ k g there. absent (suc k) g there)) where
       more : (b : Bool)
           → count_by (λ (e : Inc × Incarnation). e.1.proc.0 == q) (live_with proc (Some f.inc) fs es) ≡ cond b (length fs) 0 + count_by
-              (λ (e : Inc × Incarnation). e.1.proc.0 == q) es
+          (λ (e : Inc × Incarnation). e.1.proc.0 == q) es
           → cond b 1 0 + count_by (λ (e : Inc × Incarnation). e.1.proc.0 == q) (live_with proc (Some f.inc) fs es)
           ≡ cond b (suc (length fs)) 0 + count_by (λ (e : Inc × Incarnation). e.1.proc.0 == q) es
       more true h = omega (arith, h)

@@ -176,9 +176,14 @@ module _ (s : State) (ps : List (Option (Name × Body))) (ws : List (List Proc))
         by : (p : Option (Name × Body)) (k : ℕ) (procs : List Proc) → place ps k ≡ p → opt (names_it S n) (with_waiters p procs) ≡ true → IsNamedIn ps S n
         by None k procs e h = absurd (cc)
         by (Some q) k procs e h =
-            let both = and_parts (S q.0) (is_among n (names_of q.1)) h in
-            (k, q.0, ap (option_map (λ (e : Name × Body). e.0)) e, both.0, subst (λ (p : Option (Name × Body)). 0 < times n (names_in p)) (sym e)
-                (times_any n (names_of q.1) both.1))
+            let both = and_parts (S q.0) (is_among n (names_of q.1)) h in (
+              k,
+              q.0,
+              ap (option_map (λ (e : Name × Body). e.0)) e,
+              both.0,
+              subst (λ (p : Option (Name × Body)). 0 < times n (names_in p)) (sym e)
+                  (times_any n (names_of q.1) both.1),
+            )
 
   -- who supports
   root_to : (S : Name → Bool) (n : Name) → IsRoot t.first_new t.outside ps n → supports s S n ≡ true

@@ -184,7 +184,7 @@ module _ (o : Shelf) (stacks : List (List StackFrame)) (ps : List Process) (firs
     made_ready =
         subst (λ (v : Tally). AreHeld new.slots (λ m. outside_namings m stacks ps) (namings o.slots) v) (sym settled)
         (subst (λ (v : Slots). AreHeld v (λ m. outside_namings m stacks ps) (namings o.slots) (record (released raised_there s n) { outside = lowered (raised t.outside s) s }))
-            (sym is)
+        (sym is)
         (made_settled (subst (λ (v : Slots). AreApart v) is apart)))
 
     pub made_can : CanHold new.slots (of ∷ []) u

@@ -109,4 +109,4 @@ module _ {X : Type 0} where
       let rest : standing (map (option_filter p) ps) ≡ filter p (standing ps) = standing_kept p ps (apart_tail (Some e) ps apart) in
       let absent : lookup (same_name e.0) (standing ps) ≡ None = lookup-absent ps e.0 (λ k named. let h : suc k ≡ 0 = apart (suc k) 0 e.0 named refl in absurd (omega arith)) in
       kept_one (p e) e (standing (map (option_filter p) ps)) ∙ ap (λ xs. cond (p e) (insert_entry name_cmp xs e.0 e.1) xs) rest
-          ∙ sym (filter_insert p e.0 e.1 (standing ps) (rising_standing ps) absent)
+      ∙ sym (filter_insert p e.0 e.1 (standing ps) (rising_standing ps) absent)

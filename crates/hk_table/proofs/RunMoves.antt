@@ -40,7 +40,7 @@ module _ (objects : Shelf) (q : Queued) (ps : List Process) (st : Stacked) (firs
       ∙ ap (λ (v : State). record v { processes = with_run ps proc (Waiting n) }) (list_told s n (waiters q s ++ proc ∷ []) apart named low)
       ∙ ap (λ (procs : List Proc).
       put_process (put_object (told objects q ps st first_new events limit) n (record (object (told objects q ps st first_new events limit) n)
-          { waiters = procs ++ proc ∷ [] })) proc
+      { waiters = procs ++ proc ∷ [] })) proc
       (record (process (told objects q ps st first_new events limit) proc) { run = Waiting n })) (waiters_read objects.slots q.waiting s n apart named)
 
   pub missing_wait : (new : List Process) (proc : Proc) (n : Name) (o : Object) → ((k : ℕ) → name_at objects.slots k ≡ Some n → ⊥) → new ≡ with_run ps proc (Waiting n)
@@ -58,7 +58,7 @@ module _ (objects : Shelf) (q : Queued) (ps : List Process) (st : Stacked) (firs
       → waiters q s ≡ first ∷ drop 1 (waiters q s)
       → m ≡ record q { waiting = slice_set q.waiting s (drop 1 (waiters q s)) } → r ≡ record m { ready = m.ready ++ first ∷ [] } → new ≡ with_run ps first Ready
       → token_given (told objects q ps st first_new events limit) n (object (told objects q ps st first_new events limit) n)
-          (object (told objects q ps st first_new events limit) n).waiters
+      (object (told objects q ps st first_new events limit) n).waiters
       ≡ Ok (Done, told objects r new st first_new events limit)
   wake_told m r new first s n apart named low split e f g =
       let is : r ≡ record q { waiting = slice_set q.waiting s (drop 1 (waiters q s)); ready = q.ready ++ first ∷ [] } =

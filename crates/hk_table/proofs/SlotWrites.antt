@@ -100,9 +100,9 @@ top_put stacks next q inc slot entry h current = by (top_of (slice_index_or stac
       ap (λ (o : Option StackFrame). live_from 0 (set stacks q (with_changed (slice_index_or stacks q []) k o slot entry))) e
       ∙ put_frame 0 stacks q k f (with_slot f slot entry) e refl (λ p j g there number. h.apart p q j k g f there e number)
       ∙ ap (λ (m : ℕ). set_value (same_inc f.inc) (live_from 0 stacks) (incarnation_of (record { 0 = m }) (caller_at None (slice_index_or stacks q []) k)
-          (with_slot f slot entry))) z
+      (with_slot f slot entry))) z
       ∙ ap (λ (i : Inc). set_value (same_inc i) (live_from 0 stacks) (written (incarnation_of (record { 0 = q }) (caller_at None (slice_index_or stacks q []) k) f) slot entry))
-          (sym same)
+      (sym same)
       ∙ ap (λ (i : Incarnation). set_value (same_inc inc) (live_from 0 stacks) (written i slot entry)) (sym is)
 
 -- stacks whose frames have the same numbers
@@ -196,7 +196,7 @@ top_same stacks q slot entry = record {
   many = placed_put (λ (fs : List StackFrame). length fs) stacks q (with_top (slice_index_or stacks q []) slot entry) (top_many (slice_index_or stacks q []) slot entry);
   numbers = λ p k.
       placed_put (λ (fs : List StackFrame). number_of (slice_get fs k)) stacks q (with_top (slice_index_or stacks q []) slot entry)
-          (top_numbers (slice_index_or stacks q []) slot entry k) p;
+      (top_numbers (slice_index_or stacks q []) slot entry k) p;
 }
 
 -- and a slot past those of the top frame of a process

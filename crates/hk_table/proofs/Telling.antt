@@ -100,7 +100,7 @@ space_put : (fs : List StackFrame) (k : ℕ) (f g : StackFrame) → slice_get fs
 space_put [] k f g here same all j x there = all j x there
 space_put (y ∷ fs) zero f g here same all zero x there =
     let e : g ≡ x = cc in let w : length f.space ≤ 64 = all 0 f here in let l : length x.space ≡ length g.space = ap (λ (z : StackFrame). length z.space) (sym e) in
-            omega (arith, w, l, same)
+    omega (arith, w, l, same)
 space_put (y ∷ fs) zero f g here same all (suc j) x there = all (suc j) x there
 space_put (y ∷ fs) (suc k) f g here same all zero x there = all 0 x there
 space_put (y ∷ fs) (suc k) f g here same all (suc j) x there = space_put fs k f g here same (λ i z w. all (suc i) z w) j x there
@@ -148,7 +148,7 @@ module _ (o : Shelf) (stacks : List (List StackFrame)) (ps : List Process) (firs
       (namings o.slots) u (λ n.
       let w = slot_written n stacks q slot entry low in
       let e : times n (entry_names old) ≡ times n (entry_names (slice_index_or (slots_of (top_of (slice_index_or stacks q []))) slot Empty)) = ap
-              (λ (x : Entry). times n (entry_names x)) is in
+      (λ (x : Entry). times n (entry_names x)) is in
       omega (arith, w, e)) (f.1 (λ n. outside_namings n stacks ps) (namings o.slots) h.held)
 
   pub slot_can : CanRelease o.slots (entry_names old) u
@@ -193,7 +193,7 @@ stack_within n stacks q =
     ⊎_elim
     (λ (low : q < length stacks). get_or-le-sum_by (stack_namings n) stacks q [] low)
     (λ (high : length stacks ≤ q). let e : stack_namings n (slice_index_or stacks q []) ≡ stack_namings n [] = ap (stack_namings n) (get_or_past stacks q [] high) in
-        omega (arith, e))
+    omega (arith, e))
     (cases_lt q (length stacks))
 
 top_within : (n : Name) (fs : List StackFrame) → times n (named_in (slots_of (top_of fs))) ≤ stack_namings n fs

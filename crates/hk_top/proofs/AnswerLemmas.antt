@@ -206,8 +206,14 @@ pub read_due : {before after : Option (List ℕ)} {bytes same text : List ℕ} {
     → Consumes before after bytes → IsAtEnd after → length bytes ≤ limit → same ≡ bytes
     → DueTo (words_of c) same status text made → Due (words_of c) before after status text made
 read_due {before} {after} {bytes} {same} {text} {status} {made} c limit reads range limit_is taken end few is due =
-    read bytes status text made (record { taken = taken; end = end; limit = limit; at_most = subst (λ n. ReadsAtMost (words_of c) n) (sym limit_is) (at_most c reads range); few
-        = few })
+    read bytes status text made (record {
+      taken = taken;
+      end = end;
+      limit = limit;
+      at_most = subst (λ n. ReadsAtMost (words_of c) n) (sym limit_is) (at_most c reads range);
+      few
+          = few;
+    })
     (subst (λ b. DueTo (words_of c) b status text made) is due)
 
 pub too_long_due : {before after : Option (List ℕ)} {status : ℕ} {text : List ℕ} {made : Option State} (c : Command) (limit : ℕ) → TakesInput c → IsInRange c → limit ≡ byte_limit c

@@ -42,7 +42,7 @@ source_is writings n p t o some few there e =
 -- one line back: it wrote nothing there, or what came from a place, or what it made
 pub back_none : (writings : List Writing) (n : ℕ) (p : Place) (links : List Link) (whole : WayBack) (t : Writing) (o : CameFrom) → 0 < n → n ≤ length writings
     → t ≡ slice_index_or writings (n - 1) t → o ≡ source_in t p → o ≡ source.Nowhere → joined links (way_back writings n p) ≡ whole
-        → joined links (way_back writings (n - 1) p) ≡ whole
+    → joined links (way_back writings (n - 1) p) ≡ whole
 back_none writings n p links whole t o some few there e none h =
     let g = one_back writings n p some in
     let k = source_is writings n p t o some few there e ∙ none in
@@ -55,7 +55,7 @@ back_came writings n p links whole t o from some few there e came h =
     let g = one_back writings n p some in
     let k = source_is writings n p t o some few there e ∙ came in
     let longer : joined (links ++ record { line = n; from = from } ∷ []) (way_back writings (n - 1) from.place) ≡ joined links
-            (trail_by n (source.Came from) (way_back writings (n - 1)) p)
+    (trail_by n (source.Came from) (way_back writings (n - 1)) p)
     = ap (λ (l : List Link). let x : WayBack = record { links = l; origin = (way_back writings (n - 1) from.place).origin } in x)
     (append_assoc links (record { line = n; from = from } ∷ []) (way_back writings (n - 1) from.place).links) in
     longer ∙ (sym (ap (joined links) (g ∙ ap (λ (f : CameFrom). trail_by n f (way_back writings (n - 1)) p) k)) ∙ h)

@@ -7,7 +7,7 @@ hold_name_inside-requires c = type_can c.args.objects.now.slots c.args.counts.no
 pub hold_entries_inside-requires : goal.hold_entries_inside-requires
 hold_entries_inside-requires c =
     entries_can c.args.objects.now.slots c.args.counts.now c.requires c.of.result c.hold_name_inside.new.counts c.entries.result.now c.entries.ensures.few
-        c.hold_name_inside.ensures
+    c.hold_name_inside.ensures
 
 pub returns-in-None-clause-held : goal.returns-in-None-clause-held
 returns-in-None-clause-held c = free_held c.args.objects.now.slots c.args.slot.0 c.args.counts.now c.in-None.ensures.name

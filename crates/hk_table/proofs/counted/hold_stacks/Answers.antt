@@ -11,7 +11,7 @@ loop-n-init c = record { can = c.requires; more = λ final done. done }
 pub hold_stack-requires : goal.hold_stack-requires
 hold_stack-requires c =
     next_can stack_names (λ names t. CanHold c.args.objects.now.slots names t) (λ names t u. Holds c.args.objects.now.slots names t u) (holding c.args.objects.now.slots)
-        c.args.stacks.now c.loop-n.n c.index-stacks-n.result c.loop-n.counts
+    c.args.stacks.now c.loop-n.n c.index-stacks-n.result c.loop-n.counts
     (some_item c.args.stacks.now c.loop-n.n c.index-stacks-n.result c.loop-n-test.true c.index-stacks-n.is) c.loop-n.invariant.can
 
 pub loop-n-preserved : goal.loop-n-preserved
@@ -23,8 +23,8 @@ loop-n-preserved c =
           c.loop-n.invariant.can;
       more = λ final later. c.loop-n.invariant.more final
           (later_done stack_names (λ names t. CanHold c.args.objects.now.slots names t) (λ names t u. Holds c.args.objects.now.slots names t u)
-              (holding c.args.objects.now.slots) c.args.stacks.now c.loop-n.n c.index-stacks-n.result c.loop-n.counts c.hold_stack.new.counts final here c.hold_stack.ensures
-              later);
+          (holding c.args.objects.now.slots) c.args.stacks.now c.loop-n.n c.index-stacks-n.result c.loop-n.counts c.hold_stack.new.counts final here c.hold_stack.ensures
+          later);
     }
 
 pub returns : goal.returns

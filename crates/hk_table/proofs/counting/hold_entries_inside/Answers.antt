@@ -21,8 +21,8 @@ loop-entry-preserved c = record {
       c.loop-entry.invariant.can;
   more = λ final later. c.loop-entry.invariant.more final
       (later_done (λ names t. CanHold c.args.objects.now.slots names t) (λ names t u. HoldsInside c.args.objects.now.slots names t u) (holding_inside c.args.objects.now.slots)
-          c.args.entries.now c.loop-entry.entry-index c.entry-item.result c.loop-entry.counts c.hold_entry_inside.new.counts final c.loop-entry-test.true
-          (get_or_read c.args.entries.now c.loop-entry.entry-index c.entry-item.result c.loop-entry-test.true c.entry-item.is Empty) c.hold_entry_inside.ensures later);
+      c.args.entries.now c.loop-entry.entry-index c.entry-item.result c.loop-entry.counts c.hold_entry_inside.new.counts final c.loop-entry-test.true
+      (get_or_read c.args.entries.now c.loop-entry.entry-index c.entry-item.result c.loop-entry-test.true c.entry-item.is Empty) c.hold_entry_inside.ensures later);
 }
 
 pub returns : goal.returns

@@ -14,7 +14,7 @@ pub hold_entries-requires : goal.hold_entries-requires
 hold_entries-requires c =
     subst (λ (es : List Entry). CanHold c.args.objects.now.slots (named_in es) c.loop-at.counts) (sym c.as_slice.ensures.value)
     (next_can (λ (g : StackFrame). named_in g.space) (λ names t. CanHold c.args.objects.now.slots names t) (λ names t u. Holds c.args.objects.now.slots names t u)
-        (holding c.args.objects.now.slots) c.args.stack.now c.loop-at.at c.frame.result.now c.loop-at.counts c.frame.ensures c.loop-at.invariant.can)
+    (holding c.args.objects.now.slots) c.args.stack.now c.loop-at.at c.frame.result.now c.loop-at.counts c.frame.ensures c.loop-at.invariant.can)
 
 pub loop-at-preserved : goal.loop-at-preserved
 loop-at-preserved c =
@@ -26,7 +26,7 @@ loop-at-preserved c =
           c.loop-at.invariant.can;
       more = λ final later. c.loop-at.invariant.more final
           (later_done (λ (g : StackFrame). named_in g.space) (λ names t. CanHold c.args.objects.now.slots names t) (λ names t u. Holds c.args.objects.now.slots names t u)
-              (holding c.args.objects.now.slots) c.args.stack.now c.loop-at.at c.frame.result.now c.loop-at.counts c.hold_entries.new.counts final c.frame.ensures does later);
+          (holding c.args.objects.now.slots) c.args.stack.now c.loop-at.at c.frame.result.now c.loop-at.counts c.hold_entries.new.counts final c.frame.ensures does later);
     }
 
 pub returns : goal.returns

@@ -21,9 +21,9 @@ loop-entry-preserved c = record {
       c.release_entry_inside.ensures c.loop-entry.invariant.can;
   more = λ final later. c.loop-entry.invariant.more final
       (later_done (λ names t. CanReleaseInside c.args.objects.now.slots names t) (λ names t u. ReleasesInside c.args.objects.now.slots names t u)
-          (releasing_inside c.args.objects.now.slots) c.args.entries.now c.loop-entry.entry-index c.entry-item.result c.loop-entry.counts c.release_entry_inside.new.counts
-          final c.loop-entry-test.true (get_or_read c.args.entries.now c.loop-entry.entry-index c.entry-item.result c.loop-entry-test.true c.entry-item.is Empty)
-          c.release_entry_inside.ensures later);
+      (releasing_inside c.args.objects.now.slots) c.args.entries.now c.loop-entry.entry-index c.entry-item.result c.loop-entry.counts c.release_entry_inside.new.counts
+      final c.loop-entry-test.true (get_or_read c.args.entries.now c.loop-entry.entry-index c.entry-item.result c.loop-entry-test.true c.entry-item.is Empty)
+      c.release_entry_inside.ensures later);
 }
 
 pub returns : goal.returns

@@ -14,7 +14,7 @@ pub release_entries-requires : goal.release_entries-requires
 release_entries-requires c =
     subst (λ (es : List Entry). CanRelease c.args.objects.now.slots (named_in es) c.loop-at.counts) (sym c.as_slice.ensures.value)
     (next_can (λ (g : StackFrame). named_in g.space) (λ names t. CanRelease c.args.objects.now.slots names t) (λ names t u. Releases c.args.objects.now.slots names t u)
-        (releasing c.args.objects.now.slots) c.args.stack.now c.loop-at.at c.frame.result.now c.loop-at.counts c.frame.ensures c.loop-at.invariant.can)
+    (releasing c.args.objects.now.slots) c.args.stack.now c.loop-at.at c.frame.result.now c.loop-at.counts c.frame.ensures c.loop-at.invariant.can)
 
 pub loop-at-preserved : goal.loop-at-preserved
 loop-at-preserved c =
@@ -26,7 +26,7 @@ loop-at-preserved c =
           c.loop-at.invariant.can;
       more = λ final later. c.loop-at.invariant.more final
           (later_done (λ (g : StackFrame). named_in g.space) (λ names t. CanRelease c.args.objects.now.slots names t) (λ names t u. Releases c.args.objects.now.slots names t u)
-              (releasing c.args.objects.now.slots) c.args.stack.now c.loop-at.at c.frame.result.now c.loop-at.counts c.release_entries.new.counts final c.frame.ensures does later);
+          (releasing c.args.objects.now.slots) c.args.stack.now c.loop-at.at c.frame.result.now c.loop-at.counts c.release_entries.new.counts final c.frame.ensures does later);
     }
 
 pub returns : goal.returns

@@ -12,7 +12,7 @@ pub release_stack-requires : goal.release_stack-requires
 release_stack-requires c =
     subst (λ (fs : List StackFrame). CanRelease c.args.objects.now.slots (stack_names fs) c.args.counts.now)
     (sym (stack_is c.as_slice.result.now c.args.stacks.now.stacks c.args.proc.0 c.in-Some.stack.now c.as_slice.ensures.value c.in-Some.ensures.lookup.3.0
-        c.in-Some.ensures.lookup.1)) c.requires
+    c.in-Some.ensures.lookup.1)) c.requires
 
 pub returns-in-Some : goal.returns-in-Some
 returns-in-Some c =
@@ -24,6 +24,6 @@ pub returns-in_default : goal.returns-in_default
 returns-in_default c =
     let past : slice_index_or c.args.stacks.now.stacks c.args.proc.0 [] ≡ [] =
     get_or_past c.args.stacks.now.stacks c.args.proc.0 [] (subst (λ (ss : List (List StackFrame)). length ss ≤ c.args.proc.0) c.as_slice.ensures.value
-        c.in_default.ensures.lookup.3) in
+    c.in_default.ensures.lookup.3) in
     subst (λ (fs : List StackFrame). Releases c.args.objects.now.slots (stack_names fs) c.args.counts.now c.args.counts.now) (sym past)
     ((releasing c.args.objects.now.slots).nothing c.args.counts.now)

@@ -13,5 +13,5 @@ returns-in-Ok c = state_due c.args.bytes.now c.in-Ok.audit c.args.count c.taken_
 pub returns-in-Err-Refused : goal.returns-in-Err-Refused
 returns-in-Err-Refused c =
     record_refused_due (command.Back c.args.count) c.args.bytes.now c.in-Err-Refused.line c.in-Err-Refused.cause c.refused.result
-        (inr (inr (inr (c.args.count, (refl, c.requires.count)))))
+    (inr (inr (inr (c.args.count, (refl, c.requires.count)))))
     (c.read_record.ensures.refused c.in-Err-Refused.line c.in-Err-Refused.cause (c.in-Err-Refused.is ∙ ap (λ e. Err e) c.in-Err-Refused.field-0-is)) c.refused.ensures

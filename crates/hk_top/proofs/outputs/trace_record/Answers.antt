@@ -13,5 +13,5 @@ returns-in-Ok c = chains_due c.args.bytes.now c.in-Ok.audit c.args.line c.traced
 pub returns-in-Err-Refused : goal.returns-in-Err-Refused
 returns-in-Err-Refused c =
     record_refused_due (command.Trace c.args.line) c.args.bytes.now c.in-Err-Refused.line c.in-Err-Refused.cause c.refused.result
-        (inr (inr (inl (c.args.line, (refl, c.requires.line)))))
+    (inr (inr (inl (c.args.line, (refl, c.requires.line)))))
     (c.read_record.ensures.refused c.in-Err-Refused.line c.in-Err-Refused.cause (c.in-Err-Refused.is ∙ ap (λ e. Err e) c.in-Err-Refused.field-0-is)) c.refused.ensures

@@ -10,7 +10,7 @@ returns-in-Made c =
     rw c.from_vec.ensures
     (back_made c.args.writings.now c.loop-line.line c.loop-line.place c.loop-line.links.items (way_back c.args.writings.now (length c.args.writings.now) c.args.from)
     c.index-writings-line.result c.source_in-source.result some c.loop-line.invariant.few c.index-writings-line.is c.source_in-source.ensures c.in-Made.is
-        c.loop-line.invariant.found)
+    c.loop-line.invariant.found)
 
 pub loop-line-preserved : goal.loop-line-preserved
 loop-line-preserved c = record {

@@ -7,7 +7,7 @@ pub returns-in-Some : goal.returns-in-Some
 returns-in-Some c =
     rw (← c.self.view_is)
     (read_is c.self.inside.objects.slots c.self.inside.queues.waiting c.in-Some.slot.0 c.args.name c.in-Some.ensures.apart c.in-Some.ensures.found (λ b. code_of b.procedure)
-        (λ o. o.code)
+    (λ o. o.code)
     (λ b procs. refl) c.code.result c.code.ensures)
 
 pub returns-in-None : goal.returns-in-None

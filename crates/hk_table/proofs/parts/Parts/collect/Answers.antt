@@ -16,7 +16,7 @@ invariant_of-self c = record {
       c.self.invariant.joined.queued) (c.collect_and_forget.ensures.walks c.self.invariant.joined.right);
   told = left_counted c.self.inside.objects c.collect_and_forget.new.objects c.self.inside.stacks.stacks c.self.inside.processes c.self.inside.first_new c.self.inside.counts
       c.collect_and_forget.new.counts c.self.invariant.told c.collect_and_forget.ensures.left c.collect_and_forget.ensures.free c.collect_and_forget.ensures.counted
-          c.collect_and_forget.ensures.outside;
+      c.collect_and_forget.ensures.outside;
 }
 
 pub returns : goal.returns

@@ -24,7 +24,7 @@ invariant_of-self c =
       told = run_quiet c.self.inside.objects c.clear.new.self.stacks c.self.inside.processes c.set_run.new.self c.self.inside.first_new c.release_frames.new.counts
           c.release_frames.new.counts c.args.proc Ended (runs_within c.self.inside.processes c.args.proc runs)
           (cleared_counted c.self.inside.objects c.self.inside.stacks.stacks c.self.inside.processes c.self.inside.first_new c.self.inside.counts c.args.proc.0
-              c.self.invariant.told c.release_frames.new.counts c.clear.new.self.stacks
+          c.self.invariant.told c.release_frames.new.counts c.clear.new.self.stacks
           c.release_frames.ensures (ap (λ (s : Stacked). s.stacks) c.clear.ensures.value)) c.set_run.ensures refl
           (runs_unnamed (process_at c.self.inside.processes c.args.proc.0).run runs);
     }

@@ -17,9 +17,9 @@ returns-in_default c =
     subst (λ (s : State). is_running (process s c.args.proc).run ≡ true) (sym c.self.view_is) c.requires in
     let popped = c.in_default.ensures.popped in
     stray_told c.self.inside.objects c.self.inside.queues c.self.inside.processes c.set_run.new.self c.self.inside.stacks c.pop.new.self c.self.inside.first_new
-        c.self.inside.events
+    c.self.inside.events
     c.self.inside.limit c.args.self.now c.args.proc c.self.view_is (c.self.invariant.joined.current c.args.proc.0 (runs_within c.self.inside.processes c.args.proc runs))
-        popped.0 popped.1
+    popped.0 popped.1
     c.in_default.ensures.next c.set_run.ensures
 
 pub invariant_of-self : goal.invariant_of-self
@@ -47,7 +47,7 @@ invariant_of-self c =
 pub release_entries-requires : goal.release_entries-requires
 release_entries-requires c =
     can_release_top c.self.inside.objects c.self.inside.stacks.stacks c.self.inside.processes c.self.inside.first_new c.self.inside.counts c.args.proc.0 c.top_slots.result.now
-        c.self.invariant.told c.top_slots.ensures.value
+    c.self.invariant.told c.top_slots.ensures.value
 
 pub invariant_of-self-in-Some-top_number : goal.invariant_of-self-in-Some-top_number
 invariant_of-self-in-Some-top_number c =
@@ -57,13 +57,13 @@ invariant_of-self-in-Some-top_number c =
     record {
       joined = back_joined c.self.inside.objects c.self.inside.queues c.self.inside.processes c.self.inside.stacks c.self.inside.walker c.args.proc
           (runs_within c.self.inside.processes c.args.proc runs) c.self.invariant.joined c.in-Some.ensures.numbered c.pop.new.self c.in-Some.ensures.next p.0 p.1 p.2 p.4
-              c.set_current.new.self
+          c.set_current.new.self
           c.in-Some-top_number.caller c.in-Some-top_number.ensures c.set_current.ensures;
       told = current_counted c.self.inside.objects c.pop.new.self.stacks c.self.inside.processes c.set_current.new.self c.self.inside.first_new c.release_entries.new.counts
           c.args.proc c.in-Some-top_number.caller (runs_within c.self.inside.processes c.args.proc runs)
           (popped_counted c.self.inside.objects c.self.inside.stacks.stacks c.pop.new.self.stacks c.self.inside.processes c.self.inside.first_new c.self.inside.counts
           c.release_entries.new.counts c.args.proc.0 (Some c.in-Some.into) c.top_slots.result.now c.self.invariant.told c.top_slots.ensures.value c.release_entries.ensures
-              c.in-Some.ensures.popped) c.set_current.ensures;
+          c.in-Some.ensures.popped) c.set_current.ensures;
     }
 
 pub invariant_of-self-in-None : goal.invariant_of-self-in-None
@@ -74,13 +74,13 @@ invariant_of-self-in-None c =
     record {
       joined = end_joined c.self.inside.objects c.self.inside.queues c.self.inside.processes c.self.inside.stacks c.self.inside.walker c.args.proc
           (runs_within c.self.inside.processes c.args.proc runs) c.self.invariant.joined c.in-Some.ensures.numbered c.pop.new.self c.in-Some.ensures.next p.0 p.1 p.2 p.4
-              c.set_run-in-None.new.self
+          c.set_run-in-None.new.self
           runs c.in-None.ensures c.set_run-in-None.ensures;
       told = run_quiet c.self.inside.objects c.pop.new.self.stacks c.self.inside.processes c.set_run-in-None.new.self c.self.inside.first_new c.release_entries.new.counts
           c.release_entries.new.counts c.args.proc Ended (runs_within c.self.inside.processes c.args.proc runs)
           (popped_counted c.self.inside.objects c.self.inside.stacks.stacks c.pop.new.self.stacks c.self.inside.processes c.self.inside.first_new c.self.inside.counts
           c.release_entries.new.counts c.args.proc.0 (Some c.in-Some.into) c.top_slots.result.now c.self.invariant.told c.top_slots.ensures.value c.release_entries.ensures
-              c.in-Some.ensures.popped) c.set_run-in-None.ensures refl
+          c.in-Some.ensures.popped) c.set_run-in-None.ensures refl
           (runs_unnamed (process_at c.self.inside.processes c.args.proc.0).run runs);
     }
 
@@ -91,7 +91,7 @@ returns-in-Some-top_number c =
     let p = c.in-Some.ensures.popped in
     back_told c.self.inside.objects c.self.inside.queues c.self.inside.processes c.self.inside.stacks c.self.inside.walker c.args.proc
     (runs_within c.self.inside.processes c.args.proc runs) c.self.invariant.joined c.in-Some.ensures.numbered c.pop.new.self c.in-Some.ensures.next p.0 p.1 p.2 p.4
-        c.self.inside.first_new
+    c.self.inside.first_new
     c.self.inside.events c.self.inside.limit c.args.self.now c.self.view_is c.set_current.new.self c.in-Some-top_number.caller c.in-Some.into p.3 c.in-Some-top_number.ensures
     c.set_current.ensures
 
@@ -102,5 +102,5 @@ returns-in-None c =
     let p = c.in-Some.ensures.popped in
     end_told c.self.inside.objects c.self.inside.queues c.self.inside.processes c.self.inside.stacks c.self.inside.walker c.args.proc
     (runs_within c.self.inside.processes c.args.proc runs) c.self.invariant.joined c.in-Some.ensures.numbered c.pop.new.self c.in-Some.ensures.next p.0 p.1 p.2 p.4
-        c.self.inside.first_new
+    c.self.inside.first_new
     c.self.inside.events c.self.inside.limit c.args.self.now c.self.view_is c.set_run-in-None.new.self c.in-None.ensures c.set_run-in-None.ensures

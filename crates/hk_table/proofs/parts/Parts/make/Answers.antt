@@ -26,10 +26,10 @@ hold_outside-requires-clause-in_range c =
     c.self.inside.limit) = subst (λ (s : State). AllNamedStand s) (sym c.self.view_is) c.requires.named in
     let m = making c.self.inside.objects c.self.inside.queues c.self.inside.processes c.self.inside.stacks c.self.inside.first_new c.self.inside.events c.self.inside.limit
     c.self.inside.counts c.make-slot.result.0 c.args.entries c.as_slice-stacks.ensures.numbered c.self.invariant.told c.make-slot.ensures.apart c.make-slot.ensures.above
-        c.make-slot.ensures.slot
+    c.make-slot.ensures.slot
     c.make-slot.ensures.free few named in
     made_range c.self.inside.objects c.self.inside.stacks.stacks c.self.inside.processes c.self.inside.first_new c.self.inside.counts c.make-slot.result.0
-        c.self.inside.objects.next c.args.of c.args.words c.args.entries m
+    c.self.inside.objects.next c.args.of c.args.words c.args.entries m
 
 pub hold_outside-requires-clause-few : goal.hold_outside-requires-clause-few
 hold_outside-requires-clause-few c =
@@ -38,10 +38,10 @@ hold_outside-requires-clause-few c =
     c.self.inside.limit) = subst (λ (s : State). AllNamedStand s) (sym c.self.view_is) c.requires.named in
     let m = making c.self.inside.objects c.self.inside.queues c.self.inside.processes c.self.inside.stacks c.self.inside.first_new c.self.inside.events c.self.inside.limit
     c.self.inside.counts c.make-slot.result.0 c.args.entries c.as_slice-stacks.ensures.numbered c.self.invariant.told c.make-slot.ensures.apart c.make-slot.ensures.above
-        c.make-slot.ensures.slot
+    c.make-slot.ensures.slot
     c.make-slot.ensures.free few named in
     made_few c.self.inside.objects c.self.inside.stacks.stacks c.self.inside.processes c.self.inside.first_new c.self.inside.counts c.make-slot.result.0
-        c.self.inside.objects.next c.args.of c.args.words c.args.entries m
+    c.self.inside.objects.next c.args.of c.args.words c.args.entries m
 
 pub release_outside-requires-clause-in_range : goal.release_outside-requires-clause-in_range
 release_outside-requires-clause-in_range c =
@@ -50,11 +50,11 @@ release_outside-requires-clause-in_range c =
     c.self.inside.limit) = subst (λ (s : State). AllNamedStand s) (sym c.self.view_is) c.requires.named in
     let m = making c.self.inside.objects c.self.inside.queues c.self.inside.processes c.self.inside.stacks c.self.inside.first_new c.self.inside.events c.self.inside.limit
     c.self.inside.counts c.make-slot.result.0 c.args.entries c.as_slice-stacks.ensures.numbered c.self.invariant.told c.make-slot.ensures.apart c.make-slot.ensures.above
-        c.make-slot.ensures.slot
+    c.make-slot.ensures.slot
     c.make-slot.ensures.free few named in
     subst (λ (t : Tally). c.make-slot.result.0 < length t.total) (sym c.hold_outside.ensures)
-        (made_range_still c.self.inside.objects c.self.inside.stacks.stacks c.self.inside.processes c.self.inside.first_new c.self.inside.counts c.make-slot.result.0
-        c.self.inside.objects.next c.args.of c.args.words c.args.entries m)
+    (made_range_still c.self.inside.objects c.self.inside.stacks.stacks c.self.inside.processes c.self.inside.first_new c.self.inside.counts c.make-slot.result.0
+    c.self.inside.objects.next c.args.of c.args.words c.args.entries m)
 
 pub release_outside-requires-clause-held : goal.release_outside-requires-clause-held
 release_outside-requires-clause-held c =
@@ -63,11 +63,11 @@ release_outside-requires-clause-held c =
     c.self.inside.limit) = subst (λ (s : State). AllNamedStand s) (sym c.self.view_is) c.requires.named in
     let m = making c.self.inside.objects c.self.inside.queues c.self.inside.processes c.self.inside.stacks c.self.inside.first_new c.self.inside.events c.self.inside.limit
     c.self.inside.counts c.make-slot.result.0 c.args.entries c.as_slice-stacks.ensures.numbered c.self.invariant.told c.make-slot.ensures.apart c.make-slot.ensures.above
-        c.make-slot.ensures.slot
+    c.make-slot.ensures.slot
     c.make-slot.ensures.free few named in
     subst (λ (t : Tally). 0 < get_or t.outside c.make-slot.result.0 0) (sym c.hold_outside.ensures)
-        (made_some c.self.inside.objects c.self.inside.stacks.stacks c.self.inside.processes c.self.inside.first_new c.self.inside.counts c.make-slot.result.0
-        c.self.inside.objects.next c.args.of c.args.words c.args.entries m)
+    (made_some c.self.inside.objects c.self.inside.stacks.stacks c.self.inside.processes c.self.inside.first_new c.self.inside.counts c.make-slot.result.0
+    c.self.inside.objects.next c.args.of c.args.words c.args.entries m)
 
 pub hold_name_inside-requires : goal.hold_name_inside-requires
 hold_name_inside-requires c =
@@ -76,7 +76,7 @@ hold_name_inside-requires c =
     c.self.inside.limit) = subst (λ (s : State). AllNamedStand s) (sym c.self.view_is) c.requires.named in
     let m = making c.self.inside.objects c.self.inside.queues c.self.inside.processes c.self.inside.stacks c.self.inside.first_new c.self.inside.events c.self.inside.limit
     c.self.inside.counts c.make-slot.result.0 c.args.entries c.as_slice-stacks.ensures.numbered c.self.invariant.told c.make-slot.ensures.apart c.make-slot.ensures.above
-        c.make-slot.ensures.slot
+    c.make-slot.ensures.slot
     c.make-slot.ensures.free few named in
     let t : Tally = c.self.inside.counts in
     let s : ℕ = c.make-slot.result.0 in
@@ -85,8 +85,8 @@ hold_name_inside-requires c =
     ∙ ap (λ (n : Name). let v : Tally = record t { outside = raised t.outside s; total = raised t.total s; pending = without s t.pending } in
     let w : Tally = record (released v s n) { outside = lowered v.outside s } in w) c.next_name-name.ensures.name in
     made_can c.self.inside.objects c.self.inside.stacks.stacks c.self.inside.processes c.self.inside.first_new c.self.inside.counts c.make-slot.result.0
-        c.self.inside.objects.next c.args.of c.args.words c.args.entries m c.make-slot.new.objects (ap (λ (v : Shelf). v.slots) c.make-slot.ensures.made)
-        c.next_name-apart.ensures.apart c.release_outside.new.self settled
+    c.self.inside.objects.next c.args.of c.args.words c.args.entries m c.make-slot.new.objects (ap (λ (v : Shelf). v.slots) c.make-slot.ensures.made)
+    c.next_name-apart.ensures.apart c.release_outside.new.self settled
 
 pub entries-requires : goal.entries-requires
 entries-requires c =
@@ -95,10 +95,10 @@ entries-requires c =
     c.self.inside.limit) = subst (λ (s : State). AllNamedStand s) (sym c.self.view_is) c.requires.named in
     let m = making c.self.inside.objects c.self.inside.queues c.self.inside.processes c.self.inside.stacks c.self.inside.first_new c.self.inside.events c.self.inside.limit
     c.self.inside.counts c.make-slot.result.0 c.args.entries c.as_slice-stacks.ensures.numbered c.self.invariant.told c.make-slot.ensures.apart c.make-slot.ensures.above
-        c.make-slot.ensures.slot
+    c.make-slot.ensures.slot
     c.make-slot.ensures.free few named in
     made_stands c.self.inside.objects c.self.inside.stacks.stacks c.self.inside.processes c.self.inside.first_new c.self.inside.counts c.make-slot.result.0
-        c.self.inside.objects.next c.args.of c.args.words c.args.entries m c.make-slot.new.objects.slots (ap (λ (v : Shelf). v.slots) c.make-slot.ensures.made)
+    c.self.inside.objects.next c.args.of c.args.words c.args.entries m c.make-slot.new.objects.slots (ap (λ (v : Shelf). v.slots) c.make-slot.ensures.made)
 
 pub hold_entries_inside-requires : goal.hold_entries_inside-requires
 hold_entries_inside-requires c =
@@ -107,7 +107,7 @@ hold_entries_inside-requires c =
     c.self.inside.limit) = subst (λ (s : State). AllNamedStand s) (sym c.self.view_is) c.requires.named in
     let m = making c.self.inside.objects c.self.inside.queues c.self.inside.processes c.self.inside.stacks c.self.inside.first_new c.self.inside.events c.self.inside.limit
     c.self.inside.counts c.make-slot.result.0 c.args.entries c.as_slice-stacks.ensures.numbered c.self.invariant.told c.make-slot.ensures.apart c.make-slot.ensures.above
-        c.make-slot.ensures.slot
+    c.make-slot.ensures.slot
     c.make-slot.ensures.free few named in
     let t : Tally = c.self.inside.counts in
     let s : ℕ = c.make-slot.result.0 in
@@ -116,12 +116,12 @@ hold_entries_inside-requires c =
     ∙ ap (λ (n : Name). let v : Tally = record t { outside = raised t.outside s; total = raised t.total s; pending = without s t.pending } in
     let w : Tally = record (released v s n) { outside = lowered v.outside s } in w) c.next_name-name.ensures.name in
     let read : c.entries.result.now ≡ c.args.entries = made_read c.self.inside.objects c.self.inside.stacks.stacks c.self.inside.processes c.self.inside.first_new
-            c.self.inside.counts c.make-slot.result.0 c.self.inside.objects.next c.args.of c.args.words c.args.entries m c.make-slot.new.objects.slots
-            (ap (λ (v : Shelf). v.slots) c.make-slot.ensures.made) c.entries.result.now c.entries.ensures.entries in
+    c.self.inside.counts c.make-slot.result.0 c.self.inside.objects.next c.args.of c.args.words c.args.entries m c.make-slot.new.objects.slots
+    (ap (λ (v : Shelf). v.slots) c.make-slot.ensures.made) c.entries.result.now c.entries.ensures.entries in
     subst (λ (es : List Entry). CanHold c.make-slot.new.objects.slots (named_in es) c.hold_name_inside.new.counts) (sym read)
     (made_can_more c.self.inside.objects c.self.inside.stacks.stacks c.self.inside.processes c.self.inside.first_new c.self.inside.counts c.make-slot.result.0
-        c.self.inside.objects.next c.args.of c.args.words c.args.entries m c.make-slot.new.objects (ap (λ (v : Shelf). v.slots) c.make-slot.ensures.made)
-        c.next_name-apart.ensures.apart c.release_outside.new.self settled c.hold_name_inside.new.counts c.hold_name_inside.ensures)
+    c.self.inside.objects.next c.args.of c.args.words c.args.entries m c.make-slot.new.objects (ap (λ (v : Shelf). v.slots) c.make-slot.ensures.made)
+    c.next_name-apart.ensures.apart c.release_outside.new.self settled c.hold_name_inside.new.counts c.hold_name_inside.ensures)
 
 pub invariant_of-self : goal.invariant_of-self
 invariant_of-self c =
@@ -130,7 +130,7 @@ invariant_of-self c =
     c.self.inside.limit) = subst (λ (s : State). AllNamedStand s) (sym c.self.view_is) c.requires.named in
     let m = making c.self.inside.objects c.self.inside.queues c.self.inside.processes c.self.inside.stacks c.self.inside.first_new c.self.inside.events c.self.inside.limit
     c.self.inside.counts c.make-slot.result.0 c.args.entries c.as_slice-stacks.ensures.numbered c.self.invariant.told c.make-slot.ensures.apart c.make-slot.ensures.above
-        c.make-slot.ensures.slot
+    c.make-slot.ensures.slot
     c.make-slot.ensures.free few named in
     let t : Tally = c.self.inside.counts in
     let s : ℕ = c.make-slot.result.0 in
@@ -141,8 +141,8 @@ invariant_of-self c =
     let fresh : (k : ℕ) → name_at c.self.inside.objects.slots k ≡ Some c.self.inside.objects.next → ⊥ =
     λ k named. let a = c.make-slot.ensures.above k c.self.inside.objects.next named in omega (arith, a) in
     let read : c.entries.result.now ≡ c.args.entries = made_read c.self.inside.objects c.self.inside.stacks.stacks c.self.inside.processes c.self.inside.first_new
-            c.self.inside.counts c.make-slot.result.0 c.self.inside.objects.next c.args.of c.args.words c.args.entries m c.make-slot.new.objects.slots
-            (ap (λ (v : Shelf). v.slots) c.make-slot.ensures.made) c.entries.result.now c.entries.ensures.entries in
+    c.self.inside.counts c.make-slot.result.0 c.self.inside.objects.next c.args.of c.args.words c.args.entries m c.make-slot.new.objects.slots
+    (ap (λ (v : Shelf). v.slots) c.make-slot.ensures.made) c.entries.result.now c.entries.ensures.entries in
     record {
       joined = made_joined c.self.inside.objects c.make-slot.new.objects c.self.inside.queues c.self.inside.processes c.self.inside.stacks c.self.inside.walker c.make-slot.result.0
           c.self.inside.objects.next (new_body c.args.of c.args.words c.args.entries) c.make-slot.ensures.free c.make-slot.ensures.slot fresh c.self.invariant.joined
@@ -161,4 +161,4 @@ returns c =
     rw (← c.self.view_is)
     (made_told c.self.inside.objects c.make-slot.new.objects c.self.inside.queues c.self.inside.processes c.self.inside.stacks c.self.inside.first_new c.self.inside.events
     c.self.inside.limit c.make-slot.result.0 c.args.of c.args.words c.args.entries c.make-slot.ensures.free c.make-slot.ensures.slot fresh c.self.invariant.joined.queued
-        c.make-slot.ensures.made)
+    c.make-slot.ensures.made)

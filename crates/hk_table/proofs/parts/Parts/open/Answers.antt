@@ -46,7 +46,7 @@ returns-clause-state c =
     (c.in_ok-queues.ensures.ready ∙ ap (proc_numbers 0) c.tasks_of-tasks.ensures.value) c.in_ok-queues.ensures.waiting
     (c.in_ok-processes.ensures.state ∙ ap (all_ready 0) c.tasks_of-tasks.ensures.value)
     c.in_ok-stacks.ensures.stacks c.in_ok-stacks.ensures.next (ap (λ (m : Name). m.0) c.next_name-first_new.ensures.name ∙ c.in_ok-objects.ensures.next
-        ∙ ap (λ (bs : List Born). 7 + length bs) c.born_of-born.ensures.value) c.limit.ensures.value
+    ∙ ap (λ (bs : List Born). 7 + length bs) c.born_of-born.ensures.value) c.limit.ensures.value
 
 pub returns-clause-named : goal.returns-clause-named
 returns-clause-named c =
@@ -58,5 +58,5 @@ returns-clause-named c =
     (c.in_ok-queues.ensures.ready ∙ ap (proc_numbers 0) c.tasks_of-tasks.ensures.value) c.in_ok-queues.ensures.waiting
     (c.in_ok-processes.ensures.state ∙ ap (all_ready 0) c.tasks_of-tasks.ensures.value)
     c.in_ok-stacks.ensures.stacks c.in_ok-stacks.ensures.next (ap (λ (m : Name). m.0) c.next_name-first_new.ensures.name ∙ c.in_ok-objects.ensures.next
-        ∙ ap (λ (bs : List Born). 7 + length bs) c.born_of-born.ensures.value) c.limit.ensures.value))
+    ∙ ap (λ (bs : List Born). 7 + length bs) c.born_of-born.ensures.value) c.limit.ensures.value))
     (opened_named c.args.world.now c.limit.ensures.valid)

@@ -7,7 +7,7 @@ pub returns-in-Some-clause-value : goal.returns-in-Some-clause-value
 returns-in-Some-clause-value c =
     rw (← c.self.view_is)
     (read_is c.self.inside.objects.slots c.self.inside.queues.waiting c.in-Some.slot.0 c.args.name c.in-Some.ensures.apart c.in-Some.ensures.found (λ b. params_of b.procedure)
-        (λ o. o.params)
+    (λ o. o.params)
     (λ b procs. refl) c.params.result.now c.params.ensures.params)
 
 pub returns-in-None-clause-value : goal.returns-in-None-clause-value

@@ -18,7 +18,7 @@ invariant_of-self-in-Some c = record {
       let w = some_place c.self.inside.objects.slots c.in-Some.slot.0 c.args.name c.in-Some.ensures.found in
       part_counted c.self.inside.objects c.self.inside.stacks.stacks c.self.inside.processes c.in-Some.slot.0 w.0 w.1
       (λ b. record b { words = b.words ++ c.args.word ∷ [] }) c.add.new.self c.self.inside.first_new c.self.inside.counts refl refl c.self.invariant.told
-          c.in_ok-add-in-Some.ensures.ok;
+      c.in_ok-add-in-Some.ensures.ok;
 }
 
 pub returns-in_ok-add-in-Some-clause-ok : goal.returns-in_ok-add-in-Some-clause-ok

@@ -7,7 +7,7 @@ use Rattle.hk_table.proofs.parts.Parts.runner.Goals as goal
 pub returns-clause-known : goal.returns-clause-known
 returns-clause-known c =
     subst (λ (s : State). IfSome c.runner.result (λ proc. proc.0 < length s.processes)) c.self.view_is
-        (runner_known c.self.inside.processes c.args.cpu c.runner.result c.runner.ensures)
+    (runner_known c.self.inside.processes c.args.cpu c.runner.result c.runner.ensures)
 
 pub returns-clause-runs : goal.returns-clause-runs
 returns-clause-runs c =

@@ -16,7 +16,7 @@ invariant_of-self c = record {
       c.self.invariant.joined.queued) (c.settle_and_forget.ensures.walks c.self.invariant.joined.right);
   told = left_counted c.self.inside.objects c.settle_and_forget.new.objects c.self.inside.stacks.stacks c.self.inside.processes c.self.inside.first_new c.self.inside.counts
       c.settle_and_forget.new.counts c.self.invariant.told c.settle_and_forget.ensures.left c.settle_and_forget.ensures.free c.settle_and_forget.ensures.counted
-          c.settle_and_forget.ensures.outside;
+      c.settle_and_forget.ensures.outside;
 }
 
 pub returns : goal.returns

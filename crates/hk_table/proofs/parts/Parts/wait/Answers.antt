@@ -20,7 +20,7 @@ pub hold_outside-requires-clause-few : goal.hold_outside-requires-clause-few
 hold_outside-requires-clause-few c =
     few_total c.self.inside.objects.slots c.self.inside.counts c.in-Some.slot.0 c.args.name c.in-Some.ensures.found
     (can_hold_entry c.self.inside.objects c.self.inside.stacks.stacks c.self.inside.processes c.self.inside.first_new c.self.inside.counts
-        (Held (record { name = c.args.name; rights = 0 })) c.self.invariant.told)
+    (Held (record { name = c.args.name; rights = 0 })) c.self.invariant.told)
 
 pub invariant_of-self : goal.invariant_of-self
 invariant_of-self c =
@@ -34,7 +34,7 @@ invariant_of-self c =
           (run_joined c.self.inside.objects c.self.inside.queues c.wait.new.self c.self.inside.processes c.self.inside.stacks c.self.inside.walker c.args.proc (Waiting c.args.name)
           (runs_within c.self.inside.processes c.args.proc runs) c.self.invariant.joined
           (wait_move c.self.inside.objects.slots c.self.inside.queues c.wait.new.self c.self.inside.processes c.args.proc c.in-Some.slot.0 c.args.name
-              c.self.invariant.joined.queued idle low
+          c.self.invariant.joined.queued idle low
           c.in-Some.ensures.found c.wait.ensures));
       told = run_held c.self.inside.objects c.self.inside.stacks.stacks c.self.inside.processes c.set_run.new.self c.self.inside.first_new c.self.inside.counts
           c.hold_outside.new.self c.args.proc (Waiting c.args.name)
@@ -53,7 +53,7 @@ invariant_of-self-in-None c =
           c.self.invariant.joined.queued runs in
           subst (λ (ps : List Process). IsJoined c.self.inside.objects c.self.inside.queues ps c.self.inside.stacks c.self.inside.walker) (sym c.set_run-in-None.ensures)
           (run_joined c.self.inside.objects c.self.inside.queues c.self.inside.queues c.self.inside.processes c.self.inside.stacks c.self.inside.walker c.args.proc
-              (Waiting c.args.name)
+          (Waiting c.args.name)
           (runs_within c.self.inside.processes c.args.proc runs) c.self.invariant.joined
           (stray_move c.self.inside.objects.slots c.self.inside.queues c.self.inside.processes c.args.proc (Waiting c.args.name) c.self.invariant.joined.queued idle));
       told = run_held c.self.inside.objects c.self.inside.stacks.stacks c.self.inside.processes c.set_run-in-None.new.self c.self.inside.first_new c.self.inside.counts

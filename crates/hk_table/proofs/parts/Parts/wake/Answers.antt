@@ -28,7 +28,7 @@ release_outside-requires-clause-held c =
     c.self.invariant.joined.queued c.in-Some.ensures.found c.in-Some-first_waiting.ensures in
     some_outside c.self.inside.objects.slots c.self.inside.counts c.in-Some.slot.0 c.args.name c.in-Some.ensures.found
     (run_can c.self.inside.objects c.self.inside.stacks.stacks c.self.inside.processes (with_run c.self.inside.processes c.in-Some-first_waiting.first Ready)
-        c.self.inside.first_new c.self.inside.counts c.self.inside.counts c.in-Some-first_waiting.first Ready
+    c.self.inside.first_new c.self.inside.counts c.self.inside.counts c.in-Some-first_waiting.first Ready
     (waiting_within c.self.inside.processes c.in-Some-first_waiting.first.0 c.args.name waits) c.self.invariant.told refl (c.args.name ∷ []) (ap run_names waits) refl)
 
 pub ready-requires-clause-proc : goal.ready-requires-clause-proc
@@ -54,9 +54,9 @@ invariant_of-self c =
     record {
       joined = subst (λ (ps : List Process). IsJoined c.self.inside.objects c.ready.new.self ps c.self.inside.stacks c.self.inside.walker) (sym c.set_run.ensures)
           (run_joined c.self.inside.objects c.self.inside.queues c.ready.new.self c.self.inside.processes c.self.inside.stacks c.self.inside.walker
-              c.in-Some-first_waiting.first Ready
+          c.in-Some-first_waiting.first Ready
           (woken_within c.self.inside.objects.slots c.self.inside.queues c.wake.new.self c.self.inside.processes c.in-Some-first_waiting.first c.in-Some.slot.0
-              c.in-Some.ensures.apart
+          c.in-Some.ensures.apart
           c.self.invariant.joined.queued low c.in-Some-first_waiting.ensures c.wake.ensures.rest) c.self.invariant.joined
           (wake_move c.self.inside.objects.slots c.self.inside.queues c.wake.new.self c.self.inside.processes c.in-Some-first_waiting.first c.in-Some.slot.0 c.in-Some.ensures.apart
           c.self.invariant.joined.queued low c.in-Some-first_waiting.ensures c.wake.ensures.rest c.ready.new.self c.ready.ensures));
@@ -73,7 +73,7 @@ returns-in-Some-first_waiting c =
     let low : c.in-Some.slot.0 < length c.self.inside.queues.waiting = omega (arith, c.in-Some.ensures.low, c.self.invariant.joined.queued.lists) in
     (woken_told c.self.inside.objects c.self.inside.queues c.self.inside.processes c.self.inside.stacks c.self.inside.first_new c.self.inside.events c.self.inside.limit
     c.args.self.now c.wake.new.self c.ready.new.self c.set_run.new.self c.in-Some-first_waiting.first c.in-Some.slot.0 c.args.name c.self.view_is c.in-Some.ensures.apart
-        c.in-Some.ensures.found low
+    c.in-Some.ensures.found low
     (woken_waiters c.self.inside.objects.slots c.self.inside.queues c.wake.new.self c.self.inside.processes c.in-Some-first_waiting.first c.in-Some.slot.0 c.in-Some.ensures.apart
     c.self.invariant.joined.queued low c.in-Some-first_waiting.ensures c.wake.ensures.rest) c.wake.ensures.rest c.ready.ensures c.set_run.ensures)
 

@@ -22,5 +22,5 @@ invariant_of-self c =
       told = run_quiet c.self.inside.objects c.self.inside.stacks.stacks c.self.inside.processes c.set_run.new.self c.self.inside.first_new c.self.inside.counts
           c.self.inside.counts c.args.proc Ready
           (runs_within c.self.inside.processes c.args.proc runs) c.self.invariant.told c.set_run.ensures refl
-              (runs_unnamed (process_at c.self.inside.processes c.args.proc.0).run runs);
+          (runs_unnamed (process_at c.self.inside.processes c.args.proc.0).run runs);
     }
