@@ -1,5 +1,5 @@
 -- A record that a run prints is no longer than a record may be, so it is read whole and found legal.
-use Rattle.std.proofs.Common.{◌≡◌, ◌∙◌, ◌≤◌, sym, ℕ, List, length, Option, Some, Ok, refl, subst, inl, inr}
+use Rattle.std.proofs.Common.{◌≡◌, ◌≤◌, sym, ℕ, List, length, Option, Some, refl, subst, inl, inr}
 use Rattle.hk_model.specs.declared.verdicts.Verdict.TheVariants.{Legal}
 use Rattle.hk_model.specs.declared.lines.Line.{Line}
 use Rattle.hk_model.specs.declared.lines.End.{End}
