@@ -8,7 +8,8 @@ from rules import KERNEL_TYPES, World, BIT, rights_of, spelled
 
 WORD, UPPER, NUMBER = r"[a-z][a-z0-9_]{0,31}", r"[A-Z][A-Z0-9]*(?:\+[A-Z][A-Z0-9]*)*", r"[0-9]+"
 INDEX = rf"(?:{NUMBER}|r[0-7])"
-FORMS = {"word": re.compile(WORD), "upper": re.compile(UPPER), "dash": re.compile("-"), "number": re.compile(NUMBER), "path": re.compile(rf"{INDEX}(?:\.{INDEX}){{1,7}}")}
+FORMS = {"word": re.compile(WORD), "upper": re.compile(UPPER), "dash": re.compile("-"), "number": re.compile(NUMBER),
+         "path": re.compile(rf"{INDEX}(?:\.{INDEX}){{1,7}}")}
 REGISTER = re.compile("r[0-7]")
 PLAIN_TYPES = ("DATA", "UNIVERSAL")
 CALLS = {
@@ -22,7 +23,8 @@ HEADS = {"limit": "LIMIT", "type": "NAME", "object": "NAME TYPE", "semaphore": "
 LINES = {"object": {"words": "", **ENTRIES}, "procedure": {"param": "KIND RIGHTS RIGHTS", **ENTRIES}, "code": {**CALLS, "template": "", "call": "", "return": ""},
          "process": ENTRIES}
 RANGES = {"HEADER": (1, 1), "LIMIT": (1, 1_000_000), "COUNT": (0, 65_535), "SLOT": (0, 63)}
-REPLIES = re.compile(r"done|waits|word (\d+)|(?:range|empty|notcap|wrongtype|badtemplate) (\d+)|denied (\d+) ([A-Z0-9]+)|count|full (?:words|entries|objects|slots|tokens)|deep")
+REPLIES = re.compile(r"done|waits|word (\d+)|(?:range|empty|notcap|wrongtype|badtemplate) (\d+)|denied (\d+) ([A-Z0-9]+)|count|deep"
+                     r"|full (?:words|entries|objects|slots|tokens)")
 AUDITED = {
     "getdata": "PATH N", "putdata": "PATH N N", "adddata": "PATH N", "length": "PATH", "load": "PATH S", "store": "PATH N S", "append": "PATH S",
     "erase": "PATH N", "drop": "S", "restrict": "S RIGHTS", "look": "PATH", "create": "PATH S", "merge": "PATH S S", "copy": "PATH S", "p": "PATH",
@@ -264,7 +266,9 @@ def is_audit_line(text):
     if not arrow or told is None or len(head) < 4 or not all(map(is_number, head[:3], (16, 256, 2**64))):
         return False
     word, step, denied, right = told.groups()
-    if not all(number is None or is_number(number, below) for number, below in ((word, 2**32), (step, 256), (denied, 256))) or right is not None and right not in BIT:
+    if not all(number is None or is_number(number, below) for number, below in ((word, 2**32), (step, 256), (denied, 256))):
+        return False
+    if right is not None and right not in BIT:
         return False
     return head[3:] in (["dispatch"], ["halt"]) or is_call(head[3:])
 
