@@ -1,5 +1,6 @@
 mod NamedLemmas
 mod Replaying
+pub mod Lengths
 mod Followed
 mod Listed
 mod HistoryLemmas

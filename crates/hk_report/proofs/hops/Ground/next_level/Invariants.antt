@@ -7,5 +7,7 @@ use Rattle.hk_report.proofs.hops.Ground.next_level.Given as goal
 
 abbrev pub invariant-loop-history : goal.invariant-loop-history
 invariant-loop-history l =
-    l.all.items ++ map (λ (h : History). latest_from (is_made l.self.families.now l.self.begun l.self.histories.now) (latest_at l.level) no_latest h.spans) (drop l.history-index l.self.histories.now)
+    l.all.items
+    ++ map (λ (h : History). latest_from (is_made l.self.families.now l.self.begun l.self.histories.now) (latest_at l.level) no_latest h.spans)
+    (drop l.history-index l.self.histories.now)
     ≡ map (λ (h : History). latest_from (is_made l.self.families.now l.self.begun l.self.histories.now) (latest_at l.level) no_latest h.spans) l.self.histories.now
