@@ -6,6 +6,8 @@ mod Listed
 mod HistoryLemmas
 mod Keys
 mod HopLemmas
+mod HolderLemmas
+mod Raising
 mod SearchLemmas
 mod Bounds
 mod Spans

@@ -6,6 +6,7 @@ ghost use Rattle.hk_model.specs.Changes.{AreChanges, bare_changes};
 ghost use Rattle.hk_report.specs.Families.{told_change};
 
 use crate::families::{BareChange, changes_of};
+use crate::holders::holders;
 use crate::reasons::Grounds;
 use crate::replay::{replayed, told};
 use hk_model::{Change, Line, NoMemory, World};
@@ -45,10 +46,12 @@ pub fn report(alloc: Global, world: &World, lines: &[Line]) -> Result<Vec<Change
     let _limit = world.limit();
     let told = told(alloc, world, lines)?;
     let families = changes_of(alloc, told.replay.first, told.replay.doings.as_slice())?;
+    let holders = holders(alloc, told.histories.as_slice())?;
     let grounds = Grounds {
         histories: told.histories.as_slice(),
         families: families.calls.as_slice(),
         params: told.params.as_slice(),
+        holders: holders.as_slice(),
     };
     let changes = grounds.explain_all(alloc, families.changes.as_slice())?;
     Ok(changes)
