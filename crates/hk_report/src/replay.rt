@@ -1,10 +1,10 @@
 //! A history once more, with what its lines did (`docs/RULES.md`, "Steps of processors").
 
-ghost use Rattle.std.specs.Prelude.{◌≡◌, ◌+◌, ◌<◌, ◌≤◌, ◌^◌, length, IfOk};
+ghost use Rattle.std.specs.Prelude.{◌≡◌, ◌+◌, ◌<◌, ◌≤◌, ◌^◌, ◌++◌, ◌∷◌, [], length, IfOk, OnOk};
 ghost use Rattle.hk_model.specs.Lines.{done_call, param_count};
 ghost use Rattle.hk_model.specs.Running.{opened};
-ghost use Rattle.hk_report.specs.Doings.{doings, given_params, params_given};
-ghost use Rattle.hk_report.specs.Histories.{told_histories};
+ghost use Rattle.hk_report.specs.Doings.{doing_behind, doings, given_params, params_given};
+ghost use Rattle.hk_report.specs.Histories.{noted, opened_below, told_histories};
 
 use crate::doings::{Before, Doing, before_line, doing_behind};
 use crate::histories::{History, finish, note, opened_histories};
@@ -88,6 +88,49 @@ pub(crate) fn replayed(alloc: Global, world: &World, lines: &[Line]) -> Result<R
     Ok(Replay { first, doings })
 }
 
+impl Telling {
+    // What no line tells yet, by a kernel in the state of the opening.
+    fn begin(alloc: Global, kernel: &Plain, count: usize) -> Result<Telling, NoMemory>
+        ensures first { IfOk result (λ t. t.replay.first ≡ kernel.now.next_inc) }
+        ensures doings { IfOk result (λ t. t.replay.doings.items ≡ []) }
+        ensures params { IfOk result (λ t. t.params.items ≡ []) }
+        ensures histories { IfOk result (λ t. t.histories.items ≡ opened_below kernel.now kernel.now.next_name.0) }
+    {
+        let replay = Replay {
+            first: kernel.next_inc(),
+            doings: Vec::with_capacity(alloc, count)?,
+        };
+        Ok(Telling {
+            replay,
+            params: Vec::with_capacity(alloc, count)?,
+            histories: opened_histories(alloc, kernel)?,
+        })
+    }
+
+    // What a line tells, by a kernel in the state behind it. `moment` is the number of lines up to and
+    // with it.
+    fn add(
+        &mut self,
+        alloc: Global,
+        kernel: &Plain,
+        line: &Line,
+        before: Before,
+        moment: u32,
+    ) -> Result<(), NoMemory>
+        ensures first { OnOk result (self.new.replay.first ≡ self.old.replay.first) }
+        ensures doings { OnOk result (self.new.replay.doings.items ≡ self.old.replay.doings.items ++ doing_behind before kernel.now ∷ []) }
+        ensures params { OnOk result (self.new.params.items ≡ self.old.params.items ++ given_params line.now before kernel.now ∷ []) }
+        ensures histories { OnOk result (self.new.histories.items ≡ noted moment (doing_behind before kernel.now) kernel.now self.old.histories.items) }
+    {
+        let doing = doing_behind(before, kernel);
+        let params = params_behind(alloc, kernel, line, &before)?;
+        note(alloc, &mut self.histories, kernel, moment, &doing)?;
+        self.params.push(params)?;
+        self.replay.doings.push(doing)?;
+        Ok(())
+    }
+}
+
 /// The lines of a history once more, with the parameters that they gave and what has stood in lists.
 /// NoMemory is want of memory.
 pub(crate) fn told(alloc: Global, world: &World, lines: &[Line]) -> Result<Telling, NoMemory>
@@ -99,24 +142,13 @@ pub(crate) fn told(alloc: Global, world: &World, lines: &[Line]) -> Result<Telli
 {
     let kernel = Plain::new(alloc, world)?;
     let mut machine = Machine::open(alloc, world, kernel)?;
-    let first = machine.kernel().next_inc();
-    let mut doings = Vec::with_capacity(alloc, lines.len())?;
-    let mut params = Vec::with_capacity(alloc, lines.len())?;
-    let mut histories = opened_histories(alloc, machine.kernel())?;
+    let mut telling = Telling::begin(alloc, machine.kernel(), lines.len())?;
     for (index, line) in lines.iter().enumerate() {
         let before = before_line(machine.kernel(), line);
         let _made = machine.step(alloc, world, line.cpu)?;
-        let doing = doing_behind(before, machine.kernel());
         let moment = index as u32 + 1;
-        params.push(params_behind(alloc, machine.kernel(), line, &before)?)?;
-        note(alloc, &mut histories, machine.kernel(), moment, &doing)?;
-        doings.push(doing)?;
+        telling.add(alloc, machine.kernel(), line, before, moment)?;
     }
-    finish(alloc, &mut histories, lines.len() as u32 + 1)?;
-    let replay = Replay { first, doings };
-    Ok(Telling {
-        replay,
-        params,
-        histories,
-    })
+    finish(alloc, &mut telling.histories, lines.len() as u32 + 1)?;
+    Ok(telling)
 }
