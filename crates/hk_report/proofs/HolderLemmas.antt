@@ -111,12 +111,12 @@ module _ {X : Type 0} where
   drop_zero [] = refl
   drop_zero (x ∷ xs) = refl
 
-  pub drop_more : (xs : List X) (n : ℕ) (x : X) → n < length xs → x ≡ slice_index_or xs n x → drop n xs ≡ x ∷ drop (suc n) xs
+  drop_more : (xs : List X) (n : ℕ) (x : X) → n < length xs → x ≡ slice_index_or xs n x → drop n xs ≡ x ∷ drop (suc n) xs
   drop_more [] n x l e = absurd (omega (arith, l))
   drop_more (y ∷ xs) zero x l e = ap (λ (z : X). z ∷ xs) (sym e) ∙ ap (λ (zs : List X). x ∷ zs) (sym (drop_zero xs))
   drop_more (y ∷ xs) (suc n) x l e = drop_more xs n x (omega (arith, l)) e
 
-pub one_next : (n : ℕ) → n + 1 ≡ suc n
+one_next : (n : ℕ) → n + 1 ≡ suc n
 one_next n = omega arith
 
 pub span_held : (before after : List (List Held)) (by : Name) (spans : List Span) (n : ℕ) (span : Span) (name : Name) (whole : List Held) → n < length spans
