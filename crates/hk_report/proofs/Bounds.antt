@@ -138,7 +138,8 @@ module _ (made : Name → Bool) (level : Name → Latest) (from : Arrived) where
   good_raised all span =
       ap (λ (x : Bool). (from.modify && x) || (from.unconf && nat_lt from.moment (greater all.unconf (entry_bound span (level span.cap.name)))))
       (below_greater from.moment all.modify (handed_bound span (level span.cap.name) (made span.cap.name)))
-      ∙ ap (λ (x : Bool). (from.modify && (nat_lt from.moment all.modify || nat_lt from.moment (handed_bound span (level span.cap.name) (made span.cap.name)))) || (from.unconf && x))
+      ∙ ap (λ (x : Bool).
+      (from.modify && (nat_lt from.moment all.modify || nat_lt from.moment (handed_bound span (level span.cap.name) (made span.cap.name)))) || (from.unconf && x))
       (below_greater from.moment all.unconf (entry_bound span (level span.cap.name)))
       ∙ by from.modify from.unconf (nat_lt from.moment all.modify) (nat_lt from.moment all.unconf)
       (nat_lt from.moment (handed_bound span (level span.cap.name) (made span.cap.name))) (nat_lt from.moment (entry_bound span (level span.cap.name)))
@@ -159,7 +160,8 @@ module _ (made : Name → Bool) (level : Name → Latest) (from : Arrived) where
       by false true a false h true = refl
       by false true a false h false = refl
 
-  pub good_from : (spans : List Span) (all : Latest) → is_good from (latest_from made level all spans) ≡ (is_good from all || list_any (λ (s : Span). is_some (onward_over made level from s)) spans)
+  pub good_from : (spans : List Span) (all : Latest)
+      → is_good from (latest_from made level all spans) ≡ (is_good from all || list_any (λ (s : Span). is_some (onward_over made level from s)) spans)
   good_from [] all = or_none (is_good from all)
     where
       or_none : (b : Bool) → b ≡ (b || false)

@@ -1,6 +1,6 @@
 -- What the search finds of each change is its reason.
-use Rattle.std.proofs.Common.{◌≡◌, ℕ, zero, suc, ◌+◌, ◌-◌, ◌<◌, ◌≤◌, ◌^◌, List, [], ◌∷◌, ◌++◌, length, map, replicate, Bool, true, false, Option, Some, None, refl, sym, ◌∙◌, ap, arith, subst, take, slice_get}
-use Rattle.std.proofs.Common.{option_and_then}
+use Rattle.std.proofs.Common.{◌≡◌, ℕ, zero, suc, ◌+◌, ◌-◌, ◌<◌, ◌≤◌, ◌^◌, List, [], ◌∷◌, ◌++◌, length, map, replicate, Bool, true, false, Option, Some, None}
+use Rattle.std.proofs.Common.{refl, sym, ◌∙◌, ap, arith, subst, take, slice_get, option_and_then}
 use Rattle.std.specs.Prelude.{slice_index_or}
 use mathlib.Core.Logic.{inl, inr}
 use Rattle.std.specs.List.{Contains}
@@ -98,7 +98,8 @@ module _ (w : WorldValue) (lines : List Line) (steps : AreStepsOf w lines) where
     entry_at (x ∷ xs) zero cap h = cap_held x cap h
     entry_at (x ∷ xs) (suc n) cap h = entry_at xs n cap h
 
-    taken_at : (count : ℕ) (xs : List Entry) (n : ℕ) (cap : Cap) → option_and_then cap_of (slice_get (take count xs) n) ≡ Some cap → option_and_then cap_of (slice_get xs n) ≡ Some cap
+    taken_at : (count : ℕ) (xs : List Entry) (n : ℕ) (cap : Cap) → option_and_then cap_of (slice_get (take count xs) n) ≡ Some cap
+        → option_and_then cap_of (slice_get xs n) ≡ Some cap
     taken_at zero [] n cap h = absurd (cc)
     taken_at zero (x ∷ xs) n cap h = absurd (cc)
     taken_at (suc count) [] n cap h = absurd (cc)
@@ -288,7 +289,8 @@ report_is w lines first ds histories params families found all world steps f d h
     g ∙ ap (λ (es : List Doing). families_after 0 es (replicate first.0 [])) d
     ∙ ap (λ (i : Inc). families_after 0 (doings w (opened w) lines) (replicate i.0 [])) f in
     explained_each w lines steps world (bare_changes w lines) all (all_listed w lines steps world)
-    (subst (λ (x : List BareChange). AreTold (families_after 0 (doings w (opened w) lines) (replicate (opened w).state.next_inc.0 [])) (told_histories w lines) (params_given w (opened w) lines) x all)
+    (subst (λ (x : List BareChange).
+    AreTold (families_after 0 (doings w (opened w) lines) (replicate (opened w).state.next_inc.0 [])) (told_histories w lines) (params_given w (opened w) lines) x all)
     bares
     (subst (λ (x : List (List Entry)). AreTold (families_after 0 (doings w (opened w) lines) (replicate (opened w).state.next_inc.0 [])) (told_histories w lines) x found all) p
     (subst (λ (x : List History). AreTold (families_after 0 (doings w (opened w) lines) (replicate (opened w).state.next_inc.0 [])) x params found all) h

@@ -301,9 +301,11 @@ module _ (s : State) (line : Line) (t : State) (known : LineKnown s line t) (nex
           let count = fits.count in
           get_or_append_left families (x ∷ []) [] i.0 (omega (arith, count, early)) ∙ fits.same i early ∙ ap (map told_call) (sym (old_with s line t i early ps))
       of i (inr last) =
-          last_at families x i.0 (last ∙ sym fits.count) ∙ entered_told (incarnation t s.next_inc).confined (slice_index_or families line.inc.0 []) (calls_with line.inc ps) (fits.same line.inc numbered)
+          last_at families x i.0 (last ∙ sym fits.count)
+          ∙ entered_told (incarnation t s.next_inc).confined (slice_index_or families line.inc.0 []) (calls_with line.inc ps) (fits.same line.inc numbered)
           ∙ ap (λ (bs : List Beginning). map told_call (calls_with line.inc ps ++ bs)) (sym new_is)
-          ∙ ap (map told_call) (sym (new_with s line t e ps fits.fresh)) ∙ ap (λ (j : Inc). map told_call (calls_with j (followed_by s line t ps))) (sym (same_number i s.next_inc last))
+          ∙ ap (map told_call) (sym (new_with s line t e ps fits.fresh))
+          ∙ ap (λ (j : Inc). map told_call (calls_with j (followed_by s line t ps))) (sym (same_number i s.next_inc last))
 
   -- one that does not
   staying : enters_call (done_call line) ≡ false → Fits t (families_for false) (followed_by s line t ps)

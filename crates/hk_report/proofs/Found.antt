@@ -153,7 +153,8 @@ module _ (made : Name → Bool) (histories : List History) (k : ℕ) (level : Na
   start_none : (index : ℕ) (entries : List Entry) → first_start made histories k level index entries ≡ None → (other : ℕ) (held : Cap) (onward : Onward)
       → option_and_then cap_of (slice_get entries other) ≡ Some held → first_onward made histories level (arrived_by k held) ≡ Some onward → ⊥
   start_none index [] h other held onward l p = absurd (cc)
-  start_none index (entry ∷ entries) h other held onward l p = by (λ g o q. start_none (index + 1) entries g o held onward q p) (onward_at made histories k level entry) refl h other l
+  start_none index (entry ∷ entries) h other held onward l p =
+      by (λ g o q. start_none (index + 1) entries g o held onward q p) (onward_at made histories k level entry) refl h other l
     where
       by : (first_start made histories k level (index + 1) entries ≡ None → (other : ℕ) → option_and_then cap_of (slice_get entries other) ≡ Some held → ⊥)
           → (o : Option Onward) → onward_at made histories k level entry ≡ o
@@ -310,7 +311,8 @@ module _ (at : ℕ → State) (made test : Name → Bool) (test_is : (x : Name) 
         by : (o : Ordering) → MatchOrdering o (length rest < b.left) (length rest ≡ b.left) (b.left < length rest)
             → is_at_most (reach_key s.place (b.start.onward.hop ∷ hops_down test histories wanted (last + 1) b.left b.start.onward.to)) (reach_key other (hop ∷ rest)) ≡ true
         by Less l =
-            absurd (start_none test histories k (level_at test histories wanted (last + 1) (length rest)) 0 params (b.fewest (length rest) l) other from.cap first.by from.held first.is)
+            absurd
+            (start_none test histories k (level_at test histories wanted (last + 1) (length rest)) 0 params (b.fewest (length rest) l) other from.cap first.by from.held first.is)
         by Greater l =
             first_less (length (b.start.onward.hop ∷ hops_down test histories wanted (last + 1) b.left b.start.onward.to)) (length (hop ∷ rest))
             (s.place ∷ flat_map hop_key (b.start.onward.hop ∷ hops_down test histories wanted (last + 1) b.left b.start.onward.to)) (other ∷ flat_map hop_key (hop ∷ rest))
@@ -319,7 +321,8 @@ module _ (at : ℕ → State) (made test : Name → Bool) (test_is : (x : Name) 
             first_same (length (b.start.onward.hop ∷ hops_down test histories wanted (last + 1) b.left b.start.onward.to)) (length (hop ∷ rest))
             (s.place ∷ flat_map hop_key (b.start.onward.hop ∷ hops_down test histories wanted (last + 1) b.left b.start.onward.to)) (other ∷ flat_map hop_key (hop ∷ rest))
             (let c = counted in omega (arith, c, e))
-            (number_first s.place other (flat_map hop_key (b.start.onward.hop ∷ hops_down test histories wanted (last + 1) b.left b.start.onward.to)) (flat_map hop_key (hop ∷ rest))
+            (number_first s.place other (flat_map hop_key (b.start.onward.hop ∷ hops_down test histories wanted (last + 1) b.left b.start.onward.to))
+            (flat_map hop_key (hop ∷ rest))
             (s.first other from.cap first.by from.held
             (subst (λ (n : ℕ). first_onward test histories (level_at test histories wanted (last + 1) n) (arrived_by k from.cap) ≡ Some first.by) e first.is))
             same_param)

@@ -1,6 +1,6 @@
--- Which of two hops comes first, and the level of one hop more, as code finds them.
-use Rattle.std.proofs.Common.{◌≡◌, ℕ, zero, suc, ◌<◌, List, [], ◌∷◌, map, Bool, true, false, refl, sym, ◌∙◌, ap, arith}
-use Rattle.std.specs.Prelude.{nat_lt, slice_index_or}
+-- Which of two hops comes first, as code finds it.
+use Rattle.std.proofs.Common.{◌≡◌, ℕ, ◌<◌, Bool, true, false, Option, Some, None, refl, sym, ◌∙◌, ap, arith, cond, subst}
+use Rattle.std.specs.Prelude.{nat_lt}
 use Rattle.std.specs.Cmp.{ranked}
 use Rattle.std.specs.Ordering.{nat_cmp, is_lt, ordering_then, MatchOrdering}
 use Rattle.std.specs.declared.cmp.Ordering.{Ordering}
@@ -10,11 +10,11 @@ use Rattle.hk_model.specs.declared.names.Name.{Name}
 use Rattle.hk_model.specs.declared.reaches.Hop.{Hop}
 use Rattle.hk_model.specs.declared.reaches.Hop.TheVariants as hop_by
 use Rattle.hk_model.specs.Reaches.{index_of, moment_of, is_handed}
-use Rattle.hk_report.specs.declared.histories.History.{History}
+use Rattle.hk_report.specs.declared.histories.Span.{Span}
+use Rattle.hk_report.specs.declared.hops.Arrived.{Arrived}
 use Rattle.hk_report.specs.declared.hops.Latest.{Latest}
-use Rattle.hk_report.specs.declared.hops.Level.TheVariants as level_by
-use Rattle.hk_report.specs.Histories.{no_history, history_of}
-use Rattle.hk_report.specs.Hops.{latest_at, no_latest, latest_from, next_latest, comes_before}
+use Rattle.hk_report.specs.declared.hops.Onward.{Onward}
+use Rattle.hk_report.specs.Hops.{later, comes_before, earlier, entry_onward, handed_onward, onward_over}
 use Rattle.hk_report.proofs.Keys.{cmp_same}
 
 -- ---- numbers that differ first
@@ -64,17 +64,36 @@ handed_last a b moments indices =
     (ordering_then (nat_cmp (index_of a) (index_of b))
     (ordering_then (nat_cmp (elim (is_handed a) [ true ↦ 1 | false ↦ 0 ]) (elim (is_handed b) [ true ↦ 1 | false ↦ 0 ])) Equal)) moments
 
--- ---- the level of one hop more
+-- ---- the first of the hops so far stays
 
-map_at : (f : History → Latest) (hs : List History) (n : ℕ) → slice_index_or (map f hs) n (f no_history) ≡ f (slice_index_or hs n no_history)
-map_at f [] n = refl
-map_at f (h ∷ hs) zero = refl
-map_at f (h ∷ hs) (suc n) = map_at f hs n
+-- a hop, if it is there, is made at this moment
+abbrev IsAt : ℕ → Option Onward → Type 0
+IsAt moment None = Unit {0}
+IsAt moment (Some onward) = moment_of onward.hop ≡ moment
 
-pub level_next : (made : Name → Bool) (histories : List History) (level : Name → Latest) (all : List Latest)
-    → all ≡ map (λ (h : History). latest_from made level no_latest h.spans) histories → latest_at (level_by.Hops all) ≡ next_latest made histories level
-level_next made histories level all e = λ i name. at name i
+made_at : (moment : ℕ) (b : Bool) (onward : Onward) → moment_of onward.hop ≡ moment → IsAt moment (cond b (Some onward) None)
+made_at moment true onward e = e
+made_at moment false onward e = tt
+
+earlier_at : (moment : ℕ) (a b : Option Onward) → IsAt moment a → IsAt moment b → IsAt moment (earlier a b)
+earlier_at moment None b h g = g
+earlier_at moment (Some a) None h g = h
+earlier_at moment (Some a) (Some b) h g = by (comes_before b.hop a.hop)
   where
-    at : (name : Name) → slice_index_or all name.0 no_latest ≡ latest_from made level no_latest (history_of histories name).spans
-    at name =
-        ap (λ (xs : List Latest). slice_index_or xs name.0 no_latest) e ∙ map_at (λ (h : History). latest_from made level no_latest h.spans) histories name.0
+    by : (o : Bool) → IsAt moment (cond o (Some b) (Some a))
+    by true = g
+    by false = h
+
+first_stays : (moment : ℕ) (a : Onward) (o : Option Onward) → IsAt moment o → moment_of a.hop < moment → earlier (Some a) o ≡ Some a
+first_stays moment a None h l = refl
+first_stays moment a (Some b) h l =
+    ap (λ (o : Bool). cond o (Some b) (Some a))
+    (sym (moment_first b.hop a.hop (λ e. omega (arith, e, h, l))) ∙ le-ltb (moment_of b.hop) (moment_of a.hop) (omega (arith, h, l)))
+
+pub stays_first : (made : Name → Bool) (level : Name → Latest) (from : Arrived) (span : Span) (first : Option Onward) (a : Onward) → first ≡ Some a
+    → moment_of a.hop < later from.moment span.from → first ≡ earlier first (onward_over made level from span)
+stays_first made level from span first a e l =
+    subst (λ (o : Option Onward). o ≡ earlier o (onward_over made level from span)) (sym e)
+    (sym (first_stays (later from.moment span.from) a (onward_over made level from span)
+    (earlier_at (later from.moment span.from) (entry_onward from span (level span.cap.name)) (handed_onward from span (level span.cap.name) (made span.cap.name))
+    (made_at (later from.moment span.from) _ _ refl) (made_at (later from.moment span.from) _ _ refl)) l))

@@ -1,10 +1,13 @@
 mod NamedLemmas
 mod Replaying
+pub mod Lengths
 mod Followed
 mod Listed
 mod HistoryLemmas
 mod Keys
 mod HopLemmas
+mod HolderLemmas
+mod Raising
 mod SearchLemmas
 mod Bounds
 mod Spans

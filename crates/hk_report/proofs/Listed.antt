@@ -1,5 +1,6 @@
 -- The changes that are found line by line are those of the definitions, which look at who is under a call in the whole history.
-use Rattle.std.proofs.Common.{◌≡◌, ℕ, zero, suc, ◌+◌, ◌<◌, ◌^◌, List, [], ◌∷◌, ◌++◌, length, map, Bool, true, false, Option, Some, None, Ok, Err, refl, sym, ◌∙◌, ap, arith, cond, subst}
+use Rattle.std.proofs.Common.{◌≡◌, ℕ, zero, suc, ◌+◌, ◌<◌, ◌^◌, List, [], ◌∷◌, ◌++◌, length, map, Bool, true, false, Option, Some, None, Ok, Err}
+use Rattle.std.proofs.Common.{refl, sym, ◌∙◌, ap, arith, cond, subst}
 use Rattle.std.specs.Prelude.{IsTrue, Result, filter, option_map, slice_get, slice_index_or, take, drop, replicate}
 use Rattle.std.specs.Option.{option_and_then}
 use Rattle.std.proofs.lemmas.Bool.{true≢false}
@@ -12,7 +13,6 @@ use Rattle.hk_model.specs.declared.calls.Call.{Call}
 use Rattle.hk_model.specs.declared.calls.Call.TheVariants as call
 use Rattle.hk_model.specs.declared.calls.Refusal.{Refusal}
 use Rattle.hk_model.specs.declared.lines.Line.{Line}
-use Rattle.hk_model.specs.Limits.{event_limit}
 use Rattle.hk_model.specs.WorldValue.{WorldValue, IsWorld}
 use Rattle.hk_model.specs.State.{State, incarnation}
 use Rattle.hk_model.specs.Walking.{walk}
@@ -30,13 +30,13 @@ use Rattle.hk_model.proofs.EventCounts.{events_next, opened_events}
 use Rattle.hk_model.proofs.Turns.{walks_live}
 use Rattle.hk_model.proofs.CallShown.{HasTarget, ShownIf, shown_each}
 use Rattle.hk_model.proofs.Histories.{Sound, LineKnown, known_each, opening_sound, enters_turn}
-use Rattle.hk_program.proofs.Machines.{lines_within}
 use Rattle.hk_report.specs.declared.doings.Doing.{Doing}
 use Rattle.hk_report.specs.declared.families.Begun.{Begun}
 use Rattle.hk_report.specs.declared.families.BareChange.{BareChange}
 use Rattle.hk_report.specs.Named.{named_change}
 use Rattle.hk_report.specs.Doings.{doing, doings}
 use Rattle.hk_report.specs.Families.{told_call, told_change, families_by, families_after, change_under, changes_by, changes_from}
+use Rattle.hk_report.proofs.Lengths.{lines_few}
 use Rattle.hk_report.proofs.Followed.{Followed, started, goes_on, new_calls, followed_by, calls_of, calls_with, calls_followed, old_with, rises_above, Fits, fits_line}
 
 -- ---- what a line changes
@@ -140,7 +140,8 @@ module _ (w : WorldValue) (lines : List Line) where
   linked_new : (m : Machine) (rest : List Line) (n : Inc) → At m rest
       → Linked m rest (started (record { call = n; moment = m.state.events }))
   linked_new m rest n at i =
-      ap (λ (k : Machine). is_one_of i (told under_by w k (drop m.state.events lines) (n ∷ []))) at.machine ∙ ap (λ (ls : List Line). is_one_of i (told under_by w m ls (n ∷ []))) at.left
+      ap (λ (k : Machine). is_one_of i (told under_by w k (drop m.state.events lines) (n ∷ []))) at.machine
+      ∙ ap (λ (ls : List Line). is_one_of i (told under_by w m ls (n ∷ []))) at.left
 
   linked_next : (m : Machine) (line : Line) (rest : List Line) (ps : List Followed) → At (moved w m line.cpu) rest → All (Linked m (line ∷ rest)) ps
       → All (Linked (moved w m line.cpu) rest) (followed_by m.state line (moved w m line.cpu).state ps)
@@ -232,8 +233,8 @@ module _ (w : WorldValue) (lines : List Line) where
           ∙ ap (map (change_under m.state.events name)) (over (live_numbered m.state line.inc sound (changer_lives m.state line.inc (done_call line) name e))))
 
   -- all lines from a machine on
-  lines_change : (m : Machine) (rest : List Line) (families : List (List Begun)) (ps : List Followed) (calls : List Beginning) (so_far : List changes.BareChange) → AreSteps w m rest
-      → Sound m.state → At m rest → All (Linked m rest) ps → Fits m.state families ps → told confined_by w m rest (calls_of ps) ≡ calls
+  lines_change : (m : Machine) (rest : List Line) (families : List (List Begun)) (ps : List Followed) (calls : List Beginning) (so_far : List changes.BareChange)
+      → AreSteps w m rest → Sound m.state → At m rest → All (Linked m rest) ps → Fits m.state families ps → told confined_by w m rest (calls_of ps) ≡ calls
       → map told_change (told (bare_changes_by w lines calls) w m rest so_far) ≡ map told_change so_far ++ changes_from m.state.events families (doings w m rest)
   lines_change m [] families ps calls so_far steps sound at linked fits all = sym (append-nil (map told_change so_far))
   lines_change m (line ∷ rest) families ps calls so_far steps sound at linked fits all =
@@ -244,7 +245,8 @@ module _ (w : WorldValue) (lines : List Line) where
       ∙ ap (λ (cs : List BareChange). cs ++ changes_from t.events (families_by m.state.events (doing m.state line t) families) (doings w (moved w m line.cpu) rest))
       (line_changes m line rest families ps calls so_far steps sound at linked fits all)
       ∙ ap (λ (n : ℕ). (map told_change so_far ++ first) ++ changes_from n (families_by m.state.events (doing m.state line t) families) (doings w (moved w m line.cpu) rest)) next
-      ∙ append_assoc (map told_change so_far) first (changes_from (m.state.events + 1) (families_by m.state.events (doing m.state line t) families) (doings w (moved w m line.cpu) rest))
+      ∙ append_assoc (map told_change so_far) first
+      (changes_from (m.state.events + 1) (families_by m.state.events (doing m.state line t) families) (doings w (moved w m line.cpu) rest))
     where
       t : State
       t = (moved w m line.cpu).state
@@ -329,15 +331,5 @@ pub doings_few : (w : WorldValue) (lines : List Line) (all : List Doing) → IsW
 doings_few w lines all world steps h =
     let a = ap (length {A = Doing}) h in
     let b = doings_many w (opened w) lines in
-    let c = lines_within w lines world steps in
-    let d = world.few_events in
-    let e : event_limit ≡ 1000000 = refl in
-    omega (arith, a, b, c, d, e)
-
--- and so are the lines
-pub lines_few : (w : WorldValue) (lines : List Line) → IsWorld w → AreStepsOf w lines → length lines + 1 < 2 ^ 32
-lines_few w lines world steps =
-    let c = lines_within w lines world steps in
-    let d = world.few_events in
-    let e : event_limit ≡ 1000000 = refl in
-    omega (arith, c, d, e)
+    let c = lines_few w lines world steps in
+    omega (arith, a, b, c)

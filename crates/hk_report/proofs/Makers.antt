@@ -1,5 +1,6 @@
 -- Who made each object: it was made under a call exactly where its maker is under the call.
-use Rattle.std.proofs.Common.{◌≡◌, ℕ, zero, suc, ◌+◌, ◌<◌, ◌≤◌, List, [], ◌∷◌, ◌++◌, length, map, Bool, true, false, Option, Some, None, refl, sym, ◌∙◌, ap, arith, cond, subst, take, drop}
+use Rattle.std.proofs.Common.{◌≡◌, ℕ, zero, suc, ◌+◌, ◌<◌, ◌≤◌, List, [], ◌∷◌, ◌++◌, length, map, Bool, true, false, Option, Some, None}
+use Rattle.std.proofs.Common.{refl, sym, ◌∙◌, ap, arith, cond, subst, take, drop}
 use Rattle.std.specs.Prelude.{◌==◌, ◌&&◌, ◌||◌, ◌⊎◌, IsTrue, filter, slice_index_or, replicate}
 use mathlib.Core.Logic.{inl, inr}
 use Rattle.std.specs.Cmp.{first_so, second_so}
@@ -337,7 +338,8 @@ module _ (w : WorldValue) (lines : List Line) (steps : AreStepsOf w lines) where
     shows_under (p ∷ ps) all h = by (λ g. shows_under ps all.1 g) (is_one_of inc p.under) refl h
       where
         by : (has_begun (told_call b) (map told_call (calls_with inc ps)) ≡ true → is_under w lines b.moment b.call inc ≡ true) → (x : Bool) → is_one_of inc p.under ≡ x
-            → has_begun (told_call b) (map told_call (calls_of (cond x (p ∷ filter (λ (q : Followed). is_one_of inc q.under) ps) (filter (λ (q : Followed). is_one_of inc q.under) ps)))) ≡ true
+            → has_begun (told_call b)
+            (map told_call (calls_of (cond x (p ∷ filter (λ (q : Followed). is_one_of inc q.under) ps) (filter (λ (q : Followed). is_one_of inc q.under) ps)))) ≡ true
             → is_under w lines b.moment b.call inc ≡ true
         by later false e g = later g
         by later true e g = on (same_begun (told_call b) (told_call p.of)) refl g
@@ -357,9 +359,11 @@ module _ (w : WorldValue) (lines : List Line) (steps : AreStepsOf w lines) where
         more false k = k
 
         by : (Has (calls_of ps) b → has_begun (told_call b) (map told_call (calls_with inc ps)) ≡ true) → (x : Bool) → is_one_of inc p.under ≡ x → (p.of ≡ b) ⊎ Has (calls_of ps) b
-            → has_begun (told_call b) (map told_call (calls_of (cond x (p ∷ filter (λ (q : Followed). is_one_of inc q.under) ps) (filter (λ (q : Followed). is_one_of inc q.under) ps)))) ≡ true
+            → has_begun (told_call b)
+            (map told_call (calls_of (cond x (p ∷ filter (λ (q : Followed). is_one_of inc q.under) ps) (filter (λ (q : Followed). is_one_of inc q.under) ps)))) ≡ true
         by later true e (inl f) =
-            ap (λ (y : Bool). y || has_begun (told_call b) (map told_call (calls_with inc ps))) (subst (λ (c : Beginning). same_begun (told_call b) (told_call c) ≡ true) (sym f) (itself b))
+            ap (λ (y : Bool). y || has_begun (told_call b) (map told_call (calls_with inc ps)))
+            (subst (λ (c : Beginning). same_begun (told_call b) (told_call c) ≡ true) (sym f) (itself b))
         by later true e (inr f) = more (same_begun (told_call b) (told_call p.of)) (later f)
         by later false e (inl f) = absurd (true≢false (sym (sym (all.0 inc) ∙ subst (λ (c : Beginning). is_under w lines c.moment c.call inc ≡ true) (sym f) g) ∙ e))
         by later false e (inr f) = later f
@@ -398,7 +402,8 @@ module _ (w : WorldValue) (lines : List Line) (steps : AreStepsOf w lines) where
           none_some inc h = cc
 
       by : (o : Option Inc) → maker_in (told_histories w lines) x ≡ o
-          → elim o as (λ y. Bool) [ None ↦ false | Some inc ↦ has_begun (told_call b) (slice_index_or families inc.0 []) ] ≡ made_so (is_under w lines b.moment b.call) (maker_in at_end x)
+          → elim o as (λ y. Bool) [ None ↦ false | Some inc ↦ has_begun (told_call b) (slice_index_or families inc.0 []) ]
+          ≡ made_so (is_under w lines b.moment b.call) (maker_in at_end x)
       by None e = ap (made_so (is_under w lines b.moment b.call)) (sym (end_maker None e))
       by (Some inc) e =
           under_is b h inc (numbered x inc (end_maker (Some inc) e)) ∙ ap (made_so (is_under w lines b.moment b.call)) (sym (end_maker (Some inc) e))

@@ -23,7 +23,8 @@ use Rattle.hk_report.specs.declared.hops.Arrived.{Arrived}
 use Rattle.hk_report.specs.declared.hops.Latest.{Latest}
 use Rattle.hk_report.specs.declared.hops.Onward.{Onward}
 use Rattle.hk_report.specs.Histories.{history_of}
-use Rattle.hk_report.specs.Hops.{later, arrived_by, arrived_whole, latest_end, no_latest, ends_before, is_good, entry_onward, handed_onward, earlier, onward_over, first_from, next_latest, comes_before}
+use Rattle.hk_report.specs.Hops.{later, arrived_by, arrived_whole, latest_end, no_latest, ends_before, is_good}
+use Rattle.hk_report.specs.Hops.{entry_onward, handed_onward, earlier, onward_over, first_from, next_latest, comes_before}
 use Rattle.hk_report.specs.Searches.{first_onward, level_at, hops_down}
 use Rattle.hk_report.proofs.Keys.{NotAfter, sooner, not_before, before_then, not_after_then, hop_then}
 use Rattle.hk_report.proofs.Bounds.{some_first, good_from}
@@ -274,8 +275,8 @@ module _ (at : ℕ → State) (made test : Name → Bool) (test_is : (x : Name) 
   by_start level from hop (span ∷ spans) first h =
       by_start level from hop spans (earlier first (onward_over test level from span)) (by_left first (onward_over test level from span) hop h)
 
-  by_span : (level : Name → Latest) (from : Arrived) (hop : Hop) (spans : List Span) (first : Option Onward) (span : Span) → Has spans span → IsBy (onward_over test level from span) hop
-      → IsBy (first_from test level from first spans) hop
+  by_span : (level : Name → Latest) (from : Arrived) (hop : Hop) (spans : List Span) (first : Option Onward) (span : Span) → Has spans span
+      → IsBy (onward_over test level from span) hop → IsBy (first_from test level from first spans) hop
   by_span level from hop [] first span h g = absurd h
   by_span level from hop (next ∷ spans) first span (inl e) g =
       by_start level from hop spans (earlier first (onward_over test level from next))
@@ -314,7 +315,11 @@ module _ (at : ℕ → State) (made test : Name → Bool) (test_is : (x : Name) 
         → IsBy (onward_over test level from told.span) (hop_by.Entry index m)
     by_entry index m to cap told late h good =
         by_left (entry_onward from span (level span.cap.name)) (handed_onward from span (level span.cap.name) (test span.cap.name)) (hop_by.Entry index m)
-        (record { by = made_onward; is = ap (λ (b : Bool). cond b (Some made_onward) None) holds; not_after = sooner made_onward.hop (hop_by.Entry index m) early told.index_is refl })
+        (record {
+          by = made_onward;
+          is = ap (λ (b : Bool). cond b (Some made_onward) None) holds;
+          not_after = sooner made_onward.hop (hop_by.Entry index m) early told.index_is refl;
+        })
       where
         span : Span
         span = told.span
@@ -349,7 +354,11 @@ module _ (at : ℕ → State) (made test : Name → Bool) (test_is : (x : Name) 
         → IsBy (onward_over test level from told.span) (hop_by.Handed index m)
     by_handed index m to cap told late h good =
         by_right (entry_onward from span (level span.cap.name)) (handed_onward from span (level span.cap.name) (test span.cap.name)) (hop_by.Handed index m)
-        (record { by = made_onward; is = ap (λ (b : Bool). cond b (Some made_onward) None) holds; not_after = sooner made_onward.hop (hop_by.Handed index m) early told.index_is refl })
+        (record {
+          by = made_onward;
+          is = ap (λ (b : Bool). cond b (Some made_onward) None) holds;
+          not_after = sooner made_onward.hop (hop_by.Handed index m) early told.index_is refl;
+        })
       where
         span : Span
         span = told.span
@@ -384,7 +393,8 @@ module _ (at : ℕ → State) (made test : Name → Bool) (test_is : (x : Name) 
             and_yes from.modify
             (test span.cap.name && (nat_lt (later from.moment span.from) span.until && is_good (arrived_whole (later from.moment span.from) span.cap) (level span.cap.name)))
             (first_so from.modify (made cap.name) found.0)
-            (and_yes (test span.cap.name) (nat_lt (later from.moment span.from) span.until && is_good (arrived_whole (later from.moment span.from) span.cap) (level span.cap.name)) tested
+            (and_yes (test span.cap.name)
+            (nat_lt (later from.moment span.from) span.until && is_good (arrived_whole (later from.moment span.from) span.cap) (level span.cap.name)) tested
             (and_yes (nat_lt (later from.moment span.from) span.until) (is_good (arrived_whole (later from.moment span.from) span.cap) (level span.cap.name)) before good_now))
 
     -- where a hop leads to from where the rest can be made, the first hop does not come after it

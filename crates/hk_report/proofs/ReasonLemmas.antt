@@ -26,10 +26,13 @@ module _ (families : List (List Begun)) (histories : List History) (params : Lis
       none (x ∷ xs) = tt
 
   more : (bares : List BareChange) (n : ℕ) (b : BareChange) (changes : List Change) (change : Change) → n < length bares → b ≡ slice_index_or bares n b
-      → AreTold families histories params (take n bares) changes → IsTold families histories params b change → AreTold families histories params (take (suc n) bares) (changes ++ change ∷ [])
+      → AreTold families histories params (take n bares) changes → IsTold families histories params b change
+      → AreTold families histories params (take (suc n) bares) (changes ++ change ∷ [])
   more [] n b changes change l e h g = absurd (omega (arith, l))
-  more (x ∷ bares) zero b [] change l e h g =
-      (subst (λ (y : BareChange). IsTold families histories params y change) e g, subst (λ (ys : List BareChange). AreTold families histories params ys []) (sym (none_taken bares)) tt)
+  more (x ∷ bares) zero b [] change l e h g = (
+    subst (λ (y : BareChange). IsTold families histories params y change) e g,
+    subst (λ (ys : List BareChange). AreTold families histories params ys []) (sym (none_taken bares)) tt,
+  )
   more (x ∷ bares) zero b (c ∷ changes) change l e h g = absurd h
   more (x ∷ bares) (suc n) b [] change l e h g = absurd h
   more (x ∷ bares) (suc n) b (c ∷ changes) change l e h g = (h.0, more bares n b changes change (omega (arith, l)) e h.1 g)

@@ -1,6 +1,6 @@
 -- What the history of a list tells, as the list gets its entries at one moment after another.
-use Rattle.std.proofs.Common.{◌≡◌, ℕ, zero, suc, ◌+◌, ◌-◌, ◌<◌, ◌≤◌, List, [], ◌∷◌, ◌++◌, length, replicate, Bool, true, false, Option, Some, None, refl, sym, ◌∙◌, ap, arith, subst, slice_get}
-use Rattle.std.proofs.Common.{option_and_then, option_map}
+use Rattle.std.proofs.Common.{◌≡◌, ℕ, zero, suc, ◌+◌, ◌-◌, ◌<◌, ◌≤◌, List, [], ◌∷◌, ◌++◌, length, replicate, Bool, true, false, Option, Some, None}
+use Rattle.std.proofs.Common.{refl, sym, ◌∙◌, ap, arith, subst, slice_get, option_and_then, option_map}
 use Rattle.std.specs.Prelude.{◌==◌, ◌⊎◌, slice_index_or, is_some}
 use mathlib.Core.Logic.{inl, inr}
 use Rattle.std.specs.Map.{lookup}
@@ -65,7 +65,8 @@ beyond_padded : (now : List (Option Since)) (entries : List Entry) (j : ℕ) →
 beyond_padded now entries j h =
     let a : length (padded now (length entries)) ≡ length now + length (replicate (length entries - length now) (let n : Option Since = None in n)) =
     length-append now (replicate (length entries - length now) None) in
-    let b : length (replicate (length entries - length now) (let n : Option Since = None in n)) ≡ length entries - length now = length-replicate (length entries - length now) None in
+    let b : length (replicate (length entries - length now) (let n : Option Since = None in n)) ≡ length entries - length now =
+    length-replicate (length entries - length now) None in
     let c : 0 + j ≡ j = omega arith in
     ap (cap_at entries) c ∙ beyond entries j (omega (arith, h, a, b))
 

@@ -63,7 +63,8 @@ module _ (made : Name → Bool) (histories : List History) (wanted : Name) (befo
         ∙ ap (λ (j : ℕ). Some (level_at made histories wanted before j)) (sym e)
   ]
 
-  mapped_at : (levels : List Level) (i : ℕ) (level : Level) → i < length levels → level ≡ slice_index_or levels i level → slice_get (map latest_at levels) i ≡ Some (latest_at level)
+  mapped_at : (levels : List Level) (i : ℕ) (level : Level) → i < length levels → level ≡ slice_index_or levels i level
+      → slice_get (map latest_at levels) i ≡ Some (latest_at level)
   mapped_at [] i level l e = absurd (omega (arith, l))
   mapped_at (x ∷ levels) zero level l e = ap (λ (y : Level). Some (latest_at y)) (sym e)
   mapped_at (x ∷ levels) (suc i) level l e = mapped_at levels i level (omega (arith, l)) e

@@ -2,6 +2,8 @@
 -- docs/RULES.md, "Reaches".
 use Rattle.std.specs.Prelude.{ℕ, ◌==◌, ◌&&◌, ◌||◌, Bool, true, false, List, [], ◌∷◌, nat_lt, slice_index_or, Option, Some, None, if◌then◌else◌}
 use Rattle.std.specs.List.{list_any}
+use Rattle.std.specs.BTreeMap.{get}
+use Rattle.std.specs.Option.{unwrap_or}
 use Rattle.std.specs.Ordering.{nat_cmp, is_lt}
 use Rattle.std.specs.Cmp.Lexicographic.{slice_cmp}
 use Rattle.hk_rights.specs.Rights.{has, modify_right, unconf_right}
@@ -9,6 +11,7 @@ use Rattle.hk_model.specs.declared.names.Name.{Name}
 use Rattle.hk_model.specs.declared.entries.Cap.{Cap}
 use Rattle.hk_model.specs.declared.reaches.Hop.{Hop}
 use Rattle.hk_model.specs.declared.reaches.Hop.TheVariants as hop_by
+use Rattle.hk_model.specs.State.{name_cmp}
 use Rattle.hk_model.specs.Changes.{hop_key}
 use Rattle.hk_report.specs.declared.families.Begun.{Begun}
 use Rattle.hk_report.specs.declared.histories.Span.{Span}
@@ -16,7 +19,6 @@ use Rattle.hk_report.specs.declared.histories.History.{History}
 use Rattle.hk_report.specs.declared.hops.Arrived.{Arrived}
 use Rattle.hk_report.specs.declared.hops.Latest.{Latest}
 use Rattle.hk_report.specs.declared.hops.Level.{Level}
-use Rattle.hk_report.specs.declared.hops.Level.TheVariants as level_by
 use Rattle.hk_report.specs.declared.hops.Onward.{Onward}
 use Rattle.hk_report.specs.Histories.{history_of}
 
@@ -62,8 +64,7 @@ abbrev pub latest_end : Name → ℕ → Name → Latest
 latest_end end before name = if name.0 == end.0 then ends_before before else no_latest
 
 abbrev pub latest_at : Level → Name → Latest
-latest_at (level_by.End end before) name = latest_end end before name
-latest_at (level_by.Hops latest) name = slice_index_or latest name.0 no_latest
+latest_at level name = unwrap_or (get name_cmp level.latest name) no_latest
 
 -- the rest can be made from there
 abbrev pub is_good : Arrived → Latest → Bool

@@ -1,18 +1,21 @@
 //! Hops over what has stood in lists, and which of them comes first (`docs/RULES.md`, "Reaches").
 
-ghost use Rattle.std.specs.Prelude.{◌≡◌, None, IfOk};
+ghost use Rattle.std.specs.Prelude.{◌≡◌, None, IfOk, OnOk};
 ghost use Rattle.std.specs.Cmp.Lexicographic.{slice_cmp};
 ghost use Rattle.std.specs.Ordering.{nat_cmp, is_lt};
 ghost use Rattle.hk_model.specs.Reaches.{index_of, moment_of};
 ghost use Rattle.hk_model.specs.Changes.{hop_key};
 ghost use Rattle.hk_report.specs.Histories.{history_of};
-ghost use Rattle.hk_report.specs.Hops.{same_begun, has_begun, is_made, next_latest, later, greater, lesser, arrived_by, arrived_whole, latest_at, is_good, entry_onward, handed_onward, earlier, onward_over, first_from, from_on, entry_bound, handed_bound, latest_from};
+ghost use Rattle.hk_report.specs.Hops.{same_begun, has_begun, is_made, next_latest, later, greater, lesser, arrived_by, arrived_whole, latest_at, latest_end, is_good, entry_onward, handed_onward, earlier, onward_over, first_from, from_on, entry_bound, handed_bound};
+ghost use Rattle.hk_report.specs.Holders.{AreHolders, holders_of, joined, latest_over, raised_at, raised_over};
 
 use crate::families::{Begun, calls_over};
 use crate::histories::{History, Span};
+use crate::holders::Held;
 use hk_model::{Cap, Hop, Items, Name, NoMemory};
 use hk_rights::Right;
 use std::alloc::Global;
+use std::collections::BTreeMap;
 
 /// Where a way has come to.
 #[derive(Clone, Copy, PartialEq, Eq, Debug)]
@@ -34,13 +37,10 @@ pub struct Latest {
     pub unconf: u32,
 }
 
-/// From which moments the rest of a way can be made that has so many hops.
+/// From which moments the rest of a way can be made that has so many hops, at each object at which it can.
 #[derive(Drop)]
-pub enum Level {
-    /// No hop: the way has come to this object, before this moment.
-    End { name: Name, before: u32 },
-    /// For each object, by its name.
-    Hops(Items<Latest>),
+pub struct Level {
+    pub latest: BTreeMap<Name, Latest>,
 }
 
 /// A hop, and where it leads.
@@ -59,6 +59,9 @@ pub(crate) struct Ground<'a> {
     pub families: &'a [Items<Begun>],
     /// The confined call that makes the hops.
     pub begun: Begun,
+    /// The spans that hold each object, by its name.
+    pub holders: &'a [Items<Held>],
+    ghost held: { AreHolders histories.now holders.now },
 }
 
 // Whether two calls are the same.
@@ -115,32 +118,6 @@ fn arrived_whole(moment: u32, cap: Cap) -> Arrived
         modify: true,
         unconf: true,
         moment,
-    }
-}
-
-// From which moments the rest can be made at an object.
-fn latest_at(level: &Level, name: Name) -> Latest
-    ensures { result ≡ latest_at level.now name }
-{
-    let nothing = Latest {
-        modify: 0,
-        unconf: 0,
-    };
-    match level {
-        Level::End { name: end, before } => {
-            if name.0 == end.0 {
-                Latest {
-                    modify: *before,
-                    unconf: 0,
-                }
-            } else {
-                nothing
-            }
-        }
-        Level::Hops(latest) => match latest.as_slice().get(name.0 as usize) {
-            Some(latest) => *latest,
-            None => nothing,
-        },
     }
 }
 
@@ -284,6 +261,76 @@ fn handed_bound(span: &Span, latest: Latest, made: bool) -> u32
     }
 }
 
+// The greater bounds of two.
+fn joined(a: Latest, b: Latest) -> Latest
+    ensures { result ≡ joined a b }
+{
+    Latest {
+        modify: greater(a.modify, b.modify),
+        unconf: greater(a.unconf, b.unconf),
+    }
+}
+
+// From which moments a hop over a span can be made, and the rest after it.
+fn latest_over(span: &Span, latest: Latest, made: bool) -> Latest
+    ensures { result ≡ latest_over span.now latest made }
+{
+    Latest {
+        modify: handed_bound(span, latest, made),
+        unconf: entry_bound(span, latest),
+    }
+}
+
+impl Level {
+    // No rest can be made.
+    fn none(alloc: Global) -> Level
+        ensures { latest_at result ≡ (λ _. record { modify = 0; unconf = 0 }) }
+    {
+        Level {
+            latest: BTreeMap::new(alloc),
+        }
+    }
+
+    /// No hop: the way has come to this object, before this moment. NoMemory is want of memory.
+    pub(crate) fn end(alloc: Global, name: Name, before: u32) -> Result<Level, NoMemory>
+        ensures { IfOk result (λ level. latest_at level ≡ latest_end name before) }
+    {
+        let mut level = Level::none(alloc);
+        let latest = Latest {
+            modify: before,
+            unconf: 0,
+        };
+        level.raise(name, latest)?;
+        Ok(level)
+    }
+
+    // From which moments the rest can be made at an object.
+    fn at(&self, name: Name) -> Latest
+        ensures { result ≡ latest_at self.now name }
+    {
+        match self.latest.get(&name) {
+            Some(latest) => *latest,
+            None => Latest {
+                modify: 0,
+                unconf: 0,
+            },
+        }
+    }
+
+    // The rest can be made from these moments at an object, too.
+    #[tactic(auto, using(crate::proofs::Raising::none_raised))]
+    fn raise(&mut self, name: Name, latest: Latest) -> Result<(), NoMemory>
+        ensures { OnOk result (latest_at self.new ≡ raised_at (latest_at self.old) name latest) }
+    {
+        if latest.modify == 0 && latest.unconf == 0 {
+            return Ok(());
+        }
+        let all = joined(self.at(name), latest);
+        self.latest.insert(name, all)?;
+        Ok(())
+    }
+}
+
 impl<'a> Ground<'a> {
     /// Whether an object was made under the call.
     pub(crate) fn is_made(&self, name: Name) -> bool
@@ -309,15 +356,38 @@ impl<'a> Ground<'a> {
     }
 
     // The first hop over a span after which the rest can be made.
+    #[tactic(auto, using(crate::proofs::Raising::none_onward))]
     fn onward_over(&self, level: &Level, from: &Arrived, span: &Span) -> Option<Onward>
         ensures { result ≡ onward_over (is_made self.now.families.now self.now.begun self.now.histories.now) (latest_at level.now) from.now span.now }
     {
-        let latest = latest_at(level, span.cap.name);
+        let latest = level.at(span.cap.name);
+        if latest.modify == 0 && latest.unconf == 0 {
+            return None;
+        }
         let made = self.is_made(span.cap.name);
         earlier(
             entry_onward(from, span, latest),
             handed_onward(from, span, latest, made),
         )
+    }
+
+    // The hop that comes first of one and those over a span.
+    #[tactic(auto, using(crate::proofs::HopLemmas::stays_first))]
+    fn earlier_over(
+        &self,
+        level: &Level,
+        from: &Arrived,
+        span: &Span,
+        first: Option<Onward>,
+    ) -> Option<Onward>
+        ensures { result ≡ earlier first (onward_over (is_made self.now.families.now self.now.begun self.now.histories.now) (latest_at level.now) from.now span.now) }
+    {
+        if let Some(onward) = first {
+            if moment_of(&onward.hop) < later(from.moment, span.from) {
+                return first;
+            }
+        }
+        earlier(first, self.onward_over(level, from, span))
     }
 
     /// The first hop after which the rest can be made.
@@ -327,39 +397,40 @@ impl<'a> Ground<'a> {
         let spans = self.spans_of(from.name);
         let mut first = None;
         for span in spans {
-            first = earlier(first, self.onward_over(level, from, span));
+            first = self.earlier_over(level, from, span, first);
         }
         first
     }
 
-    // From which moments at a list a hop and the rest can be made.
-    fn latest_from(&self, level: &Level, spans: &[Span]) -> Latest
-        ensures { result ≡ latest_from (is_made self.now.families.now self.now.begun self.now.histories.now) (latest_at level.now) (record { modify = 0; unconf = 0 }) spans.now }
+    // The spans that hold an object.
+    fn holders_of(&self, name: Name) -> &[Held]
+        ensures { result.now ≡ holders_of self.now.histories.now name }
     {
-        let mut all = Latest {
-            modify: 0,
-            unconf: 0,
-        };
-        for span in spans {
-            let latest = latest_at(level, span.cap.name);
-            let made = self.is_made(span.cap.name);
-            all = Latest {
-                modify: greater(all.modify, handed_bound(span, latest, made)),
-                unconf: greater(all.unconf, entry_bound(span, latest)),
-            };
+        match self.holders.get(name.0 as usize) {
+            Some(helds) => helds.as_slice(),
+            None => &[],
         }
-        all
+    }
+
+    // What is kept for an object gives to those that held it.
+    fn raise_holders(&self, next: &mut Level, name: Name, latest: Latest) -> Result<(), NoMemory>
+        ensures { OnOk result (latest_at next.new ≡ raised_over latest (is_made self.now.families.now self.now.begun self.now.histories.now name) (latest_at next.old) (holders_of self.now.histories.now name)) }
+    {
+        let made = self.is_made(name);
+        for held in self.holders_of(name) {
+            next.raise(held.by, latest_over(&held.span, latest, made))?;
+        }
+        Ok(())
     }
 
     /// The level of one hop more. NoMemory is want of memory.
-    #[tactic(auto, using(crate::proofs::HopLemmas::level_next))]
     pub(crate) fn next_level(&self, alloc: Global, level: &Level) -> Result<Level, NoMemory>
         ensures { IfOk result (λ next. latest_at next ≡ next_latest (is_made self.now.families.now self.now.begun self.now.histories.now) self.now.histories.now (latest_at level.now)) }
     {
-        let mut all = Vec::with_capacity(alloc, self.histories.len())?;
-        for history in self.histories {
-            all.push(self.latest_from(level, history.spans.as_slice()))?;
+        let mut next = Level::none(alloc);
+        for (name, latest) in level.latest.iter() {
+            self.raise_holders(&mut next, *name, *latest)?;
         }
-        Ok(Level::Hops(Items::from_vec(all)))
+        Ok(next)
     }
 }

@@ -5,13 +5,14 @@
 //! the history; `report` with its reason besides, and `changes_text` is the list as text. `naming` has
 //! what a path names, `doings` what each line did, `replay` the lines of a history once more,
 //! `families` the confined calls that each incarnation is under, `histories` what has stood in lists,
-//! `hops` the hops over that, `searching` the search for the least reach, `reasons` each change with
-//! its reason.
+//! `holders` which of that holds an object, `hops` the hops over it, `searching` the search for the
+//! least reach, `reasons` each change with its reason.
 #![tactic(auto)]
 
 mod doings;
 mod families;
 mod histories;
+mod holders;
 mod hops;
 mod naming;
 mod reasons;

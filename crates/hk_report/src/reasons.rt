@@ -1,10 +1,12 @@
 //! Why a change under a confined call could be made (`docs/RULES.md`, "Changes and their reasons").
 
 ghost use Rattle.std.specs.Prelude.{◌≡◌, ◌<◌, ◌≤◌, ◌^◌, ◌+◌, length, IfOk};
+ghost use Rattle.hk_report.specs.Holders.{AreHolders};
 ghost use Rattle.hk_report.specs.Reasons.{params_at, IsReasoned, IsTold, AreFew, AreTold};
 
 use crate::families::{BareChange, Begun};
 use crate::histories::History;
+use crate::holders::Held;
 use crate::hops::Ground;
 use crate::replay::GivenParams;
 use crate::searching::Search;
@@ -20,6 +22,9 @@ pub(crate) struct Grounds<'a> {
     pub families: &'a [Items<Begun>],
     /// The merged parameters of the call that each line has begun.
     pub params: &'a [GivenParams],
+    /// The spans that hold each object, by its name.
+    pub holders: &'a [Items<Held>],
+    ghost held: { AreHolders histories.now holders.now },
 }
 
 impl<'a> Grounds<'a> {
@@ -43,6 +48,7 @@ impl<'a> Grounds<'a> {
             histories: self.histories,
             families: self.families,
             begun: bare.under,
+            holders: self.holders,
         };
         if ground.is_made(bare.object) {
             return Ok(Reach::Made);

@@ -1,10 +1,10 @@
 //! A history once more, with what its lines did (`docs/RULES.md`, "Steps of processors").
 
-ghost use Rattle.std.specs.Prelude.{◌≡◌, ◌+◌, ◌<◌, ◌≤◌, ◌^◌, length, IfOk};
+ghost use Rattle.std.specs.Prelude.{◌≡◌, ◌+◌, ◌<◌, ◌≤◌, ◌^◌, ◌++◌, ◌∷◌, [], length, IfOk, OnOk};
 ghost use Rattle.hk_model.specs.Lines.{done_call, param_count};
 ghost use Rattle.hk_model.specs.Running.{opened};
-ghost use Rattle.hk_report.specs.Doings.{doings, given_params, params_given};
-ghost use Rattle.hk_report.specs.Histories.{histories_at_end, told_histories};
+ghost use Rattle.hk_report.specs.Doings.{doing_behind, doings, given_params, params_given};
+ghost use Rattle.hk_report.specs.Histories.{noted, opened_below, told_histories};
 
 use crate::doings::{Before, Doing, before_line, doing_behind};
 use crate::histories::{History, finish, note, opened_histories};
@@ -24,6 +24,17 @@ pub struct Replay {
     pub first: Inc,
     /// What each line did.
     pub doings: Vec<Doing>,
+}
+
+/// What the reasons of changes are told by.
+#[derive(Drop)]
+pub struct Telling {
+    /// What the lines did.
+    pub replay: Replay,
+    /// The merged parameters of the call that each line has begun, none of another line.
+    pub params: Vec<GivenParams>,
+    /// What has stood in the list of each object, by its name.
+    pub histories: Vec<History>,
 }
 
 // How many parameters the call has that a line has begun.
@@ -68,7 +79,7 @@ pub(crate) fn replayed(alloc: Global, world: &World, lines: &[Line]) -> Result<R
     let kernel = Plain::new(alloc, world)?;
     let mut machine = Machine::open(alloc, world, kernel)?;
     let first = machine.kernel().next_inc();
-    let mut doings = Vec::new(alloc);
+    let mut doings = Vec::with_capacity(alloc, lines.len())?;
     for line in lines {
         let before = before_line(machine.kernel(), line);
         let _made = machine.step(alloc, world, line.cpu)?;
@@ -77,54 +88,67 @@ pub(crate) fn replayed(alloc: Global, world: &World, lines: &[Line]) -> Result<R
     Ok(Replay { first, doings })
 }
 
-/// The merged parameters of the call that each line of a history has begun, none of another line.
-/// NoMemory is want of memory.
-pub(crate) fn params_given(
-    alloc: Global,
-    world: &World,
-    lines: &[Line],
-) -> Result<Vec<GivenParams>, NoMemory>
-    ensures { IfOk result (λ params. params.items ≡ params_given world.now (opened world.now) lines.now) }
-{
-    let kernel = Plain::new(alloc, world)?;
-    let mut machine = Machine::open(alloc, world, kernel)?;
-    let mut params = Vec::new(alloc);
-    for line in lines {
-        let before = before_line(machine.kernel(), line);
-        let _made = machine.step(alloc, world, line.cpu)?;
-        params.push(params_behind(alloc, machine.kernel(), line, &before)?)?;
+impl Telling {
+    // What no line tells yet, by a kernel in the state of the opening.
+    fn begin(alloc: Global, kernel: &Plain, count: usize) -> Result<Telling, NoMemory>
+        ensures first { IfOk result (λ t. t.replay.first ≡ kernel.now.next_inc) }
+        ensures doings { IfOk result (λ t. t.replay.doings.items ≡ []) }
+        ensures params { IfOk result (λ t. t.params.items ≡ []) }
+        ensures histories { IfOk result (λ t. t.histories.items ≡ opened_below kernel.now kernel.now.next_name.0) }
+    {
+        let replay = Replay {
+            first: kernel.next_inc(),
+            doings: Vec::with_capacity(alloc, count)?,
+        };
+        Ok(Telling {
+            replay,
+            params: Vec::with_capacity(alloc, count)?,
+            histories: opened_histories(alloc, kernel)?,
+        })
     }
-    Ok(params)
+
+    // What a line tells, by a kernel in the state behind it. `moment` is the number of lines up to and
+    // with it.
+    fn add(
+        &mut self,
+        alloc: Global,
+        kernel: &Plain,
+        line: &Line,
+        before: Before,
+        moment: u32,
+    ) -> Result<(), NoMemory>
+        ensures first { OnOk result (self.new.replay.first ≡ self.old.replay.first) }
+        ensures doings { OnOk result (self.new.replay.doings.items ≡ self.old.replay.doings.items ++ doing_behind before kernel.now ∷ []) }
+        ensures params { OnOk result (self.new.params.items ≡ self.old.params.items ++ given_params line.now before kernel.now ∷ []) }
+        ensures histories { OnOk result (self.new.histories.items ≡ noted moment (doing_behind before kernel.now) kernel.now self.old.histories.items) }
+    {
+        let doing = doing_behind(before, kernel);
+        let params = params_behind(alloc, kernel, line, &before)?;
+        note(alloc, &mut self.histories, kernel, moment, &doing)?;
+        self.params.push(params)?;
+        self.replay.doings.push(doing)?;
+        Ok(())
+    }
 }
 
-/// What has stood in the list of each object, by its name. NoMemory is want of memory.
-pub(crate) fn histories_told(
-    alloc: Global,
-    world: &World,
-    lines: &[Line],
-) -> Result<Vec<History>, NoMemory>
+/// The lines of a history once more, with the parameters that they gave and what has stood in lists.
+/// NoMemory is want of memory.
+pub(crate) fn told(alloc: Global, world: &World, lines: &[Line]) -> Result<Telling, NoMemory>
     requires { length lines.now + 1 < 2 ^ 32 }
-    ensures { IfOk result (λ histories. histories.items ≡ told_histories world.now lines.now) }
-{
-    let mut histories = histories_at_end(alloc, world, lines)?;
-    finish(alloc, &mut histories, lines.len() as u32 + 1)?;
-    Ok(histories)
-}
-
-// What has stood in the lists, and what stands there at the end.
-fn histories_at_end(alloc: Global, world: &World, lines: &[Line]) -> Result<Vec<History>, NoMemory>
-    requires { length lines.now + 1 < 2 ^ 32 }
-    ensures { IfOk result (λ histories. histories.items ≡ histories_at_end world.now lines.now) }
+    ensures first { IfOk result (λ t. t.replay.first ≡ (opened world.now).state.next_inc) }
+    ensures doings { IfOk result (λ t. t.replay.doings.items ≡ doings world.now (opened world.now) lines.now) }
+    ensures params { IfOk result (λ t. t.params.items ≡ params_given world.now (opened world.now) lines.now) }
+    ensures histories { IfOk result (λ t. t.histories.items ≡ told_histories world.now lines.now) }
 {
     let kernel = Plain::new(alloc, world)?;
     let mut machine = Machine::open(alloc, world, kernel)?;
-    let mut histories = opened_histories(alloc, machine.kernel())?;
+    let mut telling = Telling::begin(alloc, machine.kernel(), lines.len())?;
     for (index, line) in lines.iter().enumerate() {
         let before = before_line(machine.kernel(), line);
         let _made = machine.step(alloc, world, line.cpu)?;
-        let doing = doing_behind(before, machine.kernel());
         let moment = index as u32 + 1;
-        note(alloc, &mut histories, machine.kernel(), moment, &doing)?;
+        telling.add(alloc, machine.kernel(), line, before, moment)?;
     }
-    Ok(histories)
+    finish(alloc, &mut telling.histories, lines.len() as u32 + 1)?;
+    Ok(telling)
 }

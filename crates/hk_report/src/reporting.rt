@@ -6,8 +6,9 @@ ghost use Rattle.hk_model.specs.Changes.{AreChanges, bare_changes};
 ghost use Rattle.hk_report.specs.Families.{told_change};
 
 use crate::families::{BareChange, changes_of};
+use crate::holders::holders;
 use crate::reasons::Grounds;
-use crate::replay::{histories_told, params_given, replayed};
+use crate::replay::{replayed, told};
 use hk_model::{Change, Line, NoMemory, World};
 use std::alloc::Global;
 
@@ -16,7 +17,7 @@ use std::alloc::Global;
 /// stand by rising line, and for one line by rising number of the call.
 ///
 /// `lines` are steps of `world` from its opening on, in the order of the history. NoMemory is want of memory, and nothing else.
-#[tactic(auto, using(crate::proofs::Listed::changes_found, crate::proofs::Listed::doings_few, crate::proofs::Listed::lines_few))]
+#[tactic(auto, using(crate::proofs::Listed::changes_found, crate::proofs::Listed::doings_few, crate::proofs::Lengths::lines_few))]
 pub fn changes_under(
     alloc: Global,
     world: &World,
@@ -37,20 +38,20 @@ pub fn changes_under(
 /// by rising number of the call.
 ///
 /// `lines` are steps of `world` from its opening on, in the order of the history. NoMemory is want of memory, and nothing else.
-#[tactic(auto, using(crate::proofs::Listed::lines_few, crate::proofs::Listed::doings_few, crate::proofs::Explained::few_changes, crate::proofs::Explained::report_is))]
+#[tactic(auto, using(crate::proofs::Lengths::lines_few, crate::proofs::Listed::doings_few, crate::proofs::Explained::few_changes, crate::proofs::Explained::report_is))]
 pub fn report(alloc: Global, world: &World, lines: &[Line]) -> Result<Vec<Change>, NoMemory>
     requires { AreStepsOf world.now lines.now }
     ensures { IfOk result (λ changes. AreChanges world.now lines.now changes.items) }
 {
     let _limit = world.limit();
-    let replay = replayed(alloc, world, lines)?;
-    let families = changes_of(alloc, replay.first, replay.doings.as_slice())?;
-    let histories = histories_told(alloc, world, lines)?;
-    let params = params_given(alloc, world, lines)?;
+    let told = told(alloc, world, lines)?;
+    let families = changes_of(alloc, told.replay.first, told.replay.doings.as_slice())?;
+    let holders = holders(alloc, told.histories.as_slice())?;
     let grounds = Grounds {
-        histories: histories.as_slice(),
+        histories: told.histories.as_slice(),
         families: families.calls.as_slice(),
-        params: params.as_slice(),
+        params: told.params.as_slice(),
+        holders: holders.as_slice(),
     };
     let changes = grounds.explain_all(alloc, families.changes.as_slice())?;
     Ok(changes)

@@ -383,7 +383,7 @@ fn taken_back(alloc: Global, audit: &Audit, count: u32) -> Result<DueText, NoMem
 }
 
 // The state before the last lines, so many, as a text.
-#[tactic(auto, using(crate::proofs::Going::lines_few))]
+#[tactic(auto, using(hk_report::proofs::Lengths::lines_few))]
 fn state_left(alloc: Global, world: &World, lines: &[Line], count: u32) -> Result<DueText, NoMemory>
     requires { AreStepsOf world.now lines.now }
     ensures { IfOk result (λ due. (due.status ≡ 0) × TellsState count world.now lines.now due.text) }

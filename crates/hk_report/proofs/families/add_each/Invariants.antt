@@ -5,4 +5,5 @@ use Rattle.hk_report.specs.Families.{change_under}
 use Rattle.hk_report.proofs.families.add_each.Given as goal
 
 abbrev pub invariant-loop-call : goal.invariant-loop-call
-invariant-loop-call l = l.changes.items ++ map (change_under l.moment l.object) (drop l.call-index l.calls) ≡ l.initial.changes.items ++ map (change_under l.moment l.object) l.calls
+invariant-loop-call l =
+    l.changes.items ++ map (change_under l.moment l.object) (drop l.call-index l.calls) ≡ l.initial.changes.items ++ map (change_under l.moment l.object) l.calls

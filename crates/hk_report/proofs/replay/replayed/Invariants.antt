@@ -1,7 +1,7 @@
 -- The lines to come lead on from here as all lead from the opening.
 use Rattle.std.proofs.Common.{◌≡◌, ◌++◌}
 use Rattle.std.specs.Prelude.{drop}
-use Rattle.hk_model.specs.Running.{opened, after_lines}
+use Rattle.hk_model.specs.Running.{opened}
 use Rattle.hk_program.specs.Machines.{IsSound}
 use Rattle.hk_report.specs.Doings.{doings}
 use Rattle.hk_report.proofs.Replaying.{Replaying}
@@ -9,5 +9,4 @@ use Rattle.hk_report.proofs.replay.replayed.Given as goal
 
 abbrev pub invariant-loop-line : goal.invariant-loop-line
 invariant-loop-line l = Replaying (IsSound l.world l.machine)
-    (after_lines l.world l.machine (drop l.line-index l.lines) ≡ after_lines l.world (opened l.world) l.lines)
     (l.doings.items ++ doings l.world l.machine (drop l.line-index l.lines) ≡ doings l.world (opened l.world) l.lines)

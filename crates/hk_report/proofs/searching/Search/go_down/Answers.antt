@@ -17,8 +17,8 @@ loop-left-preserved c =
     record {
       inside = omega (arith, inside);
       leads = rw c.in_ok-push-in-Some.ensures.ok
-          (goes_some made s.ground.histories.now s.wanted s.before c.loop-left.left (c.loop-left.left - 1) c.loop-left.at c.in-Some.onward c.index-levels-left.result c.loop-left.hops _ less
-          same (sym c.first_onward.ensures ∙ c.in-Some.is) c.loop-left.invariant.leads);
+          (goes_some made s.ground.histories.now s.wanted s.before c.loop-left.left (c.loop-left.left - 1) c.loop-left.at c.in-Some.onward c.index-levels-left.result
+          c.loop-left.hops _ less same (sym c.first_onward.ensures ∙ c.in-Some.is) c.loop-left.invariant.leads);
     }
 
 -- no hop is left

@@ -21,7 +21,8 @@ returns-in-Some c =
     record {
       left = c.loop.counter;
       start = c.in-Some.start;
-      starts = ap (λ (f : Name → Latest). first_start made s.ground.histories.now s.ground.begun.moment f 0 s.params.now) (sym c.loop.invariant.last) ∙ sym c.first_start.ensures ∙ c.in-Some.is;
+      starts = ap (λ (f : Name → Latest). first_start made s.ground.histories.now s.ground.begun.moment f 0 s.params.now) (sym c.loop.invariant.last)
+          ∙ sym c.first_start.ensures ∙ c.in-Some.is;
       fewest = c.loop.invariant.fewer;
       is = ap (λ (hops : List Hop). Param c.in-Some.start.arg hops)
           (found_is made s.ground.histories.now s.wanted s.before c.loop.levels.items c.as_slice.result.now c.loop.counter c.in-Some.start.onward.hop c.in-Some.start.onward.to

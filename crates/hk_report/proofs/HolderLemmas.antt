@@ -1,0 +1,130 @@
+-- Which spans hold an object, as the spans are kept one after another.
+use Rattle.std.proofs.Common.{◌≡◌, ℕ, zero, suc, ◌+◌, ◌-◌, ◌<◌, ◌≤◌, List, [], ◌∷◌, ◌++◌, length, map, replicate, Bool, true, false, refl, sym, ◌∙◌, ap, arith, cond, subst}
+use Rattle.std.specs.Prelude.{◌==◌, nat_lt, drop, filter, slice_set, slice_index_or}
+use Rattle.std.proofs.lemmas.Bool.{true≢false, ltb-true, ltb-false, eqb-true, eqb-false, eq-eqb, ne_eqb}
+use Rattle.std.proofs.lemmas.List.{append-nil, append_assoc, length-append, length-replicate}
+use Rattle.hk_model.specs.declared.names.Name.{Name}
+use Rattle.hk_report.specs.declared.histories.Span.{Span}
+use Rattle.hk_report.specs.declared.histories.History.{History}
+use Rattle.hk_report.specs.declared.holders.Held.{Held}
+use Rattle.hk_report.specs.Holders.{held_by, spans_from, holds, holders_of, held_at, one_more}
+
+-- ---- one span more is kept
+
+module _ {X : Type 0} where
+  set_same : (all : List (List X)) (n : ℕ) (xs : List X) → n < length all → slice_index_or (slice_set all n xs) n [] ≡ xs
+  set_same [] n xs l = absurd (omega (arith, l))
+  set_same (ys ∷ all) zero xs l = refl
+  set_same (ys ∷ all) (suc n) xs l = set_same all n xs (omega (arith, l))
+
+  set_other : (all : List (List X)) (n m : ℕ) (xs : List X) → (n == m) ≡ false → slice_index_or (slice_set all n xs) m [] ≡ slice_index_or all m []
+  set_other [] n m xs e = refl
+  set_other (ys ∷ all) zero zero xs e = absurd (true≢false e)
+  set_other (ys ∷ all) zero (suc m) xs e = refl
+  set_other (ys ∷ all) (suc n) zero xs e = refl
+  set_other (ys ∷ all) (suc n) (suc m) xs e = set_other all n m xs (ne_eqb n m (λ f. eqb-false (suc n) (suc m) e (omega (arith, f))))
+
+  none_at : (n i : ℕ) → slice_index_or (replicate n (let none : List X = [] in none)) i [] ≡ []
+  none_at zero i = refl
+  none_at (suc n) zero = refl
+  none_at (suc n) (suc i) = none_at n i
+
+  grown_at : (all : List (List X)) (n i : ℕ) → slice_index_or (all ++ replicate n []) i [] ≡ slice_index_or all i []
+  grown_at [] n i = none_at n i
+  grown_at (xs ∷ all) n zero = refl
+  grown_at (xs ∷ all) n (suc i) = grown_at all n i
+
+  beyond : (all : List (List X)) (i : ℕ) → length all ≤ i → slice_index_or all i [] ≡ []
+  beyond [] i l = refl
+  beyond (xs ∷ all) zero l = absurd (omega (arith, l))
+  beyond (xs ∷ all) (suc i) l = beyond all i (omega (arith, l))
+
+  grown_length : (all : List (List X)) (n : ℕ) → length all ≤ n → length (all ++ replicate (n - length all) []) ≡ n
+  grown_length all n l =
+      let a = length-append all (replicate (n - length all) []) in
+      let b : length (replicate (n - length all) (let none : List X = [] in none)) ≡ n - length all = length-replicate (n - length all) [] in
+      omega (arith, a, b, l)
+
+  last_same : (all : List (List X)) (xs : List X) (n : ℕ) → length all ≡ n → slice_index_or (all ++ xs ∷ []) n [] ≡ xs
+  last_same [] xs n e = rw (sym e) refl
+  last_same (ys ∷ all) xs zero e = absurd (omega (arith, e))
+  last_same (ys ∷ all) xs (suc n) e = last_same all xs n (omega (arith, e))
+
+  last_other : (all : List (List X)) (xs : List X) (n m : ℕ) → length all ≡ n → (n == m) ≡ false → slice_index_or (all ++ xs ∷ []) m [] ≡ slice_index_or all m []
+  last_other [] xs n zero e f = absurd (true≢false (sym (eq-eqb n 0 (omega (arith, e))) ∙ f))
+  last_other [] xs n (suc m) e f = refl
+  last_other (ys ∷ all) xs zero m e f = absurd (omega (arith, e))
+  last_other (ys ∷ all) xs (suc n) zero e f = refl
+  last_other (ys ∷ all) xs (suc n) (suc m) e f = last_other all xs n m (omega (arith, e)) (ne_eqb n m (λ g. eqb-false (suc n) (suc m) f (omega (arith, g))))
+
+name_is : (x y : Name) → x.0 ≡ y.0 → x ≡ y
+name_is x y h = ap (λ (n : ℕ). let z : Name = record { 0 = n } in z) h
+
+module _ (held : Held) (all : List (List Held)) where
+  abbrev of : Name
+  of = held.span.cap.name
+
+  more_same : held_at (one_more held all) of ≡ held_at all of ++ held ∷ []
+  more_same = by (nat_lt of.0 (length all)) refl
+    where
+      by : (b : Bool) → nat_lt of.0 (length all) ≡ b
+          → slice_index_or (elim b as (λ x. List (List Held)) [
+            | true ↦ slice_set all of.0 (held_at all of ++ held ∷ [])
+            | false ↦ (all ++ replicate (of.0 - length all) []) ++ (held ∷ []) ∷ []
+          ]) of.0 []
+          ≡ held_at all of ++ held ∷ []
+      by true e = set_same all of.0 (held_at all of ++ held ∷ []) (ltb-true of.0 (length all) e)
+      by false e =
+          let l = ltb-false of.0 (length all) e in
+          last_same (all ++ replicate (of.0 - length all) []) (held ∷ []) of.0 (grown_length all of.0 l) ∙ ap (λ (xs : List Held). xs ++ held ∷ []) (sym (beyond all of.0 l))
+
+  more_other : (name : Name) → (of.0 == name.0) ≡ false → held_at (one_more held all) name ≡ held_at all name
+  more_other name f = by (nat_lt of.0 (length all)) refl
+    where
+      by : (b : Bool) → nat_lt of.0 (length all) ≡ b
+          → slice_index_or (elim b as (λ x. List (List Held)) [
+            | true ↦ slice_set all of.0 (held_at all of ++ held ∷ [])
+            | false ↦ (all ++ replicate (of.0 - length all) []) ++ (held ∷ []) ∷ []
+          ]) name.0 []
+          ≡ slice_index_or all name.0 []
+      by true e = set_other all of.0 name.0 (held_at all of ++ held ∷ []) f
+      by false e =
+          last_other (all ++ replicate (of.0 - length all) []) (held ∷ []) of.0 name.0 (grown_length all of.0 (ltb-false of.0 (length all) e)) f
+          ∙ grown_at all (of.0 - length all) name.0
+
+  -- what holds an object is what held it, and this span where it does
+  more_is : (name : Name) (rest : List Held) → held_at (one_more held all) name ++ filter (holds name) rest ≡ held_at all name ++ filter (holds name) (held ∷ rest)
+  more_is name rest = by (of.0 == name.0) refl
+    where
+      by : (b : Bool) → (of.0 == name.0) ≡ b
+          → held_at (one_more held all) name ++ filter (holds name) rest ≡ held_at all name ++ cond b (held ∷ filter (holds name) rest) (filter (holds name) rest)
+      by true e =
+          ap (λ (xs : List Held). xs ++ filter (holds name) rest)
+          (subst (λ (x : Name). held_at (one_more held all) x ≡ held_at all x ++ held ∷ []) (name_is of name (eqb-true of.0 name.0 e)) more_same)
+          ∙ append_assoc (held_at all name) (held ∷ []) (filter (holds name) rest)
+      by false e = ap (λ (xs : List Held). xs ++ filter (holds name) rest) (more_other name e)
+
+-- ---- the spans of a list that are left
+
+module _ {X : Type 0} where
+  drop_zero : (xs : List X) → drop 0 xs ≡ xs
+  drop_zero [] = refl
+  drop_zero (x ∷ xs) = refl
+
+  drop_more : (xs : List X) (n : ℕ) (x : X) → n < length xs → x ≡ slice_index_or xs n x → drop n xs ≡ x ∷ drop (suc n) xs
+  drop_more [] n x l e = absurd (omega (arith, l))
+  drop_more (y ∷ xs) zero x l e = ap (λ (z : X). z ∷ xs) (sym e) ∙ ap (λ (zs : List X). x ∷ zs) (sym (drop_zero xs))
+  drop_more (y ∷ xs) (suc n) x l e = drop_more xs n x (omega (arith, l)) e
+
+one_next : (n : ℕ) → n + 1 ≡ suc n
+one_next n = omega arith
+
+pub span_held : (before after : List (List Held)) (by : Name) (spans : List Span) (n : ℕ) (span : Span) (name : Name) (whole : List Held) → n < length spans
+    → span ≡ slice_index_or spans n span → after ≡ one_more (held_by by span) before
+    → held_at before name ++ filter (holds name) (map (held_by by) (drop n spans)) ≡ whole
+    → held_at after name ++ filter (holds name) (map (held_by by) (drop (n + 1) spans)) ≡ whole
+span_held before after by spans n span name whole l e is h =
+    ap (λ (k : ℕ). held_at after name ++ filter (holds name) (map (held_by by) (drop k spans))) (one_next n)
+    ∙ ap (λ (all : List (List Held)). held_at all name ++ filter (holds name) (map (held_by by) (drop (suc n) spans))) is
+    ∙ more_is (held_by by span) before name (map (held_by by) (drop (suc n) spans))
+    ∙ ap (λ (xs : List Span). held_at before name ++ filter (holds name) (map (held_by by) xs)) (sym (drop_more spans n span l e)) ∙ h

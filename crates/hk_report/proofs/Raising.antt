@@ -1,0 +1,451 @@
+-- The level of one hop more, by those that hold what a level has.
+use Rattle.std.proofs.Common.{◌≡◌, ℕ, zero, suc, ◌+◌, ◌<◌, ◌≤◌, List, [], ◌∷◌, ◌++◌, map, Bool, true, false, Option, Some, None, refl, sym, ◌∙◌, ap, arith, cond, subst}
+use Rattle.std.specs.Prelude.{◌==◌, ◌&&◌, ◌||◌, ◌⊎◌, nat_lt, filter, slice_index_or}
+use mathlib.Core.Logic.{inl, inr}
+use Rattle.std.specs.List.{All}
+use Rattle.std.specs.Cmp.{ranked}
+use Rattle.std.specs.Ordering.{nat_cmp, is_eq, MatchOrdering}
+use Rattle.std.specs.declared.cmp.Ordering.{Ordering}
+use Rattle.std.specs.declared.cmp.Ordering.TheVariants.{Less, Equal, Greater}
+use Rattle.std.specs.Option.{unwrap_or}
+use Rattle.std.specs.Map.{lookup}
+use Rattle.std.proofs.lemmas.Bool.{true≢false, eqb-true, eq-eqb, ne_eqb, ltb-true, ltb-false, le-ltb}
+use Rattle.hk_model.specs.declared.names.Name.{Name}
+use Rattle.hk_model.specs.declared.reaches.Hop.TheVariants as hop_by
+use Rattle.hk_model.specs.State.{same_name}
+use Rattle.hk_model.proofs.Members.{Has, has_left, has_right, has_cases, has_filtered, has_filter, has_mapped, has_map}
+use Rattle.hk_report.specs.declared.histories.Span.{Span}
+use Rattle.hk_report.specs.declared.histories.History.{History}
+use Rattle.hk_report.specs.declared.holders.Held.{Held}
+use Rattle.hk_report.specs.declared.hops.Arrived.{Arrived}
+use Rattle.hk_report.specs.declared.hops.Latest.{Latest}
+use Rattle.hk_report.specs.declared.hops.Onward.{Onward}
+use Rattle.hk_report.specs.Histories.{no_history, history_of}
+use Rattle.hk_report.specs.Hops.{later, arrived_by, arrived_whole, is_good, entry_onward, handed_onward, earlier, onward_over}
+use Rattle.hk_report.specs.Hops.{greater, lesser, from_on, entry_bound, handed_bound, no_latest, ends_before, latest_end, latest_from, next_latest}
+use Rattle.hk_report.specs.Holders.{held_by, spans_from, holds, holders_of, joined, latest_over, raised_at, raised_over, raised_by}
+
+-- ---- bounds that are at most others
+
+pub record AtMost (a b : Latest) : Type 0 where
+  pub modify : a.modify ≤ b.modify
+  pub unconf : a.unconf ≤ b.unconf
+
+at_most_same : (a : Latest) → AtMost a a
+at_most_same a = record { modify = omega arith; unconf = omega arith }
+
+at_most_through : (a b c : Latest) → AtMost a b → AtMost b c → AtMost a c
+at_most_through a b c f g =
+    let m = f.modify in
+    let n = g.modify in
+    let u = f.unconf in
+    let v = g.unconf in
+    record { modify = omega (arith, m, n); unconf = omega (arith, u, v) }
+
+both_ways : (a b : Latest) → AtMost a b → AtMost b a → a ≡ b
+both_ways a b f g =
+    let m = f.modify in
+    let n = g.modify in
+    let u = f.unconf in
+    let v = g.unconf in
+    let x : a.modify ≡ b.modify = omega (arith, m, n) in
+    let y : a.unconf ≡ b.unconf = omega (arith, u, v) in
+    ap (λ (k : ℕ). let l : Latest = record { modify = k; unconf = a.unconf } in l) x ∙ ap (λ (k : ℕ). let l : Latest = record { modify = b.modify; unconf = k } in l) y
+
+none_at_most : (a : Latest) → AtMost no_latest a
+none_at_most a = record { modify = omega arith; unconf = omega arith }
+
+-- two numbers that compare the same
+pub same_number : (a b : ℕ) → is_eq (nat_cmp a b) ≡ true → a ≡ b
+same_number a b h = by (nat_cmp a b) (ranked a b (nat_cmp a b) refl) h
+  where
+    by : (o : Ordering) → MatchOrdering o (a < b) (a ≡ b) (b < a) → is_eq o ≡ true → a ≡ b
+    by Less l g = absurd (true≢false (sym g))
+    by Equal e g = e
+    by Greater l g = absurd (true≢false (sym g))
+
+left_within : (a b : ℕ) → a ≤ greater a b
+left_within a b = by (nat_lt a b) refl
+  where
+    by : (o : Bool) → nat_lt a b ≡ o → a ≤ cond o b a
+    by true e = let l = ltb-true a b e in omega (arith, l)
+    by false e = omega arith
+
+right_within : (a b : ℕ) → b ≤ greater a b
+right_within a b = by (nat_lt a b) refl
+  where
+    by : (o : Bool) → nat_lt a b ≡ o → b ≤ cond o b a
+    by true e = omega arith
+    by false e = let l = ltb-false a b e in omega (arith, l)
+
+both_within : (a b c : ℕ) → a ≤ c → b ≤ c → greater a b ≤ c
+both_within a b c f g = by (nat_lt a b)
+  where
+    by : (o : Bool) → cond o b a ≤ c
+    by true = g
+    by false = f
+
+left_joined : (a b : Latest) → AtMost a (joined a b)
+left_joined a b = record { modify = left_within a.modify b.modify; unconf = left_within a.unconf b.unconf }
+
+right_joined : (a b : Latest) → AtMost b (joined a b)
+right_joined a b = record { modify = right_within a.modify b.modify; unconf = right_within a.unconf b.unconf }
+
+both_joined : (a b c : Latest) → AtMost a c → AtMost b c → AtMost (joined a b) c
+both_joined a b c f g = record { modify = both_within a.modify b.modify c.modify f.modify g.modify; unconf = both_within a.unconf b.unconf c.unconf f.unconf g.unconf }
+
+-- where the rest cannot be made, no hop leads
+none_over : (span : Span) (made : Bool) → latest_over span no_latest made ≡ no_latest
+none_over span made =
+    ap (λ (k : ℕ). let l : Latest = record { modify = k; unconf = entry_bound span no_latest } in l) (handed made)
+    ∙ ap (λ (k : ℕ). let l : Latest = record { modify = 0; unconf = k } in l) entry
+  where
+    on : (n : ℕ) → n ≡ 0 → from_on span n ≡ 0
+    on n e = ap (from_on span) e ∙ at (nat_lt span.until 0) refl
+      where
+        at : (o : Bool) → nat_lt span.until 0 ≡ o → cond (nat_lt span.from (cond o span.until 0)) (cond o span.until 0) 0 ≡ 0
+        at true e = absurd (let l = ltb-true span.until 0 e in omega (arith, l))
+        at false e = ap (λ (b : Bool). cond b 0 0) (le-ltb span.from 0 (omega arith))
+
+    handed : (m : Bool) → handed_bound span no_latest m ≡ 0
+    handed true = on (greater 0 0) refl
+    handed false = refl
+
+    either : (a b : Bool) → greater (cond a 0 0) (cond b 0 0) ≡ 0
+    either true true = refl
+    either true false = refl
+    either false true = refl
+    either false false = refl
+
+    entry : entry_bound span no_latest ≡ 0
+    entry = on _ (either _ _)
+
+-- ---- of all spans of a list
+
+module _ (made : Name → Bool) (level : Name → Latest) where
+  abbrev over : Span → Latest
+  over span = latest_over span (level span.cap.name) (made span.cap.name)
+
+  from_keeps : (spans : List Span) (all : Latest) → AtMost all (latest_from made level all spans)
+  from_keeps [] all = at_most_same all
+  from_keeps (span ∷ spans) all =
+      at_most_through all (joined all (over span)) (latest_from made level (joined all (over span)) spans) (left_joined all (over span)) (from_keeps spans (joined all (over span)))
+
+  from_has : (spans : List Span) (all : Latest) (span : Span) → Has spans span → AtMost (over span) (latest_from made level all spans)
+  from_has [] all span h = absurd h
+  from_has (first ∷ spans) all span (inl e) =
+      subst (λ (s : Span). AtMost (over s) (latest_from made level (joined all (over first)) spans)) e
+      (at_most_through (over first) (joined all (over first)) (latest_from made level (joined all (over first)) spans) (right_joined all (over first))
+      (from_keeps spans (joined all (over first))))
+  from_has (first ∷ spans) all span (inr h) = from_has spans (joined all (over first)) span h
+
+  from_least : (spans : List Span) (all most : Latest) → AtMost all most → ((span : Span) → Has spans span → AtMost (over span) most)
+      → AtMost (latest_from made level all spans) most
+  from_least [] all most h each = h
+  from_least (span ∷ spans) all most h each =
+      from_least spans (joined all (over span)) most (both_joined all (over span) most h (each span (inl refl))) (λ s g. each s (inr g))
+
+-- ---- of all that hold one object
+
+name_is : (x y : Name) → x.0 ≡ y.0 → x ≡ y
+name_is x y h = ap (λ (n : ℕ). let z : Name = record { 0 = n } in z) h
+
+at_other : (level : Name → Latest) (name : Name) (latest : Latest) (x : Name) → AtMost (level x) (raised_at level name latest x)
+at_other level name latest x = by (name.0 == x.0)
+  where
+    by : (b : Bool) → AtMost (level x) (cond b (joined (level x) latest) (level x))
+    by true = left_joined (level x) latest
+    by false = at_most_same (level x)
+
+at_same : (level : Name → Latest) (name : Name) (latest : Latest) → AtMost latest (raised_at level name latest name)
+at_same level name latest = by (name.0 == name.0) (eq-eqb name.0 name.0 refl)
+  where
+    by : (b : Bool) → b ≡ true → AtMost latest (cond b (joined (level name) latest) (level name))
+    by true e = right_joined (level name) latest
+    by false e = absurd (true≢false (sym e))
+
+at_least : (level : Name → Latest) (name : Name) (latest : Latest) (x : Name) (most : Latest) → AtMost (level x) most → (name ≡ x → AtMost latest most)
+    → AtMost (raised_at level name latest x) most
+at_least level name latest x most h g = by (name.0 == x.0) refl
+  where
+    by : (b : Bool) → (name.0 == x.0) ≡ b → AtMost (cond b (joined (level x) latest) (level x)) most
+    by true e = both_joined (level x) latest most h (g (name_is name x (eqb-true name.0 x.0 e)))
+    by false e = h
+
+module _ (latest : Latest) (made : Bool) where
+  abbrev given : Held → Latest
+  given held = latest_over held.span latest made
+
+  abbrev after : (Name → Latest) → Held → Name → Latest
+  after level held = raised_at level held.by (given held)
+
+  over_keeps : (helds : List Held) (level : Name → Latest) (x : Name) → AtMost (level x) (raised_over latest made level helds x)
+  over_keeps [] level x = at_most_same (level x)
+  over_keeps (held ∷ helds) level x =
+      at_most_through (level x) (after level held x) (raised_over latest made (after level held) helds x) (at_other level held.by (given held) x)
+      (over_keeps helds (after level held) x)
+
+  over_has : (helds : List Held) (level : Name → Latest) (held : Held) → Has helds held → AtMost (given held) (raised_over latest made level helds held.by)
+  over_has [] level held h = absurd h
+  over_has (first ∷ helds) level held (inl e) =
+      subst (λ (g : Held). AtMost (given g) (raised_over latest made (after level first) helds g.by)) e
+      (at_most_through (given first) (after level first first.by) (raised_over latest made (after level first) helds first.by) (at_same level first.by (given first))
+      (over_keeps helds (after level first) first.by))
+  over_has (first ∷ helds) level held (inr h) = over_has helds (after level first) held h
+
+  over_least : (helds : List Held) (level : Name → Latest) (x : Name) (most : Latest) → AtMost (level x) most
+      → ((held : Held) → Has helds held → held.by ≡ x → AtMost (given held) most) → AtMost (raised_over latest made level helds x) most
+  over_least [] level x most h each = h
+  over_least (held ∷ helds) level x most h each =
+      over_least helds (after level held) x most (at_least level held.by (given held) x most h (each held (inl refl))) (λ other g. each other (inr g))
+
+-- ---- of all that a level keeps
+
+module _ (made : Name → Bool) (holders : Name → List Held) where
+  abbrev next : (Name → Latest) → Name × Latest → Name → Latest
+  next level kept = raised_over kept.1 (made kept.0) level (holders kept.0)
+
+  by_keeps : (all : List (Name × Latest)) (level : Name → Latest) (x : Name) → AtMost (level x) (raised_by made holders level all x)
+  by_keeps [] level x = at_most_same (level x)
+  by_keeps (kept ∷ all) level x =
+      at_most_through (level x) (next level kept x) (raised_by made holders (next level kept) all x) (over_keeps kept.1 (made kept.0) (holders kept.0) level x)
+      (by_keeps all (next level kept) x)
+
+  by_has : (all : List (Name × Latest)) (level : Name → Latest) (kept : Name × Latest) (held : Held) → Has all kept → Has (holders kept.0) held
+      → AtMost (latest_over held.span kept.1 (made kept.0)) (raised_by made holders level all held.by)
+  by_has [] level kept held h g = absurd h
+  by_has (first ∷ all) level kept held (inl e) g =
+      at_most_through (latest_over held.span kept.1 (made kept.0)) (next level first held.by) (raised_by made holders (next level first) all held.by)
+      (subst (λ (k : Name × Latest). AtMost (latest_over held.span kept.1 (made kept.0)) (next level k held.by)) (sym e)
+      (over_has kept.1 (made kept.0) (holders kept.0) level held g))
+      (by_keeps all (next level first) held.by)
+  by_has (first ∷ all) level kept held (inr h) g = by_has all (next level first) kept held h g
+
+  by_least : (all : List (Name × Latest)) (level : Name → Latest) (x : Name) (most : Latest) → AtMost (level x) most
+      → ((kept : Name × Latest) (held : Held) → Has all kept → Has (holders kept.0) held → held.by ≡ x → AtMost (latest_over held.span kept.1 (made kept.0)) most)
+      → AtMost (raised_by made holders level all x) most
+  by_least [] level x most h each = h
+  by_least (kept ∷ all) level x most h each =
+      by_least all (next level kept) x most
+      (over_least kept.1 (made kept.0) (holders kept.0) level x most h (λ held g e. each kept held (inl refl) g e))
+      (λ other held g. each other held (inr g))
+
+-- ---- who holds what
+
+abbrev numbered : ℕ → Name
+numbered n = record { 0 = n }
+
+-- the list that a span of all is of
+record OfList (n : ℕ) (hs : List History) (held : Held) : Type 0 where
+  place : ℕ
+  by_is : held.by.0 ≡ n + place
+  has : Has (slice_index_or hs place no_history).spans held.span
+
+held_from : (n : ℕ) (hs : List History) (held : Held) → Has (spans_from n hs) held → OfList n hs held
+held_from n [] held h = absurd h
+held_from n (first ∷ hs) held h = by (λ g. held_from (n + 1) hs held g) (has_cases (map (held_by (numbered n)) first.spans) (spans_from (n + 1) hs) held h)
+  where
+    by : (Has (spans_from (n + 1) hs) held → OfList (n + 1) hs held) → Has (map (held_by (numbered n)) first.spans) held ⊎ Has (spans_from (n + 1) hs) held
+        → OfList n (first ∷ hs) held
+    by later (inl g) =
+        let m = has_mapped (held_by (numbered n)) first.spans held g in
+        let number = ap (λ (k : Held). k.by.0) m.1.1 in
+        record { place = 0; by_is = omega (arith, number); has = subst (λ (k : Held). Has first.spans k.span) m.1.1 m.1.0 }
+    by later (inr g) =
+        let rest = later g in
+        let number = rest.by_is in
+        record { place = suc rest.place; by_is = omega (arith, number); has = rest.has }
+
+from_held : (n : ℕ) (hs : List History) (i : ℕ) (x : Name) (span : Span) → x.0 ≡ n + i → Has (slice_index_or hs i no_history).spans span → Has (spans_from n hs) (held_by x span)
+from_held n [] i x span e h = absurd h
+from_held n (first ∷ hs) zero x span e h =
+    let same : numbered n ≡ x = name_is (numbered n) x (omega (arith, e)) in
+    has_left (map (held_by (numbered n)) first.spans) (spans_from (n + 1) hs) (held_by x span)
+    (subst (λ (y : Name). Has (map (held_by (numbered n)) first.spans) (held_by y span)) same (has_map (held_by (numbered n)) first.spans span h))
+from_held n (first ∷ hs) (suc i) x span e h =
+    has_right (map (held_by (numbered n)) first.spans) (spans_from (n + 1) hs) (held_by x span) (from_held (n + 1) hs i x span (omega (arith, e)) h)
+
+-- ---- the level of one hop more
+
+-- what is looked up is kept
+looked_up : (test : Name → Bool) (all : List (Name × Latest)) (latest : Latest) → lookup test all ≡ Some latest → (k : Name) × (Has all (k, latest) × (test k ≡ true))
+looked_up test [] latest h = absurd (cc)
+looked_up test (first ∷ all) latest h = by (λ g. looked_up test all latest g) (test first.0) refl h
+  where
+    by : (lookup test all ≡ Some latest → (k : Name) × (Has all (k, latest) × (test k ≡ true))) → (b : Bool)
+        → test first.0 ≡ b → cond b (Some first.1) (lookup test all) ≡ Some latest → (k : Name) × (Has (first ∷ all) (k, latest) × (test k ≡ true))
+    by later true e g =
+        let same : first.1 ≡ latest = cc in
+        (first.0, (inl (ap (λ (l : Latest). (first.0, l)) same), e))
+    by later false e g = let rest = later g in (rest.0, (inr rest.1.0, rest.1.1))
+
+all_has : {X : Type 0} (P : X → Type 0) (xs : List X) (x : X) → Has xs x → All P xs → P x
+all_has P [] x h all = absurd h
+all_has P (y ∷ xs) x (inl e) all = subst P e (all 0 y (omega arith))
+all_has P (y ∷ xs) x (inr h) all = all_has P xs x h (λ k d l. all (suc k) d (omega (arith, l)))
+
+module _ (made : Name → Bool) (histories : List History) (all : List (Name × Latest))
+    (kept_at : (kept : Name × Latest) → Has all kept → lookup (same_name kept.0) all ≡ Some kept.1) where
+  abbrev level : Name → Latest
+  level name = unwrap_or (lookup (same_name name) all) no_latest
+
+  abbrev raised_all : Name → Latest
+  raised_all = raised_by made (holders_of histories) (λ name. no_latest) all
+
+  above : (x : Name) → AtMost (raised_all x) (next_latest made histories level x)
+  above x = by_least made (holders_of histories) all (λ name. no_latest) x (next_latest made histories level x) (none_at_most (next_latest made histories level x)) each
+    where
+      each : (kept : Name × Latest) (held : Held) → Has all kept → Has (holders_of histories kept.0) held → held.by ≡ x
+          → AtMost (latest_over held.span kept.1 (made kept.0)) (next_latest made histories level x)
+      each kept held h g e =
+          let found = has_filtered (holds kept.0) (spans_from 0 histories) held g in
+          let of_list = held_from 0 histories held found.0 in
+          let number = of_list.by_is in
+          let place : of_list.place ≡ held.by.0 = omega (arith, number) in
+          let same : held.span.cap.name ≡ kept.0 = name_is held.span.cap.name kept.0 (eqb-true held.span.cap.name.0 kept.0.0 found.1) in
+          let here : Has (history_of histories held.by).spans held.span = subst (λ (n : ℕ). Has (slice_index_or histories n no_history).spans held.span) place of_list.has in
+          let there : Has (history_of histories x).spans held.span = subst (λ (y : Name). Has (history_of histories y).spans held.span) e here in
+          let is : level kept.0 ≡ kept.1 = ap (λ (o : Option Latest). unwrap_or o no_latest) (kept_at kept h) in
+          subst (λ (l : Latest). AtMost (latest_over held.span l (made kept.0)) (next_latest made histories level x)) is
+          (subst (λ (y : Name). AtMost (latest_over held.span (level y) (made y)) (next_latest made histories level x)) same
+          (from_has made level (history_of histories x).spans no_latest held.span there))
+
+  below : (x : Name) → AtMost (next_latest made histories level x) (raised_all x)
+  below x = from_least made level (history_of histories x).spans no_latest (raised_all x) (none_at_most (raised_all x)) each
+    where
+      each : (span : Span) → Has (history_of histories x).spans span → AtMost (latest_over span (level span.cap.name) (made span.cap.name)) (raised_all x)
+      each span h = by (lookup (same_name span.cap.name) all) refl
+        where
+          by : (o : Option Latest) → lookup (same_name span.cap.name) all ≡ o → AtMost (latest_over span (unwrap_or o no_latest) (made span.cap.name)) (raised_all x)
+          by None e = subst (λ (l : Latest). AtMost l (raised_all x)) (sym (none_over span (made span.cap.name))) (none_at_most (raised_all x))
+          by (Some latest) e =
+              let found = looked_up (same_name span.cap.name) all latest e in
+              let same : span.cap.name ≡ found.0 = name_is span.cap.name found.0 (same_number span.cap.name.0 found.0.0 found.1.1) in
+              let here : Has (holders_of histories span.cap.name) (held_by x span) =
+              has_filter (holds span.cap.name) (spans_from 0 histories) (held_by x span) (from_held 0 histories x.0 x span (omega arith) h) (eq-eqb span.cap.name.0 span.cap.name.0 refl) in
+              let there : Has all (span.cap.name, latest) = subst (λ (y : Name). Has all (y, latest)) (sym same) found.1.0 in
+              by_has made (holders_of histories) all (λ name. no_latest) (span.cap.name, latest) (held_by x span) there here
+
+  level_is : raised_all ≡ next_latest made histories level
+  level_is = λ i x. both_ways (raised_all x) (next_latest made histories level x) (above x) (below x) i
+
+pub level_next : (made : Name → Bool) (histories : List History) (all : List (Name × Latest)) → All (λ kept. lookup (same_name kept.0) all ≡ Some kept.1) all
+    → raised_by made (holders_of histories) (λ name. no_latest) all ≡ next_latest made histories (λ name. unwrap_or (lookup (same_name name) all) no_latest)
+level_next made histories all found =
+    level_is made histories all (λ kept h. all_has (λ (k : Name × Latest). lookup (same_name k.0) all ≡ Some k.1) all kept h found)
+
+-- ---- a level that is raised at one object
+
+same_equal : (a b : ℕ) → is_eq (nat_cmp a b) ≡ (a == b)
+same_equal a b = by (nat_cmp a b) (ranked a b (nat_cmp a b) refl)
+  where
+    by : (o : Ordering) → MatchOrdering o (a < b) (a ≡ b) (b < a) → is_eq o ≡ (a == b)
+    by Less l = sym (ne_eqb a b (λ e. omega (arith, l, e)))
+    by Equal e = sym (eq-eqb a b e)
+    by Greater l = sym (ne_eqb a b (λ e. omega (arith, l, e)))
+
+pub raise_is : (old new : Name → Option Latest) (name : Name) (all latest : Latest) → ((x : Name) → new x ≡ cond (same_name name x) (Some all) (old x))
+    → all ≡ joined (unwrap_or (old name) no_latest) latest → (λ x. unwrap_or (new x) no_latest) ≡ raised_at (λ x. unwrap_or (old x) no_latest) name latest
+raise_is old new name all latest is e = λ i x. at x i
+  where
+    at : (x : Name) → unwrap_or (new x) no_latest ≡ raised_at (λ y. unwrap_or (old y) no_latest) name latest x
+    at x =
+        ap (λ (o : Option Latest). unwrap_or o no_latest) (is x ∙ ap (λ (b : Bool). cond b (Some all) (old x)) (same_equal name.0 x.0)) ∙ by (name.0 == x.0) refl
+      where
+        by : (b : Bool) → (name.0 == x.0) ≡ b
+            → unwrap_or (cond b (Some all) (old x)) no_latest ≡ cond b (joined (unwrap_or (old x) no_latest) latest) (unwrap_or (old x) no_latest)
+        by true f = e ∙ ap (λ (y : Name). joined (unwrap_or (old y) no_latest) latest) (name_is name x (eqb-true name.0 x.0 f))
+        by false f = refl
+
+stays_is : (level : Name → Latest) (name : Name) (latest : Latest) → joined (level name) latest ≡ level name → level ≡ raised_at level name latest
+stays_is level name latest e = λ i x. at x i
+  where
+    at : (x : Name) → level x ≡ raised_at level name latest x
+    at x = by (name.0 == x.0) refl
+      where
+        by : (b : Bool) → (name.0 == x.0) ≡ b → level x ≡ cond b (joined (level x) latest) (level x)
+        by true f = subst (λ (y : Name). level y ≡ joined (level y) latest) (name_is name x (eqb-true name.0 x.0 f)) (sym e)
+        by false f = refl
+
+-- bounds of 0 are those of no moment
+never : (moment : ℕ) → nat_lt moment 0 ≡ false
+never moment = le-ltb moment 0 (omega arith)
+
+latest_none : (latest : Latest) → latest.modify ≡ 0 → latest.unconf ≡ 0 → latest ≡ no_latest
+latest_none latest m u =
+    ap (λ (k : ℕ). let l : Latest = record { modify = k; unconf = latest.unconf } in l) m ∙ ap (λ (k : ℕ). let l : Latest = record { modify = 0; unconf = k } in l) u
+
+joined_none : (a : Latest) → joined a no_latest ≡ a
+joined_none a =
+    ap (λ (b : Bool). let l : Latest = record { modify = cond b 0 a.modify; unconf = greater a.unconf 0 } in l) (never a.modify)
+    ∙ ap (λ (b : Bool). let l : Latest = record { modify = a.modify; unconf = cond b 0 a.unconf } in l) (never a.unconf)
+
+pub none_raised : (level : Name → Latest) (name : Name) (latest : Latest) → latest.modify ≡ 0 → latest.unconf ≡ 0 → level ≡ raised_at level name latest
+none_raised level name latest m u = stays_is level name latest (ap (joined (level name)) (latest_none latest m u) ∙ joined_none (level name))
+
+-- the level of no hop
+pub end_is : (name : Name) (before : ℕ) → raised_at (λ x. no_latest) name (ends_before before) ≡ latest_end name before
+end_is name before = λ i x. at x i
+  where
+    above_none : (o : Bool) → nat_lt 0 before ≡ o → cond o before 0 ≡ before
+    above_none true e = refl
+    above_none false e = let l = ltb-false 0 before e in omega (arith, l)
+
+    whole : joined no_latest (ends_before before) ≡ ends_before before
+    whole = ap (λ (k : ℕ). ends_before k) (above_none (nat_lt 0 before) refl)
+
+    at : (x : Name) → raised_at (λ y. no_latest) name (ends_before before) x ≡ latest_end name before x
+    at x = by (name.0 == x.0) refl (x.0 == name.0) refl
+      where
+        by : (b : Bool) → (name.0 == x.0) ≡ b → (c : Bool) → (x.0 == name.0) ≡ c → cond b (joined no_latest (ends_before before)) no_latest ≡ cond c (ends_before before) no_latest
+        by true e true f = whole
+        by false e false f = refl
+        by true e false f = absurd (true≢false (sym (eq-eqb x.0 name.0 (sym (eqb-true name.0 x.0 e))) ∙ f))
+        by false e true f = absurd (true≢false (sym (eq-eqb name.0 x.0 (sym (eqb-true x.0 name.0 f))) ∙ e))
+
+-- ---- where the rest cannot be made
+
+never_good : (to : Arrived) → is_good to no_latest ≡ false
+never_good to = ap (λ (b : Bool). (to.modify && b) || (to.unconf && b)) (never to.moment) ∙ by to.modify to.unconf
+  where
+    by : (a b : Bool) → ((a && false) || (b && false)) ≡ false
+    by true true = refl
+    by true false = refl
+    by false true = refl
+    by false false = refl
+
+no_entry : (from : Arrived) (span : Span) → entry_onward from span no_latest ≡ None
+no_entry from span =
+    ap (λ (b : Bool). cond (from.unconf && (nat_lt (later from.moment span.from) span.until && b)) (Some made) None) (never_good (arrived_by (later from.moment span.from) span.cap))
+    ∙ by from.unconf (nat_lt (later from.moment span.from) span.until)
+  where
+    made : Onward
+    made = record { hop = hop_by.Entry span.index (later from.moment span.from); to = arrived_by (later from.moment span.from) span.cap }
+
+    by : (a b : Bool) → cond (a && (b && false)) (Some made) None ≡ None
+    by true true = refl
+    by true false = refl
+    by false b = refl
+
+no_handed : (from : Arrived) (span : Span) (made_so : Bool) → handed_onward from span no_latest made_so ≡ None
+no_handed from span made_so =
+    ap (λ (b : Bool). cond (from.modify && (made_so && (nat_lt (later from.moment span.from) span.until && b))) (Some made) None)
+    (never_good (arrived_whole (later from.moment span.from) span.cap))
+    ∙ by from.modify made_so (nat_lt (later from.moment span.from) span.until)
+  where
+    made : Onward
+    made = record { hop = hop_by.Handed span.index (later from.moment span.from); to = arrived_whole (later from.moment span.from) span.cap }
+
+    by : (a b c : Bool) → cond (a && (b && (c && false))) (Some made) None ≡ None
+    by true true true = refl
+    by true true false = refl
+    by true false c = refl
+    by false b c = refl
+
+pub none_onward : (made : Name → Bool) (level : Name → Latest) (from : Arrived) (span : Span) (latest : Latest) → latest ≡ level span.cap.name → latest.modify ≡ 0
+    → latest.unconf ≡ 0 → None ≡ onward_over made level from span
+none_onward made level from span latest e m u =
+    sym
+    (ap (λ (l : Latest). earlier (entry_onward from span l) (handed_onward from span l (made span.cap.name))) (sym e ∙ latest_none latest m u)
+    ∙ ap (λ (o : Option Onward). earlier o (handed_onward from span no_latest (made span.cap.name))) (no_entry from span)
+    ∙ ap (λ (o : Option Onward). earlier None o) (no_handed from span (made span.cap.name)))

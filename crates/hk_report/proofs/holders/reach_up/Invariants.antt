@@ -1,0 +1,7 @@
+use Rattle.std.proofs.Common.{◌≡◌, ◌++◌, []}
+use Rattle.std.specs.Prelude.{replicate}
+use Rattle.hk_report.proofs.holders.reach_up.Given as goal
+
+-- so many are added
+abbrev pub invariant-loop : goal.invariant-loop
+invariant-loop l = l.all.items ≡ l.initial.all.items ++ replicate l.counter []
