@@ -174,7 +174,7 @@ module _ (s : State) (line : Line) (t : State) where
 -- ---- the families
 
 -- the families tell the calls that each incarnation is under which has a number
-pub record Fits (s : State) (families : List (List Begun)) (ps : List Followed) : Type 0 where
+pub record FamiliesFit (s : State) (families : List (List Begun)) (ps : List Followed) : Type 0 where
   pub count : length families ≡ s.next_inc.0
   pub fresh : All (λ (p : Followed). (i : Inc) → is_one_of i p.under ≡ true → i.0 < s.next_inc.0) ps
   pub same : (i : Inc) → i.0 < s.next_inc.0 → slice_index_or families i.0 [] ≡ map told_call (calls_with i ps)
@@ -201,7 +201,7 @@ module _ (s : State) (line : Line) (t : State) (known : LineKnown s line t) wher
   rises_above n h = up rises n h
 
 module _ (s : State) (line : Line) (t : State) (known : LineKnown s line t) (next : t.events ≡ s.events + 1) (families : List (List Begun)) (ps : List Followed)
-    (fits : Fits s families ps) where
+    (fits : FamiliesFit s families ps) where
   -- the families behind the line, by whether it enters
   abbrev families_for : Bool → List (List Begun)
   families_for b =
@@ -277,7 +277,7 @@ module _ (s : State) (line : Line) (t : State) (known : LineKnown s line t) (nex
   same_number a b e = ap (λ (m : ℕ). let z : Inc = record { 0 = m } in z) e
 
   -- a line that enters a procedure
-  entering : enters_call (done_call line) ≡ true → line.inc.0 < s.next_inc.0 → Fits t (families_for true) (followed_by s line t ps)
+  entering : enters_call (done_call line) ≡ true → line.inc.0 < s.next_inc.0 → FamiliesFit t (families_for true) (followed_by s line t ps)
   entering e numbered = record {
     count = length_more families x ∙ (let b = fits.count in let n = turned.next in omega (arith, b, n));
     fresh = all_fresh;
@@ -308,7 +308,7 @@ module _ (s : State) (line : Line) (t : State) (known : LineKnown s line t) (nex
           ∙ ap (λ (j : Inc). map told_call (calls_with j (followed_by s line t ps))) (sym (same_number i s.next_inc last))
 
   -- one that does not
-  staying : enters_call (done_call line) ≡ false → Fits t (families_for false) (followed_by s line t ps)
+  staying : enters_call (done_call line) ≡ false → FamiliesFit t (families_for false) (followed_by s line t ps)
   staying e = record {
     count = fits.count ∙ sym (ap (λ (j : Inc). j.0) same);
     fresh = all_fresh;
@@ -318,9 +318,9 @@ module _ (s : State) (line : Line) (t : State) (known : LineKnown s line t) (nex
       same : t.next_inc ≡ s.next_inc
       same = still_next s line t known.turn e
 
-  pub fits_line : (enters_call (done_call line) ≡ true → line.inc.0 < s.next_inc.0) → Fits t (families_by s.events (doing s line t) families) (followed_by s line t ps)
+  pub fits_line : (enters_call (done_call line) ≡ true → line.inc.0 < s.next_inc.0) → FamiliesFit t (families_by s.events (doing s line t) families) (followed_by s line t ps)
   fits_line numbered = by (enters_call (done_call line)) refl
     where
-      by : (b : Bool) → enters_call (done_call line) ≡ b → Fits t (families_for b) (followed_by s line t ps)
+      by : (b : Bool) → enters_call (done_call line) ≡ b → FamiliesFit t (families_for b) (followed_by s line t ps)
       by true e = entering e (numbered e)
       by false e = staying e

@@ -37,7 +37,7 @@ use Rattle.hk_report.specs.Named.{named_change}
 use Rattle.hk_report.specs.Doings.{doing, doings}
 use Rattle.hk_report.specs.Families.{told_call, told_change, families_by, families_after, change_under, changes_by, changes_from}
 use Rattle.hk_report.proofs.Lengths.{lines_few}
-use Rattle.hk_report.proofs.Followed.{Followed, started, goes_on, new_calls, followed_by, calls_of, calls_with, calls_followed, old_with, rises_above, Fits, fits_line}
+use Rattle.hk_report.proofs.Followed.{Followed, started, goes_on, new_calls, followed_by, calls_of, calls_with, calls_followed, old_with, rises_above, FamiliesFit, fits_line}
 
 -- ---- what a line changes
 
@@ -201,7 +201,7 @@ module _ (w : WorldValue) (lines : List Line) where
 
   -- what one line adds
   line_changes : (m : Machine) (line : Line) (rest : List Line) (families : List (List Begun)) (ps : List Followed) (calls : List Beginning) (so_far : List changes.BareChange)
-      → AreSteps w m (line ∷ rest) → Sound m.state → At m (line ∷ rest) → All (Linked m (line ∷ rest)) ps → Fits m.state families ps
+      → AreSteps w m (line ∷ rest) → Sound m.state → At m (line ∷ rest) → All (Linked m (line ∷ rest)) ps → FamiliesFit m.state families ps
       → told confined_by w m (line ∷ rest) (calls_of ps) ≡ calls
       → map told_change (bare_changes_by w lines calls m.state line (moved w m line.cpu).state so_far)
       ≡ map told_change so_far ++ changes_by m.state.events (named_change m.state line.inc (done_call line)) (slice_index_or families line.inc.0 [])
@@ -234,7 +234,7 @@ module _ (w : WorldValue) (lines : List Line) where
 
   -- all lines from a machine on
   lines_change : (m : Machine) (rest : List Line) (families : List (List Begun)) (ps : List Followed) (calls : List Beginning) (so_far : List changes.BareChange)
-      → AreSteps w m rest → Sound m.state → At m rest → All (Linked m rest) ps → Fits m.state families ps → told confined_by w m rest (calls_of ps) ≡ calls
+      → AreSteps w m rest → Sound m.state → At m rest → All (Linked m rest) ps → FamiliesFit m.state families ps → told confined_by w m rest (calls_of ps) ≡ calls
       → map told_change (told (bare_changes_by w lines calls) w m rest so_far) ≡ map told_change so_far ++ changes_from m.state.events families (doings w m rest)
   lines_change m [] families ps calls so_far steps sound at linked fits all = sym (append-nil (map told_change so_far))
   lines_change m (line ∷ rest) families ps calls so_far steps sound at linked fits all =
@@ -263,12 +263,12 @@ module _ (w : WorldValue) (lines : List Line) where
   -- who is under which call at the end
   pub record FamiliesEnd (t : State) (families : List (List Begun)) (calls : List Beginning) : Type 0 where
     pub followed : List Followed
-    pub fits : Fits t families followed
+    pub fits : FamiliesFit t families followed
     pub linked : All (λ (p : Followed). (i : Inc) → is_under w lines p.of.moment p.of.call i ≡ is_one_of i p.under) followed
     pub all : calls_of followed ≡ calls
 
   families_go : (m : Machine) (rest : List Line) (families : List (List Begun)) (ps : List Followed) → AreSteps w m rest → Sound m.state → At m rest → All (Linked m rest) ps
-      → Fits m.state families ps
+      → FamiliesFit m.state families ps
       → FamiliesEnd (after_lines w m rest).state (families_after m.state.events (doings w m rest) families) (told confined_by w m rest (calls_of ps))
   families_go m [] families ps steps sound at linked fits = record { followed = ps; fits = fits; linked = linked; all = refl }
   families_go m (line ∷ rest) families ps steps sound at linked fits =
@@ -292,7 +292,7 @@ module _ (w : WorldValue) (lines : List Line) where
     left = ap (λ (n : ℕ). drop n lines) (opened_events w) ∙ drop_zero lines;
   }
 
-  fits_opening : Fits (opened w).state (replicate (opened w).state.next_inc.0 []) []
+  fits_opening : FamiliesFit (opened w).state (replicate (opened w).state.next_inc.0 []) []
   fits_opening = record {
     count = length-replicate (opened w).state.next_inc.0 [];
     fresh = tt;

@@ -19,8 +19,6 @@ mod reasons;
 mod replay;
 mod reporting;
 mod searching;
-#[cfg(test)]
-mod tests;
 mod texts;
 
 pub use families::{BareChange, Begun};

@@ -17,6 +17,8 @@ mod records_read;
 #[cfg(test)]
 mod records_written;
 #[cfg(test)]
+mod report;
+#[cfg(test)]
 mod table;
 #[cfg(test)]
 mod trace;
