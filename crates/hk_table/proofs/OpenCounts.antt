@@ -103,7 +103,7 @@ module _ (ps : Slots) (room : length ps ≡ 65536) (i : ℕ) (start t : Tally) (
     λ n.
         let a : namings (take i ps) n ≤ length (take i ps) * 257 = objects_within n (take i ps) (λ k e here. let w = place_take ps i k e here in h.few k e w.0 w.1) in
         let b : length (take i ps) ≡ i = length-take-le i ps (omega (arith, low, room)) in
-        let c : namings (take i ps) n ≤ 257 * 65536 = omega (arith, a, b, low) in
+        let c : 0 + namings (take i ps) n ≤ 257 * 65536 = omega (arith, a, b, low) in
         c,
   )
 
