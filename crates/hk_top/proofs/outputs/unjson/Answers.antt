@@ -3,7 +3,7 @@ use Rattle.hk_top.proofs.AnswerLemmas.{bad_json_due, unjson_due}
 use Rattle.hk_top.proofs.outputs.unjson.Goals as goal
 
 pub returns-in-Ok : goal.returns-in-Ok
-returns-in-Ok c = unjson_due c.args.bytes.now c.in-Ok.world c.script.result c.limit.ensures.valid c.in-Ok.ensures.ok c.script.ensures
+returns-in-Ok c = unjson_due c.args.bytes.now c.in-Ok.world c.script.result c.limit-limit.ensures.valid c.in-Ok.ensures.ok c.script.ensures
 
 pub returns-in-Err-BadJson : goal.returns-in-Err-BadJson
 returns-in-Err-BadJson c =
