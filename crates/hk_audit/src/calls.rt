@@ -46,7 +46,7 @@ pub(crate) fn write_call(alloc: Global, out: &mut String, call: &Call) -> Result
     }
 }
 
-// A word alone.
+/// A word alone.
 fn word_alone(out: &mut String, word: &str) -> Result<(), NoMemory>
     ensures { OnOk result (string_bytes out.new ≡ string_bytes out.old ++ spell_line (Word word.now ∷ [])) }
 {
@@ -54,7 +54,7 @@ fn word_alone(out: &mut String, word: &str) -> Result<(), NoMemory>
     Ok(())
 }
 
-// A word and a slot.
+/// A word and a slot.
 fn slot_alone(out: &mut String, word: &str, slot: Slot) -> Result<(), NoMemory>
     ensures { OnOk result (string_bytes out.new ≡ string_bytes out.old ++ spell_line (Word word.now ∷ slot_piece slot ∷ [])) }
 {
@@ -62,7 +62,7 @@ fn slot_alone(out: &mut String, word: &str, slot: Slot) -> Result<(), NoMemory>
     write_operand(out, slot.0 as u64)
 }
 
-// A word, a slot and rights.
+/// A word, a slot and rights.
 fn slot_rights(
     alloc: Global,
     out: &mut String,
@@ -78,7 +78,7 @@ fn slot_rights(
     Ok(())
 }
 
-// A word and a path.
+/// A word and a path.
 fn path_alone(out: &mut String, word: &str, path: &Path) -> Result<(), NoMemory>
     requires { IsPathValue path.now }
     ensures { OnOk result (string_bytes out.new ≡ string_bytes out.old ++ spell_line (Word word.now ∷ path_piece path.now ∷ [])) }
@@ -88,7 +88,7 @@ fn path_alone(out: &mut String, word: &str, path: &Path) -> Result<(), NoMemory>
     write_path(out, path)
 }
 
-// A word, a path and a number.
+/// A word, a path and a number.
 fn path_number(out: &mut String, word: &str, path: &Path, number: u32) -> Result<(), NoMemory>
     requires { IsPathValue path.now }
     ensures { OnOk result (string_bytes out.new ≡ string_bytes out.old ++ spell_line (Word word.now ∷ path_piece path.now ∷ Number number ∷ [])) }
@@ -97,7 +97,7 @@ fn path_number(out: &mut String, word: &str, path: &Path, number: u32) -> Result
     write_operand(out, number as u64)
 }
 
-// A word, a path and a slot.
+/// A word, a path and a slot.
 fn path_slot(out: &mut String, word: &str, path: &Path, slot: Slot) -> Result<(), NoMemory>
     requires { IsPathValue path.now }
     ensures { OnOk result (string_bytes out.new ≡ string_bytes out.old ++ spell_line (Word word.now ∷ path_piece path.now ∷ slot_piece slot ∷ [])) }
@@ -106,7 +106,7 @@ fn path_slot(out: &mut String, word: &str, path: &Path, slot: Slot) -> Result<()
     write_operand(out, slot.0 as u64)
 }
 
-// A word, a path and two numbers.
+/// A word, a path and two numbers.
 fn path_numbers(
     out: &mut String,
     word: &str,
@@ -121,7 +121,7 @@ fn path_numbers(
     write_operand(out, second as u64)
 }
 
-// A word, a path, a number and a slot.
+/// A word, a path, a number and a slot.
 fn path_number_slot(
     out: &mut String,
     word: &str,
@@ -136,7 +136,7 @@ fn path_number_slot(
     write_operand(out, slot.0 as u64)
 }
 
-// A word, a path and two slots.
+/// A word, a path and two slots.
 fn path_slots(
     out: &mut String,
     word: &str,
@@ -151,7 +151,7 @@ fn path_slots(
     write_operand(out, second.0 as u64)
 }
 
-// A word, a path, the slots of arguments and a last slot.
+/// A word, a path, the slots of arguments and a last slot.
 fn path_arguments(
     out: &mut String,
     word: &str,
@@ -168,7 +168,7 @@ fn path_arguments(
     Ok(())
 }
 
-// The slots of arguments, each behind a space.
+/// The slots of arguments, each behind a space.
 fn write_slots(out: &mut String, args: &Args) -> Result<(), NoMemory>
     ensures { OnOk result (string_bytes out.new ≡ string_bytes out.old ++ flat_map (λ slot. 32 ∷ decimal slot) args.now) }
 {
@@ -178,7 +178,7 @@ fn write_slots(out: &mut String, args: &Args) -> Result<(), NoMemory>
     Ok(())
 }
 
-// The making of a template.
+/// The making of a template.
 fn template(
     alloc: Global,
     out: &mut String,
@@ -205,7 +205,7 @@ fn template(
     Ok(())
 }
 
-// The indices of a path, joined by points.
+/// The indices of a path, joined by points.
 fn write_path(out: &mut String, path: &Path) -> Result<(), NoMemory>
     requires { IsPathValue path.now }
     ensures { OnOk result (string_bytes out.new ≡ string_bytes out.old ++ spell (path_piece path.now)) }

@@ -12,6 +12,7 @@ ghost use Rattle.hk_audit.specs.TextPieces.{seen};
 use crate::paths::path_in;
 use crate::rights::{right_in, rights_in};
 use hk_format::{ParseCause, Verb};
+use hk_model::limits::INDEX_BOUND;
 use hk_model::{Path, Slot, What8};
 use hk_rights::{Right, Rights};
 use hk_script::verb_of;
@@ -89,11 +90,11 @@ pub fn path(text: &[u8]) -> Result<Path, ParseCause>
     }
 }
 
-// The path of one index.
+/// The path of one index.
 fn one_index(n: u64) -> Result<Path, ParseCause>
     ensures { as_path (Number n) ≡ result }
 {
-    if n >= 65536 {
+    if n >= u64::from(INDEX_BOUND) {
         return Err(ParseCause::OutOfRange);
     }
     match Path::new(&[n as u16]) {
@@ -134,7 +135,7 @@ pub fn word(text: &[u8]) -> Result<&[u8], ParseCause>
     }
 }
 
-// Whether the text begins with a lower-case letter.
+/// Whether the text begins with a lower-case letter.
 fn begins_low(text: &[u8]) -> bool
     ensures { result ≡ is_lower (first text.now) }
 {

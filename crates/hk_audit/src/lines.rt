@@ -34,7 +34,7 @@ pub(crate) fn write_lines(alloc: Global, out: &mut String, lines: &[Line]) -> Re
     Ok(())
 }
 
-// Writes the text of a line.
+/// Writes the text of a line.
 fn write_line(alloc: Global, out: &mut String, line: &Line) -> Result<(), NoMemory>
     requires { IsLine line.now }
     ensures { OnOk result (string_bytes out.new ≡ string_bytes out.old ++ line_text line.now) }
@@ -47,7 +47,7 @@ fn write_line(alloc: Global, out: &mut String, line: &Line) -> Result<(), NoMemo
     Ok(())
 }
 
-// Writes the numbers of the processor, the process and the incarnation, a space behind each.
+/// Writes the numbers of the processor, the process and the incarnation, a space behind each.
 fn write_actor(out: &mut String, line: &Line) -> Result<(), NoMemory>
     ensures { OnOk result (string_bytes out.new ≡ string_bytes out.old ++ (decimal line.now.cpu.0 ++ 32 ∷ (decimal line.now.proc.0 ++ 32 ∷ (decimal line.now.inc.0 ++ 32 ∷ [])))) }
 {
@@ -58,7 +58,7 @@ fn write_actor(out: &mut String, line: &Line) -> Result<(), NoMemory>
     Ok(())
 }
 
-// Writes what happened.
+/// Writes what happened.
 fn write_what(alloc: Global, out: &mut String, what: &What) -> Result<(), NoMemory>
     requires { IsWhat what.now }
     ensures { OnOk result (string_bytes out.new ≡ string_bytes out.old ++ spell_line (what_pieces what.now)) }

@@ -6,6 +6,7 @@ ghost use Rattle.hk_audit.specs.TextPieces.{is_index_numeral, indices_spelled};
 
 use crate::parts::Parts;
 use hk_model::Path;
+use hk_model::limits::INDEX_BOUND;
 use hk_text::numeral;
 
 /// The path whose indices points join in the text. None where they are not two to eight numbers
@@ -29,12 +30,12 @@ pub fn path_in(text: &[u8]) -> Option<Path>
     Path::new(&indices[..count])
 }
 
-// The index that the text spells.
+/// The index that the text spells.
 fn index(text: &[u8]) -> Option<u16>
     ensures { result ≡ (if is_index_numeral text.now then Some (value text.now) else None) }
 {
     match numeral(text) {
-        Some(n) => { if n < 65536 { Some(n as u16) } else { None } }
+        Some(n) => { if n < u64::from(INDEX_BOUND) { Some(n as u16) } else { None } }
         None => None,
     }
 }

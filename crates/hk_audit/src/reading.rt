@@ -34,7 +34,7 @@ pub fn read_body(body: &[u8]) -> Option<Line>
     }
 }
 
-// The line of these two halves.
+/// The line of these two halves.
 fn line_in(event: &[u8], reply: &[u8]) -> Option<Line>
     ensures some { IfSome result (λ line. IsLine line × (line_body line ≡ halves_text event.now reply.now)) }
     ensures none { IfNone result ((line : Line) → IsLine line → HasNoArrow event.now → HasNoArrow reply.now → line_body line ≡ halves_text event.now reply.now → ⊥) }
@@ -48,7 +48,7 @@ fn line_in(event: &[u8], reply: &[u8]) -> Option<Line>
     Some(event.with_reply(reply))
 }
 
-// What stands before the arrow of a line, and behind it.
+/// What stands before the arrow of a line, and behind it.
 fn halves(body: &[u8]) -> Option<(&[u8], &[u8])>
     ensures some { IfSome result (λ found. halves_text found.0.now found.1.now ≡ body.now) }
     ensures only { IfSome result (λ found. (a b : List ℕ) → HasNoArrow a → HasNoArrow b → halves_text a b ≡ body.now → (a ≡ found.0.now) × (b ≡ found.1.now)) }
@@ -60,7 +60,7 @@ fn halves(body: &[u8]) -> Option<(&[u8], &[u8])>
     }
 }
 
-// The texts on both sides of a `>`, without the rest of the arrow and its spaces.
+/// The texts on both sides of a `>`, without the rest of the arrow and its spaces.
 fn stripped<'a>(first: &'a [u8], second: &'a [u8]) -> Option<(&'a [u8], &'a [u8])>
     ensures some { IfSome result (λ found. (found.0.now ++ 32 ∷ 45 ∷ [] ≡ first.now) × (32 ∷ found.1.now ≡ second.now)) }
     ensures none { IfNone result ((a b : List ℕ) → a ++ 32 ∷ 45 ∷ [] ≡ first.now → 32 ∷ b ≡ second.now → ⊥) }
@@ -74,7 +74,7 @@ fn stripped<'a>(first: &'a [u8], second: &'a [u8]) -> Option<(&'a [u8], &'a [u8]
     }
 }
 
-// The two texts that one `>` separates.
+/// The two texts that one `>` separates.
 fn two_parts(text: &[u8]) -> Option<(&[u8], &[u8])>
     ensures some { IfSome result (λ found. slice_split (λ b. b == 62) text.now ≡ found.0.now ∷ found.1.now ∷ []) }
     ensures none { IfNone result ((x y : List ℕ) → slice_split (λ b. b == 62) text.now ≡ x ∷ y ∷ [] → ⊥) }
@@ -93,7 +93,7 @@ fn two_parts(text: &[u8]) -> Option<(&[u8], &[u8])>
     }
 }
 
-// The text before this end.
+/// The text before this end.
 fn before<'a>(text: &'a [u8], end: &[u8]) -> Option<&'a [u8]>
     ensures some { IfSome result (λ t. t.now ++ end.now ≡ text.now) }
     ensures none { IfNone result ((t : List ℕ) → t ++ end.now ≡ text.now → ⊥) }
@@ -101,7 +101,7 @@ fn before<'a>(text: &'a [u8], end: &[u8]) -> Option<&'a [u8]>
     text.strip_suffix(end)
 }
 
-// The text behind this beginning.
+/// The text behind this beginning.
 fn behind<'a>(text: &'a [u8], start: &[u8]) -> Option<&'a [u8]>
     ensures some { IfSome result (λ t. start.now ++ t.now ≡ text.now) }
     ensures none { IfNone result ((t : List ℕ) → start.now ++ t ≡ text.now → ⊥) }

@@ -45,7 +45,7 @@ pub(crate) fn read_events(alloc: Global, bytes: &[u8], number: u32) -> Result<Ev
     read_lines(alloc, &mut left, number + 1)
 }
 
-// The audit lines and the end word of what is left, where the next line has this number.
+/// The audit lines and the end word of what is left, where the next line has this number.
 fn read_lines(alloc: Global, left: &mut Parts, first: u32) -> Result<Events, RecordError>
     requires few { first + length (without_last_empty (texts left.old)) < 2 ^ 32 }
     ensures { GivesEvents result (events_from first (texts left.old)) }
@@ -76,7 +76,7 @@ fn read_lines(alloc: Global, left: &mut Parts, first: u32) -> Result<Events, Rec
     }
 }
 
-// The next line, or why it is refused.
+/// The next line, or why it is refused.
 fn next_line(left: &mut Parts) -> Result<Found, Cause>
     ensures finds { Finds result (texts left.old) (texts left.new) }
     ensures counts { IfOk result (λ _. length (without_last_empty (texts left.old)) ≡ 1 + length (without_last_empty (texts left.new))) }
@@ -90,7 +90,7 @@ fn next_line(left: &mut Parts) -> Result<Found, Cause>
     whole_line(text)
 }
 
-// Why what stands behind the last line feed is refused.
+/// Why what stands behind the last line feed is refused.
 fn why_last(text: &[u8]) -> Cause
     ensures { (n : ℕ) → events_from n (text.now ∷ []) ≡ Err (n, result) }
 {
@@ -101,7 +101,7 @@ fn why_last(text: &[u8]) -> Cause
     }
 }
 
-// What a line is that has a line feed.
+/// What a line is that has a line feed.
 fn whole_line(text: &[u8]) -> Result<Found, Cause>
     ensures { (y : List ℕ) (more : List (List ℕ)) → Finds result (text.now ∷ y ∷ more) (y ∷ more) }
 {
@@ -114,7 +114,7 @@ fn whole_line(text: &[u8]) -> Result<Found, Cause>
     }
 }
 
-// The end word that the line is.
+/// The end word that the line is.
 fn end_spelled(line: &[u8]) -> Option<End>
     ensures { result ≡ end_spelled line.now }
 {
@@ -130,7 +130,7 @@ fn end_spelled(line: &[u8]) -> Option<End>
     None
 }
 
-// Whether no byte is left.
+/// Whether no byte is left.
 fn is_at_end(left: &mut Parts) -> bool
     ensures { result ≡ have_no_byte (texts left.old) }
 {

@@ -25,7 +25,7 @@ pub fn record_text(alloc: Global, world: &World, lines: &[Line], end: End) -> Re
     Ok(Text::from_string(out))
 }
 
-// The last line, with its line feed.
+/// The last line, with its line feed.
 fn end_line(end: End) -> &'static str
     ensures { result.now ≡ ended_line (end_text end) }
 {

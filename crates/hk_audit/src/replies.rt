@@ -21,7 +21,7 @@ pub(crate) fn write_reply(out: &mut String, reply: &Reply) -> Result<(), NoMemor
     Ok(())
 }
 
-// Writes a refusal.
+/// Writes a refusal.
 fn write_refusal(out: &mut String, refusal: &Refusal) -> Result<(), NoMemory>
     ensures { OnOk result (string_bytes out.new ≡ string_bytes out.old ++ spell_line (refusal_pieces refusal.now)) }
 {
@@ -46,7 +46,7 @@ fn write_refusal(out: &mut String, refusal: &Refusal) -> Result<(), NoMemory>
     Ok(())
 }
 
-// Writes a word and a number.
+/// Writes a word and a number.
 fn word_number(out: &mut String, word: &str, n: u32) -> Result<(), NoMemory>
     ensures { OnOk result (string_bytes out.new ≡ string_bytes out.old ++ spell_line (Word word.now ∷ Number n ∷ [])) }
 {
@@ -54,7 +54,7 @@ fn word_number(out: &mut String, word: &str, n: u32) -> Result<(), NoMemory>
     write_operand(out, n as u64)
 }
 
-// The word for what has no room for one more.
+/// The word for what has no room for one more.
 fn kind_name(kind: What8) -> &'static str
     ensures { result.now ≡ full_word kind }
 {

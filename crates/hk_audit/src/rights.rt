@@ -25,7 +25,7 @@ pub fn rights_in(text: &[u8]) -> Option<Rights>
     }
 }
 
-// The set that the text means, in any spelling.
+/// The set that the text means, in any spelling.
 fn rights_meant(text: &[u8]) -> Option<Rights>
     ensures { result ≡ rights_spelled text.now }
 {
@@ -45,7 +45,7 @@ pub fn right_in(name: &[u8]) -> Option<Right>
     }
 }
 
-// Whether the text is the canonical spelling of the set.
+/// Whether the text is the canonical spelling of the set.
 #[tactic(auto, unfolding(hk_format::specs::RightsTexts::rights_text))]
 fn is_spelling(rights: Rights, text: &[u8]) -> bool
     ensures { result ≡ same_text (rights_text rights) text.now }
@@ -59,7 +59,7 @@ fn is_spelling(rights: Rights, text: &[u8]) -> bool
     are_names(rights, text)
 }
 
-// Whether the text is the names of the rights of the set, by rising number and joined by `+`.
+/// Whether the text is the names of the rights of the set, by rising number and joined by `+`.
 #[tactic(auto, unfolding(hk_rights::specs::Rights::right_numbers, hk_rights::specs::Rights::right_table))]
 fn are_names(rights: Rights, text: &[u8]) -> bool
     requires set { IsRightsWord rights }
@@ -69,7 +69,7 @@ fn are_names(rights: Rights, text: &[u8]) -> bool
     are_names_among(&RIGHT_NUMBERS, rights, text)
 }
 
-// Whether the texts that `+` joins are the names of those of these rights that the set has.
+/// Whether the texts that `+` joins are the names of those of these rights that the set has.
 fn are_names_among(numbers: &[u8], rights: Rights, text: &[u8]) -> bool
     requires { IsRightsWord rights }
     ensures { result ≡ same_texts (map name_of (filter (has rights) numbers.now)) (slice_split (λ b. b == 43) text.now) }

@@ -24,7 +24,7 @@ pub(crate) fn script_length(bytes: &[u8]) -> usize
     bytes.len()
 }
 
-// Whether the line is exactly `record`.
+/// Whether the line is exactly `record`.
 fn is_record(line: &[u8]) -> bool
     ensures { result ≡ is_record line.now }
 {

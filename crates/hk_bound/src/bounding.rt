@@ -13,7 +13,7 @@ use hk_model::{Name, NoMemory, World};
 use hk_rights::{Right, Rights};
 use std::alloc::Global;
 
-// Whether some of these rights, beside MODIFY, change an object of a type.
+/// Whether some of these rights, beside MODIFY, change an object of a type.
 fn changes(of: Name, rights: Rights) -> bool
     ensures { result ≡ changes_in of rights }
 {
@@ -26,7 +26,7 @@ fn changes(of: Name, rights: Rights) -> bool
             || (of.0 == 3 && (rights.has(Right::A0) || rights.has(Right::A1))))
 }
 
-// Whether a process may ever change an object.
+/// Whether a process may ever change an object.
 fn may_change(world: &World, rows: &Rows, process: usize, name: usize) -> bool
     requires exact { AreExact world.now rows.now }
     requires name { name < object_count world.now }
@@ -38,7 +38,7 @@ fn may_change(world: &World, rows: &Rows, process: usize, name: usize) -> bool
     }
 }
 
-// Adds an object to the list of those that a process may ever change, if it is one.
+/// Adds an object to the list of those that a process may ever change, if it is one.
 fn list(
     world: &World,
     rows: &Rows,
@@ -58,7 +58,7 @@ fn list(
     Ok(())
 }
 
-// The objects that a process may ever change, names rising.
+/// The objects that a process may ever change, names rising.
 fn bound_of(
     alloc: Global,
     world: &World,

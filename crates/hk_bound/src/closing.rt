@@ -20,7 +20,7 @@ use hk_model::{NoMemory, World};
 use hk_rights::Rights;
 use std::alloc::Global;
 
-// The objects of each type of the opening, by the type's name.
+/// The objects of each type of the opening, by the type's name.
 fn kinds(alloc: Global, world: &World) -> Result<Vec<Vec<usize>>, NoMemory> {
     let mut kinds: Vec<Vec<usize>> = Vec::new(alloc);
     for _ in 0..object_count(world) {
@@ -34,7 +34,7 @@ fn kinds(alloc: Global, world: &World) -> Result<Vec<Vec<usize>>, NoMemory> {
     Ok(kinds)
 }
 
-// The rights of a cell with others besides.
+/// The rights of a cell with others besides.
 fn united(cell: Option<Rights>, rights: Rights) -> Rights {
     match cell {
         None => rights,
@@ -42,7 +42,7 @@ fn united(cell: Option<Rights>, rights: Rights) -> Rights {
     }
 }
 
-// Whether a cell has no other rights than these.
+/// Whether a cell has no other rights than these.
 fn is_latest(cell: Option<Rights>, rights: Rights) -> bool {
     match cell {
         None => false,
@@ -50,7 +50,7 @@ fn is_latest(cell: Option<Rights>, rights: Rights) -> bool {
     }
 }
 
-// Adds the rights of a gap to its cell, which then waits to be taken up, unless it has them.
+/// Adds the rights of a gap to its cell, which then waits to be taken up, unless it has them.
 fn fill(rows: &mut Rows, gap: &Gap, grown: &mut Vec<Grown>) -> Result<(), NoMemory>
     requires process { gap.now.process < length rows.old }
     ensures { OnOk result (Fills gap.now rows.old rows.new grown.old.items grown.new.items) }
@@ -68,7 +68,7 @@ fn fill(rows: &mut Rows, gap: &Gap, grown: &mut Vec<Grown>) -> Result<(), NoMemo
     Ok(())
 }
 
-// Adds the rights of gaps to their cells.
+/// Adds the rights of gaps to their cells.
 fn fill_all(
     world: &World,
     forms: &[Form],
@@ -87,7 +87,7 @@ fn fill_all(
     Ok(())
 }
 
-// Gives what comes of a cell that has grown. Where it has grown again, its later entry was taken up.
+/// Gives what comes of a cell that has grown. Where it has grown again, its later entry was taken up.
 fn take_up(
     alloc: Global,
     world: &World,
@@ -121,7 +121,7 @@ fn take_up(
     Ok(())
 }
 
-// Gives another process what it takes of cells that have grown.
+/// Gives another process what it takes of cells that have grown.
 fn pass_cells(
     alloc: Global,
     world: &World,
@@ -155,7 +155,7 @@ fn pass_cells(
     Ok(())
 }
 
-// Gives all processes what they take of cells that have grown.
+/// Gives all processes what they take of cells that have grown.
 fn pass_on(
     alloc: Global,
     world: &World,
@@ -179,7 +179,7 @@ fn pass_on(
     Ok(())
 }
 
-// Takes up cells that have grown.
+/// Takes up cells that have grown.
 fn take_up_cells(
     alloc: Global,
     world: &World,
@@ -204,7 +204,7 @@ fn take_up_cells(
     Ok(())
 }
 
-// The number of cells before those at the end that are all of one process, one of these at least.
+/// The number of cells before those at the end that are all of one process, one of these at least.
 fn before_last(grown: &[Grown]) -> usize
     requires { 0 < length grown.now }
     ensures { result < length grown.now }
@@ -220,8 +220,8 @@ fn before_last(grown: &[Grown]) -> usize
     0
 }
 
-// Takes up the cells that have grown, until none is left: always those at the end that are of one
-// process together, so that others take them in the order of their columns.
+/// Takes up the cells that have grown, until none is left: always those at the end that are of one
+/// process together, so that others take them in the order of their columns.
 fn take_up_all(
     alloc: Global,
     world: &World,
@@ -248,7 +248,7 @@ fn take_up_all(
     Ok(())
 }
 
-// Adds an object to those into which a process stores, if it is one.
+/// Adds an object to those into which a process stores, if it is one.
 fn add_stored(
     table: &Table,
     process: usize,
@@ -263,7 +263,7 @@ fn add_stored(
     Ok(())
 }
 
-// The objects into which a process stores.
+/// The objects into which a process stores.
 fn stored_names(alloc: Global, table: &Table, process: usize) -> Result<Vec<usize>, NoMemory>
     ensures { IfOk result (λ names. AreStored table.now.world.now table.now.rows.now process names.items) }
 {
@@ -274,7 +274,7 @@ fn stored_names(alloc: Global, table: &Table, process: usize) -> Result<Vec<usiz
     Ok(names)
 }
 
-// What processes take of what one stores.
+/// What processes take of what one stores.
 fn stored_gaps(
     alloc: Global,
     table: &Table,
@@ -292,7 +292,7 @@ fn stored_gaps(
     Ok(())
 }
 
-// What processes get by what they have themselves.
+/// What processes get by what they have themselves.
 fn all_own_gaps(table: &Table, gaps: &mut Vec<Gap>) -> Result<(), NoMemory>
     requires known { IsKnown table.now.world.now table.now.forms.now table.now.rows.now }
     ensures { OnOk result (Finds table.now.world.now table.now.forms.now table.now.rows.now (OwnRules table.now.world.now table.now.forms.now table.now.rows.now) gaps.old.items gaps.new.items) }
@@ -303,7 +303,7 @@ fn all_own_gaps(table: &Table, gaps: &mut Vec<Gap>) -> Result<(), NoMemory>
     Ok(())
 }
 
-// What processes take of what others store.
+/// What processes take of what others store.
 fn all_stored_gaps(alloc: Global, table: &Table, gaps: &mut Vec<Gap>) -> Result<(), NoMemory>
     requires known { IsKnown table.now.world.now table.now.forms.now table.now.rows.now }
     ensures { OnOk result (Finds table.now.world.now table.now.forms.now table.now.rows.now (StoredRules table.now.world.now table.now.forms.now table.now.rows.now) gaps.old.items gaps.new.items) }
@@ -314,7 +314,7 @@ fn all_stored_gaps(alloc: Global, table: &Table, gaps: &mut Vec<Gap>) -> Result<
     Ok(())
 }
 
-// All that the rules give and the rows lack, of all processes.
+/// All that the rules give and the rows lack, of all processes.
 fn missing(alloc: Global, table: &Table) -> Result<Vec<Gap>, NoMemory>
     requires known { IsKnown table.now.world.now table.now.forms.now table.now.rows.now }
     ensures { IfOk result (λ gaps. Finds table.now.world.now table.now.forms.now table.now.rows.now (AllRules table.now.world.now table.now.forms.now table.now.rows.now) [] gaps.items) }
@@ -325,7 +325,7 @@ fn missing(alloc: Global, table: &Table) -> Result<Vec<Gap>, NoMemory>
     Ok(gaps)
 }
 
-// What the rows lack, by a look over all rules.
+/// What the rows lack, by a look over all rules.
 fn look(
     alloc: Global,
     world: &World,

@@ -97,7 +97,7 @@ pub(crate) fn place_of(forms: &[Form], form: &Form) -> Option<usize>
     None
 }
 
-// Adds a template at its place, if there is one that is not there.
+/// Adds a template at its place, if there is one that is not there.
 fn add(forms: &mut Vec<Form>, form: Option<Form>) -> Result<(), NoMemory>
     requires { AreSorted forms.old.items }
     ensures sorted { OnOk result (AreSorted forms.new.items) }
@@ -113,7 +113,7 @@ fn add(forms: &mut Vec<Form>, form: Option<Form>) -> Result<(), NoMemory>
     Ok(())
 }
 
-// Adds the templates among some entries.
+/// Adds the templates among some entries.
 fn add_entries(forms: &mut Vec<Form>, entries: &[Entry]) -> Result<(), NoMemory>
     requires { AreSorted forms.old.items }
     ensures sorted { OnOk result (AreSorted forms.new.items) }
@@ -126,7 +126,7 @@ fn add_entries(forms: &mut Vec<Form>, entries: &[Entry]) -> Result<(), NoMemory>
     Ok(())
 }
 
-// Adds the templates among some parameters.
+/// Adds the templates among some parameters.
 fn add_params(forms: &mut Vec<Form>, params: &[Param]) -> Result<(), NoMemory>
     requires { AreSorted forms.old.items }
     ensures sorted { OnOk result (AreSorted forms.new.items) }
@@ -139,8 +139,8 @@ fn add_params(forms: &mut Vec<Form>, params: &[Param]) -> Result<(), NoMemory>
     Ok(())
 }
 
-// Adds the templates of an object: those of its list and of its parameters, and for a type the one
-// that a process can make of it.
+/// Adds the templates of an object: those of its list and of its parameters, and for a type the one
+/// that a process can make of it.
 fn add_object(forms: &mut Vec<Form>, world: &World, name: usize) -> Result<(), NoMemory>
     requires { AreSorted forms.old.items }
     ensures sorted { OnOk result (AreSorted forms.new.items) }

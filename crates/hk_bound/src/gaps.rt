@@ -64,7 +64,7 @@ fn reduced_rights(by: Rights, rights: Rights) -> Rights
     }
 }
 
-// Whether all of some rights are there.
+/// Whether all of some rights are there.
 fn has_rights(by: Rights, check: Rights) -> bool
     ensures value { IsTrue result ↔ HasAll by check }
     ensures word { IsRightsWord check }
@@ -72,7 +72,7 @@ fn has_rights(by: Rights, check: Rights) -> bool
     by.contains(check)
 }
 
-// What a merge gives: the rights of `give`, but of the special rights those alone that were there.
+/// What a merge gives: the rights of `give`, but of the special rights those alone that were there.
 fn merged_rights(by: Rights, give: Rights) -> Rights
     ensures { (of : NameOf) → result ≡ merged_rights by (Some of) give }
 {
@@ -80,7 +80,7 @@ fn merged_rights(by: Rights, give: Rights) -> Rights
     give.without(Rights::SPECIAL).union(special)
 }
 
-// Whether nothing more passes through more rights: what passes asks for no others than these.
+/// Whether nothing more passes through more rights: what passes asks for no others than these.
 fn passes_all(by: &Option<Rights>) -> bool
     ensures { result ≡ passes_all by.now }
 {
@@ -90,7 +90,7 @@ fn passes_all(by: &Option<Rights>) -> bool
     }
 }
 
-// Whether a cell has what passes to it of another one through these rights.
+/// Whether a cell has what passes to it of another one through these rights.
 fn is_passed(mine: Option<Rights>, theirs: Option<Rights>, by: Rights) -> bool
     ensures { result ≡ true → (rights : ℕ) → theirs ≡ Some rights → has rights env_right ≡ true → covers mine (reduced_rights by rights) ≡ true }
 {
@@ -100,7 +100,7 @@ fn is_passed(mine: Option<Rights>, theirs: Option<Rights>, by: Rights) -> bool
     }
 }
 
-// A cell with the rights of another besides.
+/// A cell with the rights of another besides.
 fn joined_cells(cell: Option<Rights>, more: Option<Rights>) -> Option<Rights>
     ensures { result ≡ joined_cells cell more }
 {
@@ -126,7 +126,7 @@ impl<'a> Table<'a> {
         self.thing_count() + self.forms.len()
     }
 
-    // The column of a template.
+    /// The column of a template.
     fn form_column(&self, form: &Form) -> Option<usize>
         requires { AreSorted self.now.forms.now }
         ensures found { IfSome result (λ column. (place : ℕ) × IsFirst self.now.forms.now form.now place × (column ≡ thing_count self.now.world.now + place)) }
@@ -138,7 +138,7 @@ impl<'a> Table<'a> {
         }
     }
 
-    // The column that an entry counts for, and its rights there.
+    /// The column that an entry counts for, and its rights there.
     fn held(&self, entry: &Entry) -> Option<(usize, Rights)>
         requires sorted { AreSorted self.now.forms.now }
         requires there { IfSome (entry_form entry.now) (Holds self.now.forms.now) }
@@ -180,7 +180,7 @@ impl<'a> Table<'a> {
         }
     }
 
-    // How a process takes from the list of an object, if it does.
+    /// How a process takes from the list of an object, if it does.
     fn taking(&self, process: usize, name: usize) -> Option<Taking>
         ensures { result ≡ taking_of (type_of self.now.world.now (name_at name)) (cell self.now.rows.now process name) }
     {
@@ -204,7 +204,7 @@ impl<'a> Table<'a> {
         }
     }
 
-    // Adds a gap, if it is one.
+    /// Adds a gap, if it is one.
     fn offer(&self, gap: Gap, gaps: &mut Vec<Gap>) -> Result<(), NoMemory>
         requires follows { CellFollows self.now.world.now self.now.forms.now (Slots (proc_at gap.process)) gap.column gap.rights }
         requires process { gap.process < length self.now.world.now.tasks }
@@ -217,7 +217,7 @@ impl<'a> Table<'a> {
         Ok(())
     }
 
-    // Whether an opening entry of an object has ENV for a column.
+    /// Whether an opening entry of an object has ENV for a column.
     fn opens_with_env(&self, name: usize, column: usize) -> bool
         requires known { IsKnown self.now.world.now self.now.forms.now self.now.rows.now }
         requires name { name < object_count self.now.world.now }
@@ -233,7 +233,7 @@ impl<'a> Table<'a> {
         false
     }
 
-    // Whether a process may store something with ENV for a column into the list of an object.
+    /// Whether a process may store something with ENV for a column into the list of an object.
     fn stored_with_env(&self, name: usize, column: usize) -> bool
         ensures { IsTrue result ↔ StoredWithEnv self.now.world.now self.now.rows.now name column }
     {
@@ -245,7 +245,7 @@ impl<'a> Table<'a> {
         false
     }
 
-    // Whether what the list of an object has for a column is taken.
+    /// Whether what the list of an object has for a column is taken.
     fn takes(&self, taking: &Taking, name: usize, column: usize) -> bool
         requires known { IsKnown self.now.world.now self.now.forms.now self.now.rows.now }
         requires name { name < object_count self.now.world.now }
@@ -254,7 +254,7 @@ impl<'a> Table<'a> {
         !taking.copied || self.opens_with_env(name, column) || self.stored_with_env(name, column)
     }
 
-    // What a process takes of one entry in the list of an object.
+    /// What a process takes of one entry in the list of an object.
     fn take_entry(
         &self,
         process: usize,
@@ -287,7 +287,7 @@ impl<'a> Table<'a> {
         Ok(())
     }
 
-    // What a process takes of the opening entries of an object.
+    /// What a process takes of the opening entries of an object.
     fn take_entries(&self, process: usize, name: usize, gaps: &mut Vec<Gap>) -> Result<(), NoMemory>
         requires known { IsKnown self.now.world.now self.now.forms.now self.now.rows.now }
         requires process { process < length self.now.world.now.tasks }
@@ -303,7 +303,7 @@ impl<'a> Table<'a> {
         Ok(())
     }
 
-    // A template that a process has.
+    /// A template that a process has.
     fn offer_form(&self, process: usize, form: &Form, gaps: &mut Vec<Gap>) -> Result<(), NoMemory>
         requires sorted { AreSorted self.now.forms.now }
         requires process { process < length self.now.world.now.tasks }
@@ -324,7 +324,7 @@ impl<'a> Table<'a> {
         Ok(())
     }
 
-    // The template that a process has of a parameter of a procedure that it may call.
+    /// The template that a process has of a parameter of a procedure that it may call.
     fn take_param(
         &self,
         process: usize,
@@ -346,7 +346,7 @@ impl<'a> Table<'a> {
         Ok(())
     }
 
-    // The templates that a process has of the parameters of a procedure that it may call.
+    /// The templates that a process has of the parameters of a procedure that it may call.
     fn take_params(
         &self,
         process: usize,
@@ -372,7 +372,7 @@ impl<'a> Table<'a> {
         Ok(())
     }
 
-    // The template that a process can make of a type.
+    /// The template that a process can make of a type.
     fn make_form(
         &self,
         process: usize,
@@ -430,7 +430,7 @@ impl<'a> Table<'a> {
         Ok(())
     }
 
-    // What merges give to a process for an object.
+    /// What merges give to a process for an object.
     fn merge_all(
         &self,
         process: usize,
@@ -500,8 +500,8 @@ impl<'a> Table<'a> {
         }
     }
 
-    // The rights through which a process takes what another stores, of the objects into which that one
-    // stores, up to where nothing more could pass.
+    /// The rights through which a process takes what another stores, of the objects into which that one
+    /// stores, up to where nothing more could pass.
     fn through_objects(&self, process: usize, other: usize, names: &[usize]) -> Option<Rights>
         requires known { IsKnown self.now.world.now self.now.forms.now self.now.rows.now }
         requires process { process < length self.now.world.now.tasks }
@@ -519,8 +519,8 @@ impl<'a> Table<'a> {
         by
     }
 
-    // The rights through which a process takes what another stores: all where one of them has what the
-    // other makes.
+    /// The rights through which a process takes what another stores: all where one of them has what the
+    /// other makes.
     fn through(&self, process: usize, other: usize, names: &[usize]) -> Option<Rights>
         requires known { IsKnown self.now.world.now self.now.forms.now self.now.rows.now }
         requires process { process < length self.now.world.now.tasks }
@@ -568,7 +568,7 @@ impl<'a> Table<'a> {
         Ok(())
     }
 
-    // The same, where the rows of the two are at hand.
+    /// The same, where the rows of the two are at hand.
     fn take_at(
         &self,
         process: usize,
@@ -636,7 +636,7 @@ impl<'a> Table<'a> {
         Ok(())
     }
 
-    // What a process has of one of its opening slots.
+    /// What a process has of one of its opening slots.
     fn slot_gap(&self, process: usize, entry: &Entry, gaps: &mut Vec<Gap>) -> Result<(), NoMemory>
         requires known { IsKnown self.now.world.now self.now.forms.now self.now.rows.now }
         requires process { process < length self.now.world.now.tasks }
@@ -656,7 +656,7 @@ impl<'a> Table<'a> {
         Ok(())
     }
 
-    // What a process opens with.
+    /// What a process opens with.
     fn opening_gaps(&self, process: usize, task: &Task, gaps: &mut Vec<Gap>) -> Result<(), NoMemory>
         requires known { IsKnown self.now.world.now self.now.forms.now self.now.rows.now }
         requires process { process < length self.now.world.now.tasks }
@@ -669,7 +669,7 @@ impl<'a> Table<'a> {
         Ok(())
     }
 
-    // Whether a process has what one process makes: its own, or by its row.
+    /// Whether a process has what one process makes: its own, or by its row.
     fn has_made(&self, process: usize, maker: usize) -> bool
         requires known { IsKnown self.now.world.now self.now.forms.now self.now.rows.now }
         requires process { process < length self.now.world.now.tasks }
@@ -713,7 +713,7 @@ impl<'a> Table<'a> {
         Ok(())
     }
 
-    // All rights for what processes make, where a process has it.
+    /// All rights for what processes make, where a process has it.
     fn made_gaps(&self, process: usize, gaps: &mut Vec<Gap>) -> Result<(), NoMemory>
         requires known { IsKnown self.now.world.now self.now.forms.now self.now.rows.now }
         requires process { process < length self.now.world.now.tasks }
@@ -725,7 +725,7 @@ impl<'a> Table<'a> {
         Ok(())
     }
 
-    // What a process gets by what it has for objects of the opening.
+    /// What a process gets by what it has for objects of the opening.
     fn objects_gaps(&self, process: usize, gaps: &mut Vec<Gap>) -> Result<(), NoMemory>
         requires known { IsKnown self.now.world.now self.now.forms.now self.now.rows.now }
         requires process { process < length self.now.world.now.tasks }

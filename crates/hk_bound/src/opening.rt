@@ -10,7 +10,7 @@ ghost use Rattle.hk_model.specs.Opening.{object_of};
 
 use hk_model::{Born, Entry, Kind, Name, Param, World};
 
-// How many kernel types there are: the first name of the script's objects.
+/// How many kernel types there are: the first name of the script's objects.
 const KERNEL_TYPES: usize = 7;
 
 /// How many objects the world opens with, the kernel types among them.
@@ -21,7 +21,7 @@ pub(crate) fn object_count(world: &World) -> usize
     KERNEL_TYPES + world.objects().len()
 }
 
-// The object of the script that has this name.
+/// The object of the script that has this name.
 fn born(world: &World, name: usize) -> Option<&Born>
     ensures { MatchOption result
         (opening_object world.now name ≡ no_object)

@@ -41,8 +41,8 @@ impl<'a> Table<'a> {
         Ok(())
     }
 
-    // Notes that a process takes what another stores through these rights, and takes all that the other
-    // has, unless as much is noted.
+    /// Notes that a process takes what another stores through these rights, and takes all that the other
+    /// has, unless as much is noted.
     fn widen(
         &self,
         process: usize,
@@ -67,7 +67,7 @@ impl<'a> Table<'a> {
         Ok(())
     }
 
-    // What a process comes to take of another by what both have for an object.
+    /// What a process comes to take of another by what both have for an object.
     fn take_through(
         &self,
         process: usize,
@@ -89,8 +89,8 @@ impl<'a> Table<'a> {
         Ok(())
     }
 
-    // What processes come to take of one another through an object with a list, for which this one has
-    // more than before.
+    /// What processes come to take of one another through an object with a list, for which this one has
+    /// more than before.
     fn meet(
         &self,
         process: usize,
@@ -115,7 +115,7 @@ impl<'a> Table<'a> {
         Ok(())
     }
 
-    // What two processes come to take of one another where one has what the other makes.
+    /// What two processes come to take of one another where one has what the other makes.
     fn share(
         &self,
         process: usize,
@@ -137,7 +137,7 @@ impl<'a> Table<'a> {
         Ok(())
     }
 
-    // What comes of it that a process has what another makes.
+    /// What comes of it that a process has what another makes.
     fn take_up_made(
         &self,
         process: usize,
@@ -158,7 +158,7 @@ impl<'a> Table<'a> {
         Ok(())
     }
 
-    // What comes of more rights for an object of the opening.
+    /// What comes of more rights for an object of the opening.
     fn take_up_object(
         &self,
         process: usize,
@@ -178,7 +178,7 @@ impl<'a> Table<'a> {
         Ok(())
     }
 
-    // What a merge with a template gives to a process for an object, if it has that.
+    /// What a merge with a template gives to a process for an object, if it has that.
     fn merge_had(
         &self,
         process: usize,
@@ -200,7 +200,7 @@ impl<'a> Table<'a> {
         Ok(())
     }
 
-    // What comes of a template: merges with it for the objects of its type.
+    /// What comes of a template: merges with it for the objects of its type.
     fn take_up_form(
         &self,
         process: usize,

@@ -34,7 +34,7 @@ pub fn looked(entry: Entry) -> u32
     }
 }
 
-// What Look replies for a template: its kind, and the rights that it gives.
+/// What Look replies for a template: its kind, and the rights that it gives.
 fn form_looked(form: Template) -> u32
     ensures { result ≡ looked (Form form) }
 {

@@ -3,13 +3,13 @@ use hk_model::{Cap, Entry, Name, NoMemory, Refusal, Slot};
 use hk_rights::Rights;
 use std::test::Fail;
 
-// A slot's number on the way of a call.
+/// A slot's number on the way of a call.
 fn asked(slot: Slot) -> Result<usize, Stop> {
     let at = slot_at(slot, 2)?;
     Ok(at)
 }
 
-// Want of memory on the way of a call.
+/// Want of memory on the way of a call.
 fn wanting() -> Result<(), Stop> {
     Err(NoMemory)?;
     Ok(())

@@ -39,7 +39,7 @@ pub fn check(alloc: Global, world: &World, lines: &[Line], end: End) -> Result<V
     })
 }
 
-// Whether the state that a kernel is in has this end word.
+/// Whether the state that a kernel is in has this end word.
 fn ends_by<K: Kernel>(alloc: Global, kernel: &K, end: End) -> Result<bool, NoMemory>
     ensures { IfOk result (λ holds. Decides holds (end_word (K.state kernel.now) ≡ Some end)) }
 {
@@ -49,8 +49,8 @@ fn ends_by<K: Kernel>(alloc: Global, kernel: &K, end: End) -> Result<bool, NoMem
     }
 }
 
-// The cause for which a line is not the step of its processor. None exactly where it is that step,
-// which is then made.
+/// The cause for which a line is not the step of its processor. None exactly where it is that step,
+/// which is then made.
 fn misstep<K: Kernel>(
     alloc: Global,
     world: &World,

@@ -19,7 +19,7 @@ pub(crate) fn difference(step: &Line, line: &Line) -> Option<Misstep>
     first_cause(by, event, reply)
 }
 
-// The first of the causes whose test fails.
+/// The first of the causes whose test fails.
 fn first_cause(by: bool, event: bool, reply: bool) -> Option<Misstep>
     ensures { result ≡ first_cause by event reply }
 {
@@ -31,21 +31,21 @@ fn first_cause(by: bool, event: bool, reply: bool) -> Option<Misstep>
     }
 }
 
-// Whether the same process and incarnation make both.
+/// Whether the same process and incarnation make both.
 fn is_by_same(step: &Line, line: &Line) -> bool
     ensures { Decides result (IsBySame step.now line.now) }
 {
     step.proc == line.proc && step.inc == line.inc
 }
 
-// Whether the event is the same.
+/// Whether the event is the same.
 fn is_same_event(step: &Line, line: &Line) -> bool
     ensures { Decides result (step.now.what ≡ line.now.what) }
 {
     step.what == line.what
 }
 
-// Whether the reply is the same.
+/// Whether the reply is the same.
 fn is_same_reply(step: &Line, line: &Line) -> bool
     ensures { Decides result (step.now.reply ≡ line.now.reply) }
 {

@@ -15,14 +15,14 @@ use std::alloc::{AllocError, Global};
 use std::marker::PhantomData;
 use std::test::Fail;
 
-// A text of its own.
+/// A text of its own.
 fn text(alloc: Global, letters: &str) -> Result<Text, AllocError>
     ensures { IfOk result (λ text. text ≡ letters.now) }
 {
     Ok(Text::from_string(String::from_str(alloc, letters)?))
 }
 
-// The world of one process of a code without instructions.
+/// The world of one process of a code without instructions.
 fn world(alloc: Global) -> Result<World, Fail> {
     let code = Code {
         label: text(alloc, "main")?,
@@ -38,7 +38,7 @@ fn world(alloc: Global) -> Result<World, Fail> {
     Ok(World::new(10_000, Items::new(alloc), codes, tasks))
 }
 
-// A line of process 0.
+/// A line of process 0.
 fn line(cpu: u8, inc: u64, what: What, reply: Reply) -> Line {
     Line {
         cpu: Cpu(cpu),
@@ -49,17 +49,17 @@ fn line(cpu: u8, inc: u64, what: What, reply: Reply) -> Line {
     }
 }
 
-// The dispatch of the process.
+/// The dispatch of the process.
 fn dispatch(cpu: u8) -> Line {
     line(cpu, 0, What::Dispatch, Reply::Done)
 }
 
-// The return of the process, with this reply.
+/// The return of the process, with this reply.
 fn leave(cpu: u8, inc: u64, reply: Reply) -> Line {
     line(cpu, inc, What::Call(Call::Leave { give: None }), reply)
 }
 
-// The verdict on a record of the world.
+/// The verdict on a record of the world.
 fn verdict(alloc: Global, lines: &[Line], end: End) -> Result<Verdict, Fail> {
     let world = world(alloc)?;
     match check(alloc, &world, lines, end) {
@@ -71,7 +71,7 @@ fn verdict(alloc: Global, lines: &[Line], end: End) -> Result<Verdict, Fail> {
     }
 }
 
-// The verdict on a record of two lines whose end word is done.
+/// The verdict on a record of two lines whose end word is done.
 fn of_two(alloc: Global, first: Line, second: Line) -> Result<Verdict, Fail> {
     verdict(alloc, &[first, second], End::Done)
 }
@@ -90,7 +90,7 @@ fn the_steps_of_a_run_are_legal_and_others_are_told(rt: HostRuntime) -> Result<(
     Ok(())
 }
 
-// The machine in which a world opens.
+/// The machine in which a world opens.
 fn machine(alloc: Global, world: &World) -> Result<Machine<Plain>, Fail>
     ensures { IfOk result (λ machine. IsSound world.now machine) }
 {
@@ -103,7 +103,7 @@ fn machine(alloc: Global, world: &World) -> Result<Machine<Plain>, Fail>
     }
 }
 
-// The line of a step of processor 0.
+/// The line of a step of processor 0.
 fn step(alloc: Global, world: &World, machine: &mut Machine<Plain>) -> Result<Option<Line>, Fail>
     requires { IsSound world.now machine.old }
     ensures { IsSound world.now machine.new }
@@ -114,7 +114,7 @@ fn step(alloc: Global, world: &World, machine: &mut Machine<Plain>) -> Result<Op
     }
 }
 
-// The end word of a kernel's state.
+/// The end word of a kernel's state.
 fn word_of(alloc: Global, kernel: &Plain) -> Result<Option<End>, Fail> {
     match end_word(alloc, kernel) {
         Ok(word) => Ok(word),

@@ -7,7 +7,7 @@ ghost use Rattle.hk_io.specs.Plans.{FailsNext, after_call, after_fault};
 use crate::fault::Failed;
 use std::marker::Model;
 
-// At most `each` bytes a call; the calls whose numbers, counted from 1, are in `fails` fail.
+/// At most `each` bytes a call; the calls whose numbers, counted from 1, are in `fails` fail.
 #[derive(Drop)]
 pub(crate) struct CallPlan {
     each: usize,
@@ -26,7 +26,7 @@ impl Model for CallPlan {
 }
 
 impl CallPlan {
-    // A plan with no call and no fault yet.
+    /// A plan with no call and no fault yet.
     pub(crate) fn new(each: usize, fails: Vec<u32>) -> CallPlan
         ensures each { result.each ≡ each }
         ensures fails { result.fails ≡ fails.items }
@@ -41,14 +41,14 @@ impl CallPlan {
         }
     }
 
-    // The most bytes that a call passes.
+    /// The most bytes that a call passes.
     pub(crate) fn each(&self) -> usize
         ensures { result ≡ self.now.each }
     {
         self.each
     }
 
-    // Counts a call, and its fault where the call is planned to fail.
+    /// Counts a call, and its fault where the call is planned to fail.
     pub(crate) fn call(&mut self) -> Result<(), Failed>
         ensures failed { IsErr result ↔ FailsNext self.old }
         ensures ok { OnOk result (self.new ≡ after_call self.old) }
@@ -62,7 +62,7 @@ impl CallPlan {
         Ok(())
     }
 
-    // Counts a fault.
+    /// Counts a fault.
     pub(crate) fn fault(&mut self) -> Failed
         ensures counted { self.new ≡ after_fault self.old }
         ensures later { self.old.faults ≤ self.new.faults }

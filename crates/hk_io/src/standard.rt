@@ -10,7 +10,7 @@ use crate::stream::{Sink, Source};
 use std::io::{ErrorKind, Read, Write};
 use std::marker::Model;
 
-// How many times in a row a call that the system interrupts is made.
+/// How many times in a row a call that the system interrupts is made.
 const TRIES: u32 = 1_048_576;
 
 /// A reader of std as a source (`docs/STREAMS.md`, "Adapters").
@@ -116,7 +116,7 @@ impl<W: Write> Sink for StdOut<W> {
     }
 }
 
-// One read that the system did not interrupt.
+/// One read that the system did not interrupt.
 fn read_uninterrupted<R: Read>(reader: &mut R, buf: &mut [u8]) -> Result<usize, Failed>
     ensures bound { ReadsAtMost result buf.new }
     ensures bytes { ReadConsumes (R.remaining reader.old) (R.remaining reader.new) result buf.new }
@@ -131,7 +131,7 @@ fn read_uninterrupted<R: Read>(reader: &mut R, buf: &mut [u8]) -> Result<usize, 
     Err(Failed)
 }
 
-// One write that the system did not interrupt. It takes something of a piece that is not empty.
+/// One write that the system did not interrupt. It takes something of a piece that is not empty.
 fn write_uninterrupted<W: Write>(writer: &mut W, piece: &[u8]) -> Result<usize, Failed>
     ensures bound { WritesAtMost result piece.now }
     ensures some { IfOk result (λ n. 0 < length piece.now → 0 < n) }

@@ -9,7 +9,7 @@ use std::test::Fail;
 
 const TEXT: &'static [u8; 48] = b"hydra 1\nlimit 8\nprocess a code\nend\nmore words\n..";
 
-// A source of the text that gives 20 bytes a read.
+/// A source of the text that gives 20 bytes a read.
 fn twenty_a_read(alloc: Global, fails: Vec<u32>) -> Result<Bytes, AllocError> {
     Ok(Bytes::new(TEXT.to_vec(alloc)?, 20, fails))
 }
@@ -80,7 +80,7 @@ fn adapts_readers_and_writers(rt: HostRuntime) -> Result<(), Fail> {
     Ok(())
 }
 
-// A stream whose next calls, so many of them, the system interrupts; each call behind them passes a byte.
+/// A stream whose next calls, so many of them, the system interrupts; each call behind them passes a byte.
 #[derive(Drop)]
 struct Interrupted {
     calls: u32,

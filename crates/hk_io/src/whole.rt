@@ -9,7 +9,7 @@ use crate::fault::Failed;
 use crate::stream::{Sink, Source};
 use std::alloc::{AllocError, Global};
 
-// How many bytes a read of `read_all` asks for.
+/// How many bytes a read of `read_all` asks for.
 const READ_SIZE: usize = 4096;
 
 /// Why a source was not read to its end (`docs/STREAMS.md`, "Reading a whole source").

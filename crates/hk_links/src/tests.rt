@@ -2,7 +2,7 @@ use crate::Chains;
 use std::alloc::AllocError;
 use std::test::Fail;
 
-// Two lists over four cells: 1 and 3 in the first, 0 in the second.
+/// Two lists over four cells: 1 and 3 in the first, 0 in the second.
 #[test]
 fn cells_go_in_and_out(rt: HostRuntime) -> Result<(), Fail> {
     let Ok(mut chains) = Chains::with(rt.alloc(), 2, 4) else {

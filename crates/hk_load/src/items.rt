@@ -23,7 +23,7 @@ use hk_model::{Born, Code, Entry, Items, Kind, Name, Task, Template, Text, World
 use std::alloc::Global;
 use std::marker::PhantomData;
 
-// The objects that a script may declare: the seven kernel types stand beside them.
+/// The objects that a script may declare: the seven kernel types stand beside them.
 const DECLARED_LIMIT: usize = OBJECT_LIMIT - 7;
 
 const DATA: Name = Name(1);

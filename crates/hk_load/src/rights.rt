@@ -34,7 +34,7 @@ pub fn rights_spelled(text: &str) -> Option<Rights>
     union_of(text)
 }
 
-// The rights of the names that `+` joins. None where a name is no right's.
+/// The rights of the names that `+` joins. None where a name is no right's.
 fn union_of(names: &str) -> Option<Rights>
     ensures { result ≡ union_of (names_in names.now) }
 {

@@ -9,7 +9,7 @@ use std::alloc::Global;
 use std::marker::PhantomData;
 use std::test::Fail;
 
-// The world of a source of fewer than 2^31 bytes; None where it is no script.
+/// The world of a source of fewer than 2^31 bytes; None where it is no script.
 #[tactic(auto, using(hk_text::proofs::LineCount::lines_few))]
 fn world(alloc: Global, source: &[u8]) -> Option<Result<World, LoadError>>
     requires { length source.now < 2 ^ 31 }
@@ -23,14 +23,14 @@ fn world(alloc: Global, source: &[u8]) -> Option<Result<World, LoadError>>
     Some(load(alloc, &syntax))
 }
 
-// A world whose names and labels are declared behind their uses.
+/// A world whose names and labels are declared behind their uses.
 fn sample(alloc: Global) -> Option<World> {
     let source =
         b"hydra 1\nprocess p c\ncap d ENV\namplify t - ALL\nend\ncode c\nlabel l\ngoto m\nlabel m\ngoto l\nend\nlimit 7\ntype t\nobject d t\nwords 5 6\ncap LNS -\nend\n";
     world(alloc, source)?.ok()
 }
 
-// Where an instruction of the first code jumps to.
+/// Where an instruction of the first code jumps to.
 fn jump(world: &World, step: usize) -> Option<u16> {
     match world.codes().get(0)?.steps.as_slice().get(step)? {
         Instr::Goto { to } => Some(*to),
@@ -38,7 +38,7 @@ fn jump(world: &World, step: usize) -> Option<u16> {
     }
 }
 
-// The type of an object, its first word and its first entry.
+/// The type of an object, its first word and its first entry.
 fn plain(world: &World, object: usize) -> Option<(Name, u32, Entry)> {
     let _ = PhantomData::<Template>;
     match &world.objects().get(object)?.kind {
@@ -51,13 +51,13 @@ fn plain(world: &World, object: usize) -> Option<(Name, u32, Entry)> {
     }
 }
 
-// What a slot of the first process holds.
+/// What a slot of the first process holds.
 fn slot(world: &World, at: usize) -> Option<Entry> {
     let _ = PhantomData::<Template>;
     world.tasks().get(0)?.slots.as_slice().get(at).copied()
 }
 
-// A capability as an entry.
+/// A capability as an entry.
 fn held(name: u64, rights: Rights) -> Entry {
     let name = Name(name);
     Entry::Held(Cap { name, rights })

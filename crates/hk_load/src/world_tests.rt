@@ -9,7 +9,7 @@ use hk_model::World;
 use std::alloc::Global;
 use std::test::Fail;
 
-// Reads a script of few bytes.
+/// Reads a script of few bytes.
 #[tactic(auto, using(hk_text::proofs::LineCount::lines_few))]
 fn script(alloc: Global, bytes: &[u8]) -> Result<World, WorldError>
     requires { length bytes.now < 2 ^ 31 }

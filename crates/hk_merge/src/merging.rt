@@ -46,7 +46,7 @@ pub fn amplify_form(template: &Template, step: u8) -> Result<Param, Refusal>
     }
 }
 
-// A capability that meets what a template asks for, with the rights that it gives.
+/// A capability that meets what a template asks for, with the rights that it gives.
 pub(crate) fn merged(cap: Cap, of: Name, form: &Param, step: u8) -> Result<Cap, Refusal>
     ensures { result ≡ merged cap of form.now step }
 {
@@ -62,7 +62,7 @@ pub(crate) fn merged(cap: Cap, of: Name, form: &Param, step: u8) -> Result<Cap, 
     })
 }
 
-// What is left of the rights, or what they become.
+/// What is left of the rights, or what they become.
 fn merged_rights(rights: Rights, of: Option<Name>, give: Rights) -> Rights
     ensures { result ≡ merged_rights rights of give }
 {
@@ -73,7 +73,7 @@ fn merged_rights(rights: Rights, of: Option<Name>, give: Rights) -> Rights
     }
 }
 
-// The rights of a set that are not special.
+/// The rights of a set that are not special.
 fn ordinary_rights(rights: Rights) -> Rights
     ensures { result ≡ minus rights special_rights }
 {

@@ -42,7 +42,7 @@ pub fn build_space(
     Ok(space)
 }
 
-// Writes the merged arguments into the first slots.
+/// Writes the merged arguments into the first slots.
 fn set_params(
     space: &mut Space,
     args: &[Arg],
@@ -62,7 +62,7 @@ fn set_params(
     Ok(())
 }
 
-// An argument merged with its parameter.
+/// An argument merged with its parameter.
 fn merged_arg(arg: &Arg, param: &Param, step: u8) -> Result<Cap, Refusal>
     ensures { result ≡ merged_arg arg.now param.now step }
 {
@@ -70,7 +70,7 @@ fn merged_arg(arg: &Arg, param: &Param, step: u8) -> Result<Cap, Refusal>
     merged(cap, arg.of, param, step)
 }
 
-// Writes what the procedure holds into the slots from `start` on.
+/// Writes what the procedure holds into the slots from `start` on.
 fn set_inherited(space: &mut Space, start: u8, entries: &[Entry], confined: bool)
     requires { start + length entries.now ≤ 64 }
     ensures { space.new ≡ overwritten space.old start (map (inherited confined) entries.now) }
@@ -80,7 +80,7 @@ fn set_inherited(space: &mut Space, start: u8, entries: &[Entry], confined: bool
     }
 }
 
-// What a call inherits of an entry.
+/// What a call inherits of an entry.
 fn inherited(confined: bool, entry: Entry) -> Entry
     ensures { result ≡ inherited confined entry }
 {

@@ -3,7 +3,7 @@ use hk_model::{Cap, Entry, Name, Param, Refusal, Slot, Template};
 use hk_rights::{Right, Rights};
 use std::test::Fail;
 
-// A capability for the object named 9.
+/// A capability for the object named 9.
 fn cap(rights: Rights) -> Cap {
     Cap {
         name: Name(9),
@@ -11,7 +11,7 @@ fn cap(rights: Rights) -> Cap {
     }
 }
 
-// A template that amplifies what can be read, of the type named 7, by a word and by MODIFY.
+/// A template that amplifies what can be read, of the type named 7, by a word and by MODIFY.
 fn amplifying() -> Template {
     Template::Amplify {
         of: Some(Name(7)),

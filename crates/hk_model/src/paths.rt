@@ -164,7 +164,7 @@ impl Args {
         Some(args)
     }
 
-    // One slot more.
+    /// One slot more.
     fn add(&mut self, slot: Slot)
         requires { length self.old < 8 }
         ensures { self.new ≡ self.old ++ slot.0 ∷ [] }

@@ -6,7 +6,7 @@ use crate::{Args, Born, Items, Kind, Path, Slot, Text, Words, World};
 use std::alloc::{AllocError, Global};
 use std::test::Fail;
 
-// A text of its own.
+/// A text of its own.
 fn text(alloc: Global, letters: &str) -> Result<Text, AllocError>
     ensures { IfOk result (λ text. text ≡ letters.now) }
 {
@@ -55,7 +55,7 @@ fn lists_are_written_and_copied(rt: HostRuntime) -> Result<(), Fail> {
     Ok(())
 }
 
-// A world of one type.
+/// A world of one type.
 fn world(alloc: Global) -> Result<World, Fail> {
     let born = Born {
         label: text(alloc, "t")?,

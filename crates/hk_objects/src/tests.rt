@@ -8,7 +8,7 @@ use std::marker::Brand;
 use std::sync::ledger::{Blank, Ledger};
 use std::test::Fail;
 
-// The slot of the object of a name, on a ledger of its own.
+/// The slot of the object of a name, on a ledger of its own.
 fn slot_of<L: Ledger>(objects: &Objects, name: Name, blank: Blank) -> Option<SlotNo>
     requires name { blank.name ≡ L.name }
     requires parts { blank.parts ≡ L.parts }
@@ -18,7 +18,7 @@ fn slot_of<L: Ledger>(objects: &Objects, name: Name, blank: Blank) -> Option<Slo
     objects.find(name, &mut steps)
 }
 
-// The slot, if an object stands in it.
+/// The slot, if an object stands in it.
 #[tactic(auto, using(crate::proofs::Standing::stands_named))]
 fn standing(objects: &Objects, slot: SlotNo) -> Result<SlotNo, AllocError>
     ensures { IfOk result (λ same. IsSome (place objects.now.slots same.0)) }
@@ -29,7 +29,7 @@ fn standing(objects: &Objects, slot: SlotNo) -> Result<SlotNo, AllocError>
     }
 }
 
-// An object with the word 7 and an empty entry.
+/// An object with the word 7 and an empty entry.
 fn made(alloc: Global, objects: &mut Objects) -> Result<SlotNo, AllocError>
     requires { objects.old.next.0 < 2 ^ 63 }
     ensures { objects.new.next.0 ≤ objects.old.next.0 + 1 }
@@ -44,7 +44,7 @@ fn made(alloc: Global, objects: &mut Objects) -> Result<SlotNo, AllocError>
     }
 }
 
-// Writes over the word and the entry.
+/// Writes over the word and the entry.
 fn written_over(objects: &mut Objects, slot: SlotNo) -> Result<(), AllocError> {
     let slot = standing(objects, slot)?;
     if objects.words(slot).is_empty() {
@@ -59,7 +59,7 @@ fn written_over(objects: &mut Objects, slot: SlotNo) -> Result<(), AllocError> {
     Ok(())
 }
 
-// One more word and one more entry.
+/// One more word and one more entry.
 fn made_longer(objects: &mut Objects, slot: SlotNo) -> Result<(), AllocError> {
     let slot = standing(objects, slot)?;
     if objects.words(slot).len() == 4096 || objects.add(slot, 9).is_err() {
@@ -72,7 +72,7 @@ fn made_longer(objects: &mut Objects, slot: SlotNo) -> Result<(), AllocError> {
     Ok(())
 }
 
-// Tokens and a code.
+/// Tokens and a code.
 fn given_more(alloc: Global, objects: &mut Objects, slot: SlotNo) -> Result<(), AllocError> {
     let slot = standing(objects, slot)?;
     objects.set_count(slot, 3);

@@ -11,14 +11,14 @@ use hk_model::{Inc, Incarnation, NoMemory, Proc, Slot};
 use std::alloc::Global;
 
 impl Tables {
-    // How many incarnations a process has.
+    /// How many incarnations a process has.
     pub(crate) fn depth(&self, proc: Proc) -> usize
         ensures { result ≡ depth self.now proc }
     {
         self.incarnations.depth(proc)
     }
 
-    // One more incarnation, which is the current one of its process.
+    /// One more incarnation, which is the current one of its process.
     pub(crate) fn add_incarnation(
         &mut self,
         alloc: Global,
@@ -35,14 +35,14 @@ impl Tables {
         Ok(())
     }
 
-    // The incarnation goes.
+    /// The incarnation goes.
     pub(crate) fn remove_incarnation(&mut self, inc: Inc)
         ensures { self.new ≡ record self.old { incarnations = remove_entry (same_inc inc) self.old.incarnations } }
     {
         self.incarnations.remove(inc, &mut self.counts);
     }
 
-    // Who called the incarnation, and the slot there that takes what it returns.
+    /// Who called the incarnation, and the slot there that takes what it returns.
     pub(crate) fn return_place(&self, inc: Inc) -> (Option<Inc>, Slot)
         ensures { result ≡ ((incarnation self.now inc).caller, (incarnation self.now inc).into) }
     {

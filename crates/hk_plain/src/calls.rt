@@ -14,7 +14,7 @@ use hk_calls::Stop;
 use hk_model::{Acted, Answer, Call, Entry, Inc, NoMemory, Path, Proc, Reply};
 use std::alloc::Global;
 
-// The reply that says an answer.
+/// The reply that says an answer.
 fn answered(answer: Answer) -> Reply
     ensures { result ≡ answered answer }
 {
@@ -26,7 +26,7 @@ fn answered(answer: Answer) -> Reply
 }
 
 impl Tables {
-    // What a call does, before it is counted.
+    /// What a call does, before it is counted.
     fn serve(&mut self, alloc: Global, proc: Proc, inc: Inc, call: &Call) -> Result<Answer, Stop>
         requires { HasNumbers self.old }
         ensures { Gives self.old (outcome self.old proc inc call.now) result self.new }
@@ -59,7 +59,7 @@ impl Tables {
         }
     }
 
-    // Makes a call: what nothing names then vanishes, where it is answered.
+    /// Makes a call: what nothing names then vanishes, where it is answered.
     fn settle(
         &mut self,
         alloc: Global,
@@ -82,7 +82,7 @@ impl Tables {
         }
     }
 
-    // The code of the procedure that a path leads to.
+    /// The code of the procedure that a path leads to.
     fn code_at(&self, inc: Inc, path: &Path) -> Option<u16>
         ensures { result ≡ code_found self.now (walk self.now inc path.now) }
     {
@@ -95,7 +95,7 @@ impl Tables {
         }
     }
 
-    // The code of the procedure that a call enters if it is answered Done.
+    /// The code of the procedure that a call enters if it is answered Done.
     fn code_entered(&self, inc: Inc, call: &Call) -> Option<u16>
         ensures { result ≡ entered_code self.now inc call.now Done }
     {

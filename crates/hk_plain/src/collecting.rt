@@ -21,7 +21,7 @@ use hk_model::{Name, NoMemory, Object, Refusal, What8};
 use std::alloc::Global;
 use std::collections::{BTreeMap, BTreeSet};
 
-// How many objects stand beside these.
+/// How many objects stand beside these.
 fn count_but(objects: &BTreeMap<Name, Object>, spare: &BTreeSet<Name>) -> usize
     ensures { result ≡ length (filter (λ (e : Name × Object). is_none_of spare.now.keys e.0) objects.now.entries) }
 {
@@ -35,14 +35,14 @@ fn count_but(objects: &BTreeMap<Name, Object>, spare: &BTreeSet<Name>) -> usize
     count
 }
 
-// Whether an object goes, where one of this name is made.
+/// Whether an object goes, where one of this name is made.
 fn goes(name: Name, spare: &BTreeSet<Name>, other: Name) -> bool
     ensures { result ≡ goes name spare.now.keys other }
 {
     other.0 != name.0 && spare.contains(&other)
 }
 
-// What the objects that go name is named no more by them.
+/// What the objects that go name is named no more by them.
 fn release_spare(
     objects: &BTreeMap<Name, Object>,
     name: Name,
@@ -59,7 +59,7 @@ fn release_spare(
     }
 }
 
-// Puts an object beside those that stay. It comes first: it may want memory.
+/// Puts an object beside those that stay. It comes first: it may want memory.
 fn put_beside(
     objects: &mut BTreeMap<Name, Object>,
     name: Name,
@@ -80,7 +80,7 @@ fn put_beside(
 }
 
 impl Tables {
-    // Marks what the marked objects name, and what those name, to the end.
+    /// Marks what the marked objects name, and what those name, to the end.
     fn mark_onward(&self, marks: &mut Marks) -> Result<(), NoMemory>
         requires { AreUnderway self.now marks.old }
         ensures { OnOk result (AreUnderway self.now marks.new × (marks.new.todo ≡ [])) }
@@ -93,7 +93,7 @@ impl Tables {
         Ok(())
     }
 
-    // The objects that are not rooted.
+    /// The objects that are not rooted.
     fn unrooted(&self, alloc: Global) -> Result<BTreeSet<Name>, NoMemory>
         ensures { IfOk result (λ spare. AreRooted self.now (is_none_of spare.keys)) }
     {
@@ -104,8 +104,8 @@ impl Tables {
         Ok(marks.into_unmarked())
     }
 
-    // The objects that go where one more is made: none where there is room, and else those that are
-    // not rooted.
+    /// The objects that go where one more is made: none where there is room, and else those that are
+    /// not rooted.
     pub(crate) fn spare_objects(&self, alloc: Global) -> Result<BTreeSet<Name>, Stop>
         ensures { Spares self.now result }
     {
@@ -120,7 +120,7 @@ impl Tables {
         Err(Stop::Refused(Refusal::Full { what }))
     }
 
-    // One more object beside those that stay, which takes the next name.
+    /// One more object beside those that stay, which takes the next name.
     pub(crate) fn add_beside(
         &mut self,
         object: Object,

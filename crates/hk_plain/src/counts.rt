@@ -37,7 +37,7 @@ impl Model for Counts {
     ghost view = { λ c. record { first_new = c.first_new; numbers = c.numbers.items; lost = c.lost.items; exact = c.exact } };
 }
 
-// What an entry names, if it names anything.
+/// What an entry names, if it names anything.
 fn named_by(entry: &Entry) -> Option<Name>
     ensures { option_to_list result ≡ entry_names entry.now }
 {
@@ -50,7 +50,7 @@ fn named_by(entry: &Entry) -> Option<Name>
 }
 
 impl Counts {
-    // Nothing is made yet.
+    /// Nothing is made yet.
     pub(crate) fn new(alloc: Global, first_new: Name) -> Counts
         ensures { result ≡ record { first_new = first_new; numbers = []; lost = []; exact = true } }
     {
@@ -62,14 +62,14 @@ impl Counts {
         }
     }
 
-    // The first name that was not given at the opening.
+    /// The first name that was not given at the opening.
     pub(crate) fn first_new(&self) -> Name
         ensures { result ≡ self.now.first_new }
     {
         self.first_new
     }
 
-    // An object is named once more.
+    /// An object is named once more.
     fn hold(&mut self, name: Name)
         ensures { Moved self.old self.new (name ∷ []) [] }
     {
@@ -84,7 +84,7 @@ impl Counts {
         }
     }
 
-    // An object is named once less.
+    /// An object is named once less.
     fn release(&mut self, name: Name)
         ensures { Moved self.old self.new [] (name ∷ []) }
     {
@@ -106,7 +106,7 @@ impl Counts {
         }
     }
 
-    // What an entry names is named once more.
+    /// What an entry names is named once more.
     pub(crate) fn hold_entry(&mut self, entry: &Entry)
         ensures { Moved self.old self.new (entry_names entry.now) [] }
     {
@@ -115,7 +115,7 @@ impl Counts {
         }
     }
 
-    // What an entry names is named once less.
+    /// What an entry names is named once less.
     pub(crate) fn release_entry(&mut self, entry: &Entry)
         ensures { Moved self.old self.new [] (entry_names entry.now) }
     {
@@ -124,7 +124,7 @@ impl Counts {
         }
     }
 
-    // What these entries name is named once more.
+    /// What these entries name is named once more.
     #[tactic(auto, using(crate::proofs::CountLemmas::still))]
     pub(crate) fn hold_entries(&mut self, entries: &[Entry])
         ensures { Moved self.old self.new (flat_map entry_names entries.now) [] }
@@ -134,7 +134,7 @@ impl Counts {
         }
     }
 
-    // What these entries name is named once less.
+    /// What these entries name is named once less.
     #[tactic(auto, using(crate::proofs::CountLemmas::still))]
     pub(crate) fn release_entries(&mut self, entries: &[Entry])
         ensures { Moved self.old self.new [] (flat_map entry_names entries.now) }
@@ -144,7 +144,7 @@ impl Counts {
         }
     }
 
-    // Writes an entry of a list over another, if there is one.
+    /// Writes an entry of a list over another, if there is one.
     pub(crate) fn replace(&mut self, entries: &mut Entries, at: usize, entry: Entry)
         ensures entries { entries.new ≡ slice_set entries.old at entry }
         ensures counted { Moved self.old self.new (flat_map entry_names entries.new) (flat_map entry_names entries.old) }
@@ -158,7 +158,7 @@ impl Counts {
         entries.set(at, entry);
     }
 
-    // What an object names is named once more.
+    /// What an object names is named once more.
     pub(crate) fn hold_object(&mut self, object: &Object)
         ensures { Moved self.old self.new (object_names object.now) [] }
     {
@@ -166,7 +166,7 @@ impl Counts {
         self.hold_entries(object.entries.as_slice());
     }
 
-    // What an object names is named once less.
+    /// What an object names is named once less.
     pub(crate) fn release_object(&mut self, object: &Object)
         ensures { Moved self.old self.new [] (object_names object.now) }
     {
@@ -174,7 +174,7 @@ impl Counts {
         self.release_entries(object.entries.as_slice());
     }
 
-    // The semaphore at which a process waits is named once more.
+    /// The semaphore at which a process waits is named once more.
     pub(crate) fn hold_run(&mut self, run: ProcessState)
         ensures { Moved self.old self.new (run_names run) [] }
     {
@@ -183,7 +183,7 @@ impl Counts {
         }
     }
 
-    // The semaphore at which a process waited is named once less.
+    /// The semaphore at which a process waited is named once less.
     pub(crate) fn release_run(&mut self, run: ProcessState)
         ensures { Moved self.old self.new [] (run_names run) }
     {
@@ -192,7 +192,7 @@ impl Counts {
         }
     }
 
-    // A new object is named by nothing yet; `objects` stand.
+    /// A new object is named by nothing yet; `objects` stand.
     pub(crate) fn add(&mut self, name: Name, objects: usize) -> Result<(), NoMemory>
         ensures moved { Moved self.old self.new [] [] }
         ensures listed { OnOk result (is_among name self.new.lost ≡ true) }
@@ -206,14 +206,14 @@ impl Counts {
         Ok(())
     }
 
-    // Whether the numbers are right.
+    /// Whether the numbers are right.
     pub(crate) fn is_exact(&self) -> bool
         ensures { result ≡ self.now.exact }
     {
         self.exact
     }
 
-    // Whether an object is made and its number is 0.
+    /// Whether an object is made and its number is 0.
     fn is_unnamed(&self, name: Name) -> bool
         ensures { result ≡ is_unnamed self.now name }
     {
@@ -226,7 +226,7 @@ impl Counts {
         }
     }
 
-    // The last of those that may be named no more.
+    /// The last of those that may be named no more.
     fn last_lost(&self) -> Option<Name>
         ensures some { IfSome result (λ name. self.now.lost ≡ take (length self.now.lost - 1) self.now.lost ++ name ∷ []) }
         ensures none { IfNone result (self.now.lost ≡ []) }
@@ -234,7 +234,7 @@ impl Counts {
         self.lost.last().copied()
     }
 
-    // That one goes from the list.
+    /// That one goes from the list.
     fn pop_lost(&mut self)
         ensures { self.new ≡ record self.old { lost = take (length self.old.lost - 1) self.old.lost } }
     {
@@ -242,7 +242,7 @@ impl Counts {
     }
 }
 
-// The last object that stands and is named no more. Others go from the list on the way there.
+/// The last object that stands and is named no more. Others go from the list on the way there.
 pub(crate) fn last_unnamed(counts: &mut Counts, objects: &BTreeMap<Name, Object>) -> Option<Name>
     ensures same { counts.new ≡ record counts.old { lost = counts.new.lost } }
     ensures found { (k : ℕ) → has_made counts.old k objects.now.entries ≡ true → IsFound counts.old k → IsFound counts.new k }

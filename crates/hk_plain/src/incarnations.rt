@@ -38,7 +38,7 @@ impl Model for Incarnations {
     ghost invariant = { λ i. IsStacked i.live.entries i.stacks i.next };
 }
 
-// The incarnation of a number goes, with what its slots name.
+/// The incarnation of a number goes, with what its slots name.
 fn remove_one(live: &mut BTreeMap<Inc, Incarnation>, inc: Inc, counts: &mut Counts)
     ensures live { live.new.entries ≡ remove_entry (same_inc inc) live.old.entries }
     ensures counted { Moved counts.old counts.new (slot_names live.new.entries) (slot_names live.old.entries) }
@@ -48,7 +48,7 @@ fn remove_one(live: &mut BTreeMap<Inc, Incarnation>, inc: Inc, counts: &mut Coun
     }
 }
 
-// The incarnations of these numbers go.
+/// The incarnations of these numbers go.
 fn remove_all(live: &mut BTreeMap<Inc, Incarnation>, numbers: &[Inc], counts: &mut Counts)
     ensures live { live.new.entries ≡ remove_all numbers.now live.old.entries }
     ensures counted { Moved counts.old counts.new (slot_names live.new.entries) (slot_names live.old.entries) }
@@ -58,7 +58,7 @@ fn remove_all(live: &mut BTreeMap<Inc, Incarnation>, numbers: &[Inc], counts: &m
     }
 }
 
-// One more incarnation, with what its slots name.
+/// One more incarnation, with what its slots name.
 fn insert(
     live: &mut BTreeMap<Inc, Incarnation>,
     inc: Inc,
@@ -83,7 +83,7 @@ fn insert(
     }
 }
 
-// Writes an entry into a slot of an incarnation.
+/// Writes an entry into a slot of an incarnation.
 #[tactic(auto, using(crate::proofs::Maps::set_value_absent))]
 fn write(
     live: &mut BTreeMap<Inc, Incarnation>,
@@ -101,7 +101,7 @@ fn write(
 }
 
 impl Incarnations {
-    // There are none.
+    /// There are none.
     pub(crate) fn new(alloc: Global) -> Incarnations
         ensures { result ≡ record { live = []; next = record { 0 = 0 } } }
     {
@@ -112,35 +112,35 @@ impl Incarnations {
         }
     }
 
-    // The incarnations, by number.
+    /// The incarnations, by number.
     pub(crate) fn all(&self) -> &BTreeMap<Inc, Incarnation>
         ensures { result.now.entries ≡ self.now.live }
     {
         &self.live
     }
 
-    // The number that the next incarnation takes.
+    /// The number that the next incarnation takes.
     pub(crate) fn next(&self) -> Inc
         ensures { result ≡ self.now.next }
     {
         self.next
     }
 
-    // The incarnation of a number.
+    /// The incarnation of a number.
     pub(crate) fn get(&self, inc: Inc) -> Option<&Incarnation>
         ensures { option_copied result ≡ lookup (same_inc inc) self.now.live }
     {
         self.live.get(&inc)
     }
 
-    // How many incarnations a process has.
+    /// How many incarnations a process has.
     pub(crate) fn depth(&self, proc: Proc) -> usize
         ensures { result ≡ count_by (λ e. e.1.proc.0 == proc.0) self.now.live }
     {
         self.stacks.depth(proc)
     }
 
-    // Writes an entry into a slot of an incarnation.
+    /// Writes an entry into a slot of an incarnation.
     pub(crate) fn set_slot(&mut self, inc: Inc, slot: usize, entry: Entry, counts: &mut Counts)
         ensures value { self.new ≡ record self.old { live = set_value (same_inc inc) self.old.live (with_slot self.old.live inc slot entry) } }
         ensures counted { Moved counts.old counts.new (slot_names self.new.live) (slot_names self.old.live) }
@@ -148,7 +148,7 @@ impl Incarnations {
         write(&mut self.live, inc, slot, entry, counts);
     }
 
-    // One more incarnation, which takes the next number.
+    /// One more incarnation, which takes the next number.
     pub(crate) fn add(
         &mut self,
         alloc: Global,
@@ -171,7 +171,7 @@ impl Incarnations {
         Ok(())
     }
 
-    // The incarnation goes.
+    /// The incarnation goes.
     pub(crate) fn remove(&mut self, inc: Inc, counts: &mut Counts)
         ensures value { self.new ≡ record self.old { live = remove_entry (same_inc inc) self.old.live } }
         ensures counted { Moved counts.old counts.new (slot_names self.new.live) (slot_names self.old.live) }
@@ -183,7 +183,7 @@ impl Incarnations {
         self.stacks.forget(gone.proc, inc);
     }
 
-    // All incarnations of a process go.
+    /// All incarnations of a process go.
     pub(crate) fn remove_process(&mut self, proc: Proc, counts: &mut Counts)
         ensures value { self.new ≡ record self.old { live = filter (λ e. not (e.1.proc.0 == proc.0)) self.old.live } }
         ensures counted { Moved counts.old counts.new (slot_names self.new.live) (slot_names self.old.live) }

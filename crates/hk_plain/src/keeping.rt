@@ -17,7 +17,7 @@ use crate::tables::Tables;
 use hk_model::{Entry, Inc, Incarnation, Name, Object, Process, ProcessState, Template};
 use std::collections::BTreeMap;
 
-// Whether an entry names an object.
+/// Whether an entry names an object.
 fn entry_names(entry: &Entry, name: Name) -> bool
     ensures { result ≡ is_among name (entry_names entry.now) }
 {
@@ -30,7 +30,7 @@ fn entry_names(entry: &Entry, name: Name) -> bool
     }
 }
 
-// Whether some entry does.
+/// Whether some entry does.
 #[tactic(auto, using(crate::proofs::Naming::among_more))]
 fn some_entry_names(entries: &[Entry], name: Name) -> bool
     ensures { result ≡ is_among name (flat_map entry_names entries.now) }
@@ -43,14 +43,14 @@ fn some_entry_names(entries: &[Entry], name: Name) -> bool
     false
 }
 
-// Whether an object does, by its type or by an entry.
+/// Whether an object does, by its type or by an entry.
 fn object_names(object: &Object, name: Name) -> bool
     ensures { result ≡ is_among name (object_names object.now) }
 {
     name.0 == object.of.0 || some_entry_names(object.entries.as_slice(), name)
 }
 
-// Whether some object does.
+/// Whether some object does.
 #[tactic(auto, using(crate::proofs::Naming::among_more))]
 fn some_object_names(objects: &BTreeMap<Name, Object>, name: Name) -> bool
     ensures { result ≡ is_among name (flat_map (λ (e : Name × Object). object_names e.1) objects.now.entries) }
@@ -63,7 +63,7 @@ fn some_object_names(objects: &BTreeMap<Name, Object>, name: Name) -> bool
     false
 }
 
-// Whether some slot of an incarnation does.
+/// Whether some slot of an incarnation does.
 #[tactic(auto, using(crate::proofs::Naming::among_more))]
 fn some_slot_names(incarnations: &BTreeMap<Inc, Incarnation>, name: Name) -> bool
     ensures { result ≡ is_among name (flat_map (λ (e : Inc × Incarnation). flat_map entry_names e.1.slots) incarnations.now.entries) }
@@ -76,7 +76,7 @@ fn some_slot_names(incarnations: &BTreeMap<Inc, Incarnation>, name: Name) -> boo
     false
 }
 
-// Whether some process waits at an object.
+/// Whether some process waits at an object.
 #[tactic(auto, using(crate::proofs::Naming::among_more))]
 fn some_process_names(processes: &[Process], name: Name) -> bool
     ensures { result ≡ is_among name (flat_map (λ (p : Process). run_names p.run) processes.now) }
@@ -92,7 +92,7 @@ fn some_process_names(processes: &[Process], name: Name) -> bool
 }
 
 impl Tables {
-    // Whether an object stays: it opened with the world, or something names it.
+    /// Whether an object stays: it opened with the world, or something names it.
     #[tactic(auto, using(crate::proofs::Naming::among_all))]
     fn stays(&self, name: Name) -> bool
         ensures { result ≡ are_supporting self.now self.now.objects name }
@@ -103,7 +103,7 @@ impl Tables {
             || some_object_names(&self.objects, name)
     }
 
-    // The first object that does not.
+    /// The first object that does not.
     #[tactic(auto, using(crate::proofs::KeepingLemmas::all_stay))]
     fn first_lost(&self) -> Option<Name>
         ensures stands { IfSome result (λ name. stands self.now name ≡ true) }
@@ -118,7 +118,7 @@ impl Tables {
         None
     }
 
-    // An object that does not stay, if there is one. The numbers show it without a look at the others.
+    /// An object that does not stay, if there is one. The numbers show it without a look at the others.
     fn next_lost(&mut self) -> Option<Name>
         ensures same { self.new ≡ self.old }
         ensures stands { IfSome result (λ name. stands self.old name ≡ true) }
@@ -131,7 +131,7 @@ impl Tables {
         last_unnamed(&mut self.counts, &self.objects)
     }
 
-    // An object goes, with what it names.
+    /// An object goes, with what it names.
     fn remove_object(&mut self, name: Name)
         ensures { self.new ≡ record self.old { objects = remove_entry (same_name name) self.old.objects } }
     {

@@ -16,7 +16,7 @@ use hk_rights::Rights;
 use std::marker::PhantomData;
 
 impl Tables {
-    // Writes an entry of an object's list, over another.
+    /// Writes an entry of an object's list, over another.
     fn set_entry(&mut self, name: Name, at: u32, entry: Entry)
         ensures { self.new ≡ put_object self.old name (record (object self.old name) { entries = slice_set (object self.old name).entries at entry }) }
     {
@@ -29,7 +29,7 @@ impl Tables {
         );
     }
 
-    // How many entries an object has.
+    /// How many entries an object has.
     fn entries_of(&self, name: Name) -> usize
         ensures { result ≡ length (object self.now name).entries }
     {
@@ -39,7 +39,7 @@ impl Tables {
         }
     }
 
-    // Adds an entry after the last of an object, if there is room.
+    /// Adds an entry after the last of an object, if there is room.
     fn push_entry(&mut self, name: Name, entry: Entry) -> Result<Answer, Stop>
         ensures { Gives self.old (entry_added self.old name entry) result self.new }
     {

@@ -35,7 +35,7 @@ impl Model for Marks {
 }
 
 impl Marks {
-    // Marks on the objects of the opening.
+    /// Marks on the objects of the opening.
     pub(crate) fn begin(
         alloc: Global,
         objects: &BTreeMap<Name, Object>,
@@ -56,7 +56,7 @@ impl Marks {
         Ok(Marks { unmarked, todo })
     }
 
-    // A mark on an object, if it has none.
+    /// A mark on an object, if it has none.
     #[tactic(auto, using(crate::proofs::MarkLemmas::one_marked, crate::proofs::MarkLemmas::none_marked))]
     fn mark(&mut self, name: Name) -> Result<(), NoMemory>
         ensures { OnOk result (AreMarked (name ∷ []) self.old self.new) }
@@ -67,7 +67,7 @@ impl Marks {
         Ok(())
     }
 
-    // Marks what an entry names.
+    /// Marks what an entry names.
     #[tactic(auto, using(crate::proofs::MarkLemmas::nothing_marked))]
     fn mark_entry(&mut self, entry: &Entry) -> Result<(), NoMemory>
         ensures { OnOk result (AreMarked (entry_names entry.now) self.old self.new) }
@@ -81,7 +81,7 @@ impl Marks {
         }
     }
 
-    // Marks what some entries name.
+    /// Marks what some entries name.
     fn mark_entries(&mut self, entries: &[Entry]) -> Result<(), NoMemory>
         ensures { OnOk result (AreMarked (flat_map entry_names entries.now) self.old self.new) }
     {
@@ -91,7 +91,7 @@ impl Marks {
         Ok(())
     }
 
-    // Marks what an object names: its type, and what its entries name.
+    /// Marks what an object names: its type, and what its entries name.
     #[tactic(auto, using(crate::proofs::MarkLemmas::then_marked))]
     pub(crate) fn mark_object(&mut self, object: &Object) -> Result<(), NoMemory>
         ensures { OnOk result (AreMarked (object_names object.now) self.old self.new) }
@@ -100,7 +100,7 @@ impl Marks {
         self.mark_entries(object.entries.as_slice())
     }
 
-    // Marks what the slots of incarnations name.
+    /// Marks what the slots of incarnations name.
     pub(crate) fn mark_slots(
         &mut self,
         incarnations: &BTreeMap<Inc, Incarnation>,
@@ -113,7 +113,7 @@ impl Marks {
         Ok(())
     }
 
-    // Marks the semaphore at which a process waits.
+    /// Marks the semaphore at which a process waits.
     #[tactic(auto, using(crate::proofs::MarkLemmas::nothing_marked))]
     fn mark_run(&mut self, run: ProcessState) -> Result<(), NoMemory>
         ensures { OnOk result (AreMarked (run_names run) self.old self.new) }
@@ -124,7 +124,7 @@ impl Marks {
         }
     }
 
-    // Marks the semaphores at which processes wait.
+    /// Marks the semaphores at which processes wait.
     pub(crate) fn mark_runs(&mut self, processes: &[Process]) -> Result<(), NoMemory>
         ensures { OnOk result (AreMarked (flat_map (λ (p : Process). run_names p.run) processes.now) self.old self.new) }
     {
@@ -134,7 +134,7 @@ impl Marks {
         Ok(())
     }
 
-    // The next marked object that is to be looked at.
+    /// The next marked object that is to be looked at.
     pub(crate) fn next(&mut self) -> Option<Name>
         ensures some { IfSome result (λ name. self.old ≡ record self.new { todo = self.new.todo ++ name ∷ [] }) }
         ensures none { IfNone result ((self.old.todo ≡ []) × (self.new ≡ self.old)) }
@@ -142,7 +142,7 @@ impl Marks {
         self.todo.pop()
     }
 
-    // The objects that are not marked.
+    /// The objects that are not marked.
     pub(crate) fn into_unmarked(self) -> BTreeSet<Name>
         ensures { result.keys ≡ self.unmarked }
     {

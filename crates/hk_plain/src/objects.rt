@@ -22,7 +22,7 @@ use std::alloc::{AllocError, Global};
 use std::collections::BTreeSet;
 use std::marker::PhantomData;
 
-// An object without tokens, waiters and code.
+/// An object without tokens, waiters and code.
 pub(crate) fn plain_object(alloc: Global, of: Name, words: Words, entries: Entries) -> Object
     ensures { result ≡ plain_object of words entries }
 {
@@ -37,7 +37,7 @@ pub(crate) fn plain_object(alloc: Global, of: Name, words: Words, entries: Entri
     }
 }
 
-// The type of the Create template of an entry, and the rights that it gives.
+/// The type of the Create template of an entry, and the rights that it gives.
 fn creating(entry: &Entry, step: u8) -> Result<(Name, Rights), Refusal>
     ensures { result ≡ create_form entry.now step }
 {
@@ -49,14 +49,14 @@ fn creating(entry: &Entry, step: u8) -> Result<(Name, Rights), Refusal>
     }
 }
 
-// Procedures, processes and name spaces are not created by programs.
+/// Procedures, processes and name spaces are not created by programs.
 fn can_be_created(of: Name) -> bool
     ensures { result ≡ can_be_created of }
 {
     of.0 != 4 && of.0 != 5 && of.0 != 6
 }
 
-// An entry of a copy: what goes without ENV is left out.
+/// An entry of a copy: what goes without ENV is left out.
 fn copied(by: Rights, entry: Entry) -> Entry
     ensures { result ≡ copied by entry }
 {
@@ -73,7 +73,7 @@ fn copied(by: Rights, entry: Entry) -> Entry
     }
 }
 
-// A capability of a copy: without ENV it is left out.
+/// A capability of a copy: without ENV it is left out.
 fn copied_cap(by: Rights, cap: Cap) -> Entry
     ensures { result ≡ copied by (Entry.Held cap) }
 {
@@ -88,7 +88,7 @@ fn copied_cap(by: Rights, cap: Cap) -> Entry
     }
 }
 
-// The entries of a copy.
+/// The entries of a copy.
 fn copied_entries(alloc: Global, by: Rights, entries: &[Entry]) -> Result<Entries, AllocError>
     requires { length entries.now ≤ 256 }
     ensures { IfOk result (λ all. all ≡ map (copied by) entries.now) }
@@ -101,7 +101,7 @@ fn copied_entries(alloc: Global, by: Rights, entries: &[Entry]) -> Result<Entrie
 }
 
 impl Tables {
-    // A new object beside those that stay, and a capability for it in a slot.
+    /// A new object beside those that stay, and a capability for it in a slot.
     fn make_object(
         &mut self,
         spare: &BTreeSet<Name>,
@@ -119,7 +119,7 @@ impl Tables {
         Ok(Answer::Done)
     }
 
-    // The copy of an object through a capability.
+    /// The copy of an object through a capability.
     fn copy_of(&self, alloc: Global, cap: &Cap) -> Result<Object, AllocError>
         ensures { IfOk result (λ new. let o = object self.now cap.now.name in new ≡ plain_object o.of o.words (map (copied cap.now.rights) o.entries)) }
     {

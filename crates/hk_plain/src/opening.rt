@@ -25,14 +25,14 @@ use hk_running::Processes;
 use std::alloc::{AllocError, Global};
 use std::collections::{BTreeMap, VecDeque};
 
-// A type: an object of type TYPE, with nothing in it.
+/// A type: an object of type TYPE, with nothing in it.
 fn type_object(alloc: Global) -> Object
     ensures { result ≡ no_object }
 {
     plain_object(alloc, Name(0), Words::new(alloc), Entries::new(alloc))
 }
 
-// An object as it opens.
+/// An object as it opens.
 fn object_of(alloc: Global, kind: &Kind) -> Result<Object, AllocError>
     ensures { IfOk result (λ o. o ≡ object_of kind.now) }
 {
@@ -62,7 +62,7 @@ fn object_of(alloc: Global, kind: &Kind) -> Result<Object, AllocError>
     Ok(object)
 }
 
-// The kernel types, which have the names 0 to 6.
+/// The kernel types, which have the names 0 to 6.
 fn kernel_types(alloc: Global, counts: &mut Counts) -> Result<BTreeMap<Name, Object>, NoMemory>
     ensures objects { IfOk result (λ objects. objects.entries ≡ with_names (replicate 7 no_object)) }
     ensures counted { IfOk result (λ objects. Moved counts.old counts.new (inner_names objects.entries) []) }
@@ -74,7 +74,7 @@ fn kernel_types(alloc: Global, counts: &mut Counts) -> Result<BTreeMap<Name, Obj
     Ok(objects)
 }
 
-// All objects, those of the script behind the kernel types.
+/// All objects, those of the script behind the kernel types.
 fn objects_of(
     alloc: Global,
     born: &[Born],
@@ -91,7 +91,7 @@ fn objects_of(
     Ok(objects)
 }
 
-// The 64 slots of a base incarnation: the entries of its process, and then nothing.
+/// The 64 slots of a base incarnation: the entries of its process, and then nothing.
 fn base_slots(alloc: Global, entries: &Entries) -> Result<Entries, AllocError>
     ensures { IfOk result (λ slots. slots ≡ entries.now ++ replicate (64 - length entries.now) Empty) }
 {
@@ -103,7 +103,7 @@ fn base_slots(alloc: Global, entries: &Entries) -> Result<Entries, AllocError>
     Ok(slots)
 }
 
-// The base incarnation of a process.
+/// The base incarnation of a process.
 fn base_of(alloc: Global, proc: Proc, task: &Task) -> Result<Incarnation, AllocError>
     ensures { IfOk result (λ base. base ≡ base_of proc task.now.slots) }
 {
@@ -118,7 +118,7 @@ fn base_of(alloc: Global, proc: Proc, task: &Task) -> Result<Incarnation, AllocE
     })
 }
 
-// The base incarnations of all processes.
+/// The base incarnations of all processes.
 fn bases(alloc: Global, tasks: &[Task], counts: &mut Counts) -> Result<Incarnations, NoMemory>
     requires { length tasks.now ≤ 256 }
     ensures counted { IfOk result (λ all. Moved counts.old counts.new (slot_names all.live) []) }
@@ -132,7 +132,7 @@ fn bases(alloc: Global, tasks: &[Task], counts: &mut Counts) -> Result<Incarnati
     Ok(all)
 }
 
-// So many processes, all ready.
+/// So many processes, all ready.
 #[tactic(auto, using(crate::proofs::Numbered::next_ready))]
 fn all_ready(alloc: Global, tasks: &[Task]) -> Result<Vec<Process>, NoMemory>
     ensures state { IfOk result (λ processes. processes.items ≡ all_ready 0 tasks.now) }
@@ -149,7 +149,7 @@ fn all_ready(alloc: Global, tasks: &[Task]) -> Result<Vec<Process>, NoMemory>
     Ok(processes)
 }
 
-// The numbers of so many processes.
+/// The numbers of so many processes.
 #[tactic(auto, using(crate::proofs::Numbered::next_number))]
 fn proc_numbers(alloc: Global, tasks: &[Task]) -> Result<VecDeque<Proc>, NoMemory>
     requires { length tasks.now ≤ 256 }
@@ -162,7 +162,7 @@ fn proc_numbers(alloc: Global, tasks: &[Task]) -> Result<VecDeque<Proc>, NoMemor
     Ok(ready)
 }
 
-// The objects of a world.
+/// The objects of a world.
 fn born_of(world: &World) -> &[Born]
     ensures value { result.now ≡ world.now.objects }
     ensures few { length result.now ≤ 65529 }
@@ -170,7 +170,7 @@ fn born_of(world: &World) -> &[Born]
     world.objects()
 }
 
-// The processes of a world.
+/// The processes of a world.
 fn tasks_of(world: &World) -> &[Task]
     ensures value { result.now ≡ world.now.tasks }
     ensures few { length result.now ≤ 256 }

@@ -20,7 +20,7 @@ use hk_spaces::Space;
 use std::alloc::{AllocError, Global};
 use std::marker::PhantomData;
 
-// The slots are to be below 64; they have the steps from `first` on.
+/// The slots are to be below 64; they have the steps from `first` on.
 fn slots_at(slots: &[u8], first: u8) -> Result<(), Refusal>
     requires { first + length slots.now < 256 }
     ensures { result ≡ slots_at slots.now first }
@@ -35,7 +35,7 @@ fn slots_at(slots: &[u8], first: u8) -> Result<(), Refusal>
     Ok(())
 }
 
-// The entries of a name space, as an incarnation has them.
+/// The entries of a name space, as an incarnation has them.
 fn slots_of(alloc: Global, space: &Space) -> Result<Entries, AllocError>
     ensures { IfOk result (λ slots. slots ≡ space.now) }
 {
@@ -43,7 +43,7 @@ fn slots_of(alloc: Global, space: &Space) -> Result<Entries, AllocError>
 }
 
 impl Tables {
-    // The type of the object that an entry is a capability for, or TYPE.
+    /// The type of the object that an entry is a capability for, or TYPE.
     fn type_held(&self, entry: &Entry) -> Name
         ensures { result ≡ type_held self.now entry.now }
     {
@@ -53,7 +53,7 @@ impl Tables {
         }
     }
 
-    // The argument in a slot.
+    /// The argument in a slot.
     fn arg(&self, inc: Inc, slot: u8) -> Arg
         ensures { result ≡ argument self.now inc slot }
     {
@@ -62,7 +62,7 @@ impl Tables {
         Arg { entry, of }
     }
 
-    // The arguments in these slots.
+    /// The arguments in these slots.
     fn args(&self, alloc: Global, inc: Inc, slots: &[u8]) -> Result<Vec<Arg>, AllocError>
         ensures { IfOk result (λ args. args.items ≡ map (argument self.now inc) slots.now) }
     {
@@ -74,7 +74,7 @@ impl Tables {
         Ok(args)
     }
 
-    // The name space that a call of a procedure gives.
+    /// The name space that a call of a procedure gives.
     fn space_of(
         &self,
         procedure: Name,
@@ -140,7 +140,7 @@ impl Tables {
         Ok(Answer::Done)
     }
 
-    // What a return hands to its caller: nothing, or a capability with ENV.
+    /// What a return hands to its caller: nothing, or a capability with ENV.
     fn given(&self, inc: Inc, give: Option<Slot>) -> Result<Option<Cap>, Refusal>
         ensures { result ≡ returned_cap (incarnation self.now inc).slots give }
     {

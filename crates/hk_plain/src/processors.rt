@@ -11,14 +11,14 @@ use crate::tables::Tables;
 use hk_model::{Cpu, Inc, Proc, ProcessState};
 
 impl Tables {
-    // The process that a processor runs.
+    /// The process that a processor runs.
     pub(crate) fn runner(&self, cpu: Cpu) -> Option<Proc>
         ensures { result ≡ runner self.now cpu }
     {
         self.processes.runner(cpu)
     }
 
-    // The current incarnation of a process.
+    /// The current incarnation of a process.
     pub(crate) fn current_of(&self, proc: Proc) -> Inc
         ensures { result ≡ (process self.now proc).current }
     {
@@ -28,7 +28,7 @@ impl Tables {
         }
     }
 
-    // Whether a process does not run.
+    /// Whether a process does not run.
     pub(crate) fn rests(&self, proc: Proc) -> bool
         ensures { result ≡ not (is_running (process self.now proc).run) }
     {
@@ -41,7 +41,7 @@ impl Tables {
         }
     }
 
-    // The number of events with one more.
+    /// The number of events with one more.
     pub(crate) fn next_event(&self) -> u32
         requires { IsTrue (may_step self.now) }
         ensures value { result ≡ self.now.events + 1 }
@@ -58,14 +58,14 @@ impl Tables {
         self.events >= self.limit
     }
 
-    // Writes the number of events.
+    /// Writes the number of events.
     pub(crate) fn set_events(&mut self, events: u32)
         ensures { self.new ≡ counted events self.old }
     {
         self.events = events;
     }
 
-    // Takes the first ready process from its list.
+    /// Takes the first ready process from its list.
     fn take_ready(&mut self) -> Option<Proc>
         ensures some { IfSome result (λ proc. (self.old.ready ≡ proc ∷ self.new.ready) × (self.new ≡ record self.old { ready = self.new.ready })) }
         ensures none { IfNone result ((self.old.ready ≡ []) × (self.new ≡ self.old)) }
@@ -88,7 +88,7 @@ impl Tables {
         Some(first)
     }
 
-    // All incarnations of a process go.
+    /// All incarnations of a process go.
     fn remove_incarnations(&mut self, proc: Proc)
         ensures { self.new ≡ record self.old { incarnations = filter (λ e. not (e.1.proc.0 == proc.0)) self.old.incarnations } }
     {

@@ -13,7 +13,7 @@ use hk_model::{Answer, Inc, Items, Name, NoMemory, Path, Proc, ProcessState, Ref
 use hk_rights::Rights;
 use std::alloc::{AllocError, Global};
 
-// The first of some processes and the others, or None where there is none.
+/// The first of some processes and the others, or None where there is none.
 fn first_and_others(
     alloc: Global,
     procs: &[Proc],
@@ -30,7 +30,7 @@ fn first_and_others(
 }
 
 impl Tables {
-    // The tokens of a semaphore.
+    /// The tokens of a semaphore.
     fn count_of(&self, name: Name) -> u32
         ensures { result ≡ (object self.now name).count }
     {
@@ -40,7 +40,7 @@ impl Tables {
         }
     }
 
-    // The first who waits at a semaphore and the others, or None where nobody waits.
+    /// The first who waits at a semaphore and the others, or None where nobody waits.
     fn waiting(&self, alloc: Global, name: Name) -> Result<Option<(Proc, Items<Proc>)>, AllocError>
         ensures { IfOk result (λ o. let waiters = (object self.now name).waiters in MatchOption o (waiters ≡ []) (λ p. waiters ≡ p.0 ∷ p.1)) }
     {
@@ -50,7 +50,7 @@ impl Tables {
         }
     }
 
-    // Writes the number of tokens of a semaphore.
+    /// Writes the number of tokens of a semaphore.
     #[tactic(auto, using(crate::proofs::Maps::set_value_absent))]
     fn set_count(&mut self, name: Name, count: u32)
         ensures { self.new ≡ put_object self.old name (record (object self.old name) { count = count }) }
@@ -60,7 +60,7 @@ impl Tables {
         }
     }
 
-    // Writes who waits at a semaphore.
+    /// Writes who waits at a semaphore.
     #[tactic(auto, using(crate::proofs::Maps::set_value_absent))]
     fn set_waiters(&mut self, name: Name, waiters: Items<Proc>)
         ensures { self.new ≡ put_object self.old name (record (object self.old name) { waiters = waiters }) }
@@ -70,7 +70,7 @@ impl Tables {
         }
     }
 
-    // One more waits at a semaphore, behind the others.
+    /// One more waits at a semaphore, behind the others.
     #[tactic(auto, using(crate::proofs::Maps::set_value_absent, crate::proofs::Maps::set_value_same))]
     fn push_waiter(&mut self, name: Name, proc: Proc) -> Result<(), NoMemory>
         ensures ok { OnOk result (self.new ≡ put_object self.old name (record (object self.old name) { waiters = (object self.old name).waiters ++ proc ∷ [] })) }
@@ -98,7 +98,7 @@ impl Tables {
         Ok(Answer::Waits)
     }
 
-    // A token is kept at a semaphore where nobody waits.
+    /// A token is kept at a semaphore where nobody waits.
     fn keep_token(&mut self, name: Name) -> Result<Answer, Stop>
         ensures { Gives self.old (token_given self.old name (object self.old name) []) result self.new }
     {
@@ -111,7 +111,7 @@ impl Tables {
         Ok(Answer::Done)
     }
 
-    // A token goes to the first who waits at a semaphore.
+    /// A token goes to the first who waits at a semaphore.
     fn wake(&mut self, name: Name, first: Proc, others: Items<Proc>) -> Result<Answer, Stop>
         ensures { Gives self.old (token_given self.old name (object self.old name) (first ∷ others)) result self.new }
     {

@@ -11,7 +11,7 @@ use hk_model::{
 use std::alloc::{AllocError, Global};
 use std::collections::{BTreeMap, VecDeque};
 
-// An object with its name.
+/// An object with its name.
 fn seen(alloc: Global, name: Name, object: &Object) -> Result<Seen, AllocError>
     ensures { IfOk result (λ s. s ≡ seen (name, object.now)) }
 {
@@ -31,7 +31,7 @@ fn seen(alloc: Global, name: Name, object: &Object) -> Result<Seen, AllocError>
     })
 }
 
-// All objects with their names.
+/// All objects with their names.
 fn all_seen(alloc: Global, objects: &BTreeMap<Name, Object>) -> Result<Items<Seen>, AllocError>
     ensures { IfOk result (λ v. v ≡ map seen objects.now.entries) }
 {
@@ -42,7 +42,7 @@ fn all_seen(alloc: Global, objects: &BTreeMap<Name, Object>) -> Result<Items<See
     Ok(Items::from_vec(all))
 }
 
-// An incarnation with its number.
+/// An incarnation with its number.
 fn live(alloc: Global, inc: Inc, incarnation: &Incarnation) -> Result<Live, AllocError>
     ensures { IfOk result (λ s. s ≡ live (inc, incarnation.now)) }
 {
@@ -58,7 +58,7 @@ fn live(alloc: Global, inc: Inc, incarnation: &Incarnation) -> Result<Live, Allo
     })
 }
 
-// All incarnations with their numbers.
+/// All incarnations with their numbers.
 fn all_live(
     alloc: Global,
     incarnations: &BTreeMap<Inc, Incarnation>,
@@ -72,7 +72,7 @@ fn all_live(
     Ok(Items::from_vec(all))
 }
 
-// What each process does.
+/// What each process does.
 fn all_runs(alloc: Global, processes: &[Process]) -> Result<Items<ProcessState>, AllocError>
     ensures { IfOk result (λ v. v ≡ map (λ (p : Process). p.run) processes.now) }
 {
@@ -83,7 +83,7 @@ fn all_runs(alloc: Global, processes: &[Process]) -> Result<Items<ProcessState>,
     Ok(Items::from_vec(all))
 }
 
-// The processes in a queue.
+/// The processes in a queue.
 fn all_queued(alloc: Global, queue: &VecDeque<Proc>) -> Result<Items<Proc>, AllocError>
     ensures { IfOk result (λ v. v ≡ queue.now.items) }
 {

@@ -30,7 +30,7 @@ impl Model for Stack {
 }
 
 impl Stack {
-    // The stack of a process without incarnations.
+    /// The stack of a process without incarnations.
     pub(crate) fn new(alloc: Global) -> Stack
         ensures { result ≡ [] }
     {
@@ -39,14 +39,14 @@ impl Stack {
         }
     }
 
-    // How many incarnations there are.
+    /// How many incarnations there are.
     pub(crate) fn depth(&self) -> usize
         ensures { result ≡ length self.now }
     {
         self.numbers.len()
     }
 
-    // One more number, behind the others.
+    /// One more number, behind the others.
     pub(crate) fn push(&mut self, inc: Inc) -> Result<(), NoMemory>
         ensures ok { OnOk result (self.new ≡ self.old ++ inc ∷ []) }
         ensures err { OnErr result (self.new ≡ self.old) }
@@ -55,21 +55,21 @@ impl Stack {
         Ok(())
     }
 
-    // The last number goes.
+    /// The last number goes.
     pub(crate) fn pop(&mut self)
         ensures { self.new ≡ take (length self.old - 1) self.old }
     {
         let _last = self.numbers.pop();
     }
 
-    // This number goes.
+    /// This number goes.
     pub(crate) fn forget(&mut self, inc: Inc)
         ensures { self.new ≡ without inc self.old }
     {
         self.numbers.retain(|number| number.0 != inc.0);
     }
 
-    // The numbers.
+    /// The numbers.
     pub(crate) fn as_slice(&self) -> &[Inc]
         ensures { result.now ≡ self.now }
     {
@@ -94,7 +94,7 @@ impl Model for Stacks {
 }
 
 impl Stacks {
-    // No process has incarnations.
+    /// No process has incarnations.
     pub(crate) fn new(alloc: Global) -> Stacks
         ensures { result ≡ [] }
     {
@@ -103,7 +103,7 @@ impl Stacks {
         }
     }
 
-    // How many incarnations a process has.
+    /// How many incarnations a process has.
     pub(crate) fn depth(&self, proc: Proc) -> usize
         ensures { result ≡ length (stack self.now proc) }
     {
@@ -113,7 +113,7 @@ impl Stacks {
         }
     }
 
-    // A process that has no stack gets an empty one.
+    /// A process that has no stack gets an empty one.
     fn open(&mut self, alloc: Global, proc: Proc) -> Result<(), NoMemory>
         ensures there { OnOk result (IsSome (lookup (same_proc proc) self.new)) }
         ensures same { (q : Proc) → stack self.new q ≡ stack self.old q }
@@ -125,7 +125,7 @@ impl Stacks {
         Ok(())
     }
 
-    // One more number on the stack of a process that has one.
+    /// One more number on the stack of a process that has one.
     #[tactic(auto, using(crate::proofs::Maps::set_value_absent, crate::proofs::Maps::set_value_same))]
     fn push_on(&mut self, proc: Proc, inc: Inc) -> Result<(), NoMemory>
         requires { IsSome (lookup (same_proc proc) self.old) }
@@ -138,7 +138,7 @@ impl Stacks {
         Ok(())
     }
 
-    // One more number on the stack of a process.
+    /// One more number on the stack of a process.
     pub(crate) fn push(&mut self, alloc: Global, proc: Proc, inc: Inc) -> Result<(), NoMemory>
         ensures ok { OnOk result ((q : Proc) → stack self.new q ≡ (if proc.0 == q.0 then stack self.old q ++ inc ∷ [] else stack self.old q)) }
         ensures err { OnErr result ((q : Proc) → stack self.new q ≡ stack self.old q) }
@@ -148,7 +148,7 @@ impl Stacks {
         Ok(())
     }
 
-    // The last number goes from the stack of a process.
+    /// The last number goes from the stack of a process.
     #[tactic(auto, using(crate::proofs::Maps::set_value_absent))]
     pub(crate) fn pop(&mut self, proc: Proc)
         ensures { self.new ≡ set_value (same_proc proc) self.old (take (length (stack self.old proc) - 1) (stack self.old proc)) }
@@ -158,7 +158,7 @@ impl Stacks {
         }
     }
 
-    // A number goes from the stack of a process.
+    /// A number goes from the stack of a process.
     #[tactic(auto, using(crate::proofs::Maps::set_value_absent))]
     pub(crate) fn forget(&mut self, proc: Proc, inc: Inc)
         ensures { self.new ≡ set_value (same_proc proc) self.old (without inc (stack self.old proc)) }
@@ -168,7 +168,7 @@ impl Stacks {
         }
     }
 
-    // Takes the stack of a process, which then has no incarnations.
+    /// Takes the stack of a process, which then has no incarnations.
     pub(crate) fn take(&mut self, proc: Proc) -> Option<Stack>
         ensures taken { unwrap_or result [] ≡ stack self.old proc }
         ensures others { (q : Proc) → stack self.new q ≡ (if proc.0 == q.0 then [] else stack self.old q) }

@@ -50,14 +50,14 @@ impl Model for Tables {
 }
 
 impl Tables {
-    // The object of a name.
+    /// The object of a name.
     pub(crate) fn object(&self, name: Name) -> Option<&Object>
         ensures { option_copied result ≡ lookup (same_name name) self.now.objects }
     {
         self.objects.get(&name)
     }
 
-    // Writes an entry into a slot of an incarnation.
+    /// Writes an entry into a slot of an incarnation.
     pub(crate) fn set_slot(&mut self, inc: Inc, slot: usize, entry: Entry)
         ensures { self.new ≡ put_slot self.old inc slot entry }
     {
@@ -65,7 +65,7 @@ impl Tables {
             .set_slot(inc, slot, entry, &mut self.counts);
     }
 
-    // Changes what a process does: it does not run then.
+    /// Changes what a process does: it does not run then.
     pub(crate) fn set_run(&mut self, proc: Proc, run: ProcessState)
         requires { is_running run ≡ false }
         ensures { self.new ≡ put_process self.old proc (record (process self.old proc) { run = run }) }
@@ -73,7 +73,7 @@ impl Tables {
         set_run(&mut self.processes, proc, run, &mut self.counts);
     }
 
-    // The process runs on a processor that runs nothing.
+    /// The process runs on a processor that runs nothing.
     pub(crate) fn start(&mut self, proc: Proc, cpu: Cpu)
         requires cpu { cpu.0 < 16 }
         requires idle { runner self.old cpu ≡ None }
@@ -82,14 +82,14 @@ impl Tables {
         start(&mut self.processes, proc, cpu, &mut self.counts);
     }
 
-    // Changes the current incarnation of a process.
+    /// Changes the current incarnation of a process.
     pub(crate) fn set_current(&mut self, proc: Proc, inc: Inc)
         ensures { self.new ≡ put_process self.old proc (record (process self.old proc) { current = inc }) }
     {
         self.processes.set_current(proc, inc);
     }
 
-    // A process at the end of the ready list.
+    /// A process at the end of the ready list.
     pub(crate) fn push_ready(&mut self, proc: Proc) -> Result<(), NoMemory>
         ensures ok { OnOk result (self.new ≡ record self.old { ready = self.old.ready ++ proc ∷ [] }) }
         ensures err { OnErr result (self.new ≡ self.old) }

@@ -12,7 +12,7 @@ use hk_merge::{allowed, held};
 use hk_model::{Cap, Entry, Inc, Name, Path, Refusal};
 use hk_rights::Rights;
 
-// What may stand in a list: a template, or a capability with ENV.
+/// What may stand in a list: a template, or a capability with ENV.
 pub(crate) fn storable(entry: Entry, step: u8) -> Result<Entry, Refusal>
     ensures { result ≡ storable entry step }
 {
@@ -26,7 +26,7 @@ pub(crate) fn storable(entry: Entry, step: u8) -> Result<Entry, Refusal>
     }
 }
 
-// Any entry but Empty.
+/// Any entry but Empty.
 pub(crate) fn not_empty(entry: Entry, step: u8) -> Result<Entry, Refusal>
     ensures { result ≡ not_empty entry step }
 {
@@ -38,7 +38,7 @@ pub(crate) fn not_empty(entry: Entry, step: u8) -> Result<Entry, Refusal>
 }
 
 impl Tables {
-    // The type of an object.
+    /// The type of an object.
     pub(crate) fn type_of(&self, name: Name) -> Name
         ensures { result ≡ (object self.now name).of }
     {
@@ -48,7 +48,7 @@ impl Tables {
         }
     }
 
-    // What stands in a slot of an incarnation.
+    /// What stands in a slot of an incarnation.
     pub(crate) fn slot(&self, inc: Inc, at: usize) -> Entry
         ensures { result ≡ slice_index_or (incarnation self.now inc).slots at Empty }
     {

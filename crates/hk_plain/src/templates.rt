@@ -12,7 +12,7 @@ use hk_model::{Answer, Entry, Inc, Making, Name, Param, Path, Refusal, Slot, Tem
 use hk_rights::Rights;
 use std::marker::PhantomData;
 
-// A template for a type.
+/// A template for a type.
 fn made_form(kind: &Making, of: Name) -> Template
     ensures { result ≡ made_form kind.now of }
 {
@@ -26,7 +26,7 @@ fn made_form(kind: &Making, of: Name) -> Template
     }
 }
 
-// What the Amplify template of an entry asks for and gives.
+/// What the Amplify template of an entry asks for and gives.
 fn amplifying(entry: &Entry, step: u8) -> Result<Param, Refusal>
     ensures { result ≡ amplify_form entry.now step }
 {

@@ -11,14 +11,14 @@ use hk_rights::{Right, Rights};
 use std::alloc::{AllocError, Global};
 use std::test::Fail;
 
-// A text of its own.
+/// A text of its own.
 fn text(alloc: Global, letters: &str) -> Result<Text, AllocError>
     ensures { IfOk result (λ text. text ≡ letters.now) }
 {
     Ok(Text::from_string(String::from_str(alloc, letters)?))
 }
 
-// The world of one DATA object with the word 7, and a process that may read it and make lists.
+/// The world of one DATA object with the word 7, and a process that may read it and make lists.
 fn world(alloc: Global) -> Result<World, Fail> {
     let mut words = Words::new(alloc);
     words.push(7)?;
@@ -54,7 +54,7 @@ fn world(alloc: Global) -> Result<World, Fail> {
     Ok(World::new(10_000, objects, codes, tasks))
 }
 
-// The kernel in which the world opens.
+/// The kernel in which the world opens.
 fn opened(alloc: Global) -> Result<Plain, Fail> {
     let world = world(alloc)?;
     match Plain::new(alloc, &world) {
@@ -63,7 +63,7 @@ fn opened(alloc: Global) -> Result<Plain, Fail> {
     }
 }
 
-// What the opening shows.
+/// What the opening shows.
 fn shown(alloc: Global) -> Result<Snapshot, Fail> {
     let kernel = opened(alloc)?;
     match kernel.snapshot(alloc) {
@@ -72,7 +72,7 @@ fn shown(alloc: Global) -> Result<Snapshot, Fail> {
     }
 }
 
-// The name of the last object, its type, and its words, where it has one.
+/// The name of the last object, its type, and its words, where it has one.
 fn last_object(shown: &Snapshot) -> Option<(Name, Name, u32)> {
     let last = shown.objects.as_slice().last()?;
     match last.words.as_slice() {
@@ -81,7 +81,7 @@ fn last_object(shown: &Snapshot) -> Option<(Name, Name, u32)> {
     }
 }
 
-// The slots of the only incarnation.
+/// The slots of the only incarnation.
 fn slots_of_the_base(shown: &Snapshot) -> Option<usize> {
     match shown.incarnations.as_slice() {
         [base] => Some(base.slots.len()),
@@ -89,7 +89,7 @@ fn slots_of_the_base(shown: &Snapshot) -> Option<usize> {
     }
 }
 
-// The only ready process.
+/// The only ready process.
 fn ready_process(shown: &Snapshot) -> Option<Proc> {
     match shown.ready.as_slice() {
         [proc] => Some(*proc),
@@ -97,7 +97,7 @@ fn ready_process(shown: &Snapshot) -> Option<Proc> {
     }
 }
 
-// What the opening shows, in numbers.
+/// What the opening shows, in numbers.
 #[derive(Clone, Copy)]
 struct Opening {
     objects: usize,
@@ -129,7 +129,7 @@ fn the_opening_shows_the_object(rt: HostRuntime) -> Result<(), Fail> {
     Ok(())
 }
 
-// The process that a processor is given, if it runs none.
+/// The process that a processor is given, if it runs none.
 fn dispatched(kernel: &mut Plain) -> Option<Proc> {
     if kernel.current(Cpu(0)).is_some() || kernel.limit_reached() {
         return None;
@@ -137,17 +137,17 @@ fn dispatched(kernel: &mut Plain) -> Option<Proc> {
     kernel.dispatch(Cpu(0))
 }
 
-// The process that the processor runs, and its incarnation.
+/// The process that the processor runs, and its incarnation.
 fn current(kernel: &Plain) -> Option<(Proc, Inc)> {
     kernel.current(Cpu(0))
 }
 
-// Whether nothing is left to run.
+/// Whether nothing is left to run.
 fn over(kernel: &Plain) -> bool {
     kernel.over()
 }
 
-// The reply to a call of the process that the processor runs.
+/// The reply to a call of the process that the processor runs.
 fn reply_to(alloc: Global, kernel: &mut Plain, call: Call) -> Option<Reply> {
     if kernel.current(Cpu(0)).is_none() || kernel.limit_reached() {
         return None;
@@ -158,19 +158,19 @@ fn reply_to(alloc: Global, kernel: &mut Plain, call: Call) -> Option<Reply> {
     }
 }
 
-// Halts the process that the processor runs.
+/// Halts the process that the processor runs.
 fn halt(kernel: &mut Plain) {
     if kernel.current(Cpu(0)).is_some() && !kernel.limit_reached() {
         kernel.halt(Cpu(0));
     }
 }
 
-// Whether the process is given to the processor, with its base incarnation.
+/// Whether the process is given to the processor, with its base incarnation.
 fn is_given(kernel: &mut Plain) -> bool {
     dispatched(kernel) == Some(Proc(0)) && current(kernel) == Some((Proc(0), Inc(0)))
 }
 
-// Whether the word of the object is read.
+/// Whether the word of the object is read.
 fn is_read(alloc: Global, kernel: &mut Plain) -> bool {
     match Path::new(&[0]) {
         Some(of) => reply_to(alloc, kernel, Call::Get { of, at: 0 }) == Some(Reply::Word(7)),
@@ -178,7 +178,7 @@ fn is_read(alloc: Global, kernel: &mut Plain) -> bool {
     }
 }
 
-// Whether no word may be added to the object.
+/// Whether no word may be added to the object.
 fn is_kept(alloc: Global, kernel: &mut Plain) -> bool {
     let denied = Refusal::Denied {
         step: 0,
@@ -192,14 +192,14 @@ fn is_kept(alloc: Global, kernel: &mut Plain) -> bool {
     }
 }
 
-// Whether the process is all that there is to run.
+/// Whether the process is all that there is to run.
 fn is_halted(kernel: &mut Plain) -> bool {
     let before = over(kernel);
     halt(kernel);
     !before && over(kernel)
 }
 
-// How the smallest run goes.
+/// How the smallest run goes.
 #[derive(Clone, Copy)]
 struct Run {
     given: bool,
@@ -228,7 +228,7 @@ fn a_process_reads_and_is_halted(rt: HostRuntime) -> Result<(), Fail> {
     Ok(())
 }
 
-// The path of a slot alone.
+/// The path of a slot alone.
 fn path(slot: u16) -> Result<Path, Fail> {
     match Path::new(&[slot]) {
         Some(path) => Ok(path),
@@ -236,7 +236,7 @@ fn path(slot: u16) -> Result<Path, Fail> {
     }
 }
 
-// How many objects stand.
+/// How many objects stand.
 fn objects(alloc: Global, kernel: &Plain) -> Option<usize> {
     match kernel.snapshot(alloc) {
         Ok(shown) => Some(shown.objects.len()),
@@ -244,7 +244,7 @@ fn objects(alloc: Global, kernel: &Plain) -> Option<usize> {
     }
 }
 
-// How many objects stand with a new list, and after its last name outside is gone.
+/// How many objects stand with a new list, and after its last name outside is gone.
 fn with_and_without(alloc: Global, naming_itself: bool) -> Result<[Option<usize>; 2], Fail> {
     let mut kernel = opened(alloc)?;
     let list = Slot(2);

@@ -10,14 +10,14 @@ use hk_merge::{allowed, confined_rights, held};
 use hk_model::{Cap, Entry, Inc, Name, Path, Refusal};
 use hk_rights::{Right, Rights};
 
-// The rights of a set but ENV.
+/// The rights of a set but ENV.
 fn local_rights(rights: Rights) -> Rights
     ensures { result ≡ local_rights rights }
 {
     rights.intersection(Rights::all().without(Rights::ENV))
 }
 
-// What is left of rights that were obtained through a capability with the rights `by`.
+/// What is left of rights that were obtained through a capability with the rights `by`.
 pub(crate) fn reduced_rights(by: Rights, rights: Rights) -> Rights
     ensures { result ≡ reduced_rights by rights }
 {
@@ -33,7 +33,7 @@ pub(crate) fn reduced_rights(by: Rights, rights: Rights) -> Rights
     }
 }
 
-// What is obtained of an entry through a capability with the rights `by`.
+/// What is obtained of an entry through a capability with the rights `by`.
 fn obtained(by: Rights, entry: Entry, step: u8) -> Result<Entry, Refusal>
     ensures { result ≡ obtained by entry step }
 {
@@ -51,7 +51,7 @@ fn obtained(by: Rights, entry: Entry, step: u8) -> Result<Entry, Refusal>
 }
 
 impl Tables {
-    // The entry at a path's first index, which is a slot.
+    /// The entry at a path's first index, which is a slot.
     fn first_entry(&self, inc: Inc, at: u16) -> Result<Entry, Refusal>
         ensures { result ≡ item_at (incarnation self.now inc).slots at 0 }
     {
@@ -64,7 +64,7 @@ impl Tables {
         }
     }
 
-    // An entry of an object's list.
+    /// An entry of an object's list.
     pub(crate) fn entry_at(&self, name: Name, at: u32, step: u8) -> Result<Entry, Refusal>
         ensures { result ≡ item_at (object self.now name).entries at step }
     {
@@ -77,7 +77,7 @@ impl Tables {
         }
     }
 
-    // One step of a walk.
+    /// One step of a walk.
     fn hop(&self, entry: Entry, at: u16, step: u8) -> Result<Entry, Refusal>
         requires { step < 255 }
         ensures { result ≡ hop_on self.now entry at step }

@@ -14,7 +14,7 @@ use hk_model::{Answer, Inc, Name, Path, Refusal, What8};
 use hk_rights::Rights;
 
 impl Tables {
-    // The word at an index of an object.
+    /// The word at an index of an object.
     fn word_at(&self, name: Name, at: u32, step: u8) -> Result<u32, Refusal>
         ensures { result ≡ item_at (object self.now name).words at step }
     {
@@ -27,7 +27,7 @@ impl Tables {
         }
     }
 
-    // How many words an object has.
+    /// How many words an object has.
     fn words_of(&self, name: Name) -> u32
         ensures { result ≡ length (object self.now name).words }
     {
@@ -37,7 +37,7 @@ impl Tables {
         }
     }
 
-    // Writes a word of an object, over another.
+    /// Writes a word of an object, over another.
     #[tactic(auto, using(crate::proofs::Maps::set_value_absent))]
     fn set_word(&mut self, name: Name, at: u32, word: u32)
         ensures { self.new ≡ put_object self.old name (record (object self.old name) { words = slice_set (object self.old name).words at word }) }
@@ -47,7 +47,7 @@ impl Tables {
         }
     }
 
-    // Adds a word after the last of an object, if there is room.
+    /// Adds a word after the last of an object, if there is room.
     #[tactic(auto, using(crate::proofs::Maps::set_value_absent, crate::proofs::Maps::set_value_same))]
     fn push_word(&mut self, name: Name, word: u32) -> Result<Answer, Stop>
         ensures { Gives self.old (word_added self.old name word) result self.new }

@@ -29,7 +29,7 @@ pub(crate) fn write_entries(
     Ok(())
 }
 
-// Writes the line of an entry.
+/// Writes the line of an entry.
 #[tactic(auto, using(crate::proofs::Spelled::entry_names))]
 fn write_entry_line(
     alloc: Global,
@@ -68,7 +68,7 @@ pub fn write_entry<S: Speller>(
     Ok(())
 }
 
-// Writes the text of a template.
+/// Writes the text of a template.
 fn write_template<S: Speller>(
     alloc: Global,
     out: &mut String,
@@ -110,7 +110,7 @@ pub(crate) fn write_params(
     Ok(())
 }
 
-// Writes the line of a parameter.
+/// Writes the line of a parameter.
 #[tactic(auto, using(crate::proofs::Spelled::kind_names))]
 fn write_param_line(
     alloc: Global,

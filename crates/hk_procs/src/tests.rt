@@ -13,7 +13,7 @@ use std::sync::Wait;
 use std::sync::atomic::{AtomicU64, Ordering};
 use std::test::Fail;
 
-// It stands for every list.
+/// It stands for every list.
 #[derive(Drop)]
 struct Anything;
 
@@ -27,7 +27,7 @@ impl Story for Anything {
     ghost owner = { owner_of };
 }
 
-// A desk at which nothing is ever done.
+/// A desk at which nothing is ever done.
 struct Quiet;
 
 impl Desk for Quiet {
@@ -58,7 +58,7 @@ impl Desk for Quiet {
     }
 }
 
-// It counts the calls that it is told of.
+/// It counts the calls that it is told of.
 #[derive(Drop)]
 struct Counts {
     calls: AtomicU64,
@@ -71,7 +71,7 @@ impl Gate for Counts {
     }
 }
 
-// A pass with the number 0, which has seen nothing.
+/// A pass with the number 0, which has seen nothing.
 fn first_pass(alloc: Global) -> Result<Pass<Noted>, Fail>
     ensures number { IfOk result (λ pass. pass_number pass ≡ 0) }
     ensures seen { IfOk result (λ pass. seen_list pass ≡ []) }
@@ -80,7 +80,7 @@ fn first_pass(alloc: Global) -> Result<Pass<Noted>, Fail>
     Ok(passes.remove(0))
 }
 
-// How a worker ends at the quiet desk.
+/// How a worker ends at the quiet desk.
 #[tactic(auto, using(crate::proofs::EmptyWorlds::empty_runs_nothing))]
 fn ended<R: Wait>(rt: &R, alloc: Global, gate: &Counts) -> Result<Ended, Fail> {
     let pass = first_pass(alloc)?;

@@ -29,7 +29,7 @@ pub enum Ended {
     NoMemory,
 }
 
-// How it goes on after a call of the desk.
+/// How it goes on after a call of the desk.
 #[derive(Drop)]
 pub(crate) enum Outcome {
     // With the process that its processor runs, if there is one, and the control of that process.
@@ -82,7 +82,7 @@ pub fn work<D: Desk, G: Gate, R: Wait>(
     unreachable!()
 }
 
-// One call of the desk, by what the processor runs.
+/// One call of the desk, by what the processor runs.
 fn call_desk<D: Desk, R: Wait>(
     rt: &R,
     alloc: Global,
@@ -105,7 +105,7 @@ fn call_desk<D: Desk, R: Wait>(
     }
 }
 
-// Asks for a process.
+/// Asks for a process.
 fn ask<D: Desk, R: Wait>(rt: &R, desk: &D, pass: Pass<Noted>) -> (Pass<Noted>, Outcome)
     requires own { D.belongs desk.now pass }
     requires idle { RunsNothing D.world (cpu_of pass) (seen_list pass) }
@@ -127,7 +127,7 @@ fn ask<D: Desk, R: Wait>(rt: &R, desk: &D, pass: Pass<Noted>) -> (Pass<Noted>, O
     (pass, outcome)
 }
 
-// Makes what is next for the process.
+/// Makes what is next for the process.
 fn call_next<D: Desk, R: Wait>(
     rt: &R,
     alloc: Global,

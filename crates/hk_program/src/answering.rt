@@ -38,7 +38,7 @@ pub fn after(context: &mut Context, world: &World, call: &Call, acted: &Acted)
     }
 }
 
-// Whether the call is a return that was done.
+/// Whether the call is a return that was done.
 fn is_return(call: &Call, reply: &Reply) -> bool
     ensures { result ≡ is_return call.now reply.now }
 {
@@ -59,7 +59,7 @@ pub(crate) fn go_behind(world: &World, frame: &mut Frame, reply: &Reply)
     frame.refused = matches!(reply, Reply::No(_));
 }
 
-// Puts a word reply into the register that the instruction names.
+/// Puts a word reply into the register that the instruction names.
 fn take_word(frame: &mut Frame, instr: &Instr, reply: &Reply)
     requires { IsInstr code_limit instr.now }
     ensures { frame.new ≡ control.with_word frame.old (Some instr.now) reply.now }
@@ -69,7 +69,7 @@ fn take_word(frame: &mut Frame, instr: &Instr, reply: &Reply)
     }
 }
 
-// The register that takes a word reply.
+/// The register that takes a word reply.
 fn target_register(instr: &Instr) -> Option<u8>
     requires { IsInstr code_limit instr.now }
     ensures value { result ≡ control.target_register instr.now }

@@ -38,7 +38,7 @@ pub(crate) fn call_of(frame: &Frame, instr: &Instr) -> Option<Call>
     }
 }
 
-// The call of an instruction that moves entries, or of one of the functions below.
+/// The call of an instruction that moves entries, or of one of the functions below.
 fn list_call(frame: &Frame, instr: &Instr) -> Option<Call>
     requires valid { IsInstr code_limit instr.now }
     requires no_word { is_word_call instr.now ≡ false }
@@ -71,7 +71,7 @@ fn list_call(frame: &Frame, instr: &Instr) -> Option<Call>
     }
 }
 
-// The call of an instruction that makes a template, an object or a capability, or of one below.
+/// The call of an instruction that makes a template, an object or a capability, or of one below.
 fn object_call(frame: &Frame, instr: &Instr) -> Option<Call>
     requires valid { IsInstr code_limit instr.now }
     requires no_word { is_word_call instr.now ≡ false }
@@ -101,7 +101,7 @@ fn object_call(frame: &Frame, instr: &Instr) -> Option<Call>
     }
 }
 
-// The call of an instruction by which a process enters, returns, waits, wakes or yields.
+/// The call of an instruction by which a process enters, returns, waits, wakes or yields.
 fn process_call(frame: &Frame, instr: &Instr) -> Option<Call>
     requires valid { IsInstr code_limit instr.now }
     requires no_word { is_word_call instr.now ≡ false }

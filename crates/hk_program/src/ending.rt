@@ -23,7 +23,7 @@ pub fn end_word<K: Kernel>(alloc: Global, kernel: &K) -> Result<Option<End>, NoM
     Ok(first_word(done, stuck, full))
 }
 
-// The first end word whose test holds.
+/// The first end word whose test holds.
 fn first_word(done: bool, stuck: bool, full: bool) -> Option<End>
     ensures { result ≡ (if done then Some word.Done else (if stuck then Some word.Stuck else (if full then Some word.Limit else None))) }
 {
@@ -39,28 +39,28 @@ fn first_word(done: bool, stuck: bool, full: bool) -> Option<End>
     None
 }
 
-// Whether all of these processes have ended.
+/// Whether all of these processes have ended.
 fn all_ended(runs: &[ProcessState]) -> bool
     ensures { result ≡ list_all has_ended runs.now }
 {
     runs.iter().all(|run| ended(run))
 }
 
-// Whether one of these processes waits.
+/// Whether one of these processes waits.
 fn one_waits(runs: &[ProcessState]) -> bool
     ensures { result ≡ list_any is_waiting runs.now }
 {
     runs.iter().any(|run| waits(run))
 }
 
-// Whether a process has ended.
+/// Whether a process has ended.
 fn ended(run: &ProcessState) -> bool
     ensures { result ≡ has_ended run.now }
 {
     matches!(run, ProcessState::Ended)
 }
 
-// Whether a process waits.
+/// Whether a process waits.
 fn waits(run: &ProcessState) -> bool
     ensures { result ≡ is_waiting run.now }
 {

@@ -75,7 +75,7 @@ impl<K: Kernel> Machine<K> {
         }
     }
 
-    // The event of the process that the processor runs, in its current incarnation.
+    /// The event of the process that the processor runs, in its current incarnation.
     fn event(
         &mut self,
         alloc: Global,
@@ -102,7 +102,7 @@ impl<K: Kernel> Machine<K> {
         })
     }
 
-    // The dispatch of the first ready process. None exactly where none is ready.
+    /// The dispatch of the first ready process. None exactly where none is ready.
     fn dispatch(&mut self, world: &World, cpu: Cpu) -> Option<Line>
         requires sound { IsSound world.now self.old }
         requires cpu { cpu.0 < 16 }
@@ -151,8 +151,8 @@ pub fn beginnings(alloc: Global, tasks: &[Task]) -> Result<Vec<Context>, NoMemor
     Ok(contexts)
 }
 
-// The event of the process that a processor runs, whose context this is. After NoMemory nothing has
-// changed.
+/// The event of the process that a processor runs, whose context this is. After NoMemory nothing has
+/// changed.
 fn turn<K: Kernel>(
     alloc: Global,
     kernel: &mut K,

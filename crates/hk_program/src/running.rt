@@ -47,7 +47,7 @@ pub(crate) fn run(world: &World, frame: &mut Frame) -> Todo
     todo_here(code, frame)
 }
 
-// Runs local instructions until none stands next, at most 10,000.
+/// Runs local instructions until none stands next, at most 10,000.
 #[tactic(auto, using(crate::proofs::Locals::next_is_local, crate::proofs::Locals::next_is_call))]
 fn run_locals(code: &Code, frame: &mut Frame)
     requires valid { IsCode code.now }
@@ -65,7 +65,7 @@ fn run_locals(code: &Code, frame: &mut Frame)
     }
 }
 
-// Makes the local instruction that stands next, and says whether one did.
+/// Makes the local instruction that stands next, and says whether one did.
 fn step_here(code: &Code, frame: &mut Frame) -> bool
     requires valid { IsCode code.now }
     requires inside { frame.old.at ≤ length code.now.steps }
@@ -80,7 +80,7 @@ fn step_here(code: &Code, frame: &mut Frame) -> bool
     }
 }
 
-// What is next where no more local instructions may be run: the call that stands next, or a halt.
+/// What is next where no more local instructions may be run: the call that stands next, or a halt.
 #[tactic(auto, using(crate::proofs::Todos::call_is_next, crate::proofs::Todos::halt_is_next))]
 fn todo_here(code: &Code, frame: &Frame) -> Todo
     requires { IsCode code.now }
@@ -92,8 +92,8 @@ fn todo_here(code: &Code, frame: &Frame) -> Todo
     }
 }
 
-// The call that stands next, at the code's end a return. None exactly where a local instruction
-// stands next.
+/// The call that stands next, at the code's end a return. None exactly where a local instruction
+/// stands next.
 fn call_here(code: &Code, frame: &Frame) -> Option<Call>
     requires { IsCode code.now }
     ensures { result ≡ call_in (here code.now.steps frame.now) }

@@ -44,7 +44,7 @@ pub(crate) fn step_local(frame: &mut Frame, instr: &Instr) -> bool
     true
 }
 
-// Puts a word into a register, and goes on to the next instruction.
+/// Puts a word into a register, and goes on to the next instruction.
 fn set_register(frame: &mut Frame, reg: u8, word: u32)
     requires inside { frame.old.at < code_limit }
     requires reg { IsReg reg }
@@ -54,7 +54,7 @@ fn set_register(frame: &mut Frame, reg: u8, word: u32)
     frame.at += 1;
 }
 
-// Goes to the target of a jump where a test holds, and else on to the next instruction.
+/// Goes to the target of a jump where a test holds, and else on to the next instruction.
 fn jump(frame: &mut Frame, to: u16, holds: bool)
     requires inside { frame.old.at < code_limit }
     ensures { frame.new ≡ (if holds then go_to frame.old to else step_over frame.old) }

@@ -14,7 +14,7 @@ use hk_model::{
 use std::alloc::{AllocError, Global};
 use std::test::Fail;
 
-// A code of these instructions.
+/// A code of these instructions.
 fn code(alloc: Global, label: &str, steps: Vec<Instr>) -> Result<Code, AllocError>
     ensures label { IfOk result (λ code. code.label ≡ label.now) }
     ensures steps { IfOk result (λ code. code.steps ≡ steps.items) }
@@ -25,7 +25,7 @@ fn code(alloc: Global, label: &str, steps: Vec<Instr>) -> Result<Code, AllocErro
     })
 }
 
-// The world of two codes.
+/// The world of two codes.
 fn world(alloc: Global, first: Vec<Instr>, second: Vec<Instr>) -> Result<World, Fail>
     requires first { AllByRecursion (IsInstr (length first.items)) first.items }
     requires first_few { length first.items ≤ 100 }
@@ -39,7 +39,7 @@ fn world(alloc: Global, first: Vec<Instr>, second: Vec<Instr>) -> Result<World, 
     Ok(World::new(100, Items::new(alloc), codes, Items::new(alloc)))
 }
 
-// The route of slot 0.
+/// The route of slot 0.
 fn slot_0(alloc: Global) -> Result<Route, AllocError>
     ensures { IfOk result (λ route. route.at ≡ Fixed 0 ∷ []) }
 {
@@ -48,7 +48,7 @@ fn slot_0(alloc: Global) -> Result<Route, AllocError>
     })
 }
 
-// What a process with a frame does next.
+/// What a process with a frame does next.
 fn next_of(context: &mut Context, world: &World) -> Option<Todo>
     requires { AreFrames world.now context.old }
     ensures frames { AreFrames world.now context.new }
@@ -60,7 +60,7 @@ fn next_of(context: &mut Context, world: &World) -> Option<Todo>
     Some(next(context, world))
 }
 
-// Answers a call of a process with a frame; no procedure is entered.
+/// Answers a call of a process with a frame; no procedure is entered.
 fn answer(context: &mut Context, world: &World, call: &Call, reply: Reply)
     requires { AreFrames world.now context.old }
     ensures { AreFrames world.now context.new }
@@ -75,7 +75,7 @@ fn answer(context: &mut Context, world: &World, call: &Call, reply: Reply)
     }
 }
 
-// Answers a call of a process with a frame, by which it enters a procedure of this code.
+/// Answers a call of a process with a frame, by which it enters a procedure of this code.
 fn enter(context: &mut Context, world: &World, call: &Call, code: u16)
     requires frames { AreFrames world.now context.old }
     requires code { code < length world.now.codes }
@@ -92,7 +92,7 @@ fn enter(context: &mut Context, world: &World, call: &Call, code: u16)
     }
 }
 
-// A world whose first code counts to 3 before its call, and then asks whether this was refused.
+/// A world whose first code counts to 3 before its call, and then asks whether this was refused.
 fn counts_to_three(alloc: Global) -> Result<World, Fail>
     ensures { IfOk result (λ world. length world.codes ≡ 2) }
 {
@@ -143,7 +143,7 @@ fn a_loop_counts_up_to_its_call_and_a_refusal_is_told(rt: HostRuntime) -> Result
     Ok(())
 }
 
-// A world whose first code calls a procedure of its second.
+/// A world whose first code calls a procedure of its second.
 fn calls_a_procedure(alloc: Global, args: Args) -> Result<World, Fail>
     requires { IsArguments args }
     ensures { IfOk result (λ world. length world.codes ≡ 2) }
@@ -189,7 +189,7 @@ fn an_enter_puts_a_frame_on_top_and_a_return_takes_it(rt: HostRuntime) -> Result
     Ok(())
 }
 
-// Each law is called once, of a world without objects and processes and of no lines.
+/// Each law is called once, of a world without objects and processes and of no lines.
 #[test]
 fn laws_of_no_lines(rt: HostRuntime) -> Result<(), Fail> {
     let alloc = rt.alloc();

@@ -3,7 +3,7 @@ use hk_model::Proc;
 use std::alloc::AllocError;
 use std::test::Fail;
 
-// Processes 1 and 3 are ready, 0 waits at the last of two semaphores.
+/// Processes 1 and 3 are ready, 0 waits at the last of two semaphores.
 #[test]
 fn processes_go_from_list_to_list(rt: HostRuntime) -> Result<(), Fail> {
     let Ok(mut queues) = Queues::with(rt.alloc(), 2, 4) else {

@@ -4,7 +4,7 @@ use hk_objects::{Objects, SlotNo};
 use std::alloc::AllocError;
 use std::test::Fail;
 
-// In a table where nothing stands nothing can go.
+/// In a table where nothing stands nothing can go.
 #[test]
 fn nothing_goes_where_nothing_stands(rt: HostRuntime) -> Result<(), Fail> {
     let Ok(mut objects) = Objects::with_room(rt.alloc()) else {

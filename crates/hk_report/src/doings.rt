@@ -46,7 +46,7 @@ pub struct Before {
     pub enters: Option<Inc>,
 }
 
-// The object that a call changes where it is done.
+/// The object that a call changes where it is done.
 fn named_change(kernel: &Plain, inc: Inc, call: &Call) -> Option<Name>
     ensures { result ≡ named_change kernel.now inc (Some call.now) }
 {
@@ -62,7 +62,7 @@ fn named_change(kernel: &Plain, inc: Inc, call: &Call) -> Option<Name>
     }
 }
 
-// What is known of a call that is done, before it.
+/// What is known of a call that is done, before it.
 fn before_call(kernel: &Plain, inc: Inc, call: &Call) -> Before
     ensures { result ≡ before_call kernel.now inc (Some call.now) }
 {
@@ -83,7 +83,7 @@ fn before_call(kernel: &Plain, inc: Inc, call: &Call) -> Before
     }
 }
 
-// Whether an event with this reply is a call that was refused.
+/// Whether an event with this reply is a call that was refused.
 fn is_refusal(reply: &Reply) -> bool
     ensures { result ≡ is_refusal reply.now }
 {
@@ -116,7 +116,7 @@ pub(crate) fn before_line(kernel: &Plain, line: &Line) -> Before
     }
 }
 
-// Whether a live incarnation is confined.
+/// Whether a live incarnation is confined.
 fn is_confined(kernel: &Plain, inc: Inc) -> bool
     ensures { result ≡ (incarnation kernel.now inc).confined }
 {

@@ -38,7 +38,7 @@ pub(crate) fn calls_over(families: &[Items<Begun>], inc: Inc) -> &[Begun]
     }
 }
 
-// The calls that a new incarnation is under, by those that its caller is under.
+/// The calls that a new incarnation is under, by those that its caller is under.
 fn calls_entered(
     alloc: Global,
     moment: u32,
@@ -61,7 +61,7 @@ fn calls_entered(
     Ok(Items::from_vec(calls))
 }
 
-// One family more, where the line has entered a procedure.
+/// One family more, where the line has entered a procedure.
 fn add_family(
     alloc: Global,
     families: &mut Vec<Items<Begun>>,
@@ -83,7 +83,7 @@ fn add_family(
     Ok(())
 }
 
-// The change of an object, under each of these calls.
+/// The change of an object, under each of these calls.
 fn add_each(
     changes: &mut Vec<BareChange>,
     moment: u32,
@@ -102,7 +102,7 @@ fn add_each(
     Ok(())
 }
 
-// What a line changes, under each of the calls that it is under.
+/// What a line changes, under each of the calls that it is under.
 fn add_changes(
     changes: &mut Vec<BareChange>,
     moment: u32,
@@ -117,7 +117,7 @@ fn add_changes(
     }
 }
 
-// No call over each of the incarnations below this number.
+/// No call over each of the incarnations below this number.
 fn no_families(alloc: Global, below: Inc) -> Result<Vec<Items<Begun>>, NoMemory>
     ensures { IfOk result (λ families. families.items ≡ replicate below.0 []) }
 {

@@ -45,7 +45,7 @@ pub struct History {
     pub spans: Items<Span>,
 }
 
-// The capability at an index of a list.
+/// The capability at an index of a list.
 fn cap_at(entries: &[Entry], index: usize) -> Option<Cap>
     ensures { result ≡ option_and_then cap_of (slice_get entries.now index) }
 {
@@ -56,14 +56,14 @@ fn cap_at(entries: &[Entry], index: usize) -> Option<Cap>
     }
 }
 
-// Whether two capabilities are the same.
+/// Whether two capabilities are the same.
 fn same_cap(a: Cap, b: Cap) -> bool
     ensures { result ≡ same_cap a b }
 {
     a.name.0 == b.name.0 && a.rights.bits() == b.rights.bits()
 }
 
-// Whether what stood at an index stands there still.
+/// Whether what stood at an index stands there still.
 fn stays(old: &Option<Since>, new: &Option<Cap>) -> bool
     ensures { result ≡ stays old.now new.now }
 {
@@ -76,7 +76,7 @@ fn stays(old: &Option<Since>, new: &Option<Cap>) -> bool
     }
 }
 
-// What stands at an index from a moment on, where this stood there before.
+/// What stands at an index from a moment on, where this stood there before.
 fn since_by(moment: u32, old: &Option<Since>, new: &Option<Cap>) -> Option<Since>
     ensures { result ≡ since_by moment old.now new.now }
 {
@@ -92,7 +92,7 @@ fn since_by(moment: u32, old: &Option<Since>, new: &Option<Cap>) -> Option<Since
     }
 }
 
-// What stood at an index up to a moment.
+/// What stood at an index up to a moment.
 fn ended_by(moment: u32, index: u16, old: &Option<Since>, new: &Option<Cap>) -> Option<Span>
     ensures { result ≡ ended_by moment index old.now new.now }
 {
@@ -110,7 +110,7 @@ fn ended_by(moment: u32, index: u16, old: &Option<Since>, new: &Option<Cap>) -> 
     }
 }
 
-// One span more, if there is one.
+/// One span more, if there is one.
 fn add(spans: &mut Items<Span>, span: Option<Span>) -> Result<(), NoMemory>
     ensures { OnOk result (spans.new ≡ spans.old ++ added span) }
 {
@@ -120,7 +120,7 @@ fn add(spans: &mut Items<Span>, span: Option<Span>) -> Result<(), NoMemory>
     Ok(())
 }
 
-// What stands at each index of a list, at as many as this at least.
+/// What stands at each index of a list, at as many as this at least.
 fn padded(
     alloc: Global,
     now: &[Option<Since>],
@@ -139,7 +139,7 @@ fn padded(
     Ok(all)
 }
 
-// A list has these entries from a moment on.
+/// A list has these entries from a moment on.
 fn relist(
     alloc: Global,
     history: &mut History,
@@ -167,7 +167,7 @@ fn relist(
     Ok(())
 }
 
-// A history of nothing.
+/// A history of nothing.
 fn no_history(alloc: Global) -> History
     ensures { result ≡ no_history }
 {
@@ -178,7 +178,7 @@ fn no_history(alloc: Global) -> History
     }
 }
 
-// Histories of nothing behind these, up to a name.
+/// Histories of nothing behind these, up to a name.
 fn reach_up(alloc: Global, histories: &mut Vec<History>, name: Name) -> Result<(), NoMemory>
     ensures { OnOk result (histories.new.items ≡ histories.old.items ++ replicate (name.0 - length histories.old.items) no_history) }
 {
@@ -189,7 +189,7 @@ fn reach_up(alloc: Global, histories: &mut Vec<History>, name: Name) -> Result<(
     Ok(())
 }
 
-// The list of the object of this name has these entries from a moment on.
+/// The list of the object of this name has these entries from a moment on.
 fn touch(
     alloc: Global,
     histories: &mut Vec<History>,
@@ -213,7 +213,7 @@ fn touch(
     }
 }
 
-// The list of an object; an object that does not stand has none.
+/// The list of an object; an object that does not stand has none.
 fn entries_of(kernel: &Plain, name: Name) -> &[Entry]
     ensures same { result.now ≡ (object kernel.now name).entries }
     ensures few { length result.now ≤ entry_limit }
@@ -236,7 +236,7 @@ pub(crate) fn opened_histories(alloc: Global, kernel: &Plain) -> Result<Vec<Hist
     Ok(all)
 }
 
-// The object whose list a line can have changed or made.
+/// The object whose list a line can have changed or made.
 fn touched_name(doing: &Doing) -> Option<Name>
     ensures { result ≡ touched_name doing.now }
 {
@@ -246,7 +246,7 @@ fn touched_name(doing: &Doing) -> Option<Name>
     }
 }
 
-// Who has made the object, where a line has made one.
+/// Who has made the object, where a line has made one.
 fn maker_of(doing: &Doing) -> Option<Inc>
     ensures { result ≡ maker_of doing.now }
 {

@@ -15,7 +15,7 @@ pub struct Held {
     pub span: Span,
 }
 
-// No spans hold the objects that come next, up to a name.
+/// No spans hold the objects that come next, up to a name.
 fn reach_up(alloc: Global, all: &mut Vec<Items<Held>>, name: Name) -> Result<(), NoMemory>
     ensures { OnOk result (all.new.items ≡ all.old.items ++ replicate (name.0 - length all.old.items) []) }
 {
@@ -26,7 +26,7 @@ fn reach_up(alloc: Global, all: &mut Vec<Items<Held>>, name: Name) -> Result<(),
     Ok(())
 }
 
-// One span more, which holds an object.
+/// One span more, which holds an object.
 fn add(alloc: Global, all: &mut Vec<Items<Held>>, held: Held) -> Result<(), NoMemory>
     ensures { OnOk result (all.new.items ≡ one_more held all.old.items) }
 {
@@ -46,7 +46,7 @@ fn add(alloc: Global, all: &mut Vec<Items<Held>>, held: Held) -> Result<(), NoMe
     }
 }
 
-// The spans of a list more.
+/// The spans of a list more.
 fn add_spans(
     alloc: Global,
     all: &mut Vec<Items<Held>>,

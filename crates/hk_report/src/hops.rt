@@ -64,14 +64,14 @@ pub(crate) struct Ground<'a> {
     ghost held: { AreHolders histories.now holders.now },
 }
 
-// Whether two calls are the same.
+/// Whether two calls are the same.
 fn same_begun(a: Begun, b: Begun) -> bool
     ensures { result ≡ same_begun a b }
 {
     a.call.0 == b.call.0 && a.moment == b.moment
 }
 
-// Whether a call is one of these.
+/// Whether a call is one of these.
 fn has_begun(begun: Begun, calls: &[Begun]) -> bool
     ensures { result ≡ has_begun begun calls.now }
 {
@@ -83,14 +83,14 @@ fn has_begun(begun: Begun, calls: &[Begun]) -> bool
     false
 }
 
-// The later of two moments.
+/// The later of two moments.
 fn later(a: u32, b: u32) -> u32
     ensures { result ≡ later a b }
 {
     if a < b { b } else { a }
 }
 
-// The lesser of two bounds.
+/// The lesser of two bounds.
 fn lesser(a: u32, b: u32) -> u32
     ensures { result ≡ lesser a b }
 {
@@ -109,7 +109,7 @@ pub(crate) fn arrived_by(moment: u32, cap: Cap) -> Arrived
     }
 }
 
-// An object that was made under the call stands good for both.
+/// An object that was made under the call stands good for both.
 fn arrived_whole(moment: u32, cap: Cap) -> Arrived
     ensures { result ≡ arrived_whole moment cap }
 {
@@ -121,14 +121,14 @@ fn arrived_whole(moment: u32, cap: Cap) -> Arrived
     }
 }
 
-// Whether the rest can be made from there.
+/// Whether the rest can be made from there.
 fn is_good(to: &Arrived, latest: Latest) -> bool
     ensures { result ≡ is_good to.now latest }
 {
     (to.modify && to.moment < latest.modify) || (to.unconf && to.moment < latest.unconf)
 }
 
-// The hop by the entry, where it can be made and the rest after it.
+/// The hop by the entry, where it can be made and the rest after it.
 fn entry_onward(from: &Arrived, span: &Span, latest: Latest) -> Option<Onward>
     ensures { result ≡ entry_onward from.now span.now latest }
 {
@@ -145,7 +145,7 @@ fn entry_onward(from: &Arrived, span: &Span, latest: Latest) -> Option<Onward>
     }
 }
 
-// The hop to what was made under the call, where it can be made and the rest after it.
+/// The hop to what was made under the call, where it can be made and the rest after it.
 fn handed_onward(from: &Arrived, span: &Span, latest: Latest, made: bool) -> Option<Onward>
     ensures { result ≡ handed_onward from.now span.now latest made }
 {
@@ -162,7 +162,7 @@ fn handed_onward(from: &Arrived, span: &Span, latest: Latest, made: bool) -> Opt
     }
 }
 
-// The index of a hop.
+/// The index of a hop.
 fn index_of(hop: &Hop) -> u16
     ensures { result ≡ index_of hop.now }
 {
@@ -172,7 +172,7 @@ fn index_of(hop: &Hop) -> u16
     }
 }
 
-// The moment of a hop.
+/// The moment of a hop.
 fn moment_of(hop: &Hop) -> u32
     ensures { result ≡ moment_of hop.now }
 {
@@ -182,7 +182,7 @@ fn moment_of(hop: &Hop) -> u32
     }
 }
 
-// Whether a hop comes before another: by its moment, then its index, then an entry before what is handed.
+/// Whether a hop comes before another: by its moment, then its index, then an entry before what is handed.
 #[tactic(auto, using(crate::proofs::HopLemmas::moment_first, crate::proofs::HopLemmas::index_first, crate::proofs::HopLemmas::handed_last))]
 fn comes_before(a: &Hop, b: &Hop) -> bool
     ensures { result ≡ is_lt (slice_cmp nat_cmp (hop_key a.now) (hop_key b.now)) }
@@ -199,7 +199,7 @@ fn comes_before(a: &Hop, b: &Hop) -> bool
     }
 }
 
-// The hop that comes first of those that there are.
+/// The hop that comes first of those that there are.
 fn earlier(a: Option<Onward>, b: Option<Onward>) -> Option<Onward>
     ensures { result ≡ earlier a b }
 {
@@ -218,7 +218,7 @@ fn earlier(a: Option<Onward>, b: Option<Onward>) -> Option<Onward>
     }
 }
 
-// From which moments a hop over a span can be made at its list, where the rest can be from below a bound.
+/// From which moments a hop over a span can be made at its list, where the rest can be from below a bound.
 fn from_on(span: &Span, bound: u32) -> u32
     ensures { result ≡ from_on span.now bound }
 {
@@ -226,14 +226,14 @@ fn from_on(span: &Span, bound: u32) -> u32
     if span.from < bound { bound } else { 0 }
 }
 
-// The greater of two bounds.
+/// The greater of two bounds.
 fn greater(a: u32, b: u32) -> u32
     ensures { result ≡ greater a b }
 {
     if a < b { b } else { a }
 }
 
-// From which moments a hop by the entry can be made.
+/// From which moments a hop by the entry can be made.
 fn entry_bound(span: &Span, latest: Latest) -> u32
     ensures { result ≡ entry_bound span.now latest }
 {
@@ -250,7 +250,7 @@ fn entry_bound(span: &Span, latest: Latest) -> u32
     from_on(span, greater(modify, unconf))
 }
 
-// From which moments it can be made to what was made under the call.
+/// From which moments it can be made to what was made under the call.
 fn handed_bound(span: &Span, latest: Latest, made: bool) -> u32
     ensures { result ≡ handed_bound span.now latest made }
 {
@@ -261,7 +261,7 @@ fn handed_bound(span: &Span, latest: Latest, made: bool) -> u32
     }
 }
 
-// The greater bounds of two.
+/// The greater bounds of two.
 fn joined(a: Latest, b: Latest) -> Latest
     ensures { result ≡ joined a b }
 {
@@ -271,7 +271,7 @@ fn joined(a: Latest, b: Latest) -> Latest
     }
 }
 
-// From which moments a hop over a span can be made, and the rest after it.
+/// From which moments a hop over a span can be made, and the rest after it.
 fn latest_over(span: &Span, latest: Latest, made: bool) -> Latest
     ensures { result ≡ latest_over span.now latest made }
 {
@@ -282,7 +282,7 @@ fn latest_over(span: &Span, latest: Latest, made: bool) -> Latest
 }
 
 impl Level {
-    // No rest can be made.
+    /// No rest can be made.
     fn none(alloc: Global) -> Level
         ensures { latest_at result ≡ (λ _. record { modify = 0; unconf = 0 }) }
     {
@@ -304,7 +304,7 @@ impl Level {
         Ok(level)
     }
 
-    // From which moments the rest can be made at an object.
+    /// From which moments the rest can be made at an object.
     fn at(&self, name: Name) -> Latest
         ensures { result ≡ latest_at self.now name }
     {
@@ -317,7 +317,7 @@ impl Level {
         }
     }
 
-    // The rest can be made from these moments at an object, too.
+    /// The rest can be made from these moments at an object, too.
     #[tactic(auto, using(crate::proofs::Raising::none_raised))]
     fn raise(&mut self, name: Name, latest: Latest) -> Result<(), NoMemory>
         ensures { OnOk result (latest_at self.new ≡ raised_at (latest_at self.old) name latest) }
@@ -345,7 +345,7 @@ impl<'a> Ground<'a> {
         }
     }
 
-    // The spans of an object's list.
+    /// The spans of an object's list.
     fn spans_of(&self, name: Name) -> &[Span]
         ensures { result.now ≡ (history_of self.now.histories.now name).spans }
     {
@@ -355,7 +355,7 @@ impl<'a> Ground<'a> {
         }
     }
 
-    // The first hop over a span after which the rest can be made.
+    /// The first hop over a span after which the rest can be made.
     #[tactic(auto, using(crate::proofs::Raising::none_onward))]
     fn onward_over(&self, level: &Level, from: &Arrived, span: &Span) -> Option<Onward>
         ensures { result ≡ onward_over (is_made self.now.families.now self.now.begun self.now.histories.now) (latest_at level.now) from.now span.now }
@@ -371,7 +371,7 @@ impl<'a> Ground<'a> {
         )
     }
 
-    // The hop that comes first of one and those over a span.
+    /// The hop that comes first of one and those over a span.
     #[tactic(auto, using(crate::proofs::HopLemmas::stays_first))]
     fn earlier_over(
         &self,
@@ -402,7 +402,7 @@ impl<'a> Ground<'a> {
         first
     }
 
-    // The spans that hold an object.
+    /// The spans that hold an object.
     fn holders_of(&self, name: Name) -> &[Held]
         ensures { result.now ≡ holders_of self.now.histories.now name }
     {
@@ -412,7 +412,7 @@ impl<'a> Ground<'a> {
         }
     }
 
-    // What is kept for an object gives to those that held it.
+    /// What is kept for an object gives to those that held it.
     fn raise_holders(&self, next: &mut Level, name: Name, latest: Latest) -> Result<(), NoMemory>
         ensures { OnOk result (latest_at next.new ≡ raised_over latest (is_made self.now.families.now self.now.begun self.now.histories.now name) (latest_at next.old) (holders_of self.now.histories.now name)) }
     {

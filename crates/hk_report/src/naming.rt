@@ -8,7 +8,7 @@ use hk_model::{Entry, Inc, Name, Path, Template};
 use hk_plain::Plain;
 use std::marker::PhantomData;
 
-// The object that a capability names; of another entry the name 0.
+/// The object that a capability names; of another entry the name 0.
 fn object_named(entry: &Entry) -> Name
     ensures { result ≡ object_named entry.now }
 {
@@ -20,7 +20,7 @@ fn object_named(entry: &Entry) -> Name
     }
 }
 
-// The object that is named in a slot of an incarnation.
+/// The object that is named in a slot of an incarnation.
 fn named_in_slot(kernel: &Plain, inc: Inc, slot: u16) -> Name
     ensures { result ≡ object_named (standing kernel.now (places.SlotOf inc slot)) }
 {
@@ -33,7 +33,7 @@ fn named_in_slot(kernel: &Plain, inc: Inc, slot: u16) -> Name
     }
 }
 
-// The object that is named at an index of an object's list.
+/// The object that is named at an index of an object's list.
 fn named_in_list(kernel: &Plain, name: Name, index: u16) -> Name
     ensures { result ≡ object_named (standing kernel.now (places.EntryOf name index)) }
 {

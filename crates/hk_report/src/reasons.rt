@@ -28,7 +28,7 @@ pub(crate) struct Grounds<'a> {
 }
 
 impl<'a> Grounds<'a> {
-    // The merged parameters of a call.
+    /// The merged parameters of a call.
     fn params_of(&self, begun: Begun) -> &[Entry]
         ensures same { result.now ≡ params_at self.now.params.now begun.moment }
         ensures few { length result.now ≤ 8 }
@@ -39,7 +39,7 @@ impl<'a> Grounds<'a> {
         }
     }
 
-    // Why a change could be made.
+    /// Why a change could be made.
     fn reason(&self, alloc: Global, bare: &BareChange) -> Result<Reach, NoMemory>
         requires { bare.now.moment + 1 < 2 ^ 32 }
         ensures { IfOk result (λ reach. IsReasoned self.now.families.now self.now.histories.now self.now.params.now bare.now reach) }
@@ -62,7 +62,7 @@ impl<'a> Grounds<'a> {
         search.least(alloc)
     }
 
-    // A change with its reason.
+    /// A change with its reason.
     fn explain(&self, alloc: Global, bare: &BareChange) -> Result<Change, NoMemory>
         requires { bare.now.moment + 1 < 2 ^ 32 }
         ensures { IfOk result (λ change. IsTold self.now.families.now self.now.histories.now self.now.params.now bare.now change) }

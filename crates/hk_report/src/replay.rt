@@ -37,7 +37,7 @@ pub struct Telling {
     pub histories: Vec<History>,
 }
 
-// How many parameters the call has that a line has begun.
+/// How many parameters the call has that a line has begun.
 fn param_count(line: &Line) -> usize
     ensures value { result ≡ param_count (done_call line.now) }
     ensures few { result ≤ 8 }
@@ -51,7 +51,7 @@ fn param_count(line: &Line) -> usize
     }
 }
 
-// The merged parameters of the call that a line has begun, by a kernel in the state behind it.
+/// The merged parameters of the call that a line has begun, by a kernel in the state behind it.
 fn params_behind(
     alloc: Global,
     kernel: &Plain,
@@ -89,7 +89,7 @@ pub(crate) fn replayed(alloc: Global, world: &World, lines: &[Line]) -> Result<R
 }
 
 impl Telling {
-    // What no line tells yet, by a kernel in the state of the opening.
+    /// What no line tells yet, by a kernel in the state of the opening.
     fn begin(alloc: Global, kernel: &Plain, count: usize) -> Result<Telling, NoMemory>
         ensures first { IfOk result (λ t. t.replay.first ≡ kernel.now.next_inc) }
         ensures doings { IfOk result (λ t. t.replay.doings.items ≡ []) }
@@ -107,8 +107,8 @@ impl Telling {
         })
     }
 
-    // What a line tells, by a kernel in the state behind it. `moment` is the number of lines up to and
-    // with it.
+    /// What a line tells, by a kernel in the state behind it. `moment` is the number of lines up to and
+    /// with it.
     fn add(
         &mut self,
         alloc: Global,

@@ -28,7 +28,7 @@ pub(crate) struct Search<'a> {
     pub before: u32,
 }
 
-// Whether an entry is a capability for this object with MODIFY.
+/// Whether an entry is a capability for this object with MODIFY.
 fn is_direct(entry: &Entry, wanted: Name) -> bool
     ensures { result ≡ is_direct wanted entry.now }
 {
@@ -39,7 +39,7 @@ fn is_direct(entry: &Entry, wanted: Name) -> bool
     }
 }
 
-// The first parameter of this object with MODIFY.
+/// The first parameter of this object with MODIFY.
 fn direct_param(params: &[Entry], wanted: Name) -> Option<u8>
     requires { length params.now ≤ 8 }
     ensures { result ≡ direct_param wanted 0 params.now }
@@ -54,7 +54,7 @@ fn direct_param(params: &[Entry], wanted: Name) -> Option<u8>
 }
 
 impl<'a> Search<'a> {
-    // The first hop from the object of an entry after which the rest can be made.
+    /// The first hop from the object of an entry after which the rest can be made.
     fn onward_at(&self, level: &Level, entry: &Entry) -> Option<Onward>
         ensures { result ≡ onward_at (is_made self.now.ground.families.now self.now.ground.begun self.now.ground.histories.now) self.now.ground.histories.now self.now.ground.begun.moment (latest_at level.now) entry.now }
     {
@@ -68,7 +68,7 @@ impl<'a> Search<'a> {
         }
     }
 
-    // The first parameter from whose object the rest can be made after a hop.
+    /// The first parameter from whose object the rest can be made after a hop.
     fn first_start(&self, level: &Level) -> Option<Start>
         requires { length self.now.params.now ≤ 8 }
         ensures { result ≡ first_start (is_made self.now.ground.families.now self.now.ground.begun self.now.ground.histories.now) self.now.ground.histories.now self.now.ground.begun.moment (latest_at level.now) 0 self.now.params.now }
@@ -82,7 +82,7 @@ impl<'a> Search<'a> {
         None
     }
 
-    // The hops that are left, behind those that are there, with these levels.
+    /// The hops that are left, behind those that are there, with these levels.
     #[tactic(auto, using(crate::proofs::SearchLemmas::level_is, crate::proofs::SearchLemmas::goes_some, crate::proofs::SearchLemmas::goes_none))]
     fn go_down(
         &self,
@@ -108,8 +108,8 @@ impl<'a> Search<'a> {
         Ok(())
     }
 
-    // The least reach of at least one hop: with fewer hops first. Where a reach is there, the levels
-    // end at the number of its hops.
+    /// The least reach of at least one hop: with fewer hops first. Where a reach is there, the levels
+    /// end at the number of its hops.
     #[tactic(auto, using(crate::proofs::SearchLemmas::as_many, crate::proofs::SearchLemmas::none_fewer))]
     fn least_behind(&self, alloc: Global) -> Result<Reach, NoMemory>
         requires { length self.now.params.now ≤ 8 }

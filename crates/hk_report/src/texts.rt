@@ -22,7 +22,7 @@ pub fn changes_text(alloc: Global, changes: &[Change]) -> Result<Text, NoMemory>
     Ok(Text::from_string(out))
 }
 
-// Writes the line of a change.
+/// Writes the line of a change.
 fn write_change(out: &mut String, change: &Change) -> Result<(), NoMemory>
     ensures { OnOk result (string_bytes out.new ≡ string_bytes out.old ++ change_text change.now) }
 {
@@ -33,7 +33,7 @@ fn write_change(out: &mut String, change: &Change) -> Result<(), NoMemory>
     Ok(())
 }
 
-// Writes why a call may change an object.
+/// Writes why a call may change an object.
 fn write_reach(out: &mut String, reach: &Reach) -> Result<(), NoMemory>
     ensures { OnOk result (string_bytes out.new ≡ string_bytes out.old ++ reach_text reach.now) }
 {
@@ -49,7 +49,7 @@ fn write_reach(out: &mut String, reach: &Reach) -> Result<(), NoMemory>
     }
 }
 
-// Writes hops, each behind a blank.
+/// Writes hops, each behind a blank.
 fn write_hops(out: &mut String, hops: &[Hop]) -> Result<(), NoMemory>
     ensures { OnOk result (string_bytes out.new ≡ string_bytes out.old ++ flat_map hop_text hops.now) }
 {
@@ -59,7 +59,7 @@ fn write_hops(out: &mut String, hops: &[Hop]) -> Result<(), NoMemory>
     Ok(())
 }
 
-// Writes a hop behind a blank.
+/// Writes a hop behind a blank.
 fn write_hop(out: &mut String, hop: Hop) -> Result<(), NoMemory>
     ensures { OnOk result (string_bytes out.new ≡ string_bytes out.old ++ hop_text hop) }
 {

@@ -128,7 +128,7 @@ impl Right {
         }
     }
 
-    // The right of the lowest bit of a rights word that is not 0.
+    /// The right of the lowest bit of a rights word that is not 0.
     pub(crate) fn lowest(word: u32) -> Right
         requires rights { IsRightsWord word }
         requires some { 0 < word }

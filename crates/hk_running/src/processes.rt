@@ -35,7 +35,7 @@ impl Model for Processes {
     ghost invariant = { λ p. IsPlaced p.all.items p.places p.live };
 }
 
-// Whether a process is ready or runs.
+/// Whether a process is ready or runs.
 fn runner_lives(run: ProcessState) -> bool
     ensures { result ≡ runner_lives run }
 {
@@ -45,7 +45,7 @@ fn runner_lives(run: ProcessState) -> bool
     }
 }
 
-// How many processes are live.
+/// How many processes are live.
 fn count_live(all: &[Process]) -> usize
     ensures { result ≡ count_by (λ (p : Process). runner_lives p.run) all.now }
 {
@@ -54,7 +54,7 @@ fn count_live(all: &[Process]) -> usize
         .count()
 }
 
-// The number of live processes after one of them does something else.
+/// The number of live processes after one of them does something else.
 fn recounted(live: usize, before: ProcessState, after: ProcessState) -> usize
     requires counted { weight before ≤ live }
     requires few { live ≤ 256 }
@@ -68,7 +68,7 @@ fn recounted(live: usize, before: ProcessState, after: ProcessState) -> usize
     }
 }
 
-// The process in the place of a processor.
+/// The process in the place of a processor.
 fn place_of(places: &[Option<Proc>; 16], cpu: Cpu) -> Option<Proc>
     ensures { result ≡ place_of places.now cpu }
 {
@@ -78,7 +78,7 @@ fn place_of(places: &[Option<Proc>; 16], cpu: Cpu) -> Option<Proc>
     }
 }
 
-// A processor runs no more what it ran.
+/// A processor runs no more what it ran.
 fn free(places: &mut [Option<Proc>; 16], before: ProcessState)
     ensures value { places.new ≡ freed places.old before }
     ensures many { length places.new ≡ 16 }

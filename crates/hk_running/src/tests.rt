@@ -3,7 +3,7 @@ use hk_model::{Cpu, Inc, Proc, Process, ProcessState};
 use std::alloc::{AllocError, Global};
 use std::test::Fail;
 
-// Two ready processes.
+/// Two ready processes.
 fn two(alloc: Global) -> Result<Processes, AllocError> {
     let first = Process {
         run: ProcessState::Ready,
@@ -16,7 +16,7 @@ fn two(alloc: Global) -> Result<Processes, AllocError> {
     Ok(Processes::new(vec![in alloc; first, second]?))
 }
 
-// Process 1 runs on processor 3, if that runs nothing.
+/// Process 1 runs on processor 3, if that runs nothing.
 fn started(processes: &mut Processes) -> bool {
     if processes.runner(Cpu(3)).is_some() {
         return false;

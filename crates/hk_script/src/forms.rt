@@ -17,6 +17,7 @@ use crate::errors::LineError;
 use crate::line::Line;
 use crate::verbs::verb_of;
 use hk_format::{ParseCause, Verb};
+use hk_model::limits::{INDEX_BOUND, SLOT_LIMIT};
 use hk_model::{Index, Items, Operand, Route, Slot, Text};
 use hk_text::{PieceKind, first_of, is_register, value};
 use std::alloc::Global;
@@ -202,7 +203,7 @@ fn path(alloc: Global, text: &[u8]) -> Result<Route, LineError>
     requires { AreIndices (cut_points text.now) }
     ensures { Gives (λ x. x) result (as_route (Path (map index_of (cut_points text.now)))) }
 {
-    path_on(Items::new(alloc), text, 64)
+    path_on(Items::new(alloc), text, SLOT_LIMIT as u32)
 }
 
 /// The path of these indices and of those in the text, the first of which is to be below the bound.
@@ -216,7 +217,7 @@ fn path_on(mut at: Items<Index>, text: &[u8], bound: u32) -> Result<Route, LineE
     if len == text.len() {
         return Ok(Route { at });
     }
-    path_on(at, &text[len..][1..], 65536)
+    path_on(at, &text[len..][1..], INDEX_BOUND)
 }
 
 /// An index that is a register, or a number below the bound.

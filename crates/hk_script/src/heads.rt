@@ -10,6 +10,7 @@ ghost use Rattle.hk_script.specs.Outcomes.{Reads};
 use crate::errors::LineError;
 use crate::line::Line;
 use hk_format::{Head, ParseCause, Verb};
+use hk_model::limits::{EVENT_LIMIT, TOKEN_LIMIT};
 use std::alloc::Global;
 
 impl<'a> Line<'a> {
@@ -54,7 +55,7 @@ impl<'a> Line<'a> {
     fn limit(&mut self) -> Result<Head, LineError>
         ensures { Reads (λ x. x) result (rest self.new) (head_of verb.Limit (rest self.old)) }
     {
-        let n = self.number_in(1, 1_000_000)?;
+        let n = self.number_in(1, EVENT_LIMIT)?;
         self.end()?;
         Ok(Head::LimitIs(n))
     }
@@ -83,7 +84,7 @@ impl<'a> Line<'a> {
         ensures { Reads (λ x. x) result (rest self.new) (head_of verb.Semaphore (rest self.old)) }
     {
         let name = self.name(alloc)?;
-        let count = self.number_in(0, 65_535)?;
+        let count = self.number_in(0, TOKEN_LIMIT)?;
         self.end()?;
         Ok(Head::SemaphoreIs { name, count })
     }

@@ -4,7 +4,7 @@ use hk_text::lines;
 use std::alloc::Global;
 use std::test::Fail;
 
-// What reading a source of at most a million bytes answers: the number of items.
+/// What reading a source of at most a million bytes answers: the number of items.
 #[tactic(auto, using(hk_text::proofs::LineCount::lines_few))]
 fn count(alloc: Global, source: &[u8]) -> Option<Result<usize, ParseError>> {
     if source.len() > 1_000_000 {
@@ -71,11 +71,11 @@ fn refuses_the_first_cause(rt: HostRuntime) -> Result<(), Fail> {
     Ok(())
 }
 
-// A script of an object, a code and a process.
+/// A script of an object, a code and a process.
 const SMALLEST: &[u8] =
     b"hydra 1\nobject d DATA\nwords 7\nend\ncode main\ngetdata 0 0 r0\nend\nprocess a main\ncap d GETDATA\nend\n";
 
-// What reading so many bytes of it answers.
+/// What reading so many bytes of it answers.
 fn count_of_cut(alloc: Global, len: usize) -> Option<Result<usize, ParseError>> {
     match SMALLEST.get(..len) {
         Some(cut) => count(alloc, cut),
@@ -121,7 +121,7 @@ fn reads_the_items(rt: HostRuntime) -> Result<(), Fail> {
     Ok(())
 }
 
-// The law of the lines and the items of a source of at most a million bytes.
+/// The law of the lines and the items of a source of at most a million bytes.
 #[tactic(auto, using(hk_text::proofs::LineCount::lines_few))]
 fn spelled(alloc: Global, source: &[u8]) {
     if source.len() > 1_000_000 {

@@ -11,7 +11,7 @@ use hk_model::{Cpu, Kernel, Line, Reply, What};
 use hk_procs::{Asked, Noted};
 
 impl<K: Kernel, J: Naming> Book<K, J> {
-    // Asks for a process for the processor, and gives the note of its dispatch if there is one.
+    /// Asks for a process for the processor, and gives the note of its dispatch if there is one.
     pub(crate) fn ask(&mut self, cpu: Cpu) -> (Option<Noted>, Asked)
         requires sound { IsSound K.state J.world self.old }
         requires cpu { cpu.0 < 16 }
@@ -28,14 +28,14 @@ impl<K: Kernel, J: Naming> Book<K, J> {
         self.dispatch(cpu)
     }
 
-    // Whether the limit is reached, or no process is ready and none runs.
+    /// Whether the limit is reached, or no process is ready and none runs.
     fn is_over(&self) -> bool
         ensures { result ≡ (not (may_step (K.state self.now.kernel)) || is_over (K.state self.now.kernel)) }
     {
         self.kernel.limit_reached() || self.kernel.over()
     }
 
-    // Gives the processor the first ready process, if there is one.
+    /// Gives the processor the first ready process, if there is one.
     fn dispatch(&mut self, cpu: Cpu) -> (Option<Noted>, Asked)
         requires sound { IsSound K.state J.world self.old }
         requires cpu { cpu.0 < 16 }

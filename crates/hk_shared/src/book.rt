@@ -74,7 +74,7 @@ impl<K: Kernel, J: Naming> Book<K, J> {
     }
 }
 
-// The note of a line.
+/// The note of a line.
 pub(crate) fn noted(line: &Line) -> Noted
     ensures { result ≡ Event line.now }
 {

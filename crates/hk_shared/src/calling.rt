@@ -16,7 +16,7 @@ use hk_program::{Context, carry_out};
 use std::alloc::Global;
 
 impl<K: Kernel, J: Naming> Book<K, J> {
-    // Makes what is next for the process, and gives the note of it if there is one.
+    /// Makes what is next for the process, and gives the note of it if there is one.
     pub(crate) fn call(
         &mut self,
         alloc: Global,
@@ -44,7 +44,7 @@ impl<K: Kernel, J: Naming> Book<K, J> {
         self.carry(alloc, cpu, proc, inc, context, todo)
     }
 
-    // Carries out what is next for the process.
+    /// Carries out what is next for the process.
     fn carry(
         &mut self,
         alloc: Global,

@@ -49,7 +49,7 @@ impl<K: Kernel, J: Naming> Desk for Shared<K, J> {
     }
 }
 
-// Gives a turn back with a note of its pass, if there is one.
+/// Gives a turn back with a note of its pass, if there is one.
 fn give_back<K: Kernel, J: Naming>(turn: Turn<'_, Book<K, J>>, note: Option<Noted>) -> Pass<Noted>
     requires stands { IsBookOf K.state J.world (turn_value turn) (found_list turn ++ added note) }
     requires own { IsOwnedBy (turn_number turn) note }

@@ -66,7 +66,7 @@ impl<K: Kernel, J: Naming> Shared<K, J> {
     }
 }
 
-// The book of a kernel that has opened the world, with room for as many lines as the limit.
+/// The book of a kernel that has opened the world, with room for as many lines as the limit.
 fn opened<K: Kernel, J: Naming>(
     alloc: Global,
     kernel: K,
@@ -89,7 +89,7 @@ fn opened<K: Kernel, J: Naming>(
     })
 }
 
-// A place for each process, with its context as it begins.
+/// A place for each process, with its context as it begins.
 fn places(alloc: Global, tasks: &[Task]) -> Result<Vec<Option<Context>>, NoMemory>
     ensures { IfOk result (λ contexts. contexts.items ≡ map (λ (t : Task). Some (new_frame t.code ∷ [])) tasks.now) }
 {

@@ -17,14 +17,14 @@ impl Gate for Open {
     fn before(&self, _cpu: Cpu, _nth: u64) {}
 }
 
-// A text of its own.
+/// A text of its own.
 fn text(alloc: Global, letters: &str) -> Result<Text, AllocError>
     ensures { IfOk result (λ text. text ≡ letters.now) }
 {
     Ok(Text::from_string(String::from_str(alloc, letters)?))
 }
 
-// The world of one process of a code without instructions.
+/// The world of one process of a code without instructions.
 fn returns(alloc: Global, limit: u32) -> Result<World, Fail>
     requires { (1 ≤ limit) × (limit ≤ 10) }
 {
@@ -42,7 +42,7 @@ fn returns(alloc: Global, limit: u32) -> Result<World, Fail>
     Ok(World::new(limit, Items::new(alloc), codes, tasks))
 }
 
-// What a run leaves.
+/// What a run leaves.
 #[derive(Drop)]
 struct Left {
     ended: Ended,
@@ -51,7 +51,7 @@ struct Left {
     current: bool,
 }
 
-// Runs the world that is named.
+/// Runs the world that is named.
 #[tactic(auto, using(crate::proofs::NewPasses::new_runs_nothing))]
 fn run_named<J: Naming, R: Wait>(rt: &R, alloc: Global, world: &World) -> Result<Left, Fail>
     requires { world.now ≡ J.world }
@@ -74,7 +74,7 @@ fn run_named<J: Naming, R: Wait>(rt: &R, alloc: Global, world: &World) -> Result
     })
 }
 
-// Runs a world, which it names.
+/// Runs a world, which it names.
 fn run<R: Wait>(rt: &R, alloc: Global, world: &World) -> Result<Left, Fail> {
     run_named::<Brand, R>(rt, alloc, world)
 }
@@ -100,7 +100,7 @@ fn a_worker_is_over_at_the_limit(rt: HostRuntime) -> Result<(), Fail> {
     Ok(())
 }
 
-// How many lines a second processor is told of, where the first runs the only process of the world that is named.
+/// How many lines a second processor is told of, where the first runs the only process of the world that is named.
 #[tactic(auto, using(crate::proofs::NewPasses::new_runs_nothing))]
 fn idle_named<J: Naming, R: Wait>(rt: &R, alloc: Global, world: &World) -> Result<u64, Fail>
     requires { world.now ≡ J.world }
@@ -117,7 +117,7 @@ fn idle_named<J: Naming, R: Wait>(rt: &R, alloc: Global, world: &World) -> Resul
     }
 }
 
-// Runs a world, which it names.
+/// Runs a world, which it names.
 fn idle<R: Wait>(rt: &R, alloc: Global, world: &World) -> Result<u64, Fail> {
     idle_named::<Brand, R>(rt, alloc, world)
 }

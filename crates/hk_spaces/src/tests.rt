@@ -3,7 +3,7 @@ use hk_model::{Cap, Entry, Inc, Name, Slot};
 use hk_rights::Rights;
 use std::test::Fail;
 
-// A capability to read the object named 7.
+/// A capability to read the object named 7.
 fn held() -> Entry {
     Entry::Held(Cap {
         name: Name(7),
@@ -11,7 +11,7 @@ fn held() -> Entry {
     })
 }
 
-// A frame whose space is empty.
+/// A frame whose space is empty.
 fn frame(inc: u64) -> StackFrame {
     StackFrame {
         space: Space::empty(),

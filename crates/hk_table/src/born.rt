@@ -33,7 +33,7 @@ pub(crate) fn make(objects: &mut Objects, of: Name, words: Words, entries: Entri
     }
 }
 
-// One more object with these lists.
+/// One more object with these lists.
 fn add_plain(objects: &mut Objects, of: Name, words: Words, entries: Entries)
     requires room { length (standing objects.old.slots) < 65536 }
     requires next { objects.old.next.0 < 2 ^ 63 }
@@ -42,7 +42,7 @@ fn add_plain(objects: &mut Objects, of: Name, words: Words, entries: Entries)
     make(objects, of, words, entries);
 }
 
-// One more semaphore.
+/// One more semaphore.
 fn add_semaphore(alloc: Global, objects: &mut Objects, count: u32)
     requires room { length (standing objects.old.slots) < 65536 }
     requires next { objects.old.next.0 < 2 ^ 63 }
@@ -52,7 +52,7 @@ fn add_semaphore(alloc: Global, objects: &mut Objects, count: u32)
     objects.set_count(slot, count);
 }
 
-// One more procedure.
+/// One more procedure.
 fn add_procedure(alloc: Global, objects: &mut Objects, code: u16, params: Params, entries: Entries)
     requires room { length (standing objects.old.slots) < 65536 }
     requires next { objects.old.next.0 < 2 ^ 63 }
@@ -62,7 +62,7 @@ fn add_procedure(alloc: Global, objects: &mut Objects, code: u16, params: Params
     objects.set_procedure(slot, code, params);
 }
 
-// One more object as it opens.
+/// One more object as it opens.
 fn add_born(alloc: Global, objects: &mut Objects, kind: &Kind) -> Result<(), NoMemory>
     requires room { length (standing objects.old.slots) < 65536 }
     requires next { objects.old.next.0 < 2 ^ 63 }
@@ -88,7 +88,7 @@ fn add_born(alloc: Global, objects: &mut Objects, kind: &Kind) -> Result<(), NoM
     Ok(())
 }
 
-// The kernel types, which have the names 0 to 6.
+/// The kernel types, which have the names 0 to 6.
 fn kernel_types(alloc: Global) -> Result<Objects, NoMemory>
     ensures objects { IfOk result (λ objects. standing (map shown_at objects.slots) ≡ named (replicate 7 no_object)) }
     ensures next { IfOk result (λ objects. objects.next.0 ≡ 7) }

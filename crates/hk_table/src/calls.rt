@@ -15,7 +15,7 @@ use hk_calls::Stop;
 use hk_model::{Acted, Answer, Call, Entry, NoMemory, Path, Proc, Reply};
 use std::alloc::Global;
 
-// The reply that says an answer.
+/// The reply that says an answer.
 fn answered(answer: Answer) -> Reply
     ensures { result ≡ answered answer }
 {
@@ -68,7 +68,7 @@ impl Parts {
             Call::Yield => Ok(self.yield_up(proc)),
         }
     }
-    // Makes a call of a process that runs: what nothing names then vanishes, where it is answered.
+    /// Makes a call of a process that runs: what nothing names then vanishes, where it is answered.
     fn reply_to(&mut self, alloc: Global, proc: Proc, call: &Call) -> Result<Reply, NoMemory>
         requires known { proc.0 < length self.old.processes }
         requires runs { is_running (process self.old proc).run ≡ true }
@@ -90,7 +90,7 @@ impl Parts {
         }
     }
 
-    // The code of the procedure that a path leads to.
+    /// The code of the procedure that a path leads to.
     fn code_at(&mut self, proc: Proc, path: &Path) -> Option<u16>
         requires { proc.0 < length self.old.processes }
         ensures value { result ≡ code_found self.old (walk self.old (process self.old proc).current path.now) }
@@ -102,7 +102,7 @@ impl Parts {
         }
     }
 
-    // The code of the procedure that a call enters if it is answered Done.
+    /// The code of the procedure that a call enters if it is answered Done.
     fn code_entered(&mut self, proc: Proc, call: &Call) -> Option<u16>
         requires { proc.0 < length self.old.processes }
         ensures value { result ≡ entered_code self.old (process self.old proc).current call.now Done }

@@ -19,7 +19,7 @@ use hk_reclaim::Counts;
 use hk_spaces::Stack;
 use std::alloc::Global;
 
-// What the object in a slot names, if one stands there.
+/// What the object in a slot names, if one stands there.
 fn hold_object(objects: &Objects, counts: &mut Counts, slot: SlotNo)
     requires { HasPlace objects.now.slots counts.old }
     ensures held { HoldsInside objects.now.slots (names_in (place objects.now.slots slot.0)) counts.old counts.new }
@@ -34,7 +34,7 @@ fn hold_object(objects: &Objects, counts: &mut Counts, slot: SlotNo)
     }
 }
 
-// What all objects name.
+/// What all objects name.
 fn hold_objects(objects: &Objects, counts: &mut Counts)
     requires { AreHeld objects.now.slots (λ n. 0) (λ n. 0) counts.old }
     ensures held { AreHeld objects.now.slots (λ n. 0) (namings objects.now.slots) counts.new }
@@ -47,7 +47,7 @@ fn hold_objects(objects: &Objects, counts: &mut Counts)
     }
 }
 
-// What the frames of these processes name.
+/// What the frames of these processes name.
 fn hold_stacks(objects: &Objects, counts: &mut Counts, stacks: &[Stack])
     requires { CanHold objects.now.slots (all_names stacks.now) counts.old }
     ensures { Holds objects.now.slots (all_names stacks.now) counts.old counts.new }

@@ -8,7 +8,7 @@ use hk_objects::{Objects, SlotNo, Steps};
 use std::marker::Brand;
 use std::sync::ledger::{Blank, Ledger};
 
-// The slot of the object of a name, on a ledger of its own.
+/// The slot of the object of a name, on a ledger of its own.
 fn slot_on<L: Ledger>(objects: &Objects, name: Name, blank: Blank) -> Option<SlotNo>
     requires name { blank.name ≡ L.name }
     requires parts { blank.parts ≡ L.parts }

@@ -16,7 +16,7 @@ use hk_objects::Objects;
 use hk_reclaim::Counts;
 use hk_spaces::{Space, StackFrame};
 
-// What the frames of a process named from outside goes.
+/// What the frames of a process named from outside goes.
 fn release_frames(objects: &Objects, counts: &mut Counts, stacks: &Stacks, proc: Proc)
     requires { CanRelease objects.now.slots (stack_names (slice_index_or stacks.now.stacks proc.0 [])) counts.old }
     ensures { Releases objects.now.slots (stack_names (slice_index_or stacks.now.stacks proc.0 [])) counts.old counts.new }

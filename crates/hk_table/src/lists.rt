@@ -15,7 +15,7 @@ use hk_model::{Answer, Entry, Name, Path, Proc, Refusal, Slot, Template, What8};
 use hk_rights::Rights;
 use std::marker::PhantomData;
 
-// What may stand in a list: a template, or a capability with ENV.
+/// What may stand in a list: a template, or a capability with ENV.
 fn storable(entry: Entry, step: u8) -> Result<Entry, Refusal>
     ensures { result ≡ storable entry step }
 {
@@ -52,7 +52,7 @@ impl Parts {
         Ok(Answer::Done)
     }
 
-    // An entry goes after the last of an object, if there is room.
+    /// An entry goes after the last of an object, if there is room.
     fn add_entry(&mut self, name: Name, entry: Entry) -> Result<Answer, Stop>
         ensures { Gives self.old (entry_added self.old name entry) result self.new }
     {

@@ -45,7 +45,7 @@ pub(crate) fn can_be_created(of: Name) -> bool
     of.0 != 4 && of.0 != 5 && of.0 != 6
 }
 
-// A capability of a copy: without ENV it is left out.
+/// A capability of a copy: without ENV it is left out.
 fn copied_cap(by: Rights, cap: Cap) -> Entry
     ensures { result ≡ copied by (Held cap) }
 {
@@ -60,7 +60,7 @@ fn copied_cap(by: Rights, cap: Cap) -> Entry
     }
 }
 
-// An entry of a copy: what goes without ENV is left out.
+/// An entry of a copy: what goes without ENV is left out.
 fn copied(by: Rights, entry: Entry) -> Entry
     ensures { result ≡ copied by entry }
 {
@@ -77,7 +77,7 @@ fn copied(by: Rights, entry: Entry) -> Entry
     }
 }
 
-// The entries of a copy.
+/// The entries of a copy.
 fn copied_entries(alloc: Global, by: Rights, entries: &[Entry]) -> Result<Entries, AllocError>
     requires { length entries.now ≤ 256 }
     ensures { IfOk result (λ all. all ≡ map (copied by) entries.now) }

@@ -21,7 +21,7 @@ use std::alloc::Global;
 /// How many walks are remembered.
 const REMEMBERED: usize = 256;
 
-// So many processes, all ready.
+/// So many processes, all ready.
 #[tactic(auto, using(crate::proofs::Opens::next_ready))]
 fn ready_ones(alloc: Global, tasks: &[Task]) -> Result<Vec<Process>, NoMemory>
     ensures state { IfOk result (λ processes. processes.items ≡ all_ready 0 tasks.now) }
@@ -38,7 +38,7 @@ fn ready_ones(alloc: Global, tasks: &[Task]) -> Result<Vec<Process>, NoMemory>
     Ok(processes)
 }
 
-// The processes as they open.
+/// The processes as they open.
 fn all_ready(alloc: Global, tasks: &[Task]) -> Result<Processes, NoMemory>
     requires { length tasks.now ≤ 256 }
     ensures state { IfOk result (λ processes. processes ≡ all_ready 0 tasks.now) }
@@ -48,7 +48,7 @@ fn all_ready(alloc: Global, tasks: &[Task]) -> Result<Processes, NoMemory>
     Ok(Processes::new(processes))
 }
 
-// All processes in the ready list, and a list of waiters for each slot.
+/// All processes in the ready list, and a list of waiters for each slot.
 fn all_queued(alloc: Global, tasks: &[Task]) -> Result<Queues, NoMemory>
     requires { length tasks.now ≤ 256 }
     ensures all { IfOk result (λ queues. queues.processes ≡ length tasks.now) }
@@ -62,7 +62,7 @@ fn all_queued(alloc: Global, tasks: &[Task]) -> Result<Queues, NoMemory>
     Ok(queues)
 }
 
-// The objects of a world.
+/// The objects of a world.
 fn born_of(world: &World) -> &[Born]
     ensures value { result.now ≡ world.now.objects }
     ensures few { length result.now ≤ 65529 }
@@ -70,7 +70,7 @@ fn born_of(world: &World) -> &[Born]
     world.objects()
 }
 
-// The processes of a world.
+/// The processes of a world.
 fn tasks_of(world: &World) -> &[Task]
     ensures value { result.now ≡ world.now.tasks }
     ensures few { length result.now ≤ 256 }

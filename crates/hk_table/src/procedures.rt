@@ -16,7 +16,7 @@ use hk_rights::{Right, Rights};
 use std::alloc::{AllocError, Global};
 use std::marker::PhantomData;
 
-// The slots are to be below 64; they have the steps from `first` on.
+/// The slots are to be below 64; they have the steps from `first` on.
 fn slots_at(slots: &[u8], first: u8) -> Result<(), Refusal>
     requires { first + length slots.now < 256 }
     ensures { result ≡ slots_at slots.now first }
@@ -32,7 +32,7 @@ fn slots_at(slots: &[u8], first: u8) -> Result<(), Refusal>
 }
 
 impl Parts {
-    // The type of the object that an entry is a capability for, or TYPE.
+    /// The type of the object that an entry is a capability for, or TYPE.
     fn type_held(&self, entry: &Entry) -> Name
         ensures { result ≡ type_held self.now entry.now }
     {
@@ -42,7 +42,7 @@ impl Parts {
         }
     }
 
-    // The argument in a slot of the current incarnation of a process.
+    /// The argument in a slot of the current incarnation of a process.
     fn arg(&self, proc: Proc, slot: u8) -> Arg
         requires { proc.0 < length self.now.processes }
         ensures { result ≡ argument self.now (process self.now proc).current slot }
@@ -52,7 +52,7 @@ impl Parts {
         Arg { entry, of }
     }
 
-    // The arguments in these slots.
+    /// The arguments in these slots.
     fn args(&self, alloc: Global, proc: Proc, slots: &[u8]) -> Result<Vec<Arg>, AllocError>
         requires { proc.0 < length self.now.processes }
         ensures { IfOk result (λ args. args.items ≡ map (argument self.now (process self.now proc).current) slots.now) }
@@ -100,7 +100,7 @@ impl Parts {
         Ok(Answer::Done)
     }
 
-    // What a return hands to its caller: nothing, or a capability with ENV.
+    /// What a return hands to its caller: nothing, or a capability with ENV.
     fn given(&self, proc: Proc, give: Option<Slot>) -> Result<Option<Cap>, Refusal>
         requires { proc.0 < length self.now.processes }
         ensures { result ≡ returned_cap (incarnation self.now (process self.now proc).current).slots give }
@@ -116,7 +116,7 @@ impl Parts {
         }
     }
 
-    // The current incarnation of a process goes, with a capability for its caller where there is one.
+    /// The current incarnation of a process goes, with a capability for its caller where there is one.
     fn return_with(&mut self, proc: Proc, cap: Option<Cap>)
         requires known { proc.0 < length self.old.processes }
         requires runs { is_running (process self.old proc).run ≡ true }

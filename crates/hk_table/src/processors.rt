@@ -18,7 +18,7 @@ impl Parts {
         self.processes.runner(cpu)
     }
 
-    // Whether a process does not run.
+    /// Whether a process does not run.
     pub(crate) fn rests(&self, proc: Proc) -> bool
         ensures { result ≡ not (is_running (process self.now proc).run) }
     {
@@ -31,7 +31,7 @@ impl Parts {
         }
     }
 
-    // The number of events with one more.
+    /// The number of events with one more.
     pub(crate) fn next_event(&self) -> u32
         requires { IsTrue (may_step self.now) }
         ensures value { result ≡ self.now.events + 1 }
@@ -41,7 +41,7 @@ impl Parts {
         self.events + 1
     }
 
-    // Writes the number of events.
+    /// Writes the number of events.
     pub(crate) fn set_events(&mut self, events: u32)
         ensures { self.new ≡ counted events self.old }
     {

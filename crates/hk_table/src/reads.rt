@@ -12,7 +12,7 @@ use crate::parts::Parts;
 use hk_model::{Entry, Name, NoMemory, Param, Refusal};
 use hk_objects::{Objects, SlotNo};
 
-// The entry at an index of the object in a slot.
+/// The entry at an index of the object in a slot.
 fn entry_in(objects: &Objects, slot: SlotNo, at: u32) -> Entry
     requires stands { IsSome (place objects.now.slots slot.0) }
     requires at { IfSome (place objects.now.slots slot.0) (λ e. at < length e.1.entries) }

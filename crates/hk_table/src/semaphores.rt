@@ -16,7 +16,7 @@ use hk_model::{Answer, Name, Path, Proc, ProcessState, Refusal, What8};
 use hk_rights::Rights;
 
 impl Parts {
-    // The tokens of a semaphore.
+    /// The tokens of a semaphore.
     fn count_of(&self, name: Name) -> u32
         ensures { result ≡ (object self.now name).count }
     {
@@ -26,7 +26,7 @@ impl Parts {
         }
     }
 
-    // Writes the number of tokens of a semaphore.
+    /// Writes the number of tokens of a semaphore.
     fn set_count(&mut self, name: Name, count: u32)
         ensures { self.new ≡ put_object self.old name (record (object self.old name) { count = count }) }
     {
@@ -35,7 +35,7 @@ impl Parts {
         }
     }
 
-    // A process that runs waits at a semaphore, behind the others.
+    /// A process that runs waits at a semaphore, behind the others.
     fn wait(&mut self, proc: Proc, name: Name)
         requires { is_running (process self.old proc).run ≡ true }
         ensures { self.new ≡ waited self.old proc name }
@@ -67,7 +67,7 @@ impl Parts {
         Ok(Answer::Waits)
     }
 
-    // A token is kept at a semaphore where nobody waits.
+    /// A token is kept at a semaphore where nobody waits.
     fn keep_token(&mut self, name: Name) -> Result<Answer, Refusal>
         ensures { Answers self.old (token_given self.old name (object self.old name) []) result self.new }
     {
@@ -80,7 +80,7 @@ impl Parts {
         Ok(Answer::Done)
     }
 
-    // A token goes to the first who waits at a semaphore. False exactly where nobody waits; then nothing changes.
+    /// A token goes to the first who waits at a semaphore. False exactly where nobody waits; then nothing changes.
     fn wake(&mut self, name: Name) -> bool
         ensures { Wakes self.old name result self.new }
     {

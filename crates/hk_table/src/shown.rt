@@ -18,7 +18,7 @@ use hk_spaces::{Stack, StackFrame};
 use std::alloc::Global;
 use std::collections::BTreeMap;
 
-// The object in a slot, with who waits there.
+/// The object in a slot, with who waits there.
 fn object_in(
     alloc: Global,
     objects: &Objects,
@@ -42,7 +42,7 @@ fn object_in(
     })
 }
 
-// What stands in a slot, with who waits there.
+/// What stands in a slot, with who waits there.
 fn placed_at(
     alloc: Global,
     objects: &Objects,
@@ -85,7 +85,7 @@ pub(crate) fn all_objects(
     Ok(all)
 }
 
-// The incarnation of a frame.
+/// The incarnation of a frame.
 fn incarnation_of(
     alloc: Global,
     proc: Proc,
@@ -105,7 +105,7 @@ fn incarnation_of(
     })
 }
 
-// The caller of the frame at a depth: the one below it, and none for the base.
+/// The caller of the frame at a depth: the one below it, and none for the base.
 fn caller_of(stack: &Stack, at: usize) -> Option<Inc>
     requires { at < length stack.now }
     ensures { result ≡ caller_at None stack.now at }
@@ -116,7 +116,7 @@ fn caller_of(stack: &Stack, at: usize) -> Option<Inc>
     Some(stack.frame(at - 1).inc)
 }
 
-// The incarnations of a process put among others.
+/// The incarnations of a process put among others.
 fn add_frames(
     alloc: Global,
     proc: Proc,

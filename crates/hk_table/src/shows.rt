@@ -10,7 +10,7 @@ use crate::shown::{all_incarnations, all_live, all_objects, all_seen};
 use hk_model::{Items, NoMemory, Process, ProcessState, Snapshot};
 use std::alloc::Global;
 
-// What each process does.
+/// What each process does.
 fn all_runs(alloc: Global, processes: &[Process]) -> Result<Items<ProcessState>, NoMemory>
     ensures { IfOk result (λ v. v ≡ map (λ (p : Process). p.run) processes.now) }
 {

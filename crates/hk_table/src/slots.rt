@@ -15,7 +15,7 @@ use hk_model::{Answer, Cap, Entry, Path, Proc, Refusal, Slot, Template};
 use hk_rights::Rights;
 use std::marker::PhantomData;
 
-// Any entry but Empty.
+/// Any entry but Empty.
 fn not_empty(entry: Entry, step: u8) -> Result<Entry, Refusal>
     ensures { result ≡ not_empty entry step }
 {

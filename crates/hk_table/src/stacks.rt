@@ -32,7 +32,7 @@ impl Model for Stacks {
     ghost invariant = { λ s. AreNumbered s.all.items s.next };
 }
 
-// The name space that has these entries in its first slots.
+/// The name space that has these entries in its first slots.
 fn space_of(entries: &[Entry]) -> Space
     requires { length entries.now ≤ 64 }
     ensures { result ≡ entries.now ++ replicate (64 - length entries.now) Empty }
@@ -44,7 +44,7 @@ fn space_of(entries: &[Entry]) -> Space
     space
 }
 
-// The stack of a process with its base frame alone.
+/// The stack of a process with its base frame alone.
 fn base_stack(alloc: Global, inc: Inc, entries: &Entries) -> Result<Stack, NoMemory>
     requires { length entries.now ≤ 64 }
     ensures { IfOk result (λ stack. stack ≡ base_frame inc.0 entries.now ∷ []) }
@@ -60,7 +60,7 @@ fn base_stack(alloc: Global, inc: Inc, entries: &Entries) -> Result<Stack, NoMem
     Ok(stack)
 }
 
-// Writes an entry into a slot of the top frame of a stack, if it has one and that has such a slot.
+/// Writes an entry into a slot of the top frame of a stack, if it has one and that has such a slot.
 fn put_top(stack: &mut Stack, slot: Slot, entry: Entry)
     ensures { stack.new ≡ with_top stack.old slot.0 entry }
 {
@@ -74,7 +74,7 @@ fn put_top(stack: &mut Stack, slot: Slot, entry: Entry)
     }
 }
 
-// Writes an entry into a slot of the top frame of a process.
+/// Writes an entry into a slot of the top frame of a process.
 fn put_top_of(all: &mut Vec<Stack>, at: usize, slot: Slot, entry: Entry)
     ensures { all.new.items ≡ with_top_of all.old.items at slot.0 entry }
 {
@@ -83,7 +83,7 @@ fn put_top_of(all: &mut Vec<Stack>, at: usize, slot: Slot, entry: Entry)
     }
 }
 
-// Puts a frame on top of the stack of a process.
+/// Puts a frame on top of the stack of a process.
 fn push_on(all: &mut Vec<Stack>, at: usize, frame: StackFrame) -> Result<(), NoMemory>
     requires at { at < length all.old.items }
     requires depth { length (slice_index_or all.old.items at []) < 64 }
@@ -94,7 +94,7 @@ fn push_on(all: &mut Vec<Stack>, at: usize, frame: StackFrame) -> Result<(), NoM
     Ok(())
 }
 
-// Takes the top frame of a process: the slot below that takes what it returns. None exactly where there is none.
+/// Takes the top frame of a process: the slot below that takes what it returns. None exactly where there is none.
 fn pop_off(all: &mut Vec<Stack>, at: usize) -> Option<Slot>
     ensures { Pops all.old.items at result all.new.items }
 {
@@ -107,7 +107,7 @@ fn pop_off(all: &mut Vec<Stack>, at: usize) -> Option<Slot>
     }
 }
 
-// Takes all frames of a stack.
+/// Takes all frames of a stack.
 fn empty_out(stack: &mut Stack)
     ensures { stack.new ≡ [] }
 {
@@ -117,7 +117,7 @@ fn empty_out(stack: &mut Stack)
     }
 }
 
-// Takes all frames of a process.
+/// Takes all frames of a process.
 fn empty_at(all: &mut Vec<Stack>, at: usize)
     ensures { all.new.items ≡ slice_set all.old.items at [] }
 {
@@ -152,7 +152,7 @@ impl Stacks {
         self.all.as_slice()
     }
 
-    // The top frame of a process. None exactly where it has no frame.
+    /// The top frame of a process. None exactly where it has no frame.
     fn top(&self, proc: Proc) -> Option<&StackFrame>
         ensures numbered { AreNumbered self.now.stacks self.now.next }
         ensures top { option_copied result ≡ top_of (slice_index_or self.now.stacks proc.0 []) }

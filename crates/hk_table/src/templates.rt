@@ -13,7 +13,7 @@ use hk_model::{Answer, Entry, Making, Name, Param, Path, Proc, Refusal, Slot, Te
 use hk_rights::Rights;
 use std::marker::PhantomData;
 
-// A template for a type.
+/// A template for a type.
 fn made_form(kind: &Making, of: Name) -> Template
     ensures { result ≡ made_form kind.now of }
 {
@@ -27,7 +27,7 @@ fn made_form(kind: &Making, of: Name) -> Template
     }
 }
 
-// What the Amplify template of an entry asks for and gives.
+/// What the Amplify template of an entry asks for and gives.
 fn amplifying(entry: &Entry, step: u8) -> Result<Param, Refusal>
     ensures { result ≡ amplify_form entry.now step }
 {

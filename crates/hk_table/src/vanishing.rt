@@ -18,7 +18,7 @@ impl Parts {
         settle_and_forget(&mut self.objects, &mut self.counts, &mut self.walker);
     }
 
-    // The objects that no names lead to vanish.
+    /// The objects that no names lead to vanish.
     fn collect(&mut self)
         ensures { self.new ≡ record self.old { objects = rooted_objects self.old } }
     {
@@ -26,7 +26,7 @@ impl Parts {
         collect_and_forget(&mut self.objects, &mut self.counts, &mut self.walker);
     }
 
-    // Whether there is no room for one more object.
+    /// Whether there is no room for one more object.
     fn is_full(&self) -> bool
         ensures full { result ≡ not (has_room self.now.objects) }
         ensures few { length self.now.objects ≤ 65536 }

@@ -15,7 +15,7 @@ use hk_walk::Walker;
 use std::marker::{Brand, PhantomData};
 use std::sync::ledger::{Blank, Ledger};
 
-// A walk on a ledger of its own.
+/// A walk on a ledger of its own.
 fn walked_on<L: Ledger>(
     walker: &mut Walker,
     objects: &Objects,
@@ -35,7 +35,7 @@ fn walked_on<L: Ledger>(
     walker.walk(objects, *from, rest, &mut steps)
 }
 
-// A walk over the objects, by who counts no finds.
+/// A walk over the objects, by who counts no finds.
 fn walked(
     walker: &mut Walker,
     objects: &Objects,
@@ -51,7 +51,7 @@ fn walked(
 }
 
 impl Parts {
-    // The entry at a path's first index, which is a slot.
+    /// The entry at a path's first index, which is a slot.
     fn first_entry(&self, proc: Proc, at: u16) -> Result<Entry, Refusal>
         requires { proc.0 < length self.now.processes }
         ensures { result ≡ item_at (incarnation self.now (process self.now proc).current).slots at 0 }
@@ -62,7 +62,7 @@ impl Parts {
         }
     }
 
-    // What the rest of a path leads to, from an entry.
+    /// What the rest of a path leads to, from an entry.
     fn walk_on(&mut self, first: Entry, rest: &[u16]) -> Result<Entry, Refusal>
         requires { length rest.now ≤ 7 }
         ensures value { result ≡ walk_on self.old first rest.now 0 }

@@ -43,7 +43,7 @@ impl Parts {
         Ok(Answer::Done)
     }
 
-    // A word goes after the last of an object, if there is room.
+    /// A word goes after the last of an object, if there is room.
     fn add_word(&mut self, name: Name, word: u32) -> Result<Answer, Stop>
         ensures { Gives self.old (word_added self.old name word) result self.new }
     {

@@ -21,7 +21,7 @@ pub fn numeral(text: &[u8]) -> Option<u64>
     number(text)
 }
 
-// The number that digits stand for, if 64 bits hold it.
+/// The number that digits stand for, if 64 bits hold it.
 fn number(text: &[u8]) -> Option<u64>
     requires { IsTrue (is_number text.now) }
     ensures { result ≡ (if nat_lt (value text.now) inc_bound then Some (value text.now) else None) }

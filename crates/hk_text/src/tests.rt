@@ -5,7 +5,7 @@ use hk_format::TextCause;
 use std::alloc::Global;
 use std::test::Fail;
 
-// The lines of a source of fewer than 2^31 bytes.
+/// The lines of a source of fewer than 2^31 bytes.
 #[tactic(auto, using(crate::proofs::LineCount::lines_few))]
 fn read(alloc: Global, bytes: &[u8]) -> Result<Vec<TextLine>, TextError>
     requires { length bytes.now < 2 ^ 31 }
@@ -13,7 +13,7 @@ fn read(alloc: Global, bytes: &[u8]) -> Result<Vec<TextLine>, TextError>
     lines(alloc, bytes)
 }
 
-// The number of a line, and how many pieces it has.
+/// The number of a line, and how many pieces it has.
 fn size(line: &TextLine) -> (u32, usize) {
     (line.number, line.pieces.len())
 }

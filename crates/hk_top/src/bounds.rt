@@ -17,7 +17,7 @@ pub(crate) fn bounds_text(alloc: Global, bounds: &[Vec<Name>]) -> Result<Text, N
     Ok(Text::from_string(out))
 }
 
-// Writes the lines of all processes, and gives how many there are.
+/// Writes the lines of all processes, and gives how many there are.
 fn write_bounds(out: &mut String, bounds: &[Vec<Name>]) -> Result<usize, NoMemory>
     ensures text { OnOk result (string_bytes out.new ≡ string_bytes out.old ++ bounds_from 0 (map (λ names. names.items) bounds.now)) }
     ensures count { IfOk result (λ count. count ≡ pair_count (map (λ names. names.items) bounds.now)) }
@@ -32,7 +32,7 @@ fn write_bounds(out: &mut String, bounds: &[Vec<Name>]) -> Result<usize, NoMemor
     Ok(count)
 }
 
-// Writes a line for each object of a process's bound.
+/// Writes a line for each object of a process's bound.
 fn write_pairs(out: &mut String, process: usize, names: &[Name]) -> Result<(), NoMemory>
     ensures text { OnOk result (string_bytes out.new ≡ string_bytes out.old ++ pairs_text process names.now) }
     ensures more { OnOk result (length (string_bytes out.old) + length names.now ≤ length (string_bytes out.new)) }
@@ -43,7 +43,7 @@ fn write_pairs(out: &mut String, process: usize, names: &[Name]) -> Result<(), N
     Ok(())
 }
 
-// Writes the line of an object of a process's bound.
+/// Writes the line of an object of a process's bound.
 fn write_pair(out: &mut String, process: usize, name: Name) -> Result<(), NoMemory>
     ensures text { OnOk result (string_bytes out.new ≡ string_bytes out.old ++ pair_text process name) }
     ensures more { OnOk result (length (string_bytes out.old) + 1 ≤ length (string_bytes out.new)) }

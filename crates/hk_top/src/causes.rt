@@ -25,7 +25,7 @@ pub(crate) fn verdict_text(alloc: Global, verdict: Verdict) -> Result<Text, NoMe
     }
 }
 
-// The verdict on a record whose first bad line is this.
+/// The verdict on a record whose first bad line is this.
 fn illegal_text(alloc: Global, line: u32, cause: Misstep) -> Result<Text, NoMemory>
     ensures { IfOk result (λ text. text ≡ verdict_text (Verdict.Illegal line cause)) }
 {
@@ -33,7 +33,7 @@ fn illegal_text(alloc: Global, line: u32, cause: Misstep) -> Result<Text, NoMemo
     Ok(Text::from_string(format!(in alloc; "illegal {line} {name}\n")?))
 }
 
-// The name of the cause for which a line is bad.
+/// The name of the cause for which a line is bad.
 fn misstep_name(cause: Misstep) -> &'static str
     ensures { result.now ≡ misstep_name cause }
 {
@@ -46,7 +46,7 @@ fn misstep_name(cause: Misstep) -> &'static str
     }
 }
 
-// The name of a cause.
+/// The name of a cause.
 fn cause_name(cause: Cause) -> &'static str
     ensures { result.now ≡ cause_name cause }
 {
@@ -58,7 +58,7 @@ fn cause_name(cause: Cause) -> &'static str
     }
 }
 
-// The name of a cause by which a line is no text of a script.
+/// The name of a cause by which a line is no text of a script.
 fn text_cause(cause: TextCause) -> &'static str
     ensures { result.now ≡ text_cause cause }
 {
@@ -70,7 +70,7 @@ fn text_cause(cause: TextCause) -> &'static str
     }
 }
 
-// The name of a cause by which a line does not follow the grammar.
+/// The name of a cause by which a line does not follow the grammar.
 fn parse_cause(cause: ParseCause) -> &'static str
     ensures { result.now ≡ parse_cause cause }
 {
@@ -84,7 +84,7 @@ fn parse_cause(cause: ParseCause) -> &'static str
     }
 }
 
-// The name of a cause by which a line can not be loaded.
+/// The name of a cause by which a line can not be loaded.
 fn load_cause(cause: LoadCause) -> &'static str
     ensures { result.now ≡ load_cause cause }
 {

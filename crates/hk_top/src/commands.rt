@@ -92,7 +92,7 @@ pub fn answer<S: Source, W: Sink, M: Maker>(
     say_due(output, due)
 }
 
-// What is due to a command that one processor serves.
+/// What is due to a command that one processor serves.
 fn due<S: Source, M: Maker>(
     alloc: Global,
     command: Command,
@@ -113,7 +113,7 @@ fn due<S: Source, M: Maker>(
     }
 }
 
-// What is due to a command that one processor serves, which reads the source.
+/// What is due to a command that one processor serves, which reads the source.
 fn due_to_source<S: Source, M: Maker>(
     alloc: Global,
     command: Command,
@@ -133,7 +133,7 @@ fn due_to_source<S: Source, M: Maker>(
     }
 }
 
-// What is due to `run N`, which reads the source. It may wait.
+/// What is due to `run N`, which reads the source. It may wait.
 fn due_on<S: Source, G: Gate + Sync, M: Maker, R: Threads + Wait + Sync>(
     rt: &R,
     alloc: Global,
@@ -154,7 +154,7 @@ fn due_on<S: Source, G: Gate + Sync, M: Maker, R: Threads + Wait + Sync>(
     }
 }
 
-// What is due where the source was not read to its end.
+/// What is due where the source was not read to its end.
 fn unread<K>(alloc: Global, error: ReadError) -> Result<Served<K>, Silence>
     ensures long { IfOk result (λ served. (error ≡ ReadError.TooLong) × IsTooLong served) }
     ensures fault { IsErrOf result Silence.ReadFault → error ≡ ReadError.ReadFault }
@@ -166,7 +166,7 @@ fn unread<K>(alloc: Global, error: ReadError) -> Result<Served<K>, Silence>
     }
 }
 
-// Says what is due, and hands back the kernel that was run.
+/// Says what is due, and hands back the kernel that was run.
 fn say_due<W: Sink, K>(output: &mut W, due: Result<Served<K>, Silence>) -> (u8, Option<K>)
     ensures said { IfOk due (λ served. (result.1 ≡ served.kernel)
         × IsSaid served.due.status served.due.text (stream (W.taken output.old) (W.taken output.new) (W.faults output.old) (W.faults output.new)) result.0) }
@@ -182,7 +182,7 @@ fn say_due<W: Sink, K>(output: &mut W, due: Result<Served<K>, Silence>) -> (u8, 
     }
 }
 
-// The most bytes that a command may read; none where it reads nothing.
+/// The most bytes that a command may read; none where it reads nothing.
 fn byte_limit(command: Command) -> usize
     ensures { result ≡ byte_limit command }
 {
@@ -195,7 +195,7 @@ fn byte_limit(command: Command) -> usize
     }
 }
 
-// Writes a text. Where a write fails, its status stands in place of the one that the text had.
+/// Writes a text. Where a write fails, its status stands in place of the one that the text had.
 fn say<W: Sink>(output: &mut W, status: u8, text: &[u8]) -> u8
     ensures { IsSaid status text.now (stream (W.taken output.old) (W.taken output.new) (W.faults output.old) (W.faults output.new)) result }
 {

@@ -17,14 +17,14 @@ const SCRIPT: &'static [u8; 96] =
 const RECORD: &'static [u8; 184] =
     b"hydra 1\nobject d DATA\nwords 7\nend\ncode main\ngetdata 0 0 r0\nend\nprocess a main\ncap d GETDATA\nend\nrecord\n0 0 0 dispatch -> done\n0 0 0 getdata 0 0 -> word 7\n0 0 0 return -> done\nend done\n";
 
-// It holds nobody up.
+/// It holds nobody up.
 pub struct Open;
 
 impl Gate for Open {
     fn before(&self, _cpu: Cpu, _nth: u64) {}
 }
 
-// The status of the top call, over plain kernels.
+/// The status of the top call, over plain kernels.
 pub fn status_of<S: Source, W: Sink, R: Threads + Wait + Sync>(
     rt: &R,
     alloc: Global,
@@ -35,7 +35,7 @@ pub fn status_of<S: Source, W: Sink, R: Threads + Wait + Sync>(
     hydra(rt, alloc, words, input, output, &Open, &Maps).0
 }
 
-// These words, as the program gets them.
+/// These words, as the program gets them.
 pub fn words(alloc: Global, spelled: &[&str]) -> Result<Vec<String>, AllocError> {
     let mut words = Vec::new(alloc);
     for word in spelled {
@@ -44,12 +44,12 @@ pub fn words(alloc: Global, spelled: &[&str]) -> Result<Vec<String>, AllocError>
     Ok(words)
 }
 
-// A source of the script that gives 20 bytes a read.
+/// A source of the script that gives 20 bytes a read.
 pub fn source(alloc: Global, fails: Vec<u32>) -> Result<Bytes, AllocError> {
     Ok(Bytes::new(SCRIPT.to_vec(alloc)?, 20, fails))
 }
 
-// A sink that takes 10 bytes a write.
+/// A sink that takes 10 bytes a write.
 pub fn sink(alloc: Global, fails: Vec<u32>) -> Result<Out, Fail> {
     Ok(Out::with(alloc, 400, 10, fails).ok().ok_or("a sink")?)
 }
@@ -68,7 +68,7 @@ fn writes_the_record_of_the_run(rt: HostRuntime) -> Result<(), Fail> {
     Ok(())
 }
 
-// The word `run`.
+/// The word `run`.
 fn run_word(alloc: Global) -> Result<Vec<String>, AllocError>
     ensures { IfOk result (λ words. map string_bytes words.items ≡ codes "run" ∷ []) }
 {
@@ -111,7 +111,7 @@ fn tells_faults_of_reading_and_writing(rt: HostRuntime) -> Result<(), Fail> {
     Ok(())
 }
 
-// The summary of the generated world of three processes, on kernels of this maker.
+/// The summary of the generated world of three processes, on kernels of this maker.
 fn summary<M: Maker, R: Threads + Wait + Sync>(
     rt: &R,
     alloc: Global,

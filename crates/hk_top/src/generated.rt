@@ -39,7 +39,7 @@ pub(crate) fn run_generated<M: Maker>(
     })
 }
 
-// The summary of a run of a world that was generated for so many processes.
+/// The summary of a run of a world that was generated for so many processes.
 fn summary_text<K: Kernel>(
     alloc: Global,
     count: u32,
@@ -60,7 +60,7 @@ fn summary_text<K: Kernel>(
     Ok(Text::from_string(text))
 }
 
-// The last line of a record, without its line feed.
+/// The last line of a record, without its line feed.
 fn end_text(end: End) -> &'static str
     ensures { result.now ≡ end_text end }
 {

@@ -84,7 +84,7 @@ pub(crate) fn too_long(alloc: Global) -> Result<DueText, NoMemory>
     })
 }
 
-// What is due to `run` and the bytes of a script.
+/// What is due to `run` and the bytes of a script.
 fn run_script<M: Maker>(
     alloc: Global,
     bytes: &[u8],
@@ -103,7 +103,7 @@ fn run_script<M: Maker>(
     }
 }
 
-// What is due to `run` and a world, run on this kernel: the record of its run.
+/// What is due to `run` and a world, run on this kernel: the record of its run.
 fn recorded<K: Kernel>(alloc: Global, world: &World, kernel: K) -> Result<Served<K>, NoMemory>
     requires { K.state kernel ≡ opening world.now }
     ensures { IfOk result (λ served. Records K.state (words_of Command.Run) world.now served) }
@@ -115,7 +115,7 @@ fn recorded<K: Kernel>(alloc: Global, world: &World, kernel: K) -> Result<Served
     })
 }
 
-// What is due to `show` and the bytes of a script.
+/// What is due to `show` and the bytes of a script.
 fn show_script(alloc: Global, bytes: &[u8]) -> Result<DueText, NoMemory>
     requires few { length bytes.now ≤ script_bytes }
     ensures { IfOk result (λ due. DueTo (words_of Command.Show) bytes.now due.status due.text None) }
@@ -127,7 +127,7 @@ fn show_script(alloc: Global, bytes: &[u8]) -> Result<DueText, NoMemory>
     }
 }
 
-// What is due to `bound` and the bytes of a script.
+/// What is due to `bound` and the bytes of a script.
 fn bound_script(alloc: Global, bytes: &[u8]) -> Result<DueText, NoMemory>
     requires few { length bytes.now ≤ script_bytes }
     ensures { IfOk result (λ due. DueTo (words_of Command.Bound) bytes.now due.status due.text None) }
@@ -139,7 +139,7 @@ fn bound_script(alloc: Global, bytes: &[u8]) -> Result<DueText, NoMemory>
     }
 }
 
-// What is due to `json` and the bytes of a script.
+/// What is due to `json` and the bytes of a script.
 fn json_script(alloc: Global, bytes: &[u8]) -> Result<DueText, NoMemory>
     requires few { length bytes.now ≤ script_bytes }
     ensures { IfOk result (λ due. DueTo (words_of Command.Json) bytes.now due.status due.text None) }
@@ -151,7 +151,7 @@ fn json_script(alloc: Global, bytes: &[u8]) -> Result<DueText, NoMemory>
     }
 }
 
-// What is due to `unjson` and the bytes of a JSON text.
+/// What is due to `unjson` and the bytes of a JSON text.
 fn unjson(alloc: Global, bytes: &[u8]) -> Result<DueText, NoMemory>
     ensures { IfOk result (λ due. DueTo (words_of Command.Unjson) bytes.now due.status due.text None) }
 {
@@ -165,7 +165,7 @@ fn unjson(alloc: Global, bytes: &[u8]) -> Result<DueText, NoMemory>
     }
 }
 
-// What is due to `check` and the bytes of a record.
+/// What is due to `check` and the bytes of a record.
 fn check_record(alloc: Global, bytes: &[u8]) -> Result<DueText, NoMemory>
     requires few { length bytes.now ≤ record_bytes }
     ensures { IfOk result (λ due. DueTo (words_of Command.Check) bytes.now due.status due.text None) }
@@ -177,7 +177,7 @@ fn check_record(alloc: Global, bytes: &[u8]) -> Result<DueText, NoMemory>
     }
 }
 
-// What is due to `confine` and the bytes of a record.
+/// What is due to `confine` and the bytes of a record.
 fn confine_record(alloc: Global, bytes: &[u8]) -> Result<DueText, NoMemory>
     requires few { length bytes.now ≤ record_bytes }
     ensures { IfOk result (λ due. DueTo (words_of Command.Confine) bytes.now due.status due.text None) }
@@ -189,7 +189,7 @@ fn confine_record(alloc: Global, bytes: &[u8]) -> Result<DueText, NoMemory>
     }
 }
 
-// What is due to `trace` with the number of a line, and the bytes of a record.
+/// What is due to `trace` with the number of a line, and the bytes of a record.
 fn trace_record(alloc: Global, bytes: &[u8], line: u32) -> Result<DueText, NoMemory>
     requires few { length bytes.now ≤ record_bytes }
     requires line { MayTrace line }
@@ -202,7 +202,7 @@ fn trace_record(alloc: Global, bytes: &[u8], line: u32) -> Result<DueText, NoMem
     }
 }
 
-// What is due to `back` with a number of lines, and the bytes of a record.
+/// What is due to `back` with a number of lines, and the bytes of a record.
 fn back_record(alloc: Global, bytes: &[u8], count: u32) -> Result<DueText, NoMemory>
     requires few { length bytes.now ≤ record_bytes }
     requires count { MayTakeBack count }
@@ -225,7 +225,7 @@ pub(crate) fn refused(alloc: Global, line: u32, cause: Cause) -> Result<DueText,
     })
 }
 
-// What is due to bytes that are the JSON of no world.
+/// What is due to bytes that are the JSON of no world.
 #[tactic(auto, using(crate::proofs::AnswerLemmas::bad_json_is))]
 fn bad_json(alloc: Global) -> Result<DueText, NoMemory>
     ensures { IfOk result (λ due. (due.status ≡ 3) × (due.text ≡ bad_json_text)) }
@@ -256,7 +256,7 @@ pub(crate) fn record(
     })
 }
 
-// What is due to `show` and a world: its canonical script.
+/// What is due to `show` and a world: its canonical script.
 fn script(alloc: Global, world: &World) -> Result<DueText, NoMemory>
     ensures { IfOk result (λ due. (due.status ≡ 0) × (due.text ≡ canon world.now)) }
 {
@@ -266,7 +266,7 @@ fn script(alloc: Global, world: &World) -> Result<DueText, NoMemory>
     })
 }
 
-// What is due to `json` and a world: its JSON, on one line.
+/// What is due to `json` and a world: its JSON, on one line.
 fn json(alloc: Global, world: &World) -> Result<DueText, NoMemory>
     ensures { IfOk result (λ due. (due.status ≡ 0) × (due.text ≡ ended_line (compact_text (value world.now)))) }
 {
@@ -280,7 +280,7 @@ fn json(alloc: Global, world: &World) -> Result<DueText, NoMemory>
     })
 }
 
-// What is due to `bound` and a world: the bounds of its processes.
+/// What is due to `bound` and a world: the bounds of its processes.
 fn bounds(alloc: Global, world: &World) -> Result<DueText, NoMemory>
     ensures { IfOk result (λ due. AreTold world.now due.status due.text) }
 {
@@ -291,7 +291,7 @@ fn bounds(alloc: Global, world: &World) -> Result<DueText, NoMemory>
     })
 }
 
-// What is due to `check` and a record: the verdict on it.
+/// What is due to `check` and a record: the verdict on it.
 fn verdict(alloc: Global, audit: &Audit) -> Result<DueText, NoMemory>
     ensures { IfOk result (λ due. IsChecked audit.now TellsLegal due.status due.text) }
 {
@@ -307,8 +307,8 @@ fn verdict(alloc: Global, audit: &Audit) -> Result<DueText, NoMemory>
     }
 }
 
-// What is due to `trace` with the number of a line, and a record: the chains of what the line used, or
-// the verdict where the record is not legal.
+/// What is due to `trace` with the number of a line, and a record: the chains of what the line used, or
+/// the verdict where the record is not legal.
 fn traced(alloc: Global, audit: &Audit, line: u32) -> Result<DueText, NoMemory>
     ensures { IfOk result (λ due. IsChecked audit.now (TellsChains line) due.status due.text) }
 {
@@ -324,7 +324,7 @@ fn traced(alloc: Global, audit: &Audit, line: u32) -> Result<DueText, NoMemory>
     }
 }
 
-// The chains of what a line used, as a text.
+/// The chains of what a line used, as a text.
 fn chains(alloc: Global, world: &World, lines: &[Line], line: u32) -> Result<DueText, NoMemory>
     requires { AreStepsOf world.now lines.now }
     ensures { IfOk result (λ due. (due.status ≡ 0) × TellsChains line world.now lines.now due.text) }
@@ -336,8 +336,8 @@ fn chains(alloc: Global, world: &World, lines: &[Line], line: u32) -> Result<Due
     })
 }
 
-// What is due to `confine` and a record: its changes under confined calls, each with its reason, or the
-// verdict where the record is not legal.
+/// What is due to `confine` and a record: its changes under confined calls, each with its reason, or the
+/// verdict where the record is not legal.
 fn confined(alloc: Global, audit: &Audit) -> Result<DueText, NoMemory>
     ensures { IfOk result (λ due. IsChecked audit.now TellsChanges due.status due.text) }
 {
@@ -353,7 +353,7 @@ fn confined(alloc: Global, audit: &Audit) -> Result<DueText, NoMemory>
     }
 }
 
-// The changes under confined calls, as a text.
+/// The changes under confined calls, as a text.
 fn changes(alloc: Global, world: &World, lines: &[Line]) -> Result<DueText, NoMemory>
     requires { AreStepsOf world.now lines.now }
     ensures { IfOk result (λ due. (due.status ≡ 0) × TellsChanges world.now lines.now due.text) }
@@ -365,8 +365,8 @@ fn changes(alloc: Global, world: &World, lines: &[Line]) -> Result<DueText, NoMe
     })
 }
 
-// What is due to `back` with a number of lines, and a record: the state before its last lines, so many, or
-// the verdict where the record is not legal.
+/// What is due to `back` with a number of lines, and a record: the state before its last lines, so many, or
+/// the verdict where the record is not legal.
 fn taken_back(alloc: Global, audit: &Audit, count: u32) -> Result<DueText, NoMemory>
     ensures { IfOk result (λ due. IsChecked audit.now (TellsState count) due.status due.text) }
 {
@@ -382,7 +382,7 @@ fn taken_back(alloc: Global, audit: &Audit, count: u32) -> Result<DueText, NoMem
     }
 }
 
-// The state before the last lines, so many, as a text.
+/// The state before the last lines, so many, as a text.
 #[tactic(auto, using(hk_report::proofs::Lengths::lines_few))]
 fn state_left(alloc: Global, world: &World, lines: &[Line], count: u32) -> Result<DueText, NoMemory>
     requires { AreStepsOf world.now lines.now }
@@ -397,7 +397,7 @@ fn state_left(alloc: Global, world: &World, lines: &[Line], count: u32) -> Resul
     })
 }
 
-// A verdict as a text, with its status.
+/// A verdict as a text, with its status.
 fn told(alloc: Global, status: u8, verdict: Verdict) -> Result<DueText, NoMemory>
     ensures { IfOk result (λ due. (due.status ≡ status) × (due.text ≡ verdict_text verdict)) }
 {

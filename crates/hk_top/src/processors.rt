@@ -47,8 +47,8 @@ pub(crate) fn run_script_on<G: Gate + Sync, M: Maker, R: Threads + Wait + Sync>(
     }
 }
 
-// What is due to `run N` and a world, run on this kernel: the record of its run. It picks the
-// name of the world (`docs/TURNS.md`, "The shared kernel").
+/// What is due to `run N` and a world, run on this kernel: the record of its run. It picks the
+/// name of the world (`docs/TURNS.md`, "The shared kernel").
 fn run_on<K: Kernel + Send, G: Gate + Sync, R: Threads + Wait + Sync>(
     rt: &R,
     alloc: Global,
@@ -64,7 +64,7 @@ fn run_on<K: Kernel + Send, G: Gate + Sync, R: Threads + Wait + Sync>(
     run_named::<Brand, K, G, R>(rt, alloc, cpus, world, gate, kernel)
 }
 
-// The same, of a world that has a name.
+/// The same, of a world that has a name.
 fn run_named<J: Naming + Send + Sync, K: Kernel + Send, G: Gate + Sync, R: Threads + Wait + Sync>(
     rt: &R,
     alloc: Global,
@@ -87,7 +87,7 @@ fn run_named<J: Naming + Send + Sync, K: Kernel + Send, G: Gate + Sync, R: Threa
     record_of_book(alloc, cpus, world, book)
 }
 
-// Each pass works in a thread of its own, until all have ended.
+/// Each pass works in a thread of its own, until all have ended.
 #[tactic(auto, using(hk_shared::proofs::NewPasses::new_runs_nothing, crate::proofs::Closing::seen_end))]
 fn work_all<J: Naming + Send + Sync, K: Kernel + Send, G: Gate + Sync, R: Threads + Wait + Sync>(
     rt: &R,
@@ -119,7 +119,7 @@ fn work_all<J: Naming + Send + Sync, K: Kernel + Send, G: Gate + Sync, R: Thread
     Ok((desk, back))
 }
 
-// The record of a book in which no processor has stopped, and its kernel.
+/// The record of a book in which no processor has stopped, and its kernel.
 fn record_of_book<K: Kernel, J: Naming>(
     alloc: Global,
     cpus: u8,

@@ -13,13 +13,13 @@ use std::test::Fail;
 use std::thread;
 use std::thread::Threads;
 
-// How often a call looks whether it may pass, at most.
+/// How often a call looks whether it may pass, at most.
 const TURNS: u32 = 100_000_000;
 
 const SCRIPT: &'static [u8; 66] =
     b"hydra 1\ncode main\nyield\nend\nprocess a main\nend\nprocess b main\nend\n";
 
-// How often a processor came to the gate, and how often it was let through.
+/// How often a processor came to the gate, and how often it was let through.
 #[derive(Drop)]
 struct Counts {
     came: AtomicU64,
@@ -34,14 +34,14 @@ impl Counts {
         }
     }
 
-    // Whether it stands before a call.
+    /// Whether it stands before a call.
     fn stands(&self) -> bool {
         self.came.load(Ordering::SeqCst) > self.passed.load(Ordering::SeqCst)
     }
 }
 
-// A gate that lets processors 0 and 1 through in the order of a list, each once the one before it
-// stands before its next call. Behind the end of the list every call passes.
+/// A gate that lets processors 0 and 1 through in the order of a list, each once the one before it
+/// stands before its next call. Behind the end of the list every call passes.
 #[derive(Drop)]
 struct Listed {
     list: &'static [u8],
@@ -70,7 +70,7 @@ impl Listed {
         }
     }
 
-    // Whether the processor may pass.
+    /// Whether the processor may pass.
     fn lets_through(&self, cpu: u8) -> bool {
         let at = self.at.load(Ordering::SeqCst) as usize;
         if at >= self.list.len() {
@@ -98,7 +98,7 @@ impl Gate for Listed {
     }
 }
 
-// What a run in the order of a list came to.
+/// What a run in the order of a list came to.
 #[derive(Drop)]
 struct Ran {
     status: u8,
@@ -107,7 +107,7 @@ struct Ran {
     text: Vec<u8>,
 }
 
-// Runs two processes that yield on two processors, in the order of the list.
+/// Runs two processes that yield on two processors, in the order of the list.
 fn run_in_order<R: Threads + Wait + Sync>(
     rt: &R,
     alloc: Global,
@@ -154,7 +154,7 @@ fn another_order_makes_another_record(rt: HostRuntime) -> Result<(), Fail> {
     Ok(())
 }
 
-// A plain kernel, but its first call wants memory.
+/// A plain kernel, but its first call wants memory.
 #[derive(Drop)]
 struct Wanting {
     plain: Plain,
@@ -201,7 +201,7 @@ impl Kernel for Wanting {
     }
 }
 
-// It makes such kernels.
+/// It makes such kernels.
 struct Wants;
 
 impl Maker for Wants {
@@ -215,7 +215,7 @@ impl Maker for Wants {
     }
 }
 
-// The status of a run of such a kernel, whether a kernel came back, and how much was written.
+/// The status of a run of such a kernel, whether a kernel came back, and how much was written.
 fn run_wanting<R: Threads + Wait + Sync>(
     rt: &R,
     alloc: Global,

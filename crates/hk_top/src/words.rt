@@ -56,7 +56,7 @@ pub(crate) fn read_command(words: &[String]) -> Option<Command>
     }
 }
 
-// The command of this one word.
+/// The command of this one word.
 fn command_of_word(word: &str) -> Option<Command>
     ensures { Calls result (word.now ∷ []) }
 {
@@ -72,7 +72,7 @@ fn command_of_word(word: &str) -> Option<Command>
     }
 }
 
-// The command of this word and this number.
+/// The command of this word and this number.
 fn command_of_words(word: &str, number: &str) -> Option<Command>
     ensures { Calls result (word.now ∷ number.now ∷ []) }
 {
@@ -85,7 +85,7 @@ fn command_of_words(word: &str, number: &str) -> Option<Command>
     }
 }
 
-// The number of processors, 1 to 16, that the word spells.
+/// The number of processors, 1 to 16, that the word spells.
 fn processors(word: &str) -> Option<u8>
     ensures some { IfSome result (λ cpus. (word.now ≡ decimal cpus) × MayRun cpus) }
     ensures none { IfNone result (IsNoNumber cpu_limit word.now) }
@@ -94,7 +94,7 @@ fn processors(word: &str) -> Option<u8>
     Some(cpus as u8)
 }
 
-// The number of a line, 1 to 999, that the word spells.
+/// The number of a line, 1 to 999, that the word spells.
 fn line_number(word: &str) -> Option<u32>
     ensures some { IfSome result (λ line. (word.now ≡ decimal line) × MayTrace line) }
     ensures none { IfNone result (IsNoNumber trace_limit word.now) }
@@ -102,7 +102,7 @@ fn line_number(word: &str) -> Option<u32>
     number_to(TRACE_LIMIT, word)
 }
 
-// The number of lines, 1 to 999, that the word spells.
+/// The number of lines, 1 to 999, that the word spells.
 fn lines_back(word: &str) -> Option<u32>
     ensures some { IfSome result (λ count. (word.now ≡ decimal count) × MayTakeBack count) }
     ensures none { IfNone result (IsNoNumber back_limit word.now) }
@@ -110,7 +110,7 @@ fn lines_back(word: &str) -> Option<u32>
     number_to(BACK_LIMIT, word)
 }
 
-// The number of processes, 1 to 256, that the word spells.
+/// The number of processes, 1 to 256, that the word spells.
 fn processes(word: &str) -> Option<u32>
     ensures some { IfSome result (λ count. (word.now ≡ decimal count) × MayGenerate count) }
     ensures none { IfNone result (IsNoNumber process_limit word.now) }
@@ -118,7 +118,7 @@ fn processes(word: &str) -> Option<u32>
     number_to(PROCESS_LIMIT as u32, word)
 }
 
-// The number from 1 to the largest one that the word spells in digits without a leading zero.
+/// The number from 1 to the largest one that the word spells in digits without a leading zero.
 fn number_to(largest: u32, word: &str) -> Option<u32>
     ensures some { IfSome result (λ number. (word.now ≡ decimal number) × IsBetween largest number) }
     ensures none { IfNone result (IsNoNumber largest word.now) }

@@ -52,7 +52,7 @@ pub(crate) fn has_at(call: &Call) -> bool
     }
 }
 
-// One slot.
+/// One slot.
 fn one_slot(slot: Slot) -> Args
     ensures { result ≡ slot.0 ∷ [] }
 {
@@ -62,7 +62,7 @@ fn one_slot(slot: Slot) -> Args
     }
 }
 
-// No slot.
+/// No slot.
 fn no_slot() -> Args
     ensures { result ≡ [] }
 {

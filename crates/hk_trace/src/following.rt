@@ -20,7 +20,7 @@ pub struct WayBack {
     pub origin: Origin,
 }
 
-// The way back from a place after these writings.
+/// The way back from a place after these writings.
 fn follow(alloc: Global, writings: &[Writing], from: Place) -> Result<WayBack, NoMemory>
     requires { length writings.now < 2 ^ 32 }
     ensures { IfOk result (λ found. found ≡ way_back writings.now (length writings.now) from) }

@@ -13,7 +13,7 @@ use hk_plain::Plain;
 use std::alloc::Global;
 use std::marker::PhantomData;
 
-// An entry at a place, unless it is empty.
+/// An entry at a place, unless it is empty.
 fn held_entry(place: Place, entry: Entry) -> Option<Standing>
     ensures { result ≡ held_entry place entry }
 {
@@ -54,7 +54,7 @@ pub(crate) fn at_entry(kernel: &Plain, name: Name, index: u16) -> Option<Standin
     }
 }
 
-// The object that a capability names; of a template, and of nothing, the name 0.
+/// The object that a capability names; of a template, and of nothing, the name 0.
 fn name_held(held: &Option<Standing>) -> Name
     ensures { result ≡ name_held held.now }
 {

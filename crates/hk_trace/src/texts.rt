@@ -25,7 +25,7 @@ pub fn chains_text(alloc: Global, lines: &[Line], chains: &[Chain]) -> Result<Te
     Ok(Text::from_string(out))
 }
 
-// Writes the lines of a chain.
+/// Writes the lines of a chain.
 fn write_chain(
     alloc: Global,
     out: &mut String,
@@ -42,7 +42,7 @@ fn write_chain(
     write_origin(out, chain.origin)
 }
 
-// Writes the lines of the links of a chain.
+/// Writes the lines of the links of a chain.
 fn write_links(
     alloc: Global,
     out: &mut String,
@@ -57,7 +57,7 @@ fn write_links(
     Ok(())
 }
 
-// Writes the line of a link.
+/// Writes the line of a link.
 fn write_link(alloc: Global, out: &mut String, lines: &[Line], link: Link) -> Result<(), NoMemory>
     ensures { OnOk result (string_bytes out.new ≡ string_bytes out.old ++ link_text lines.now link) }
 {
@@ -69,7 +69,7 @@ fn write_link(alloc: Global, out: &mut String, lines: &[Line], link: Link) -> Re
     Ok(())
 }
 
-// Writes a place and what stands there.
+/// Writes a place and what stands there.
 fn write_standing(alloc: Global, out: &mut String, at: Standing) -> Result<(), NoMemory>
     ensures { OnOk result (string_bytes out.new ≡ string_bytes out.old ++ standing_text at) }
 {
@@ -78,7 +78,7 @@ fn write_standing(alloc: Global, out: &mut String, at: Standing) -> Result<(), N
     write_entry(alloc, out, &ByNumber, at.entry)
 }
 
-// Writes a place.
+/// Writes a place.
 fn write_place(out: &mut String, place: Place) -> Result<(), NoMemory>
     ensures { OnOk result (string_bytes out.new ≡ string_bytes out.old ++ place_text place) }
 {
@@ -95,7 +95,7 @@ fn write_place(out: &mut String, place: Place) -> Result<(), NoMemory>
     Ok(())
 }
 
-// Writes the line that tells where a chain ends.
+/// Writes the line that tells where a chain ends.
 fn write_origin(out: &mut String, origin: Origin) -> Result<(), NoMemory>
     ensures { OnOk result (string_bytes out.new ≡ string_bytes out.old ++ ended_line (origin_text origin)) }
 {
@@ -106,7 +106,7 @@ fn write_origin(out: &mut String, origin: Origin) -> Result<(), NoMemory>
     Ok(())
 }
 
-// The first word of what the line of a number tells, counted from 1; none of a line that is not there.
+/// The first word of what the line of a number tells, counted from 1; none of a line that is not there.
 fn word_at(lines: &[Line], number: u32) -> &'static str
     ensures { result.now ≡ word_at lines.now number }
 {
@@ -116,7 +116,7 @@ fn word_at(lines: &[Line], number: u32) -> &'static str
     }
 }
 
-// The first word of what a line tells.
+/// The first word of what a line tells.
 fn word_of(what: &What) -> &'static str
     ensures { result.now ≡ word_of what.now }
 {
@@ -127,7 +127,7 @@ fn word_of(what: &What) -> &'static str
     }
 }
 
-// The word of a call.
+/// The word of a call.
 fn word_of_call(call: &Call) -> &'static str
     ensures { result.now ≡ word_of (What.Call call.now) }
 {

@@ -44,7 +44,7 @@ pub fn trace(
     }
 }
 
-// The chains of what a line used, behind these lines.
+/// The chains of what a line used, behind these lines.
 #[tactic(auto, using(crate::proofs::ChainLemmas::found_traced, crate::proofs::ChainLemmas::writings_few))]
 fn trace_line(
     alloc: Global,

@@ -25,7 +25,7 @@ pub struct UsedPlace {
     pub at: Standing,
 }
 
-// The places of the order of refusals.
+/// The places of the order of refusals.
 const SLOTS_TESTED: u8 = 1;
 
 const PATH_WALKED: u8 = 2;
@@ -42,7 +42,7 @@ const CARRIED_TESTED: u8 = 7;
 
 const LIMITS_TESTED: u8 = 8;
 
-// The step of a refusal, if it tells one.
+/// The step of a refusal, if it tells one.
 fn step_of(refusal: &Refusal) -> Option<u8>
     ensures { result ≡ step_of refusal.now }
 {
@@ -59,7 +59,7 @@ fn step_of(refusal: &Refusal) -> Option<u8>
     }
 }
 
-// A place of the order for a step of the path, and another for a step behind it.
+/// A place of the order for a step of the path, and another for a step behind it.
 fn on_path(call: &Call, step: u8, walked: u8, behind: u8) -> u8
     ensures { result ≡ on_path call.now step walked behind }
 {
@@ -70,7 +70,7 @@ fn on_path(call: &Call, step: u8, walked: u8, behind: u8) -> u8
     }
 }
 
-// Of a step behind the path: the test of `at`, or of a slot's number.
+/// Of a step behind the path: the test of `at`, or of a slot's number.
 fn behind_path(call: &Call, step: u8) -> u8
     ensures { result ≡ behind_path call.now step }
 {
@@ -81,7 +81,7 @@ fn behind_path(call: &Call, step: u8) -> u8
     }
 }
 
-// Of a step of the path: the walk, or at the last step the rights of the target.
+/// Of a step of the path: the walk, or at the last step the rights of the target.
 fn rights_place(call: &Call, step: u8) -> u8
     ensures { result ≡ rights_place call.now step }
 {
@@ -92,7 +92,7 @@ fn rights_place(call: &Call, step: u8) -> u8
     }
 }
 
-// The place of a refusal of a call in the order of refusals, 1 to 8.
+/// The place of a refusal of a call in the order of refusals, 1 to 8.
 fn order_of(call: &Call, refusal: &Refusal) -> u8
     ensures { result ≡ order_of call.now refusal.now }
 {
@@ -114,7 +114,7 @@ fn order_of(call: &Call, refusal: &Refusal) -> u8
     }
 }
 
-// Whether a step that is told is below this one.
+/// Whether a step that is told is below this one.
 fn is_below(told: Option<u8>, step: u8) -> bool
     ensures { result ≡ is_below told step }
 {
@@ -124,7 +124,7 @@ fn is_below(told: Option<u8>, step: u8) -> bool
     }
 }
 
-// Whether a call was refused at an earlier step than this, or in an earlier place of the order.
+/// Whether a call was refused at an earlier step than this, or in an earlier place of the order.
 fn is_refused_before(call: &Call, reply: &Reply, order: u8, step: u8) -> bool
     ensures { result ≡ is_refused_before call.now reply.now order step }
 {
@@ -136,7 +136,7 @@ fn is_refused_before(call: &Call, reply: &Reply, order: u8, step: u8) -> bool
     }
 }
 
-// The uses of what stands at steps that count on from this one.
+/// The uses of what stands at steps that count on from this one.
 fn add_uses(
     all: &mut Vec<UsedPlace>,
     call: &Call,
@@ -160,7 +160,7 @@ fn add_uses(
     Ok(())
 }
 
-// What stands at each step of a call's path.
+/// What stands at each step of a call's path.
 fn walked(
     alloc: Global,
     kernel: &Plain,
@@ -175,7 +175,7 @@ fn walked(
     }
 }
 
-// The places that a call used.
+/// The places that a call used.
 #[tactic(auto, using(crate::proofs::Uses::used_is, crate::proofs::Uses::walked_few, crate::proofs::Uses::slots_few))]
 fn used_by(
     alloc: Global,

@@ -59,7 +59,7 @@ pub enum Writing {
     },
 }
 
-// What a return hands to the slot of its caller.
+/// What a return hands to the slot of its caller.
 fn leave_writing(kernel: &Plain, inc: Inc, give: Option<Slot>) -> Writing
     ensures { result ≡ writing_by kernel.now inc (Call.Leave give) }
 {
@@ -79,7 +79,7 @@ fn leave_writing(kernel: &Plain, inc: Inc, give: Option<Slot>) -> Writing
     }
 }
 
-// What a Copy writes: the slot, and the list of the new object.
+/// What a Copy writes: the slot, and the list of the new object.
 fn copy_writing(
     alloc: Global,
     kernel: &Plain,
@@ -102,7 +102,7 @@ fn copy_writing(
     })
 }
 
-// What an Enter writes: the slots of the new incarnation.
+/// What an Enter writes: the slots of the new incarnation.
 fn enter_writing(
     alloc: Global,
     kernel: &Plain,
@@ -127,7 +127,7 @@ fn enter_writing(
     })
 }
 
-// The index behind the last of an object's list.
+/// The index behind the last of an object's list.
 fn list_end(kernel: &Plain, name: Name) -> u32
     ensures { result ≡ length (object kernel.now name).entries }
 {
@@ -137,7 +137,7 @@ fn list_end(kernel: &Plain, name: Name) -> u32
     }
 }
 
-// What a call that moves one entry writes.
+/// What a call that moves one entry writes.
 fn moving_writing(kernel: &Plain, inc: Inc, call: &Call) -> Writing
     ensures { result ≡ moving_writing kernel.now inc call.now }
 {
@@ -174,7 +174,7 @@ fn moving_writing(kernel: &Plain, inc: Inc, call: &Call) -> Writing
     }
 }
 
-// What a call that is done writes, and from where.
+/// What a call that is done writes, and from where.
 fn writing_by(alloc: Global, kernel: &Plain, inc: Inc, call: &Call) -> Result<Writing, NoMemory>
     ensures { IfOk result (λ writing. writing ≡ writing_by kernel.now inc call.now) }
 {
@@ -188,7 +188,7 @@ fn writing_by(alloc: Global, kernel: &Plain, inc: Inc, call: &Call) -> Result<Wr
     }
 }
 
-// Whether a reply is a refusal.
+/// Whether a reply is a refusal.
 fn is_refusal(reply: &Reply) -> bool
     ensures { result ≡ is_refusal reply.now }
 {
@@ -216,7 +216,7 @@ pub(crate) fn writing_of(alloc: Global, kernel: &Plain, line: &Line) -> Result<W
     }
 }
 
-// A standing as a source.
+/// A standing as a source.
 fn came(held: Option<Standing>) -> CameFrom
     ensures { result ≡ came held }
 {
@@ -226,7 +226,7 @@ fn came(held: Option<Standing>) -> CameFrom
     }
 }
 
-// One of several, if it is there and something stood there.
+/// One of several, if it is there and something stood there.
 fn came_at(held: &[Option<Standing>], at: usize) -> CameFrom
     ensures { result ≡ came (slice_index_or held.now at None) }
 {
@@ -246,7 +246,7 @@ pub(crate) fn source_in(writing: &Writing, place: Place) -> CameFrom
     }
 }
 
-// Where a writing has what it wrote in a slot from.
+/// Where a writing has what it wrote in a slot from.
 fn source_in_slot(writing: &Writing, at: Inc, slot: Slot) -> CameFrom
     ensures { result ≡ source_in writing.now (Place.SlotOf at slot) }
 {
@@ -259,7 +259,7 @@ fn source_in_slot(writing: &Writing, at: Inc, slot: Slot) -> CameFrom
     }
 }
 
-// Where a writing has what it wrote in a list from.
+/// Where a writing has what it wrote in a list from.
 fn source_in_list(writing: &Writing, of: Name, index: u16) -> CameFrom
     ensures { result ≡ source_in writing.now (Place.EntryOf of index) }
 {

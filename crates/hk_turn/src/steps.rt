@@ -4,7 +4,7 @@ use crate::view::View;
 use atomic_table::{Join, Play, Split};
 use std::marker::{Brand, PhantomData};
 
-// Load: the number of entries becomes known.
+/// Load: the number of entries becomes known.
 pub struct Load;
 
 impl<T, E> Play<Option<T>, View<E>> for Load {
@@ -13,7 +13,7 @@ impl<T, E> Play<Option<T>, View<E>> for Load {
     ghost then = { Loads };
 }
 
-// Try: the turn is won or lost.
+/// Try: the turn is won or lost.
 pub struct Try<T> {
     of: PhantomData<T>,
 }
@@ -24,7 +24,7 @@ impl<T: Story> Play<Option<T>, View<T::Entry>> for Try<T> {
     ghost then = { Tries T.stands T.owner };
 }
 
-// Which list the turn is given back with. The call picks it, since a step is not told an entry.
+/// Which list the turn is given back with. The call picks it, since a step is not told an entry.
 pub trait Noting<E> {
     ghost use Rattle.std.specs.Prelude.{List};
 
@@ -35,7 +35,7 @@ impl<E> Noting<E> for Brand {
     ghost noted = { λ _. Unit {0} };
 }
 
-// Finish and back: the turn is given back.
+/// Finish and back: the turn is given back.
 pub struct GiveBack<J> {
     of: PhantomData<J>,
 }
@@ -46,7 +46,7 @@ impl<T, E, J: Noting<E>> Play<Option<T>, View<E>> for GiveBack<J> {
     ghost then = { GivesBack J.noted };
 }
 
-// Split: the first seat makes a pass.
+/// Split: the first seat makes a pass.
 pub struct MakePass;
 
 impl<E> Split<View<E>> for MakePass {
@@ -57,7 +57,7 @@ impl<E> Split<View<E>> for MakePass {
     ghost right = { split_view };
 }
 
-// Join: a seat takes in another.
+/// Join: a seat takes in another.
 pub struct TakeIn;
 
 impl<E> Join<View<E>> for TakeIn {

@@ -10,7 +10,7 @@ use std::test::Fail;
 use std::thread;
 use std::thread::Threads;
 
-// The list that it stands for: pairs of an owner and a number.
+/// The list that it stands for: pairs of an owner and a number.
 #[derive(Drop)]
 struct Pairs {
     pairs: Vec<(u16, u32)>,
@@ -26,7 +26,7 @@ impl Story for Pairs {
 
 const TURNS: u32 = 10_000;
 
-// Takes a turn and adds a pair of the pass, if there is room for it.
+/// Takes a turn and adds a pair of the pass, if there is room for it.
 fn add<R: Wait>(
     rt: &R,
     turns: &Turns<Pairs>,
@@ -46,7 +46,7 @@ fn add<R: Wait>(
     }
 }
 
-// The value, once two passes are back.
+/// The value, once two passes are back.
 fn closed(
     turns: Turns<Pairs>,
     zero: Pass<(u16, u32)>,
@@ -82,7 +82,7 @@ fn two_passes_take_turns(rt: HostRuntime) -> Result<(), Fail> {
     Ok(())
 }
 
-// A pass adds its pairs, numbered from 0.
+/// A pass adds its pairs, numbered from 0.
 fn add_all<R: Wait>(rt: &R, turns: &Turns<Pairs>, pass: Pass<(u16, u32)>) -> Pass<(u16, u32)>
     requires { IsPassOf turns.now pass }
     ensures { IsPassOf turns.now result }
@@ -94,7 +94,7 @@ fn add_all<R: Wait>(rt: &R, turns: &Turns<Pairs>, pass: Pass<(u16, u32)>) -> Pas
     pass
 }
 
-// Each pass adds its pairs, in a thread of its own.
+/// Each pass adds its pairs, in a thread of its own.
 fn add_in_threads<R: Threads + Wait + Sync>(
     rt: &R,
     turns: &Turns<Pairs>,
@@ -114,7 +114,7 @@ fn add_in_threads<R: Threads + Wait + Sync>(
     )
 }
 
-// The value, once threads have added all pairs of so many passes.
+/// The value, once threads have added all pairs of so many passes.
 fn filled<R: Threads + Wait + Sync>(rt: &R, alloc: Global, seats: u16) -> Result<Pairs, NoMemory>
     requires { 0 < seats }
 {
@@ -126,7 +126,7 @@ fn filled<R: Threads + Wait + Sync>(rt: &R, alloc: Global, seats: u16) -> Result
     Ok(turns.close(back))
 }
 
-// Whether the owner's pairs stand there in order, each once.
+/// Whether the owner's pairs stand there in order, each once.
 fn is_in_order(pairs: &[(u16, u32)], owner: u16) -> bool {
     let mut next = 0u32;
     for &(by, number) in pairs {

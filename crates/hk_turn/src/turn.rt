@@ -89,7 +89,7 @@ impl<T: Story> Turns<T> {
     ghost use Rattle.hk_turn.specs.Steps.{IsHolder, MayGiveBack};
     ghost use Rattle.hk_turn.specs.Passes.{pass_number, known_count, seen_list};
 
-    // Puts the value into its slot and stores the word, so that the pass has seen the list that is noted.
+    /// Puts the value into its slot and stores the word, so that the pass has seen the list that is noted.
     fn give_back<J: Noting<T::Entry>>(
         &self,
         mut seat: Seat<Option<T>, View<T::Entry>>,
@@ -111,7 +111,7 @@ impl<T: Story> Turns<T> {
         }
     }
 
-    // The same, where the list that is noted names an entry.
+    /// The same, where the list that is noted names an entry.
     fn give_back_with<J: Noting<T::Entry>>(
         &self,
         seat: Seat<Option<T>, View<T::Entry>>,

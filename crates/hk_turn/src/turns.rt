@@ -57,7 +57,7 @@ impl<T: Story> Turns<T> {
         Ok((turns, passes))
     }
 
-    // The table, with the one seat that stands for all passes.
+    /// The table, with the one seat that stands for all passes.
     fn lay_table(
         alloc: Global,
         value: T,
@@ -76,7 +76,7 @@ impl<T: Story> Turns<T> {
         Ok((Turns { table, seats }, first))
     }
 
-    // Splits the pass of that number off the first seat, which has made those below it.
+    /// Splits the pass of that number off the first seat, which has made those below it.
     fn make_pass(&self, first: &mut Seat<Option<T>, View<T::Entry>>, number: u16) -> Pass<T::Entry>
         requires number { (0 < number) × (number < seat_count self.now) }
         requires first { (first.old.table_id ≡ self.now.table.shared.table_id) × (first.old.me ≡ (blank_view 0 number (seat_count self.now + 1 - number) (seat_count self.now), [])) }
@@ -122,7 +122,7 @@ impl<T: Story> Turns<T> {
         }
     }
 
-    // Tries until a try is won, and gives the word found, which is even.
+    /// Tries until a try is won, and gives the word found, which is even.
     fn win<R: Wait>(&self, rt: &R, seat: &mut Seat<Option<T>, View<T::Entry>>) -> u64
         requires seat { (seat.old.table_id ≡ self.now.table.shared.table_id) × (0 < seat.old.me.0.weight) }
         ensures seat { seat.new.table_id ≡ seat.old.table_id }
@@ -186,7 +186,7 @@ impl<T: Story> Turns<T> {
         value.unwrap()
     }
 
-    // One seat that stands for all passes, and remembers what each had seen and knew.
+    /// One seat that stands for all passes, and remembers what each had seen and knew.
     fn join_passes(&self, mut passes: Vec<Pass<T::Entry>>) -> Seat<Option<T>, View<T::Entry>>
         requires count { length passes.items ≡ seat_count self.now }
         requires own { ArePassesOf self.now passes.items }

@@ -9,14 +9,14 @@ use crate::places::{write_places, write_queue, write_words};
 use hk_model::{Entry, Name, NoMemory, Proc, Seen};
 use std::alloc::Global;
 
-// Whether objects of a type have a list.
+/// Whether objects of a type have a list.
 fn is_listed(of: Name) -> bool
     ensures { result ≡ is_listed of }
 {
     of.0 == 2 || of.0 == 4 || of.0 > 6
 }
 
-// Writes the lines of an object's list, where its type has one.
+/// Writes the lines of an object's list, where its type has one.
 fn write_list(alloc: Global, out: &mut String, of: Name, entries: &[Entry]) -> Result<(), NoMemory>
     ensures { OnOk result (string_bytes out.new ≡ string_bytes out.old ++ list_lines of entries.now) }
 {
@@ -28,7 +28,7 @@ fn write_list(alloc: Global, out: &mut String, of: Name, entries: &[Entry]) -> R
     write_places(alloc, out, "entry ", entries)
 }
 
-// Writes the tokens of a semaphore, and who waits for one.
+/// Writes the tokens of a semaphore, and who waits for one.
 fn write_tokens(out: &mut String, of: Name, count: u32, waiters: &[Proc]) -> Result<(), NoMemory>
     ensures { OnOk result (string_bytes out.new ≡ string_bytes out.old ++ semaphore_lines of count waiters.now) }
 {
@@ -39,7 +39,7 @@ fn write_tokens(out: &mut String, of: Name, count: u32, waiters: &[Proc]) -> Res
     write_queue(out, "waiters", waiters)
 }
 
-// Writes the code of a procedure.
+/// Writes the code of a procedure.
 fn write_code(out: &mut String, code: Option<u16>) -> Result<(), NoMemory>
     ensures { OnOk result (string_bytes out.new ≡ string_bytes out.old ++ code_line code) }
 {
@@ -49,7 +49,7 @@ fn write_code(out: &mut String, code: Option<u16>) -> Result<(), NoMemory>
     Ok(())
 }
 
-// Writes the lines of an object.
+/// Writes the lines of an object.
 fn write_object(alloc: Global, out: &mut String, object: &Seen) -> Result<(), NoMemory>
     ensures { OnOk result (string_bytes out.new ≡ string_bytes out.old ++ object_lines object.now) }
 {
@@ -61,7 +61,7 @@ fn write_object(alloc: Global, out: &mut String, object: &Seen) -> Result<(), No
     write_code(out, object.code)
 }
 
-// Writes the lines of an object that is no kernel type.
+/// Writes the lines of an object that is no kernel type.
 fn write_shown(alloc: Global, out: &mut String, object: &Seen) -> Result<(), NoMemory>
     ensures { OnOk result (string_bytes out.new ≡ string_bytes out.old ++ shown_object object.now) }
 {

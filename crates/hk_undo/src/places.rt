@@ -8,7 +8,7 @@ use hk_model::{Entry, NoMemory, Proc};
 use hk_print::{ByNumber, write_entry};
 use std::alloc::Global;
 
-// Writes a space and a number for each word.
+/// Writes a space and a number for each word.
 fn write_spaced(out: &mut String, numbers: &[u32]) -> Result<(), NoMemory>
     ensures { OnOk result (string_bytes out.new ≡ string_bytes out.old ++ spaced numbers.now) }
 {
@@ -31,7 +31,7 @@ pub(crate) fn write_words(out: &mut String, words: &[u32]) -> Result<(), NoMemor
     Ok(())
 }
 
-// Writes a space and a number for each process.
+/// Writes a space and a number for each process.
 fn write_procs(out: &mut String, procs: &[Proc]) -> Result<(), NoMemory>
     ensures { OnOk result (string_bytes out.new ≡ string_bytes out.old ++ spaced (map (λ (p : Proc). p.0) procs.now)) }
 {
@@ -55,7 +55,7 @@ pub(crate) fn write_queue(out: &mut String, word: &str, procs: &[Proc]) -> Resul
     Ok(())
 }
 
-// Writes the line of an entry or a slot. None where nothing stands there.
+/// Writes the line of an entry or a slot. None where nothing stands there.
 fn write_place(
     alloc: Global,
     out: &mut String,

@@ -8,7 +8,7 @@ use crate::places::write_places;
 use hk_model::{Live, NoMemory, ProcessState};
 use std::alloc::Global;
 
-// Writes how an incarnation began.
+/// Writes how an incarnation began.
 fn write_beginning(out: &mut String, live: &Live) -> Result<(), NoMemory>
     ensures { OnOk result (string_bytes out.new ≡ string_bytes out.old ++ beginning live.now live.now.caller live.now.procedure) }
 {
@@ -22,7 +22,7 @@ fn write_beginning(out: &mut String, live: &Live) -> Result<(), NoMemory>
     Ok(())
 }
 
-// Writes the first line of an incarnation.
+/// Writes the first line of an incarnation.
 #[tactic(auto, unfolding(crate::specs::StateTexts::incarnation_line))]
 fn write_line(out: &mut String, live: &Live) -> Result<(), NoMemory>
     ensures { OnOk result (string_bytes out.new ≡ string_bytes out.old ++ incarnation_line live.now) }
@@ -34,7 +34,7 @@ fn write_line(out: &mut String, live: &Live) -> Result<(), NoMemory>
     Ok(())
 }
 
-// Writes the lines of an incarnation.
+/// Writes the lines of an incarnation.
 #[tactic(auto, unfolding(crate::specs::StateTexts::incarnation_lines))]
 fn write_incarnation(alloc: Global, out: &mut String, live: &Live) -> Result<(), NoMemory>
     ensures { OnOk result (string_bytes out.new ≡ string_bytes out.old ++ incarnation_lines live.now) }
@@ -57,7 +57,7 @@ pub(crate) fn write_incarnations(
     Ok(())
 }
 
-// Writes what a process does.
+/// Writes what a process does.
 fn write_run(out: &mut String, run: ProcessState) -> Result<(), NoMemory>
     ensures { OnOk result (string_bytes out.new ≡ string_bytes out.old ++ run_text run) }
 {

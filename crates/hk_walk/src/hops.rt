@@ -13,7 +13,7 @@ use hk_objects::{Objects, Steps};
 use hk_rights::{Right, Rights};
 use std::sync::ledger::Ledger;
 
-// The rights of a set but ENV.
+/// The rights of a set but ENV.
 fn local_rights(rights: Rights) -> Rights
     ensures { result ≡ local_rights rights }
 {
@@ -36,7 +36,7 @@ pub fn reduced_rights(by: Rights, rights: Rights) -> Rights
     }
 }
 
-// What is obtained of an entry through a capability with the rights `by`.
+/// What is obtained of an entry through a capability with the rights `by`.
 fn obtained(by: Rights, entry: Entry, step: u8) -> Result<Entry, Refusal>
     ensures { result ≡ obtained by entry step }
 {
@@ -53,7 +53,7 @@ fn obtained(by: Rights, entry: Entry, step: u8) -> Result<Entry, Refusal>
     }
 }
 
-// The entries of an object, none where it is not there. It makes one find.
+/// The entries of an object, none where it is not there. It makes one find.
 #[tactic(auto, using(crate::proofs::Found::found_entries, crate::proofs::Found::found_none))]
 fn list_of<'a, L: Ledger>(objects: &'a Objects, name: Name, steps: &mut Steps<L>) -> &'a [Entry]
     ensures value { result.now ≡ (object (seen objects.now.slots) name).entries }
@@ -65,7 +65,7 @@ fn list_of<'a, L: Ledger>(objects: &'a Objects, name: Name, steps: &mut Steps<L>
     }
 }
 
-// An entry of an object's list. It makes one find.
+/// An entry of an object's list. It makes one find.
 fn entry_at<L: Ledger>(
     objects: &Objects,
     name: Name,
@@ -82,7 +82,7 @@ fn entry_at<L: Ledger>(
     }
 }
 
-// One step of a walk. It makes at most one find.
+/// One step of a walk. It makes at most one find.
 fn hop<L: Ledger>(
     objects: &Objects,
     entry: Entry,

@@ -10,7 +10,7 @@ use std::marker::Brand;
 use std::sync::ledger::{Blank, Ledger};
 use std::test::Fail;
 
-// An object with two capabilities for it in its list, with LOAD and ENV and with ENV alone; and the first of them.
+/// An object with two capabilities for it in its list, with LOAD and ENV and with ENV alone; and the first of them.
 fn own(alloc: Global, objects: &mut Objects) -> Result<Cap, AllocError>
     requires { objects.old.next.0 < 2 ^ 63 }
 {
@@ -28,7 +28,7 @@ fn own(alloc: Global, objects: &mut Objects) -> Result<Cap, AllocError>
     }
 }
 
-// A walk on a ledger of its own, which makes at most one find per index.
+/// A walk on a ledger of its own, which makes at most one find per index.
 fn walked_on<L: Ledger>(
     walker: &mut Walker,
     objects: &Objects,
@@ -47,7 +47,7 @@ fn walked_on<L: Ledger>(
     walker.walk(objects, *from, rest, &mut steps)
 }
 
-// A walk.
+/// A walk.
 fn walked(
     walker: &mut Walker,
     objects: &Objects,
@@ -61,7 +61,7 @@ fn walked(
     walked_on::<Brand>(walker, objects, from, rest, Blank::new(1))
 }
 
-// The walk if it is remembered: it makes no find.
+/// The walk if it is remembered: it makes no find.
 fn found<L: Ledger>(
     walker: &mut Walker,
     objects: &Objects,
@@ -81,7 +81,7 @@ fn found<L: Ledger>(
     }
 }
 
-// The same on a ledger of its own.
+/// The same on a ledger of its own.
 fn found_on<L: Ledger>(
     walker: &mut Walker,
     objects: &Objects,
@@ -100,7 +100,7 @@ fn found_on<L: Ledger>(
     found(walker, objects, from, rest, &mut steps)
 }
 
-// The walk again, if it is remembered.
+/// The walk again, if it is remembered.
 fn walked_again(
     walker: &mut Walker,
     objects: &Objects,

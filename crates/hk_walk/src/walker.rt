@@ -95,7 +95,7 @@ impl Walker {
         self.cache.clear();
     }
 
-    // What is remembered under a key, which goes first.
+    /// What is remembered under a key, which goes first.
     fn recall(&mut self, key: &Trail) -> Option<Entry>
         ensures value { result ≡ lookup ((eq-value).it key.now) self.old.pairs }
         ensures pairs { self.new ≡ record self.old { pairs = promoted ((eq-value).it key.now) self.old.pairs } }
@@ -106,7 +106,7 @@ impl Walker {
         }
     }
 
-    // The entry of the latest pair, if it stands under this key.
+    /// The entry of the latest pair, if it stands under this key.
     fn latest(&self, key: &Trail) -> Option<Entry>
         ensures { IfSome result (λ entry. slice_get self.now.pairs 0 ≡ Some (key.now, entry)) }
     {
@@ -116,7 +116,7 @@ impl Walker {
         }
     }
 
-    // Remembers a walk, if there is memory for it.
+    /// Remembers a walk, if there is memory for it.
     fn keep(&mut self, key: Trail, entry: &Entry)
         ensures capacity { self.new.capacity ≡ self.old.capacity }
         ensures joins { JoinsAtMost (key, entry.now) self.old.pairs self.new.pairs }

@@ -35,7 +35,7 @@ pub fn refused_steps<K: Kernel>(
     )
 }
 
-// The lines of the first steps of processor 0, `most` at most.
+/// The lines of the first steps of processor 0, `most` at most.
 fn first_steps<K: Kernel>(
     alloc: Global,
     world: &World,
@@ -57,7 +57,7 @@ fn first_steps<K: Kernel>(
     Ok(lines)
 }
 
-// Whether a line tells a refusal.
+/// Whether a line tells a refusal.
 fn is_refused(line: &Line) -> bool
     ensures { result ≡ is_refused line.now }
 {

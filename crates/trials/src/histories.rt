@@ -12,7 +12,7 @@ use std::alloc::Global;
 use std::marker::PhantomData;
 use std::test::Fail;
 
-// The line of a step of processor 0.
+/// The line of a step of processor 0.
 fn step(alloc: Global, world: &World, machine: &mut Machine<Plain>) -> Result<Option<Line>, Fail>
     requires { IsSound world.now machine.old }
     ensures made { IfOk result (λ line. IfSome line (λ line. step world.now machine.old (record { 0 = 0 }) ≡ Some (line, machine.new))) }
@@ -24,7 +24,7 @@ fn step(alloc: Global, world: &World, machine: &mut Machine<Plain>) -> Result<Op
     }
 }
 
-// The first lines on processor 0.
+/// The first lines on processor 0.
 pub(crate) fn first_steps(alloc: Global, world: &World) -> Result<Items<Line>, Fail>
     ensures { IfOk result (λ lines. AreStepsOf world.now lines) }
 {

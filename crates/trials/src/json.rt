@@ -9,7 +9,7 @@ use hk_print::script_text;
 use std::alloc::Global;
 use std::test::Fail;
 
-// Whether a canonical script has this text as JSON, and comes back.
+/// Whether a canonical script has this text as JSON, and comes back.
 fn goes_and_comes(alloc: Global, script: &[u8], json: &str) -> Result<bool, &'static str>
     requires { length script.now < 2 ^ 31 }
 {
@@ -42,7 +42,7 @@ fn worlds_go_and_come_back(rt: HostRuntime) -> Result<(), Fail> {
     Ok(())
 }
 
-// The cause of bytes that are no JSON of a world.
+/// The cause of bytes that are no JSON of a world.
 fn cause(alloc: Global, bytes: &[u8]) -> Option<JsonError> {
     read_json(alloc, bytes).err()
 }

@@ -5,7 +5,7 @@ use hk_model::{Args, Call, Cpu, Inc, Line, Making, Path, Proc, Refusal, Reply, S
 use hk_rights::{Right, Rights};
 use std::test::Fail;
 
-// The line of process 2, incarnation 3, on processor 1.
+/// The line of process 2, incarnation 3, on processor 1.
 fn line(what: What, reply: Reply) -> Line {
     Line {
         cpu: Cpu(1),

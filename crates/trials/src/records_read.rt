@@ -9,7 +9,7 @@ use hk_model::{Cpu, End, Inc, Line, Proc, Reply, What};
 use std::alloc::Global;
 use std::test::Fail;
 
-// Reads a record of few bytes.
+/// Reads a record of few bytes.
 #[tactic(auto, using(hk_text::proofs::LineCount::lines_few))]
 fn read(alloc: Global, bytes: &[u8]) -> Result<Audit, RecordError>
     requires { length bytes.now < 2 ^ 31 }
@@ -17,7 +17,7 @@ fn read(alloc: Global, bytes: &[u8]) -> Result<Audit, RecordError>
     read_record(alloc, bytes)
 }
 
-// How many processes the world has, how many lines there are, and the end word.
+/// How many processes the world has, how many lines there are, and the end word.
 fn size(audit: &Audit) -> (usize, usize, End) {
     (
         audit.world().tasks().len(),

@@ -17,7 +17,7 @@ use hk_rights::{Right, Rights};
 use std::alloc::Global;
 use std::test::Fail;
 
-// The path of a slot.
+/// The path of a slot.
 fn slot_path() -> Path
     ensures { IsPathValue result }
 {
@@ -27,7 +27,7 @@ fn slot_path() -> Path
     }
 }
 
-// A path of two steps.
+/// A path of two steps.
 fn deep_path() -> Path
     ensures { IsPathValue result }
 {
@@ -37,7 +37,7 @@ fn deep_path() -> Path
     }
 }
 
-// The texts of the calls below.
+/// The texts of the calls below.
 const CALLS: [&str; 23] = [
     "getdata 5 4294967295",
     "putdata 5.0.65535 0 7",
@@ -64,7 +64,7 @@ const CALLS: [&str; 23] = [
     "yield",
 ];
 
-// The first calls of the table.
+/// The first calls of the table.
 fn early_call(number: usize) -> Call
     ensures { IsCall result }
 {
@@ -110,7 +110,7 @@ fn early_call(number: usize) -> Call
     }
 }
 
-// A call that makes a template.
+/// A call that makes a template.
 fn template(amplifies: bool) -> Call
     ensures { IsCall result }
 {
@@ -131,7 +131,7 @@ fn template(amplifies: bool) -> Call
     }
 }
 
-// Arguments in slots.
+/// Arguments in slots.
 fn arguments(slots: &[Slot]) -> Args
     requires { length slots.now ≤ 8 }
     ensures { result ≡ map (λ slot. slot.0) slots.now }
@@ -142,7 +142,7 @@ fn arguments(slots: &[Slot]) -> Args
     }
 }
 
-// The last calls of the table.
+/// The last calls of the table.
 fn late_call(number: usize) -> Call
     ensures { IsCall result }
 {
@@ -180,7 +180,7 @@ fn late_call(number: usize) -> Call
     }
 }
 
-// The text of a line with this call.
+/// The text of a line with this call.
 fn call_line(alloc: Global, call: Call) -> Result<Text, NoMemory>
     requires { IsCall call }
 {
@@ -211,7 +211,7 @@ fn calls_are_written(rt: HostRuntime) -> Result<(), Fail> {
     Ok(())
 }
 
-// The texts of the replies below.
+/// The texts of the replies below.
 const REPLIES: [&str; 16] = [
     "done",
     "word 4294967295",
@@ -231,7 +231,7 @@ const REPLIES: [&str; 16] = [
     "full tokens",
 ];
 
-// The replies of the table.
+/// The replies of the table.
 fn reply(number: usize) -> Reply
     ensures { IsReply result }
 {
@@ -264,7 +264,7 @@ fn reply(number: usize) -> Reply
     }
 }
 
-// The text of a line in which a process is halted, with this reply.
+/// The text of a line in which a process is halted, with this reply.
 fn reply_line(alloc: Global, reply: Reply) -> Result<Text, NoMemory>
     requires { IsReply reply }
 {
@@ -290,7 +290,7 @@ fn replies_are_written(rt: HostRuntime) -> Result<(), Fail> {
     Ok(())
 }
 
-// A line of process 1.
+/// A line of process 1.
 fn line_of(what: What) -> Line
     requires { IsWhat what }
     ensures { IsLine result }
@@ -304,7 +304,7 @@ fn line_of(what: What) -> Line
     }
 }
 
-// The text of a record of two lines.
+/// The text of a record of two lines.
 fn two_lines(alloc: Global, world: &World) -> Result<Text, NoMemory> {
     let lines = [
         line_of(What::Dispatch),
@@ -313,7 +313,7 @@ fn two_lines(alloc: Global, world: &World) -> Result<Text, NoMemory> {
     record_text(alloc, world, &lines, End::Limit)
 }
 
-// The text of a record without lines.
+/// The text of a record without lines.
 fn no_lines(alloc: Global, end: End) -> Result<Text, NoMemory> {
     let world = empty_world(alloc, 10000);
     steps_have_texts(&world, &[]);

@@ -7,11 +7,11 @@ use hk_table::Table;
 use std::alloc::Global;
 use std::test::Fail;
 
-// One DATA object with the word 7, and a process that may read it and make lists.
+/// One DATA object with the word 7, and a process that may read it and make lists.
 const SCRIPT: &[u8] =
     b"hydra 1\nobject d DATA\nwords 7\nend\ncode main\nend\nprocess a main\ncap d GETDATA\ncreate UNIVERSAL APPEND+MODIFY+ENV\nend\n";
 
-// The kernel in which the world opens.
+/// The kernel in which the world opens.
 fn opened(alloc: Global) -> Result<Table, Fail> {
     let world = world(alloc, SCRIPT)?;
     match Table::new(alloc, &world) {
@@ -20,7 +20,7 @@ fn opened(alloc: Global) -> Result<Table, Fail> {
     }
 }
 
-// How many objects stand, and the name that the next one takes.
+/// How many objects stand, and the name that the next one takes.
 fn objects(alloc: Global, kernel: &Table) -> Result<(usize, Name), Fail> {
     match kernel.snapshot(alloc) {
         Ok(shown) => Ok((shown.objects.len(), shown.next_name)),
@@ -28,7 +28,7 @@ fn objects(alloc: Global, kernel: &Table) -> Result<(usize, Name), Fail> {
     }
 }
 
-// The process that a processor is given, if it runs none.
+/// The process that a processor is given, if it runs none.
 fn dispatched(kernel: &mut Table) -> Option<Proc> {
     if kernel.current(Cpu(0)).is_some() || kernel.limit_reached() {
         return None;
@@ -36,7 +36,7 @@ fn dispatched(kernel: &mut Table) -> Option<Proc> {
     kernel.dispatch(Cpu(0))
 }
 
-// The reply to a call of the process that the processor runs.
+/// The reply to a call of the process that the processor runs.
 fn reply_to(alloc: Global, kernel: &mut Table, call: Call) -> Option<Reply> {
     if kernel.current(Cpu(0)).is_none() || kernel.limit_reached() {
         return None;
@@ -47,14 +47,14 @@ fn reply_to(alloc: Global, kernel: &mut Table, call: Call) -> Option<Reply> {
     }
 }
 
-// Halts the process that the processor runs.
+/// Halts the process that the processor runs.
 fn halt(kernel: &mut Table) {
     if kernel.current(Cpu(0)).is_some() && !kernel.limit_reached() {
         kernel.halt(Cpu(0));
     }
 }
 
-// The path of a slot alone.
+/// The path of a slot alone.
 fn path(slot: u16) -> Result<Path, Fail> {
     match Path::new(&[slot]) {
         Some(path) => Ok(path),

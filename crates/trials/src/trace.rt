@@ -5,7 +5,7 @@ use crate::worlds::world;
 use hk_trace::{Origin, chains_text, trace};
 use std::test::Fail;
 
-// The world of the process.
+/// The world of the process.
 const SCRIPT: &[u8] =
     b"hydra 1\ncode main\nrestrict 0 GETDATA\nrestrict 0 GETDATA\nend\nprocess a main\ncap DATA GETDATA+ENV\nend\n";
 

@@ -7,7 +7,7 @@ use hk_undo::state_text;
 use std::alloc::Global;
 use std::test::Fail;
 
-// A semaphore with two tokens, and the base of a process that has ended.
+/// A semaphore with two tokens, and the base of a process that has ended.
 fn state(alloc: Global) -> Result<Snapshot, Fail> {
     let semaphore = Seen {
         name: Name(7),
@@ -40,7 +40,7 @@ fn state(alloc: Global) -> Result<Snapshot, Fail> {
     })
 }
 
-// Its text.
+/// Its text.
 fn told(alloc: Global) -> Result<Text, Fail> {
     let shown = state(alloc)?;
     match state_text(alloc, &shown, 4) {

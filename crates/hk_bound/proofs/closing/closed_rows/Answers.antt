@@ -14,7 +14,8 @@ looks-init c =
     let count : length c.tasks-count.result.now ≡ length c.args.world.now.tasks = ap length c.tasks-count.ensures.value in
     let o = c.object_count.ensures.value in
     record {
-      filling = filling_first w forms (length c.tasks-count.result.now) (c.object_count.result + length c.tasks-count.result.now + length forms) c.in_ok-rows.rows c.new-grown.result.items
+      filling = filling_first w forms (length c.tasks-count.result.now) (c.object_count.result + length c.tasks-count.result.now + length forms) c.in_ok-rows.rows
+        c.new-grown.result.items
           count (omega (arith, count, o)) (c.in_ok-rows.ensures {u = tt}) c.new-grown.ensures.items;
       ways =
           subst (AreWays w forms) (sym (c.in_ok-ways.ensures {u = tt}))
