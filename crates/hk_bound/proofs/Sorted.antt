@@ -92,7 +92,7 @@ halves_first forms of n e = record {
 }
 
 pub halves_up : (forms : List Form) (of low high middle : ℕ) (f : Form) → AreSorted forms → Halves forms of low high → low ≤ middle → middle < high
-  → slice_get forms middle ≡ Some f
+    → slice_get forms middle ≡ Some f
     → f.of.0 < of → Halves forms of (middle + 1) high
 halves_up forms of low high middle f sorted h from to at less = record {
   before = λ k g low at_k. by k g (or_last k middle low) at_k;
@@ -111,7 +111,7 @@ halves_up forms of low high middle f sorted h from to at less = record {
         subst (λ (x : Form). x.of.0 < of) is less
 
 pub halves_down : (forms : List Form) (of low high middle : ℕ) (f : Form) → AreSorted forms → Halves forms of low high → low ≤ middle → middle < high
-  → slice_get forms middle ≡ Some f
+    → slice_get forms middle ≡ Some f
     → of ≤ f.of.0 → Halves forms of low middle
 halves_down forms of low high middle f sorted h from to at more = record {
   before = h.before;
@@ -157,7 +157,7 @@ not_here forms form other n below at differs k less at_k = by (or_last k n less)
 
 -- where another type's templates begin, none of this one is left
 pub none_behind : (forms : List Form) (of start n : ℕ) (other : Form) → AreSorted forms → IsStart forms of start → start ≤ n → slice_get forms n ≡ Some other
-  → (other.of.0 ≡ of → ⊥)
+    → (other.of.0 ≡ of → ⊥)
     → (k : ℕ) (f : Form) → n ≤ k → slice_get forms k ≡ Some f → f.of.0 ≡ of → ⊥
 none_behind forms of start n other sorted is from at differs k f more at_k same = by (or_first k n more)
   where

@@ -116,7 +116,7 @@ TypeRule w forms rows p name by =
 abbrev pub MergeRule : WorldValue → List Form → List (List (Option ℕ)) → ℕ → ℕ → ℕ → ℕ → Type 0
 MergeRule w forms rows p name by place =
     (form : Form) → slice_get forms place ≡ Some form → form.of ≡ type_of w (name_at name)
-      → ((n : ℕ) → IsTrue (has all_rights n) → IsTrue (has form.check n) → IsTrue (has by n)) → env_in (cell rows p (thing_count w + place)) ≡ true
+    → ((n : ℕ) → IsTrue (has all_rights n) → IsTrue (has form.check n) → IsTrue (has by n)) → env_in (cell rows p (thing_count w + place)) ≡ true
     → Offered rows p name (merged_rights by (Some form.of) form.give)
 
 abbrev pub MergesRule : WorldValue → List Form → List (List (Option ℕ)) → ℕ → ℕ → ℕ → Type 0
@@ -135,7 +135,7 @@ pub record ObjectRule (w : WorldValue) (forms : List Form) (rows : List (List (O
 abbrev pub Passes : WorldValue → List Form → ℕ → ℕ → ℕ → Type 0
 Passes w forms p q by =
     (column rights : ℕ) → has rights env_right ≡ true → CellFollows w forms (Slots (proc_at q)) column rights
-      → CellFollows w forms (Slots (proc_at p)) column (reduced_rights by rights)
+    → CellFollows w forms (Slots (proc_at p)) column (reduced_rights by rights)
 
 -- one of two processes has what the other makes
 abbrev pub share_made : WorldValue → List (List (Option ℕ)) → ℕ → ℕ → Bool

@@ -205,7 +205,7 @@ pub run_moved : (a b : Tally) (ps qs : List Process) (proc : Proc) (run : Proces
 run_moved a b ps qs proc run d same there f =
     let inside : proc.0 < length ps = subst (λ (xs : List Process). proc.0 < length xs) same there in
     let moved : Moved a b (run_names run) (run_names (get_or ps proc.0 d).run) =
-      subst (λ (xs : List Process). Moved a b (run_names run) (run_names (get_or xs proc.0 d).run)) same f in
+    subst (λ (xs : List Process). Moved a b (run_names run) (run_names (get_or xs proc.0 d).run)) same f in
     set_moved (λ (p : Process). run_names p.run) a b ps proc.0 (get_or ps proc.0 d) (record (process_at ps proc.0) { run = run }) inside
     (get_or_default ps proc.0 d (get_or ps proc.0 d) inside) moved
 

@@ -22,7 +22,7 @@ is_root_at first out (Some n) = nat_lt n.0 first.0 || nat_lt 0 out
 abbrev pub IsMarkedBy : List (Option (Name × Body)) → Option Name → Marked → Marked → Type 0
 IsMarkedBy ps None old new = new ≡ old
 IsMarkedBy ps (Some n) old new = ((k : ℕ) × (name_at ps k ≡ Some n) × (new ≡ record old { slots = marked_with old.slots k }))
-  ⊎ (((k : ℕ) → name_at ps k ≡ Some n → ⊥) × (new ≡ old))
+    ⊎ (((k : ℕ) → name_at ps k ≡ Some n → ⊥) × (new ≡ old))
 
 -- the objects of these names are marked too, and no others
 pub record Grows (ps : List (Option (Name × Body))) (ns : List Name) (old new : Marked) : Type 0 where

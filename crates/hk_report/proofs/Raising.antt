@@ -323,7 +323,7 @@ module _ (made : Name → Bool) (histories : List History) (all : List (Name × 
               let same : span.cap.name ≡ found.0 = name_is span.cap.name found.0 (same_number span.cap.name.0 found.0.0 found.1.1) in
               let here : Has (holders_of histories span.cap.name) (held_by x span) =
               has_filter (holds span.cap.name) (spans_from 0 histories) (held_by x span) (from_held 0 histories x.0 x span (omega arith) h)
-                (eq-eqb span.cap.name.0 span.cap.name.0 refl) in
+              (eq-eqb span.cap.name.0 span.cap.name.0 refl) in
               let there : Has all (span.cap.name, latest) = subst (λ (y : Name). Has all (y, latest)) (sym same) found.1.0 in
               by_has made (holders_of histories) all (λ name. no_latest) (span.cap.name, latest) (held_by x span) there here
 
@@ -418,7 +418,7 @@ never_good to = ap (λ (b : Bool). (to.modify && b) || (to.unconf && b)) (never 
 no_entry : (from : Arrived) (span : Span) → entry_onward from span no_latest ≡ None
 no_entry from span =
     ap (λ (b : Bool). cond (from.unconf && (nat_lt (later from.moment span.from) span.until && b)) (Some made) None)
-      (never_good (arrived_by (later from.moment span.from) span.cap))
+    (never_good (arrived_by (later from.moment span.from) span.cap))
     ∙ by from.unconf (nat_lt (later from.moment span.from) span.until)
   where
     made : Onward

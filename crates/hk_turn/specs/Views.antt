@@ -39,8 +39,13 @@ module _ {E : Type 0} where
 
   -- a view that took in another: it stands for the passes of both, has seen the longer list, and remembers what each had seen
   abbrev pub joined_view : View E → View E → View E
-  joined_view v w = record v { made = max v.made w.made; weight = v.weight + w.weight; known = max v.known w.known; seen = longer v.seen w.seen;
-    lists_told = v.seen ∷ w.seen ∷ v.lists_told }
+  joined_view v w = record v {
+    made = max v.made w.made;
+    weight = v.weight + w.weight;
+    known = max v.known w.known;
+    seen = longer v.seen w.seen;
+    lists_told = v.seen ∷ w.seen ∷ v.lists_told;
+  }
 
   -- the view has seen the list, or took in one that had
   abbrev pub Heard : View E → List E → Type 0

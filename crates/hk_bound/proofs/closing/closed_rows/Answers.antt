@@ -15,7 +15,7 @@ looks-init c =
     let o = c.object_count.ensures.value in
     record {
       filling = filling_first w forms (length c.tasks-count.result.now) (c.object_count.result + length c.tasks-count.result.now + length forms) c.in_ok-rows.rows
-        c.new-grown.result.items
+          c.new-grown.result.items
           count (omega (arith, count, o)) (c.in_ok-rows.ensures {u = tt}) c.new-grown.ensures.items;
       ways =
           subst (AreWays w forms) (sym (c.in_ok-ways.ensures {u = tt}))

@@ -9,7 +9,7 @@ loop-gap-init c = filled_start c.args.world.now c.args.forms.now c.args.rows.now
 pub fill-requires : goal.fill-requires
 fill-requires c =
     let g = c.requires.gaps c.loop-gap.gap-index c.gap-item.result (slice_get_read c.args.gaps.now (length c.args.gaps.now) c.loop-gap.gap-index c.gap-item.result
-      refl c.loop-gap-test.true c.gap-item.is) in
+    refl c.loop-gap-test.true c.gap-item.is) in
     let a = g.process in
     let b = c.loop-gap.invariant.all.filling.are.count in
     omega (arith, a, b)
@@ -19,7 +19,7 @@ loop-gap-preserved c =
     filled_more c.args.world.now c.args.forms.now c.args.rows.now c.loop-gap.rows c.fill.new.rows c.args.grown.now.items c.loop-gap.grown.items c.fill.new.grown.items
     c.loop-gap.gap-index c.gap-item.result c.loop-gap.invariant
     (c.requires.gaps c.loop-gap.gap-index c.gap-item.result (slice_get_read c.args.gaps.now (length c.args.gaps.now) c.loop-gap.gap-index c.gap-item.result refl
-      c.loop-gap-test.true c.gap-item.is))
+    c.loop-gap-test.true c.gap-item.is))
     (c.in_ok-fill.ensures {u = tt})
 
 pub returns-clause-more : goal.returns-clause-more

@@ -7,5 +7,5 @@ loop-other-init c = fills_none c.args.world.now c.args.forms.now c.args.rows.now
 pub loop-other-preserved : goal.loop-other-preserved
 loop-other-preserved c =
     fills_then c.args.world.now c.args.forms.now c.args.rows.now c.loop-other.rows c.pass_cells.new.rows c.args.grown.now.items c.loop-other.grown.items
-      c.pass_cells.new.grown.items
+    c.pass_cells.new.grown.items
     c.loop-other.invariant (c.in_ok-pass_cells.ensures {u = tt})

@@ -7,8 +7,11 @@ use Rattle.hk_bound.proofs.EachLemmas.{each_none, each_read, each_all, each_weak
 use Rattle.hk_bound.proofs.forms.add_entries.Goals as goal
 
 pub loop-entry-init : goal.loop-entry-init
-loop-entry-init c = record { sorted = c.requires; keeps = keeps_self c.args.forms.now.items;
-  holds = each_none (λ (x : Entry). IfSome (entry_form x) (Holds c.args.forms.now.items)) c.args.entries.now }
+loop-entry-init c = record {
+  sorted = c.requires;
+  keeps = keeps_self c.args.forms.now.items;
+  holds = each_none (λ (x : Entry). IfSome (entry_form x) (Holds c.args.forms.now.items)) c.args.entries.now;
+}
 
 pub loop-entry-preserved : goal.loop-entry-preserved
 loop-entry-preserved c =

@@ -7,8 +7,11 @@ use Rattle.hk_bound.proofs.EachLemmas.{each_none, each_read, each_all, each_weak
 use Rattle.hk_bound.proofs.forms.add_params.Goals as goal
 
 pub loop-param-init : goal.loop-param-init
-loop-param-init c = record { sorted = c.requires; keeps = keeps_self c.args.forms.now.items;
-  holds = each_none (λ (x : Param). IfSome (param_form x) (Holds c.args.forms.now.items)) c.args.params.now }
+loop-param-init c = record {
+  sorted = c.requires;
+  keeps = keeps_self c.args.forms.now.items;
+  holds = each_none (λ (x : Param). IfSome (param_form x) (Holds c.args.forms.now.items)) c.args.params.now;
+}
 
 pub loop-param-preserved : goal.loop-param-preserved
 loop-param-preserved c =

@@ -12,7 +12,7 @@ loop-place-preserved c =
     let low = s.2 in
     record {
       finds = finds_number w forms rows (MergeRule w forms rows c.args.process c.args.name c.args.by) c.loop-place.place c.args.gaps.now.items
-        c.loop-place.gaps.items c.merge.new.gaps.items
+          c.loop-place.gaps.items c.merge.new.gaps.items
           c.loop-place.invariant.finds (c.in_ok-merge.ensures {u = tt});
       start = (s.0, s.1, omega (arith, low));
     }

@@ -13,23 +13,23 @@ loop-name-preserved c =
     let rows = c.args.self.now.rows.now in
     let i = c.loop-name.invariant in
     let at : slice_get c.args.names.now c.loop-name.name-index ≡ Some (get_or c.args.names.now c.loop-name.name-index 0) =
-      read c.args.names.now c.loop-name.name-index c.loop-name-test.true in
+    read c.args.names.now c.loop-name.name-index c.loop-name-test.true in
     let is : c.joined_cells-by.result ≡ joined_cells c.loop-name.by
     (through_in (type_of w (name_at (get_or c.args.names.now c.loop-name.name-index 0)))
-      (cell rows c.args.process (get_or c.args.names.now c.loop-name.name-index 0)) (cell rows c.args.other (get_or c.args.names.now c.loop-name.name-index 0))) =
+    (cell rows c.args.process (get_or c.args.names.now c.loop-name.name-index 0)) (cell rows c.args.other (get_or c.args.names.now c.loop-name.name-index 0))) =
     c.joined_cells-by.ensures ∙ ap (joined_cells c.loop-name.by) c.through_object.ensures in
     record {
       passes = subst (λ (o : Option ℕ). IfSome o (Passes w forms c.args.process c.args.other)) (sym is)
           (passes_joined w forms rows c.args.process c.args.other c.loop-name.by
           (through_in (type_of w (name_at (get_or c.args.names.now c.loop-name.name-index 0)))
-            (cell rows c.args.process (get_or c.args.names.now c.loop-name.name-index 0)) (cell rows c.args.other (get_or c.args.names.now c.loop-name.name-index 0))) i.passes
+          (cell rows c.args.process (get_or c.args.names.now c.loop-name.name-index 0)) (cell rows c.args.other (get_or c.args.names.now c.loop-name.name-index 0))) i.passes
           (through_passes w forms rows c.args.process c.args.other c.requires.known.follow c.requires.process (get_or c.args.names.now c.loop-name.name-index 0)
           (c.requires.names.low c.loop-name.name-index (get_or c.args.names.now c.loop-name.name-index 0) at)));
       all =
           subst (λ (o : Option ℕ). HasTakings w rows c.args.process c.args.other
-            (First w forms rows c.args.process c.args.other c.args.names.now (c.loop-name.name-index + 1)) o) (sym is)
+          (First w forms rows c.args.process c.args.other c.args.names.now (c.loop-name.name-index + 1)) o) (sym is)
           (takings_more w forms rows c.args.process c.args.other c.args.names.now c.loop-name.name-index (get_or c.args.names.now c.loop-name.name-index 0)
-            c.loop-name.by at i.all);
+          c.loop-name.by at i.all);
     }
 
 pub returns-then-passes_all-clause-passes : goal.returns-then-passes_all-clause-passes
@@ -39,15 +39,15 @@ returns-then-passes_all-clause-passes c =
     let rows = c.args.self.now.rows.now in
     let i = c.loop-name.invariant in
     let at : slice_get c.args.names.now c.loop-name.name-index ≡ Some (get_or c.args.names.now c.loop-name.name-index 0) =
-      read c.args.names.now c.loop-name.name-index c.loop-name-test.true in
+    read c.args.names.now c.loop-name.name-index c.loop-name-test.true in
     let is : c.joined_cells-by.result ≡ joined_cells c.loop-name.by
     (through_in (type_of w (name_at (get_or c.args.names.now c.loop-name.name-index 0)))
-      (cell rows c.args.process (get_or c.args.names.now c.loop-name.name-index 0)) (cell rows c.args.other (get_or c.args.names.now c.loop-name.name-index 0))) =
+    (cell rows c.args.process (get_or c.args.names.now c.loop-name.name-index 0)) (cell rows c.args.other (get_or c.args.names.now c.loop-name.name-index 0))) =
     c.joined_cells-by.ensures ∙ ap (joined_cells c.loop-name.by) c.through_object.ensures in
     subst (λ (o : Option ℕ). IfSome o (Passes w forms c.args.process c.args.other)) (sym is)
     (passes_joined w forms rows c.args.process c.args.other c.loop-name.by
     (through_in (type_of w (name_at (get_or c.args.names.now c.loop-name.name-index 0)))
-      (cell rows c.args.process (get_or c.args.names.now c.loop-name.name-index 0)) (cell rows c.args.other (get_or c.args.names.now c.loop-name.name-index 0))) i.passes
+    (cell rows c.args.process (get_or c.args.names.now c.loop-name.name-index 0)) (cell rows c.args.other (get_or c.args.names.now c.loop-name.name-index 0))) i.passes
     (through_passes w forms rows c.args.process c.args.other c.requires.known.follow c.requires.process (get_or c.args.names.now c.loop-name.name-index 0)
     (c.requires.names.low c.loop-name.name-index (get_or c.args.names.now c.loop-name.name-index 0) at)))
 
