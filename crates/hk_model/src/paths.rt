@@ -10,7 +10,7 @@ use std::marker::Model;
 #[derive(Clone, Copy, Debug)]
 pub struct Path {
     indices: [u16; 8],
-    count: usize,
+    count: u8,
 }
 
 impl Model for Path {
@@ -67,7 +67,7 @@ impl Path {
         indices[..at.len()].copy_from_slice(at);
         Some(Path {
             indices,
-            count: at.len(),
+            count: at.len() as u8,
         })
     }
 
@@ -75,7 +75,7 @@ impl Path {
     pub fn as_slice(&self) -> &[u16]
         ensures { result.now ≡ self.now }
     {
-        &self.indices[..self.count]
+        &self.indices[..self.count as usize]
     }
 
     /// The number of indices.
@@ -84,7 +84,7 @@ impl Path {
         ensures some { 0 < result }
         ensures few { result ≤ 8 }
     {
-        self.count
+        self.count as usize
     }
 
     /// The index of a step, from 0.
@@ -92,7 +92,7 @@ impl Path {
         requires { step < length self.now }
         ensures { result ≡ slice_index self.now step }
     {
-        let used = &self.indices[..self.count];
+        let used = &self.indices[..self.count as usize];
         used[step]
     }
 }
@@ -101,7 +101,7 @@ impl Path {
 #[derive(Clone, Copy, Debug)]
 pub struct Args {
     slots: [u8; 8],
-    count: usize,
+    count: u8,
 }
 
 impl Model for Args {
@@ -169,7 +169,7 @@ impl Args {
         requires { length self.old < 8 }
         ensures { self.new ≡ self.old ++ slot.0 ∷ [] }
     {
-        self.slots[self.count] = slot.0;
+        self.slots[self.count as usize] = slot.0;
         self.count += 1;
     }
 
@@ -177,7 +177,7 @@ impl Args {
     pub fn as_slice(&self) -> &[u8]
         ensures { result.now ≡ self.now }
     {
-        &self.slots[..self.count]
+        &self.slots[..self.count as usize]
     }
 
     /// The number of arguments.
@@ -185,7 +185,7 @@ impl Args {
         ensures value { result ≡ length self.now }
         ensures few { result ≤ 8 }
     {
-        self.count
+        self.count as usize
     }
 
     /// Whether there is no argument.
@@ -200,7 +200,7 @@ impl Args {
         requires { argument < length self.now }
         ensures { result.0 ≡ slice_index self.now argument }
     {
-        let used = &self.slots[..self.count];
+        let used = &self.slots[..self.count as usize];
         Slot(used[argument])
     }
 }
