@@ -3,7 +3,7 @@ mod OpeningStays
 mod Bounded
 mod Kept
 mod Opened
-mod Law
+pub mod Law
 mod OpeningObjects
 mod EachLemmas
 mod Passing

@@ -4,4 +4,4 @@ pub mod Settling
 mod Kept
 mod Callers
 pub mod Begins
-mod Confined
+pub mod Confined
