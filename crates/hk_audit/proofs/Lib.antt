@@ -29,3 +29,4 @@ mod ScriptCounts
 mod ScriptLengths
 mod LineLengths
 pub mod RecordLengths
+pub mod Begun

@@ -6,3 +6,4 @@ pub mod Events
 pub mod Halves
 pub mod RecordCuts
 pub mod RecordEvents
+pub mod Begun

@@ -22,6 +22,7 @@ mod replies;
 mod rights;
 mod scripts;
 mod wanted;
+mod writer;
 
 pub use again::{
     call_has_text_of_its_step, line_is_read_again, record_is_read_again, record_text_is_of_one,
@@ -32,3 +33,4 @@ pub use lines::line_text;
 pub use ranges::steps_have_texts;
 pub use reading::{read_body, read_line};
 pub use records::record_text;
+pub use writer::Writer;

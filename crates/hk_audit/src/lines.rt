@@ -35,7 +35,7 @@ pub(crate) fn write_lines(alloc: Global, out: &mut String, lines: &[Line]) -> Re
 }
 
 /// Writes the text of a line.
-fn write_line(alloc: Global, out: &mut String, line: &Line) -> Result<(), NoMemory>
+pub(crate) fn write_line(alloc: Global, out: &mut String, line: &Line) -> Result<(), NoMemory>
     requires { IsLine line.now }
     ensures { OnOk result (string_bytes out.new ≡ string_bytes out.old ++ line_text line.now) }
 {

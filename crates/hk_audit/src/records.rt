@@ -26,7 +26,7 @@ pub fn record_text(alloc: Global, world: &World, lines: &[Line], end: End) -> Re
 }
 
 /// The last line, with its line feed.
-fn end_line(end: End) -> &'static str
+pub(crate) fn end_line(end: End) -> &'static str
     ensures { result.now ≡ ended_line (end_text end) }
 {
     match end {

@@ -7,5 +7,6 @@ pub mod Ends
 pub mod FoundLegal
 pub mod ReadWhole
 pub mod WordLemmas
+pub mod Written
 pub mod OneRun
 pub mod Going

@@ -87,6 +87,14 @@ pub record IsRecord (w : WorldValue) (lines : List Line) (end : End) (status : �
   pub status_is : status ≡ status_of end
   pub text_is : text ≡ record_text w lines end
 
+-- the record of a whole run on processor 0, of whose lines the laws hold, and the state behind them
+pub record IsWrittenRun (w : WorldValue) (text : List ℕ) (end : End) (state : State) : Type 0 where
+  pub lines : List Line
+  pub run : IsWholeRun w lines end
+  pub laws : IsLawful w lines
+  pub text_is : text ≡ record_text w lines end
+  pub state_is : state ≡ state_after w lines
+
 -- the record of a run that these words ask for, and the state of the kernel that made it: the lines lead there
 pub record IsRecorded (words : List (List ℕ)) (w : WorldValue) (status : ℕ) (text : List ℕ) (made : Option State) : Type 0 where
   pub lines : List Line

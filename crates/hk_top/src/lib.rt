@@ -18,6 +18,7 @@ mod served;
 mod states;
 pub mod status;
 mod words;
+mod written;
 
 pub use commands::{answer, hydra};
 pub use maker::{Maker, Maps, Slots};

@@ -19,11 +19,12 @@ ghost use Rattle.hk_top.specs.Served.{IsDueTo, Records};
 use crate::bounds::bounds_text;
 use crate::causes::{refusal_text, verdict_text};
 use crate::maker::Maker;
-use crate::running::{laws, run_alone};
+use crate::running::laws;
 use crate::served::{DueText, Served};
 use crate::states::state_behind;
 use crate::status;
 use crate::words::Command;
+use crate::written::write_run;
 use hk_audit::{Audit, RecordError, read_record, record_text, steps_have_texts};
 use hk_bound::bound;
 use hk_check::check;
@@ -104,13 +105,17 @@ fn run_script<M: Maker>(
 }
 
 /// What is due to `run` and a world, run on this kernel: the record of its run.
+#[tactic(auto, using(crate::proofs::Written::written_due))]
 fn recorded<K: Kernel>(alloc: Global, world: &World, kernel: K) -> Result<Served<K>, NoMemory>
     requires { K.state kernel ≡ opening world.now }
     ensures { IfOk result (λ served. Records K.state (words_of Command.Run) world.now served) }
 {
-    let run = run_alone(alloc, world, kernel)?;
+    let run = write_run(alloc, world, kernel)?;
     Ok(Served {
-        due: record(alloc, world, run.lines.as_slice(), run.end)?,
+        due: DueText {
+            status: status::of_run(run.end),
+            text: run.text,
+        },
         kernel: Some(run.kernel),
     })
 }

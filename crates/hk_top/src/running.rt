@@ -13,7 +13,7 @@ use hk_program::{Machine, end_word, kept_law};
 use std::alloc::Global;
 
 /// The processor that runs a script alone.
-const FIRST_PROCESSOR: Cpu = Cpu(0);
+pub(crate) const FIRST_PROCESSOR: Cpu = Cpu(0);
 
 /// A run: its lines, how it ended, and the kernel behind it.
 #[derive(Drop)]
