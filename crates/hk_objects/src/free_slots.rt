@@ -4,6 +4,7 @@ ghost use Rattle.std.specs.Prelude.{◌≡◌, ◌<◌, ◌++◌, ◌∷◌, [],
 ghost use Rattle.hk_links.specs.Chained.{without};
 ghost use Rattle.hk_objects.specs.Indexed.{has};
 
+use crate::objects::SLOTS;
 use hk_links::Chains;
 use hk_model::NoMemory;
 use std::alloc::Global;
@@ -32,7 +33,7 @@ impl FreeSlots {
     fn none(alloc: Global) -> Result<FreeSlots, NoMemory>
         ensures { IfOk result (λ free. free ≡ []) }
     {
-        match Chains::with(alloc, 1, 65536) {
+        match Chains::with(alloc, 1, SLOTS) {
             Ok(chains) => Ok(FreeSlots { chains }),
             Err(_refused) => Err(NoMemory),
         }
@@ -43,7 +44,7 @@ impl FreeSlots {
         ensures { IfOk result (λ free. (k : ℕ) → has free k ≡ nat_lt k 65536) }
     {
         let mut free = FreeSlots::none(alloc)?;
-        for slot in 0..65536u32 {
+        for slot in 0..SLOTS {
             free.give(slot);
         }
         Ok(free)

@@ -3,7 +3,9 @@
 ghost use Rattle.std.specs.Prelude.{◌≡◌, ◌<◌, ◌↔◌, ℕ, true, false, Some, None, length, IfSome, IfOk, IfNone, IsTrue, slice_set};
 ghost use Rattle.hk_objects.specs.Indexed.{named_at};
 
+use crate::objects::SLOTS;
 use hk_links::Chains;
+use hk_model::limits::OBJECT_LIMIT;
 use hk_model::{Name, NoMemory};
 use std::alloc::Global;
 use std::marker::Model;
@@ -43,8 +45,8 @@ impl Model for NameIndex {
 fn no_names(alloc: Global) -> Result<Vec<Option<Name>>, NoMemory>
     ensures { IfOk result (λ names. (length names.items ≡ 65536) × ((k : ℕ) → named_at names.items k ≡ None)) }
 {
-    let mut names = Vec::with_capacity(alloc, 65536)?;
-    for _slot in 0..65536usize {
+    let mut names = Vec::with_capacity(alloc, OBJECT_LIMIT)?;
+    for _slot in 0..OBJECT_LIMIT {
         names.push(None)?;
     }
     Ok(names)
@@ -57,7 +59,7 @@ impl NameIndex {
         ensures empty { IfOk result (λ index. (k : ℕ) → named_at index k ≡ None) }
     {
         let names = no_names(alloc)?;
-        match Chains::with(alloc, 65536, 65536) {
+        match Chains::with(alloc, SLOTS, SLOTS) {
             Ok(chains) => Ok(NameIndex { names, chains }),
             Err(_refused) => Err(NoMemory),
         }
@@ -68,9 +70,9 @@ impl NameIndex {
         ensures found { IfSome result (λ slot. named_at self.now slot ≡ Some name) }
         ensures none { IfNone result ((k : ℕ) → named_at self.now k ≡ Some name → ⊥) }
     {
-        let list = (name.0 % 65536) as u32;
+        let list = (name.0 % SLOTS as u64) as u32;
         let mut cell = self.chains.front(list);
-        for _k in 0..65536u32 {
+        for _k in 0..SLOTS {
             match cell {
                 Some(slot) => {
                     if is_named(&self.names, slot, name) {
@@ -91,7 +93,7 @@ impl NameIndex {
         ensures { self.new ≡ slice_set self.old slot (Some name) }
     {
         self.names[slot as usize] = Some(name);
-        self.chains.push_back((name.0 % 65536) as u32, slot);
+        self.chains.push_back((name.0 % SLOTS as u64) as u32, slot);
     }
 
     /// Takes the name of a slot away.

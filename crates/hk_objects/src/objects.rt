@@ -10,10 +10,14 @@ use crate::free_slots::FreeSlots;
 use crate::name_index::NameIndex;
 use crate::parts::{add_entry, add_word, put_count, put_entry, put_procedure, put_word};
 use crate::steps::Steps;
+use hk_model::limits::OBJECT_LIMIT;
 use hk_model::{Entries, Entry, Name, NoMemory, Param, Params, Words};
 use std::alloc::Global;
 use std::marker::Model;
 use std::sync::ledger::Ledger;
+
+/// How many slots there are: one for each object that may stand.
+pub(crate) const SLOTS: u32 = OBJECT_LIMIT as u32;
 
 /// The number of a slot.
 #[derive(Clone, Copy, PartialEq, Eq, Debug)]
@@ -43,8 +47,8 @@ impl Model for Objects {
 fn no_objects(alloc: Global) -> Result<Vec<Option<(Name, Body)>>, NoMemory>
     ensures { IfOk result (λ slots. (length slots.items ≡ 65536) × ((k : ℕ) → place slots.items k ≡ None)) }
 {
-    let mut slots = Vec::with_capacity(alloc, 65536)?;
-    for _slot in 0..65536usize {
+    let mut slots = Vec::with_capacity(alloc, OBJECT_LIMIT)?;
+    for _slot in 0..OBJECT_LIMIT {
         slots.push(None)?;
     }
     Ok(slots)
