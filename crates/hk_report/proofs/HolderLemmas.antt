@@ -7,7 +7,7 @@ use Rattle.hk_model.specs.declared.names.Name.{Name}
 use Rattle.hk_report.specs.declared.histories.Span.{Span}
 use Rattle.hk_report.specs.declared.histories.History.{History}
 use Rattle.hk_report.specs.declared.holders.Held.{Held}
-use Rattle.hk_report.specs.Holders.{held_by, spans_from, holds, holders_of, held_at, one_more}
+use Rattle.hk_report.specs.Holders.{held_by, spans_from, holds, holders_of, held_at, IsOneMore}
 
 -- ---- one span more is kept
 
@@ -57,6 +57,13 @@ module _ {X : Type 0} where
   last_other (ys ∷ all) xs (suc n) zero e f = refl
   last_other (ys ∷ all) xs (suc n) (suc m) e f = last_other all xs n m (omega (arith, e)) (ne_eqb n m (λ g. eqb-false (suc n) (suc m) f (omega (arith, g))))
 
+-- one list with a span more
+abbrev pub one_more : Held → List (List Held) → List (List Held)
+one_more held all = elim (nat_lt held.span.cap.name.0 (length all)) [
+  | true ↦ slice_set all held.span.cap.name.0 (held_at all held.span.cap.name ++ held ∷ [])
+  | false ↦ (all ++ replicate (held.span.cap.name.0 - length all) []) ++ (held ∷ []) ∷ []
+]
+
 name_is : (x y : Name) → x.0 ≡ y.0 → x ≡ y
 name_is x y h = ap (λ (n : ℕ). let z : Name = record { 0 = n } in z) h
 
@@ -104,6 +111,10 @@ module _ (held : Held) (all : List (List Held)) where
           ∙ append_assoc (held_at all name) (held ∷ []) (filter (holds name) rest)
       by false e = ap (λ (xs : List Held). xs ++ filter (holds name) rest) (more_other name e)
 
+pub more_held : (held : Held) (all after : List (List Held)) → after ≡ one_more held all → IsOneMore held all after
+more_held held all after is name =
+    ap (λ (xs : List (List Held)). held_at xs name) is ∙ sym (append-nil (held_at (one_more held all) name)) ∙ more_is held all name []
+
 -- ---- the spans of a list that are left
 
 module _ {X : Type 0} where
@@ -119,12 +130,34 @@ module _ {X : Type 0} where
 one_next : (n : ℕ) → n + 1 ≡ suc n
 one_next n = omega arith
 
+filter_more : (p : Held → Bool) (held : Held) (rest : List Held) → filter p (held ∷ []) ++ filter p rest ≡ filter p (held ∷ rest)
+filter_more p held rest = by (p held)
+  where
+    by : (b : Bool) → cond b (held ∷ []) [] ++ filter p rest ≡ cond b (held ∷ filter p rest) (filter p rest)
+    by true = refl
+    by false = refl
+
 pub span_held : (before after : List (List Held)) (by : Name) (spans : List Span) (n : ℕ) (span : Span) (name : Name) (whole : List Held) → n < length spans
-    → span ≡ slice_index_or spans n span → after ≡ one_more (held_by by span) before
+    → span ≡ slice_index_or spans n span → IsOneMore (held_by by span) before after
     → held_at before name ++ filter (holds name) (map (held_by by) (drop n spans)) ≡ whole
     → held_at after name ++ filter (holds name) (map (held_by by) (drop (n + 1) spans)) ≡ whole
 span_held before after by spans n span name whole l e is h =
+    let rest = map (held_by by) (drop (suc n) spans) in
     ap (λ (k : ℕ). held_at after name ++ filter (holds name) (map (held_by by) (drop k spans))) (one_next n)
-    ∙ ap (λ (all : List (List Held)). held_at all name ++ filter (holds name) (map (held_by by) (drop (suc n) spans))) is
-    ∙ more_is (held_by by span) before name (map (held_by by) (drop (suc n) spans))
+    ∙ ap (λ (xs : List Held). xs ++ filter (holds name) rest) (is name)
+    ∙ append_assoc (held_at before name) (filter (holds name) (held_by by span ∷ [])) (filter (holds name) rest)
+    ∙ ap (λ (xs : List Held). held_at before name ++ xs) (filter_more (holds name) (held_by by span) rest)
     ∙ ap (λ (xs : List Span). held_at before name ++ filter (holds name) (map (held_by by) xs)) (sym (drop_more spans n span l e)) ∙ h
+
+-- behind the last span none is left
+none_left : (spans : List Span) (n : ℕ) → length spans ≤ n → drop n spans ≡ []
+none_left [] zero l = refl
+none_left [] (suc n) l = refl
+none_left (span ∷ spans) zero l = absurd (omega (arith, l))
+none_left (span ∷ spans) (suc n) l = none_left spans n (omega (arith, l))
+
+pub spans_held : (all : List (List Held)) (by : Name) (spans : List Span) (n : ℕ) (name : Name) (whole : List Held) → length spans ≤ n
+    → held_at all name ++ filter (holds name) (map (held_by by) (drop n spans)) ≡ whole → held_at all name ≡ whole
+spans_held all by spans n name whole l h =
+    sym (append-nil (held_at all name))
+    ∙ ap (λ (xs : List Span). held_at all name ++ filter (holds name) (map (held_by by) xs)) (sym (none_left spans n l)) ∙ h

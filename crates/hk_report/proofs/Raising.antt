@@ -23,7 +23,13 @@ use Rattle.hk_report.specs.declared.hops.Onward.{Onward}
 use Rattle.hk_report.specs.Histories.{no_history, history_of}
 use Rattle.hk_report.specs.Hops.{later, arrived_by, arrived_whole, is_good, entry_onward, handed_onward, earlier, onward_over}
 use Rattle.hk_report.specs.Hops.{greater, lesser, from_on, entry_bound, handed_bound, no_latest, ends_before, latest_end, latest_from, next_latest}
-use Rattle.hk_report.specs.Holders.{held_by, spans_from, holds, holders_of, joined, latest_over, raised_at, raised_over, raised_by}
+use Rattle.hk_report.specs.Holders.{held_by, spans_from, holds, holders_of, joined, latest_over, raised_at, raised_over}
+
+-- ---- what all that a level keeps gives
+
+abbrev pub raised_by : (Name → Bool) → (Name → List Held) → (Name → Latest) → List (Name × Latest) → Name → Latest
+raised_by made holders level [] = level
+raised_by made holders level (kept ∷ more) = raised_by made holders (raised_over kept.1 (made kept.0) level (holders kept.0)) more
 
 -- ---- bounds that are at most others
 

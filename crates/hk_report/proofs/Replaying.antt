@@ -6,7 +6,7 @@ pub record Replaying (sound turns : Type 0) : Type 0 where
   pub keeps : turns
 
 -- and of all that its lines tell
-pub record Telling (sound first turns params histories : Type 0) : Type 0 where
+pub record Gathered (sound first turns params histories : Type 0) : Type 0 where
   pub is_sound : sound
   pub begins : first
   pub keeps : turns

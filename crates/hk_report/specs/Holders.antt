@@ -1,5 +1,5 @@
 -- Which spans hold an object, and what a level gives to those in whose lists they stand. docs/RULES.md, "Reaches".
-use Rattle.std.specs.Prelude.{◌≡◌, ℕ, ◌+◌, ◌-◌, ◌==◌, nat_lt, Bool, true, false, List, [], ◌∷◌, ◌++◌, length, map, filter, replicate, slice_set, slice_index_or, if◌then◌else◌}
+use Rattle.std.specs.Prelude.{◌≡◌, ℕ, ◌+◌, ◌==◌, Bool, List, [], ◌∷◌, ◌++◌, map, filter, slice_index_or, if◌then◌else◌}
 use Rattle.hk_model.specs.declared.names.Name.{Name}
 use Rattle.hk_report.specs.declared.histories.Span.{Span}
 use Rattle.hk_report.specs.declared.histories.History.{History}
@@ -26,12 +26,9 @@ holders_of histories name = filter (holds name) (spans_from 0 histories)
 abbrev pub held_at : List (List Held) → Name → List Held
 held_at all name = slice_index_or all name.0 []
 
--- one span more is kept
-abbrev pub one_more : Held → List (List Held) → List (List Held)
-one_more held all = elim (nat_lt held.span.cap.name.0 (length all)) [
-  | true ↦ slice_set all held.span.cap.name.0 (held_at all held.span.cap.name ++ held ∷ [])
-  | false ↦ (all ++ replicate (held.span.cap.name.0 - length all) []) ++ (held ∷ []) ∷ []
-]
+-- one span more is kept, with those that hold its object
+abbrev pub IsOneMore : Held → List (List Held) → List (List Held) → Type 0
+IsOneMore held before after = (name : Name) → held_at after name ≡ held_at before name ++ filter (holds name) (held ∷ [])
 
 -- the spans that are kept are all
 abbrev pub AreHolders : List History → List (List Held) → Type 0
@@ -52,7 +49,3 @@ raised_at level name latest x = if name.0 == x.0 then joined (level x) latest el
 abbrev pub raised_over : Latest → Bool → (Name → Latest) → List Held → Name → Latest
 raised_over latest made level [] = level
 raised_over latest made level (held ∷ more) = raised_over latest made (raised_at level held.by (latest_over held.span latest made)) more
-
-abbrev pub raised_by : (Name → Bool) → (Name → List Held) → (Name → Latest) → List (Name × Latest) → Name → Latest
-raised_by made holders level [] = level
-raised_by made holders level (kept ∷ more) = raised_by made holders (raised_over kept.1 (made kept.0) level (holders kept.0)) more

@@ -2,7 +2,7 @@
 
 ghost use Rattle.std.specs.Prelude.{◌≡◌, ◌-◌, ◌++◌, ◌∷◌, [], length, map, filter, replicate, IfOk, OnOk};
 ghost use Rattle.hk_model.specs.declared.names.Name.{Name};
-ghost use Rattle.hk_report.specs.Holders.{AreHolders, held_at, held_by, holds, one_more};
+ghost use Rattle.hk_report.specs.Holders.{AreHolders, IsOneMore, held_at, held_by, holds};
 
 use crate::histories::{History, Span};
 use hk_model::{Items, Name, NoMemory};
@@ -27,8 +27,9 @@ fn reach_up(alloc: Global, all: &mut Vec<Items<Held>>, name: Name) -> Result<(),
 }
 
 /// One span more, which holds an object.
+#[tactic(auto, using(crate::proofs::HolderLemmas::more_held))]
 fn add(alloc: Global, all: &mut Vec<Items<Held>>, held: Held) -> Result<(), NoMemory>
-    ensures { OnOk result (all.new.items ≡ one_more held all.old.items) }
+    ensures { OnOk result (IsOneMore held all.old.items all.new.items) }
 {
     let name = held.span.cap.name;
     match all.get_mut(name.0 as usize) {

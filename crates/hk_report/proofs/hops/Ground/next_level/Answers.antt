@@ -2,7 +2,8 @@ use Rattle.std.proofs.Common.{◌≡◌, List, sym, ◌∙◌, ap}
 use Rattle.hk_model.specs.declared.names.Name.{Name}
 use Rattle.hk_report.specs.declared.hops.Latest.{Latest}
 use Rattle.hk_report.specs.Hops.{is_made, latest_at}
-use Rattle.hk_report.specs.Holders.{holders_of, raised_by}
+use Rattle.hk_report.specs.Holders.{holders_of}
+use Rattle.hk_report.proofs.Raising.{raised_by}
 use Rattle.hk_report.proofs.Raising.{level_next}
 use Rattle.hk_report.proofs.hops.Ground.next_level.Goals as goal
 

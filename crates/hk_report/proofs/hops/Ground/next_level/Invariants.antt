@@ -1,7 +1,8 @@
 -- What is kept for the objects to come is left.
 use Rattle.std.proofs.Common.{◌≡◌}
 use Rattle.hk_report.specs.Hops.{is_made, latest_at, no_latest}
-use Rattle.hk_report.specs.Holders.{holders_of, raised_by}
+use Rattle.hk_report.specs.Holders.{holders_of}
+use Rattle.hk_report.proofs.Raising.{raised_by}
 use Rattle.hk_report.proofs.hops.Ground.next_level.Given as goal
 
 abbrev pub invariant-loop-name : goal.invariant-loop-name
