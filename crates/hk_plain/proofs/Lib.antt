@@ -6,3 +6,4 @@ pub mod CountedParts
 pub mod Naming
 pub mod KeepingLemmas
 pub mod MarkLemmas
+pub mod PutBack
