@@ -9,3 +9,4 @@ pub mod MarkLemmas
 pub mod PutBack
 pub mod WritesTakenBack
 pub mod CallsTakenBack
+pub mod GoingTakenBack
