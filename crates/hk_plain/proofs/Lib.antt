@@ -10,3 +10,4 @@ pub mod PutBack
 pub mod WritesTakenBack
 pub mod CallsTakenBack
 pub mod GoingTakenBack
+pub mod WholeStays
