@@ -11,3 +11,4 @@ pub mod WritesTakenBack
 pub mod CallsTakenBack
 pub mod GoingTakenBack
 pub mod WholeStays
+pub mod RunningAgain

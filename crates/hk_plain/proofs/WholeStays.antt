@@ -219,9 +219,9 @@ dispatched_whole s cpu first after is whole = by s.ready is
     by : (ready : List Proc) → dispatched_from s cpu ready ≡ Some (first, after) → IsWhole after
     by [] found = absurd (cc)
     by (head ∷ rest) found =
-        let left : counted (s.events + 1) (record (put_process s head (record (process s head) { run = Running cpu })) { ready = rest }) ≡ after =
-        ap (λ (o : Option (Proc × State)). (unwrap_or o (first, after)).1) found in
-        subst IsWhole left (whole_after s (record (put_process s head (record (process s head) { run = Running cpu })) { ready = rest }) whole (whole_given s whole) (none_taken s))
+        let given : State = record (put_process s head (record (process s head) { run = Running cpu })) { ready = rest } in
+        let left : counted (s.events + 1) given ≡ after = ap (λ (o : Option (Proc × State)). (unwrap_or o (first, after)).1) found in
+        subst IsWhole left (whole_after s given whole (whole_given s whole) (none_taken s))
 
 -- ---- a world opens
 
