@@ -6,3 +6,9 @@ pub mod CountedParts
 pub mod Naming
 pub mod KeepingLemmas
 pub mod MarkLemmas
+pub mod PutBack
+pub mod WritesTakenBack
+pub mod CallsTakenBack
+pub mod GoingTakenBack
+pub mod WholeStays
+pub mod RunningAgain

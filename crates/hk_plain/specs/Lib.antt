@@ -5,3 +5,4 @@ pub mod Opening
 pub mod Stacks
 pub mod Counts
 pub mod Marking
+pub mod Changes

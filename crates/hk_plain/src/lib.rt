@@ -14,6 +14,7 @@
 
 mod activations;
 mod calls;
+mod changes;
 mod collecting;
 mod counted;
 mod counts;

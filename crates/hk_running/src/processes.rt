@@ -8,7 +8,7 @@ ghost use Rattle.std.specs.List.{list_any};
 ghost use Rattle.hk_model.specs.declared.objects.Process.{Process};
 ghost use Rattle.hk_model.specs.declared.objects.ProcessState.TheVariants.{Running};
 ghost use Rattle.hk_model.specs.Processors.{runner_from, is_running};
-ghost use Rattle.hk_running.specs.Runners.{with_run, with_current, process_at, runner_lives, freed, place_of, weight};
+ghost use Rattle.hk_running.specs.Runners.{with_run, with_current, process_at, runner_lives, freed, place_of, weight, RunAlone};
 
 use hk_model::{Cpu, Inc, Proc, Process, ProcessState};
 use std::marker::Model;
@@ -78,6 +78,14 @@ fn place_of(places: &[Option<Proc>; 16], cpu: Cpu) -> Option<Proc>
     }
 }
 
+/// How many places there are.
+fn count_places(places: &[Option<Proc>; 16]) -> usize
+    ensures value { result ≡ 16 }
+    ensures many { length places.now ≡ 16 }
+{
+    places.len()
+}
+
 /// A processor runs no more what it ran.
 fn free(places: &mut [Option<Proc>; 16], before: ProcessState)
     ensures value { places.new ≡ freed places.old before }
@@ -112,6 +120,14 @@ impl Processes {
         ensures few { length result.now ≤ 256 }
     {
         self.all.as_slice()
+    }
+
+    /// How many processors there are. Each runs one process at most.
+    pub fn processors(&self) -> usize
+        ensures value { result ≡ 16 }
+        ensures alone { RunAlone self.now }
+    {
+        count_places(&self.places)
     }
 
     /// The process that a processor runs.
