@@ -7,6 +7,7 @@ use Rattle.std.specs.List.{list_any}
 use Rattle.std.proofs.lemmas.List.{length-set}
 use Rattle.std.proofs.lemmas.List.Sums.{sum_by-set, sum_by-cons, get_or-le-sum_by}
 use Rattle.std.proofs.lemmas.Option.{unwrap_or-slice_get, slice_get_read}
+use Rattle.std.proofs.lemmas.Bool.{false≢true}
 use Rattle.std.proofs.lemmas.Bool.Decides.{nat_tests}
 use Rattle.hk_model.specs.declared.names.Inc.{Inc}
 use Rattle.hk_model.specs.declared.names.Proc.{Proc}
@@ -15,7 +16,7 @@ use Rattle.hk_model.specs.declared.objects.Process.{Process}
 use Rattle.hk_model.specs.declared.objects.ProcessState.{ProcessState}
 use Rattle.hk_model.specs.declared.objects.ProcessState.TheVariants.{Ready, Running, Waiting, Ended}
 use Rattle.hk_model.specs.Processors.{is_on, is_running, runner_from}
-use Rattle.hk_running.specs.Runners.{process_at, with_run, with_current, runner_lives, weight, has_place, place_of, freed, IsPlaced, RunAlone}
+use Rattle.hk_running.specs.Runners.{process_at, with_run, with_current, runner_lives, weight, has_place, place_of, freed, IsPlaced}
 
 -- numbers and their tests
 
@@ -312,32 +313,18 @@ placed_current ps places live n x y h there read is =
       counted = omega (arith, h.counted, recount ps n x there, ap weight same);
     }
 
--- ---- each processor runs one process at most
+-- a process has a place among as many as there are processors
+pub place_below : (places : List (Option Proc)) (n q : ℕ) → has_place (unwrap_or (slice_get places n) None) q ≡ true → n < length places
+place_below [] n q has = absurd (false≢true has)
+place_below (x ∷ places) zero q has = omega arith
+place_below (x ∷ places) (suc n) q has = let below : n < length places = place_below places n q has in omega arith
 
-past_none : (places : List (Option Proc)) (n : ℕ) → length places ≤ n → unwrap_or (slice_get places n) None ≡ None
-past_none [] n past = refl
-past_none (p ∷ places) zero past = absurd (omega arith)
-past_none (p ∷ places) (suc n) past = past_none places n (omega arith)
+-- it is on its own processor
+on_itself : (cpu : Cpu) → is_on cpu (Running cpu) ≡ true
+on_itself cpu = same_is cpu.0 cpu.0 refl
 
-pub placed_alone : (ps : List Process) (places : List (Option Proc)) (live : ℕ) → IsPlaced ps places live → length places ≤ 16 → RunAlone ps
-placed_alone ps places live placed few = record {
-  alone = λ q r cpu on also. one (place_of places cpu) q r (sym (placed.placed q cpu) ∙ on) (sym (placed.placed r cpu) ∙ also);
-  few = λ q cpu runs. below q cpu (nat_lt cpu.0 16) refl (sym (placed.placed q cpu) ∙ (ap (is_on cpu) runs ∙ same_is cpu.0 cpu.0 refl));
-}
-  where
-    one : (place : Option Proc) (q r : ℕ) → has_place place q ≡ true → has_place place r ≡ true → q ≡ r
-    one None q r h g = absurd (cc)
-    one (Some proc) q r h g = sym (is_same proc.0 q h) ∙ is_same proc.0 r g
-
-    under : (a b : ℕ) → nat_lt a b ≡ true → a < b
-    under a b h = grind (arith, nat_tests)
-
-    past : (a b : ℕ) → nat_lt a b ≡ false → b ≤ a
-    past a b h = grind (arith, nat_tests)
-
-    below : (q : ℕ) (cpu : Cpu) (b : Bool) → nat_lt cpu.0 16 ≡ b → has_place (place_of places cpu) q ≡ true → cpu.0 < 16
-    below q cpu true less there = under cpu.0 16 less
-    below q cpu false more there =
-        let high = past cpu.0 16 more in
-        let none : place_of places cpu ≡ None = past_none places cpu.0 (omega (arith, high, few)) in
-        let off : false ≡ true = sym (ap (λ (place : Option Proc). has_place place q) none) ∙ there in absurd (cc)
+pub runs_below : (ps : List Process) (places : List (Option Proc)) (live : ℕ) → IsPlaced ps places live → length places ≡ 16
+    → (q : ℕ) (cpu : Cpu) → (process_at ps q).run ≡ Running cpu → cpu.0 < 16
+runs_below ps places live placed many q cpu runs =
+    let has : has_place (place_of places cpu) q ≡ true = sym (placed.placed q cpu) ∙ (ap (is_on cpu) runs ∙ on_itself cpu) in
+    let below : cpu.0 < length places = place_below places cpu.0 q has in omega (arith, below, many)

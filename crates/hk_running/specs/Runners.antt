@@ -1,5 +1,5 @@
 -- The processes, and which of them each processor runs. docs/RULES.md, "Steps of processors".
-use Rattle.std.specs.Prelude.{ℕ, ◌≡◌, ◌<◌, ◌≤◌, ◌==◌, ◌||◌, Bool, true, false, List, length, Option, Some, None, slice_get, slice_set, count_by, if◌then◌else◌}
+use Rattle.std.specs.Prelude.{ℕ, ◌≡◌, ◌≤◌, ◌==◌, ◌||◌, Bool, false, List, length, Option, Some, None, slice_get, slice_set, count_by, if◌then◌else◌}
 use Rattle.std.specs.Option.{unwrap_or}
 use Rattle.hk_model.specs.declared.names.Inc.{Inc}
 use Rattle.hk_model.specs.declared.names.Proc.{Proc}
@@ -49,8 +49,3 @@ pub record IsPlaced (ps : List Process) (places : List (Option Proc)) (live : �
   pub few : length ps ≤ 256
   pub placed : (q : ℕ) (cpu : Cpu) → is_on cpu (process_at ps q).run ≡ has_place (place_of places cpu) q
   pub counted : live ≡ count_by (λ p. runner_lives p.run) ps
-
--- each processor runs one process at most, and there are 16
-pub record RunAlone (ps : List Process) : Type 0 where
-  pub alone : (q r : ℕ) (cpu : Cpu) → is_on cpu (process_at ps q).run ≡ true → is_on cpu (process_at ps r).run ≡ true → q ≡ r
-  pub few : (q : ℕ) (cpu : Cpu) → (process_at ps q).run ≡ Running cpu → cpu.0 < 16
