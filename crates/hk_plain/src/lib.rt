@@ -27,6 +27,7 @@ mod opening;
 mod plain;
 mod procedures;
 mod processors;
+mod removed;
 mod semaphores;
 mod shows;
 mod slots;

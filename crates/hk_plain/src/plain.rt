@@ -5,6 +5,7 @@ ghost use Rattle.std.specs.Map.{lookup};
 ghost use Rattle.hk_model.specs.Opening.{opening};
 ghost use Rattle.hk_model.specs.State.{same_name, same_inc};
 
+use crate::removed::Removed;
 use crate::tables::Tables;
 use hk_model::{
     Acted, Call, Cpu, Inc, Incarnation, Kernel, Name, NoMemory, Object, Proc, Snapshot, World,
@@ -79,7 +80,10 @@ impl Kernel for Plain {
 
     fn act(&mut self, alloc: Global, cpu: Cpu, call: Call) -> Result<Acted, NoMemory> {
         match self.tables.runner(cpu) {
-            Some(proc) => self.tables.act(alloc, proc, &call),
+            Some(proc) => {
+                let mut removed = Removed::dropped();
+                self.tables.act(alloc, proc, &call, &mut removed)
+            }
             None => unreachable!(),
         }
     }
@@ -90,7 +94,10 @@ impl Kernel for Plain {
 
     fn halt(&mut self, cpu: Cpu) {
         match self.tables.runner(cpu) {
-            Some(proc) => self.tables.halt(proc),
+            Some(proc) => {
+                let mut removed = Removed::dropped();
+                self.tables.halt(proc, &mut removed);
+            }
             None => unreachable!(),
         }
     }
