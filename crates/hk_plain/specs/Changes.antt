@@ -1,11 +1,10 @@
 -- What an event changed, and the state before it. docs/RULES.md, "Lines taken back".
-use Rattle.std.specs.Prelude.{◌≡◌, ℕ, ◌+◌, ◌-◌, ◌<◌, ◌⊎◌, ⊤, Bool, true, false, List, [], ◌∷◌, length, take, Option, Some, None, IfSome, Result, Ok, Err, nat_lt, slice_get, slice_set, slice_index_or, if◌then◌else◌}
+use Rattle.std.specs.Prelude.{◌≡◌, ℕ, ◌-◌, ◌<◌, ◌⊎◌, ⊤, Bool, true, false, List, [], ◌∷◌, length, take, Option, Some, None, IfSome, Result, Ok, Err, nat_lt, slice_get, slice_set, slice_index_or, if◌then◌else◌}
 use Rattle.std.specs.Map.{lookup, set_value, remove_entry}
 use Rattle.std.specs.BTreeMap.{insert_entry}
 use Rattle.hk_model.specs.declared.names.Name.{Name}
 use Rattle.hk_model.specs.declared.names.Inc.{Inc}
 use Rattle.hk_model.specs.declared.names.Proc.{Proc}
-use Rattle.hk_model.specs.declared.names.Cpu.{Cpu}
 use Rattle.hk_model.specs.declared.names.Slot.{Slot}
 use Rattle.hk_model.specs.declared.entries.Cap.{Cap}
 use Rattle.hk_model.specs.declared.entries.Entry.{Entry}
@@ -94,13 +93,13 @@ entered_back entered s = if entered then remove_entry (same_inc (last_inc s)) s.
 -- the state before an event by which nothing went, from what it saved; the events are not counted here
 abbrev pub unsaved : Saved → State → State
 unsaved v s = record s {
-      objects = parts_back v.part (made_back v.made s);
-      incarnations = slots_back v.slot (entered_back v.entered s);
-      processes = processes_back v.process s.processes;
-      ready = ready_back v.turn s.ready;
-      next_name = if v.made then last_name s else s.next_name;
-      next_inc = if v.entered then last_inc s else s.next_inc;
-    }
+  objects = parts_back v.part (made_back v.made s);
+  incarnations = slots_back v.slot (entered_back v.entered s);
+  processes = processes_back v.process s.processes;
+  ready = ready_back v.turn s.ready;
+  next_name = if v.made then last_name s else s.next_name;
+  next_inc = if v.entered then last_inc s else s.next_inc;
+}
 
 -- the state before an event that changed this
 abbrev pub taken_back : Changes → State → State
