@@ -7,3 +7,5 @@ pub mod Naming
 pub mod KeepingLemmas
 pub mod MarkLemmas
 pub mod PutBack
+pub mod Went
+pub mod SpareGone

@@ -50,6 +50,7 @@ fn remove_spare(
     ensures counted { Moved counts.old counts.new (inner_names objects.new.entries) (inner_names objects.old.entries) }
     ensures went { ObjectsWent objects.old.entries objects.new.entries removed.old removed.new }
 {
+    let _many = objects.len();
     for other in spare {
         if other.0 != name.0 {
             remove(objects, *other, counts, removed);
