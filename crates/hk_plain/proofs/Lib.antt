@@ -9,3 +9,6 @@ pub mod MarkLemmas
 pub mod PutBack
 pub mod Went
 pub mod SpareGone
+pub mod WritesTakenBack
+pub mod CallsTakenBack
+pub mod GoingTakenBack

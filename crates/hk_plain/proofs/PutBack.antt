@@ -70,6 +70,15 @@ module _ {K X : Type 0} (test : K → Bool) where
           let found : lookup test (set_value test es w) ≡ Some w = lookup_set es w v there in
           rw (found, same) (set_set es w v ∙ set_value_same test es v there)
 
+-- nothing goes where nothing stands
+pub remove_absent : {K X : Type 0} (test : K → Bool) (es : List (K × X)) → lookup test es ≡ None → remove_entry test es ≡ es
+remove_absent test [] absent = refl
+remove_absent test (e ∷ es) absent = by (test e.0) absent (remove_absent test es)
+  where
+    by : (b : Bool) → cond b (Some e.1) (lookup test es) ≡ None → (lookup test es ≡ None → remove_entry test es ≡ es) → cond b es (e ∷ remove_entry test es) ≡ e ∷ es
+    by true none later = absurd (cc)
+    by false none later = ap (λ (rest : List (_ × _)). e ∷ rest) (later none)
+
 -- ---- an entry that is put in and goes, or goes and is put back
 
 abbrev pub same_key : {K : Type 0} → (K → K → Ordering) → K → K → Bool
