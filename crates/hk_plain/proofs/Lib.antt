@@ -12,3 +12,5 @@ pub mod SpareGone
 pub mod WritesTakenBack
 pub mod CallsTakenBack
 pub mod GoingTakenBack
+pub mod ObjectsMany
+pub mod Undone

@@ -28,6 +28,7 @@ mod plain;
 mod procedures;
 mod processors;
 mod removed;
+mod saving;
 mod semaphores;
 mod shows;
 mod slots;
