@@ -76,7 +76,7 @@ module _ (s : State) (cap : Cap) where
 
 -- a token is taken, or one more waits
 module _ (s : State) (proc : Proc) (cap : Cap) where
-  abbrev taken : Bool → Answer × State
+  abbrev pub taken : Bool → Answer × State
   taken b = elim b as (λ _. Answer × State) [
     | true ↦ (Done, put_object s cap.name (record (object s cap.name) { count = (object s cap.name).count - 1 }))
     | false ↦ (
@@ -86,7 +86,7 @@ module _ (s : State) (proc : Proc) (cap : Cap) where
     )
   ]
 
-  abbrev wait_part : Bool → Saved
+  abbrev pub wait_part : Bool → Saved
   wait_part b =
       if b then record nothing_saved { part = Some (cap.name, Tokens (object s cap.name).count) } else record (process_saved s proc) { part = Some (cap.name, NewWaiter) }
 

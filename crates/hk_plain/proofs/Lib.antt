@@ -14,3 +14,5 @@ pub mod CallsTakenBack
 pub mod GoingTakenBack
 pub mod ObjectsMany
 pub mod Undone
+pub mod WholeStays
+pub mod RunningAgain
