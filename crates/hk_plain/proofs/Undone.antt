@@ -40,13 +40,16 @@ leads v s full after r back whole objects incarnations below = record {
 }
 
 -- where nothing went
-pub nothing_went : (v : Saved) (s after : State) (r : Removal) → IsFresh r → unsaved v after ≡ s → LeadsBack v s after r
-nothing_went v s after r fresh back =
+pub nothing_gone : (v : Saved) (s after : State) (r : Removal) → r.gone ≡ [] → r.left ≡ [] → unsaved v after ≡ s → LeadsBack v s after r
+nothing_gone v s after r none_gone none_left back =
     leads v s after after r back
-    (ap (λ (gone : List (Name × Object)). with_gone gone r.left after) fresh.gone ∙ ap (λ (left : List (Inc × Incarnation)). with_gone [] left after) fresh.left)
-    (subst (λ (gone : List (Name × Object)). AreNewObjects gone after.objects) (sym fresh.gone) tt)
-    (subst (λ (left : List (Inc × Incarnation)). AreNewIncarnations left after.incarnations) (sym fresh.left) tt)
-    (subst (λ (left : List (Inc × Incarnation)). AreBelow after.next_inc left) (sym fresh.left) tt)
+    (ap (λ (gone : List (Name × Object)). with_gone gone r.left after) none_gone ∙ ap (λ (left : List (Inc × Incarnation)). with_gone [] left after) none_left)
+    (subst (λ (gone : List (Name × Object)). AreNewObjects gone after.objects) (sym none_gone) tt)
+    (subst (λ (left : List (Inc × Incarnation)). AreNewIncarnations left after.incarnations) (sym none_left) tt)
+    (subst (λ (left : List (Inc × Incarnation)). AreBelow after.next_inc left) (sym none_left) tt)
+
+nothing_went : (v : Saved) (s after : State) (r : Removal) → IsFresh r → unsaved v after ≡ s → LeadsBack v s after r
+nothing_went v s after r fresh back = nothing_gone v s after r fresh.gone fresh.left back
 
 -- the next name is no object's
 next_absent : (s : State) → IsOrderly s → lookup (same_name s.next_name) s.objects ≡ None

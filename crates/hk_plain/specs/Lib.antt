@@ -8,3 +8,4 @@ pub mod Marking
 pub mod Changes
 pub mod Removing
 pub mod Kept
+pub mod Forward
