@@ -23,7 +23,7 @@ pub record RunsOn (s : State) (cpu : Cpu) : Type 0 where
 
 -- the processor runs nothing and a process is ready, and an event more is within the limit
 pub record IsIdle (s : State) (cpu : Cpu) : Type 0 where
-  pub cpu : cpu.0 < 16
+  pub among : cpu.0 < 16
   pub idle : runner s cpu ≡ None
   pub some_ready : s.ready ≡ [] → ⊥
   pub below : IsTrue (may_step s)

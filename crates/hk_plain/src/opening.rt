@@ -10,7 +10,6 @@ ghost use Rattle.hk_model.specs.Processors.{is_running};
 ghost use Rattle.hk_model.specs.Opening.{object_of, base_of, bases, all_ready, proc_numbers, opening};
 ghost use Rattle.hk_plain.specs.Opening.{with_names};
 ghost use Rattle.hk_plain.specs.Numbers.{FewNumbers};
-ghost use Rattle.hk_plain.specs.Changes.{IsWhole};
 ghost use Rattle.hk_plain.specs.Counts.{Moved, inner_names, slot_names};
 
 use crate::counted::insert;
@@ -181,11 +180,10 @@ fn tasks_of(world: &World) -> &[Task]
 
 impl Tables {
     /// The state in which a world opens.
-    #[tactic(auto, using(crate::proofs::WholeStays::opening_whole), unfolding(hk_model::specs::Opening::opening))]
+    #[tactic(auto, unfolding(hk_model::specs::Opening::opening))]
     pub(crate) fn open(alloc: Global, world: &World) -> Result<Tables, NoMemory>
         ensures state { IfOk result (λ tables. tables ≡ opening world.now) }
         ensures numbers { IfOk result (λ tables. FewNumbers tables) }
-        ensures whole { IfOk result (λ tables. IsWhole tables) }
     {
         let born = born_of(world);
         let tasks = tasks_of(world);

@@ -104,7 +104,6 @@ impl Tables {
     }
 
     /// Ends a process, with all its incarnations. What nothing names then vanishes.
-    #[tactic(auto, using(crate::proofs::WholeStays::halted_whole))]
     pub(crate) fn halt(&mut self, proc: Proc, removed: &mut Removed)
         requires below { IsTrue (may_step self.old) }
         requires room { HasRoom self.old removed.old }
