@@ -106,6 +106,10 @@ dispatched_events s cpu first after is = by s.ready is
     by [] found = absurd (cc)
     by (head ∷ rest) found = sym (ap (λ (o : Option (Proc × State)). (unwrap_or o (first, after)).1.events) found)
 
+pub none_first : (ready : List Proc) → slice_get ready 0 ≡ None → ready ≡ []
+none_first [] none = refl
+none_first (first ∷ rest) none = absurd (cc)
+
 pub first_is : (s : State) (cpu : Cpu) (first head : Proc) (after : State) → dispatched s cpu ≡ Some (first, after) → Some head ≡ slice_get s.ready 0 → head ≡ first
 first_is s cpu first head after is there = by s.ready is there
   where
