@@ -1,22 +1,20 @@
 -- What an event saved and what went by it are changes that lead back, and that can be taken back.
-use Rattle.std.proofs.Common.{◌≡◌, ◌∙◌, ℕ, zero, suc, ◌+◌, ◌<◌, ◌≤◌, List, [], ◌∷◌, Bool, true, false, Option, Some, None, Ok, Err, refl, sym, ap, arith, subst}
-use Rattle.std.specs.Prelude.{slice_get, is_some}
+use Rattle.std.proofs.Common.{◌≡◌, ◌∙◌, ℕ, zero, suc, ◌+◌, ◌<◌, ◌≤◌, List, [], ◌∷◌, Option, Some, None, Ok, Err, refl, sym, ap, arith, subst}
+use Rattle.std.specs.Prelude.{slice_get}
 use Rattle.std.specs.Option.{unwrap_or}
-use Rattle.hk_model.specs.declared.names.Name.{Name}
 use Rattle.hk_model.specs.declared.names.Inc.{Inc}
 use Rattle.hk_model.specs.declared.names.Proc.{Proc}
 use Rattle.hk_model.specs.declared.names.Cpu.{Cpu}
 use Rattle.hk_model.specs.declared.calls.Call.{Call}
 use Rattle.hk_model.specs.declared.calls.Reply.{Reply}
-use Rattle.hk_model.specs.declared.objects.Object.{Object}
 use Rattle.hk_model.specs.declared.objects.Incarnation.{Incarnation}
 use Rattle.hk_model.specs.State.{State, process}
 use Rattle.hk_model.specs.Keeping.{restricted}
-use Rattle.hk_model.specs.Rule.{Outcome, outcome, rule, settled, answered, counted}
+use Rattle.hk_model.specs.Rule.{Outcome, outcome, rule, settled, counted}
 use Rattle.hk_model.specs.Processors.{dispatched, dispatched_from, halted}
 use Rattle.hk_plain.specs.declared.changes.Saved.{Saved}
 use Rattle.hk_plain.specs.Stacks.{Rises}
-use Rattle.hk_plain.specs.Changes.{Changes, IsWhole, IsBehind, taken_back, with_gone, unsaved, call_saved, dispatch_saved, halt_saved}
+use Rattle.hk_plain.specs.Changes.{Changes, IsWhole, taken_back, call_saved, dispatch_saved, halt_saved}
 use Rattle.hk_plain.specs.Removing.{Removal, AreBelow, IsOrderly, LeadsBack, IsFresh, IsUndone, saved_by}
 use Rattle.hk_plain.specs.Forward.{IsInverse, IsLaidOut}
 use Rattle.hk_plain.proofs.PutBack.{rises_sorted}

@@ -1,7 +1,7 @@
 -- What an event saved and what went by it lead back to the state before it.
 use Rattle.std.proofs.Common.{◌≡◌, ◌∙◌, ℕ, ◌+◌, ◌-◌, ◌<◌, ◌≤◌, List, [], ◌∷◌, ◌++◌, length, Bool, true, false, Option, Some, None, Ok, cond, refl, sym, ap, arith, subst}
 use Rattle.std.specs.Prelude.{is_some}
-use Rattle.std.specs.Map.{lookup, set_value, remove_entry, keys_of}
+use Rattle.std.specs.Map.{lookup}
 use Rattle.std.specs.BTreeMap.{insert_entry}
 use Rattle.hk_model.specs.declared.names.Name.{Name}
 use Rattle.hk_model.specs.declared.names.Inc.{Inc}
@@ -11,7 +11,6 @@ use Rattle.hk_model.specs.declared.calls.Answer.{Answer}
 use Rattle.hk_model.specs.declared.calls.Answer.TheVariants.{Done, Word, Waits}
 use Rattle.hk_model.specs.declared.calls.Call.{Call}
 use Rattle.hk_model.specs.declared.calls.Call.TheVariants as call
-use Rattle.hk_model.specs.declared.entries.Entry.{Entry}
 use Rattle.hk_model.specs.declared.objects.Object.{Object}
 use Rattle.hk_model.specs.declared.objects.Incarnation.{Incarnation}
 use Rattle.hk_model.specs.State.{State, put_slot, add_object, same_name, same_inc, name_cmp}
@@ -19,9 +18,9 @@ use Rattle.hk_model.specs.Keeping.{restricted}
 use Rattle.hk_model.specs.Rule.{outcome, answered, counted, add_beside}
 use Rattle.hk_model.specs.Processors.{ended}
 use Rattle.hk_plain.specs.declared.changes.Saved.{Saved}
-use Rattle.hk_plain.specs.Changes.{unsaved, with_gone, objects_with, incarnations_with, AreNewObjects, AreNewIncarnations, call_saved, halt_saved, slot_saved, nothing_saved}
-use Rattle.hk_plain.specs.Removing.{Removal, HasObjectsRoom, ObjectsWent, IncarnationsWent, AreBelow, HasRoom, MadeWent, CallWent, IsFresh, IsOrderly, LeadsBack, IsUndone, saved_by}
-use Rattle.hk_plain.specs.Removing.{removed_at, with_incarnation}
+use Rattle.hk_plain.specs.Changes.{unsaved, with_gone, objects_with, incarnations_with, AreNewObjects, AreNewIncarnations, call_saved, halt_saved, slot_saved}
+use Rattle.hk_plain.specs.Removing.{Removal, HasObjectsRoom, ObjectsWent, IncarnationsWent, AreBelow, HasRoom, MadeWent, CallWent}
+use Rattle.hk_plain.specs.Removing.{removed_at, IsFresh, IsOrderly, LeadsBack, IsUndone, saved_by}
 use Rattle.hk_plain.proofs.Went.{found_below}
 use Rattle.hk_plain.proofs.WritesTakenBack.{made_slot_back}
 use Rattle.hk_plain.proofs.CallsTakenBack.{NothingGoes, call_back}

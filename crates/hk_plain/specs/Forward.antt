@@ -1,5 +1,5 @@
 -- An event that can be taken back. docs/RULES.md, "Lines taken back" and "Steps of processors".
-use Rattle.std.specs.Prelude.{◌≡◌, ℕ, ◌<◌, Bool, true, false, List, [], Option, Some, None, IsTrue, IsSome}
+use Rattle.std.specs.Prelude.{◌≡◌, ℕ, ◌<◌, true, false, [], Some, None, IsTrue, IsSome}
 use Rattle.std.specs.List.Sorted.{IsStrictlySortedBy}
 use Rattle.std.specs.Map.{keys_of}
 use Rattle.hk_model.specs.declared.names.Proc.{Proc}

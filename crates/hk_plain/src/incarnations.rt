@@ -213,12 +213,7 @@ impl Incarnations {
     }
 
     /// All incarnations of a process go.
-    pub(crate) fn remove_process(
-        &mut self,
-        proc: Proc,
-        counts: &mut Counts,
-        removed: &mut Removed,
-    )
+    pub(crate) fn remove_process(&mut self, proc: Proc, counts: &mut Counts, removed: &mut Removed)
         requires { HasIncarnationsRoom removed.old (length self.old.live) }
         ensures value { self.new ≡ record self.old { live = filter (λ e. not (e.1.proc.0 == proc.0)) self.old.live } }
         ensures counted { Moved counts.old counts.new (slot_names self.new.live) (slot_names self.old.live) }

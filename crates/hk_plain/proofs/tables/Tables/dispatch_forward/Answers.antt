@@ -1,6 +1,5 @@
 -- What the dispatch saved is its inverse.
-use Rattle.std.proofs.Common.{◌≡◌, ◌∙◌, ap, sym, subst, Option, Some, [], List}
-use Rattle.std.specs.Option.{IfNone}
+use Rattle.std.proofs.Common.{◌≡◌, ◌∙◌, ap, sym, subst, Some, []}
 use Rattle.hk_model.specs.declared.names.Proc.{Proc}
 use Rattle.hk_model.specs.State.{State}
 use Rattle.hk_model.specs.Processors.{dispatched}

@@ -1,5 +1,5 @@
 -- What the halt saved and what went by it are its inverse.
-use Rattle.std.proofs.Common.{◌≡◌, ◌∙◌, ap, sym, subst}
+use Rattle.std.proofs.Common.{◌∙◌, ap, sym, subst}
 use Rattle.hk_plain.specs.declared.changes.Saved.{Saved}
 use Rattle.hk_plain.specs.Changes.{Changes}
 use Rattle.hk_plain.specs.Forward.{IsInverse}
