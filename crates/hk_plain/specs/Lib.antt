@@ -6,3 +6,6 @@ pub mod Stacks
 pub mod Counts
 pub mod Marking
 pub mod Changes
+pub mod Removing
+pub mod Kept
+pub mod Forward

@@ -18,7 +18,9 @@ mod changes;
 mod collecting;
 mod counted;
 mod counts;
+mod forwarding;
 mod incarnations;
+mod inverse;
 mod keeping;
 mod lists;
 mod marks;
@@ -27,6 +29,8 @@ mod opening;
 mod plain;
 mod procedures;
 mod processors;
+mod removed;
+mod saving;
 mod semaphores;
 mod shows;
 mod slots;
@@ -37,6 +41,7 @@ mod templates;
 mod walks;
 mod words;
 
+pub use inverse::Inverse;
 pub use plain::Plain;
 
 #[cfg(test)]
