@@ -1,6 +1,7 @@
 pub mod Maps
 pub mod Numbered
 pub mod StackLemmas
+pub mod PlacedLemmas
 pub mod CountLemmas
 pub mod CountedParts
 pub mod Naming

@@ -1,11 +1,10 @@
 -- What an event changed, and the state before it. docs/RULES.md, "Lines taken back".
-use Rattle.std.specs.Prelude.{◌≡◌, ℕ, ◌+◌, ◌-◌, ◌<◌, ◌×◌, ◌⊎◌, ⊤, Bool, true, false, List, [], ◌∷◌, length, take, Option, Some, None, IfSome, Result, Ok, Err, nat_lt, slice_get, slice_set, slice_index_or, if◌then◌else◌}
+use Rattle.std.specs.Prelude.{◌≡◌, ℕ, ◌-◌, ◌<◌, ◌⊎◌, ⊤, Bool, true, false, List, [], ◌∷◌, length, take, Option, Some, None, IfSome, Result, Ok, Err, nat_lt, slice_get, slice_set, slice_index_or, if◌then◌else◌}
 use Rattle.std.specs.Map.{lookup, set_value, remove_entry}
 use Rattle.std.specs.BTreeMap.{insert_entry}
 use Rattle.hk_model.specs.declared.names.Name.{Name}
 use Rattle.hk_model.specs.declared.names.Inc.{Inc}
 use Rattle.hk_model.specs.declared.names.Proc.{Proc}
-use Rattle.hk_model.specs.declared.names.Cpu.{Cpu}
 use Rattle.hk_model.specs.declared.names.Slot.{Slot}
 use Rattle.hk_model.specs.declared.entries.Cap.{Cap}
 use Rattle.hk_model.specs.declared.entries.Entry.{Entry}
@@ -38,11 +37,11 @@ pub record Changes : Type 0 where
   pub left : List (Inc × Incarnation)
 
 -- these objects put back among others, the last that went first; and incarnations likewise
-pub objects_with : List (Name × Object) → List (Name × Object) → List (Name × Object)
+abbrev pub objects_with : List (Name × Object) → List (Name × Object) → List (Name × Object)
 objects_with [] objects = objects
 objects_with (e ∷ gone) objects = insert_entry name_cmp (objects_with gone objects) e.0 e.1
 
-pub incarnations_with : List (Inc × Incarnation) → List (Inc × Incarnation) → List (Inc × Incarnation)
+abbrev pub incarnations_with : List (Inc × Incarnation) → List (Inc × Incarnation) → List (Inc × Incarnation)
 incarnations_with [] live = live
 incarnations_with (e ∷ left) live = insert_entry inc_cmp (incarnations_with left live) e.0 e.1
 
@@ -144,7 +143,7 @@ give_saved s (Err refusal) = nothing_saved
 give_saved s (Ok cap) = token_saved s cap.name (object s cap.name).waiters
 
 -- what a call of a process in its current incarnation saves, if it is answered
-pub call_saved : State → Proc → Inc → Call → Saved
+abbrev pub call_saved : State → Proc → Inc → Call → Saved
 call_saved s proc inc (call.Get of at) = nothing_saved
 call_saved s proc inc (call.Put of at word) = part_saved s (target s inc of is_general PUTDATA+MODIFY) (λ (o : Object). Word at (slice_index_or o.words at 0))
 call_saved s proc inc (call.Add of word) = part_saved s (target s inc of is_general ADDDATA+MODIFY) (λ (o : Object). NewWord)
@@ -179,11 +178,11 @@ pub record IsWhole (s : State) : Type 0 where
   pub given : (n : Name) → stands s n ≡ true → n.0 < s.next_name.0
 
 -- each of those that went is new among the others, the last that went first
-pub AreNewObjects : List (Name × Object) → List (Name × Object) → Type 0
+abbrev pub AreNewObjects : List (Name × Object) → List (Name × Object) → Type 0
 AreNewObjects [] objects = ⊤
 AreNewObjects (e ∷ gone) objects = (lookup (same_name e.0) (objects_with gone objects) ≡ None) × AreNewObjects gone objects
 
-pub AreNewIncarnations : List (Inc × Incarnation) → List (Inc × Incarnation) → Type 0
+abbrev pub AreNewIncarnations : List (Inc × Incarnation) → List (Inc × Incarnation) → Type 0
 AreNewIncarnations [] live = ⊤
 AreNewIncarnations (e ∷ left) live = (lookup (same_inc e.0) (incarnations_with left live) ≡ None) × AreNewIncarnations left live
 
