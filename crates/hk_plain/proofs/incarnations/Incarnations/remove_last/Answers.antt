@@ -16,7 +16,7 @@ use Rattle.hk_plain.proofs.incarnations.Incarnations.remove_last.Goals as goal
 pub invariant_of-self : goal.invariant_of-self
 invariant_of-self c =
     let last : Inc = record { 0 = c.saturating_sub.result } in
-    let none : None ≡ lookup (same_inc last) c.self.inside.live.entries = sym c.in_default.is ∙ c.in_default.ensures.value in
+    let none : None ≡ lookup (same_inc last) c.self.inside.live.entries = c.in_default.ensures.value in
     subst (λ (es : List (Inc × Incarnation)). IsStacked es c.self.inside.stacks last) (sym (c.in_default.ensures.entries ∙ none_removed last c.self.inside.live.entries none))
     (stacked_none c.self.inside.live.entries c.self.inside.stacks c.self.inside.next last c.saturating_sub.ensures c.self.invariant (sym none))
 
