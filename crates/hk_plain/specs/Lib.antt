@@ -6,3 +6,4 @@ pub mod Stacks
 pub mod Counts
 pub mod Marking
 pub mod Changes
+pub mod Restoring

@@ -16,9 +16,11 @@ mod activations;
 mod calls;
 mod changes;
 mod collecting;
+mod copies;
 mod counted;
 mod counts;
 mod incarnations;
+mod inverse;
 mod keeping;
 mod lists;
 mod marks;
@@ -27,6 +29,7 @@ mod opening;
 mod plain;
 mod procedures;
 mod processors;
+mod restoring;
 mod semaphores;
 mod shows;
 mod slots;
@@ -34,9 +37,11 @@ mod stacks;
 mod tables;
 mod targets;
 mod templates;
+mod undoing;
 mod walks;
 mod words;
 
+pub use inverse::Inverse;
 pub use plain::Plain;
 
 #[cfg(test)]
