@@ -6,4 +6,5 @@ pub mod CountLemmas
 pub mod CountedParts
 pub mod Naming
 pub mod KeepingLemmas
+pub mod UndoLemmas
 pub mod MarkLemmas
