@@ -1,7 +1,7 @@
 -- What is put back, and what goes again.
 use Rattle.std.proofs.Common.{◌≡◌, ℕ, zero, suc, ◌+◌, ◌-◌, ◌<◌, ◌≤◌, List, [], ◌∷◌, ◌++◌, length, take, drop, get_or, set, Bool, true, false, cond, Option, Some, None, refl, sym, ◌∙◌, ap, arith, subst}
 use mathlib.Core.Logic.{inl, inr}
-use Rattle.std.specs.Prelude.{◌⊎◌, is_some, is_none, slice_get}
+use Rattle.std.specs.Prelude.{◌⊎◌, is_some, not, slice_get}
 use Rattle.std.specs.Option.{unwrap_or}
 use Rattle.std.specs.List.{flat_map}
 use Rattle.std.specs.Map.{lookup, set_value, remove_entry, keys_of}
@@ -99,7 +99,7 @@ runs_still s proc run is =
     let same : record (process s proc) { run = run } ≡ process s proc = ap (λ (r : ProcessState). record (process s proc) { run = r }) (sym is) in
     sym (ap (λ (p : Process). put_process s proc p) same ∙ ap (λ (ps : List Process). record s { processes = ps }) (set_same s.processes proc.0))
 
-pub runs_on : (s : State) (proc : Proc) (cpu : Cpu) (found : Option Proc) (b : Bool) → CanRun s proc (Running cpu) → found ≡ runner s cpu → b ≡ is_none found → b ≡ false
+pub runs_on : (s : State) (proc : Proc) (cpu : Cpu) (found : Option Proc) (b : Bool) → CanRun s proc (Running cpu) → found ≡ runner s cpu → is_some found ≡ not b → b ≡ false
     → s ≡ put_process s proc (record (process s proc) { run = Running cpu })
 runs_on s proc cpu found b can is test busy = by can.1
   where
