@@ -9,7 +9,7 @@ use Rattle.std.specs.BTreeMap.{insert_entry}
 use Rattle.std.specs.Ordering.{nat_cmp, is_eq, match_ordering}
 use Rattle.std.specs.declared.cmp.Ordering.{Ordering}
 use Rattle.std.specs.declared.cmp.Ordering.TheVariants.{Less, Equal, Greater}
-use Rattle.std.proofs.lemmas.List.{take_more, take_all, at_drop_more, append-nil}
+use Rattle.std.proofs.lemmas.List.{take_more, take_all, at_drop_more, append-nil, length-drop}
 use Rattle.std.proofs.lemmas.Grind.{flat_map-append}
 use Rattle.std.proofs.lemmas.Bool.Decides.{nat_tests}
 use Rattle.hk_model.specs.declared.names.Name.{Name}
@@ -187,3 +187,35 @@ pub all_left : (left live : List (Inc × Incarnation)) → AreNewIncarnations le
 all_left [] live h = refl
 all_left (e ∷ left) live h =
     ap (incarnations_without left) (remove_put (λ (i : Inc). i.0) (incarnations_with left live) e.0 e.1 h.0) ∙ all_left left live h.1
+
+-- ---- where memory is short, the state is what it was
+
+rest_of : {X : Type 0} (xs : List X) (i j : ℕ) → j ≡ i → take (length xs - j) (drop j xs) ≡ drop i xs
+rest_of xs i j same = let few : length (drop j xs) ≤ length xs - j = omega (arith, length-drop j xs) in
+    take_all (length xs - j) (drop j xs) few ∙ ap (λ (k : ℕ). drop k xs) same
+
+pub taken_again : (s t after : State) (gone : List (Name × Object)) (at : ℕ) → 0 < at → AreNewObjects gone s.objects
+    → t ≡ record s { objects = objects_with (drop at gone) s.objects }
+    → after ≡ record t { objects = objects_without (take (length gone - (at - 1 + 1)) (drop (at - 1 + 1) gone)) t.objects } → after ≡ s
+taken_again s t after gone at some new is taken =
+    taken
+    ∙ ap (λ (es : List (Name × Object)). record t { objects = objects_without es t.objects }) (rest_of gone at (at - 1 + 1) (omega arith))
+    ∙ ap (λ (u : State). record u { objects = objects_without (drop at gone) u.objects }) is
+    ∙ ap (λ (es : List (Name × Object)). record s { objects = es }) (all_out (drop at gone) s.objects (rest_new gone at s.objects new))
+
+pub left_again : (s t after : State) (left : List (Inc × Incarnation)) (at : ℕ) → 0 < at → AreNewIncarnations left s.incarnations
+    → t ≡ record s { incarnations = incarnations_with (drop at left) s.incarnations }
+    → after ≡ record t { incarnations = incarnations_without (take (length left - (at - 1 + 1)) (drop (at - 1 + 1) left)) t.incarnations } → after ≡ s
+left_again s t after left at some new is taken =
+    taken
+    ∙ ap (λ (es : List (Inc × Incarnation)). record t { incarnations = incarnations_without es t.incarnations }) (rest_of left at (at - 1 + 1) (omega arith))
+    ∙ ap (λ (u : State). record u { incarnations = incarnations_without (drop at left) u.incarnations }) is
+    ∙ ap (λ (es : List (Inc × Incarnation)). record s { incarnations = es }) (all_left (drop at left) s.incarnations (rest_absent left at s.incarnations new))
+
+pub next_absent : (s t : State) (left : List (Inc × Incarnation)) (at : ℕ) (e : Inc × Incarnation) → 0 < at → at ≤ length left → e ≡ get_or left (at - 1) e
+    → AreNewIncarnations left s.incarnations → t ≡ record s { incarnations = incarnations_with (drop at left) s.incarnations } → lookup (same_inc e.0) t.incarnations ≡ None
+next_absent s t left at e some within is new same =
+    let here : at - 1 + 1 ≡ at = omega arith in
+    ap (λ (u : State). lookup (same_inc e.0) u.incarnations) same
+    ∙ ap (λ (k : ℕ). lookup (same_inc e.0) (incarnations_with (drop k left) s.incarnations)) (sym here)
+    ∙ absent_at left (at - 1) e s.incarnations (omega arith) is new
