@@ -219,3 +219,17 @@ next_absent s t left at e some within is new same =
     ap (λ (u : State). lookup (same_inc e.0) u.incarnations) same
     ∙ ap (λ (k : ℕ). lookup (same_inc e.0) (incarnations_with (drop k left) s.incarnations)) (sym here)
     ∙ absent_at left (at - 1) e s.incarnations (omega arith) is new
+
+pub all_taken : (s t after : State) (gone : List (Name × Object)) → AreNewObjects gone s.objects → t ≡ record s { objects = objects_with gone s.objects }
+    → after ≡ record t { objects = objects_without gone t.objects } → after ≡ s
+all_taken s t after gone new is taken =
+    taken
+    ∙ ap (λ (u : State). record u { objects = objects_without gone u.objects }) is
+    ∙ ap (λ (es : List (Name × Object)). record s { objects = es }) (all_out gone s.objects new)
+
+pub none_lives : (s t after : State) (left : List (Inc × Incarnation)) → AreNewIncarnations left s.incarnations
+    → t ≡ record s { incarnations = incarnations_with left s.incarnations } → after ≡ record t { incarnations = incarnations_without left t.incarnations } → after ≡ s
+none_lives s t after left new is taken =
+    taken
+    ∙ ap (λ (u : State). record u { incarnations = incarnations_without left u.incarnations }) is
+    ∙ ap (λ (es : List (Inc × Incarnation)). record s { incarnations = es }) (all_left left s.incarnations new)
