@@ -1,10 +1,12 @@
 //! The plain kernel.
 
-ghost use Rattle.std.specs.Prelude.{◌≡◌, IfOk, option_copied};
+ghost use Rattle.std.specs.Prelude.{◌≡◌, IfOk, OnOk, OnErr, option_copied};
 ghost use Rattle.std.specs.Map.{lookup};
 ghost use Rattle.hk_model.specs.Opening.{opening};
 ghost use Rattle.hk_model.specs.State.{same_name, same_inc};
+ghost use Rattle.hk_plain.specs.Changes.{IsBehind, taken_back};
 
+use crate::inverse::Inverse;
 use crate::tables::Tables;
 use hk_model::{
     Acted, Call, Cpu, Inc, Incarnation, Kernel, Name, NoMemory, Object, Proc, Snapshot, World,
@@ -66,6 +68,16 @@ impl Plain {
         ensures { result ≡ self.now.next_inc }
     {
         self.tables.incarnations.next()
+    }
+
+    /// Takes an event back: the state is the one before it, with all that went by it. NoMemory is
+    /// want of memory for what is put back; it changes nothing.
+    pub fn undo(&mut self, alloc: Global, inverse: &Inverse) -> Result<(), NoMemory>
+        requires behind { IsBehind inverse.now self.old }
+        ensures ok { OnOk result (self.new ≡ taken_back inverse.now self.old) }
+        ensures err { OnErr result (self.new ≡ self.old) }
+    {
+        self.tables.take_back(alloc, inverse)
     }
 }
 
