@@ -8,3 +8,13 @@ pub mod Naming
 pub mod KeepingLemmas
 pub mod UndoLemmas
 pub mod MarkLemmas
+pub mod PutBack
+pub mod Went
+pub mod SpareGone
+pub mod WritesTakenBack
+pub mod CallsTakenBack
+pub mod GoingTakenBack
+pub mod ObjectsMany
+pub mod Undone
+pub mod WholeStays
+pub mod RunningAgain

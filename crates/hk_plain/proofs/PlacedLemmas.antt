@@ -1,5 +1,5 @@
 -- An incarnation's number that is put back at its place among the others, and one that is given back.
-use Rattle.std.proofs.Common.{◌≡◌, ℕ, zero, suc, ◌+◌, ◌-◌, ◌<◌, ◌≤◌, ◌==◌, nat_lt, Bool, true, false, not, cond, List, [], ◌∷◌, ◌++◌, length, take, drop, get_or, Option, Some, None, refl, ap, sym, ◌∙◌, arith, subst}
+use Rattle.std.proofs.Common.{◌≡◌, ℕ, zero, suc, ◌+◌, ◌-◌, ◌<◌, ◌≤◌, ◌==◌, nat_lt, Bool, true, false, not, cond, List, [], ◌∷◌, ◌++◌, length, take, drop, get_or, Some, None, refl, ap, sym, ◌∙◌, arith, subst}
 use Rattle.std.proofs.lemmas.List.{at_drop_more, take_more, append_assoc}
 use Rattle.std.proofs.Math.ListN.{drop_of_length-le}
 use Rattle.std.specs.Map.{lookup, remove_entry}
@@ -13,7 +13,7 @@ use Rattle.hk_model.specs.declared.names.Proc.{Proc}
 use Rattle.hk_model.specs.declared.objects.Incarnation.{Incarnation}
 use Rattle.hk_model.specs.State.{same_inc, inc_cmp}
 use Rattle.hk_plain.specs.Stacks.{numbers_of, stack, without, placed, Rises, IsStacked}
-use Rattle.hk_plain.proofs.StackLemmas.{Live, AllAbove, rises_lower, rises_span, numbers_above, numbers_removed, rises_removed, numbers_other}
+use Rattle.hk_plain.proofs.StackLemmas.{Live, AllAbove, rises_span, numbers_above, numbers_removed, numbers_other}
 
 -- ---- the place among some numbers
 
@@ -166,7 +166,8 @@ rises_last low (e ∷ es) last from h = by (λ up. rises_last (e.0.0 + 1) es las
     is_other : (a b : ℕ) → is_eq (nat_cmp a b) ≡ false → b ≤ a → b + 1 ≤ a
     is_other a b k l = grind (arith, nat_tests)
 
-    by : (e.0.0 + 1 ≤ last.0 → Rises (e.0.0 + 1) (remove_entry (same_inc last) es) last.0) → (b : Bool) → is_eq (nat_cmp last.0 e.0.0) ≡ b → Rises low (cond b es (e ∷ remove_entry (same_inc last) es)) last.0
+    by : (e.0.0 + 1 ≤ last.0 → Rises (e.0.0 + 1) (remove_entry (same_inc last) es) last.0)
+        → (b : Bool) → is_eq (nat_cmp last.0 e.0.0) ≡ b → Rises low (cond b es (e ∷ remove_entry (same_inc last) es)) last.0
     by rest true k =
         let it : last.0 ≡ e.0.0 = is_last last.0 e.0.0 k in
         let none : es ≡ [] = rises_past (e.0.0 + 1) es (last.0 + 1) (omega arith) h.1 in

@@ -4,7 +4,7 @@ use mathlib.Core.Logic.{inl, inr}
 use Rattle.std.specs.Prelude.{◌⊎◌, is_some, not, slice_get}
 use Rattle.std.specs.Option.{unwrap_or}
 use Rattle.std.specs.List.{flat_map}
-use Rattle.std.specs.Map.{lookup, set_value, remove_entry, keys_of}
+use Rattle.std.specs.Map.{lookup, remove_entry}
 use Rattle.std.specs.BTreeMap.{insert_entry}
 use Rattle.std.specs.Ordering.{nat_cmp, is_eq, match_ordering}
 use Rattle.std.specs.declared.cmp.Ordering.{Ordering}
@@ -23,7 +23,7 @@ use Rattle.hk_model.specs.declared.objects.ProcessState.{ProcessState}
 use Rattle.hk_model.specs.declared.objects.ProcessState.TheVariants.{Running}
 use Rattle.hk_model.specs.State.{State, object, process, same_name, same_inc, name_cmp, inc_cmp, put_object, put_process, no_object}
 use Rattle.hk_model.specs.Processors.{runner}
-use Rattle.hk_model.specs.Keeping.{is_among, object_names}
+use Rattle.hk_model.specs.Keeping.{is_among}
 use Rattle.hk_model.proofs.Keeping.{of_all}
 use Rattle.hk_running.specs.Runners.{process_at}
 use Rattle.hk_plain.specs.Counts.{Tally, times, Moved, AreCounted, inner_names}
@@ -68,12 +68,6 @@ pub waiters_written : (s : State) (name : Name) (waiters : List Proc) (first : P
     → put_object s name (record (object s name) { waiters = waiters }) ≡ put_object s name (record (object s name) { waiters = first ∷ (object s name).waiters })
 waiters_written s name waiters first waited = by (lookup (same_name name) s.objects) refl
   where
-    old : Object
-    old = object s name
-
-    objects : Object → State
-    objects o = put_object s name o
-
     absent : (w : Object) → lookup (same_name name) s.objects ≡ None → put_object s name w ≡ s
     absent w none = ap (λ (es : List (Name × Object)). record s { objects = es }) (set_value_absent (same_name name) s.objects w none)
 
@@ -109,7 +103,8 @@ runs_on s proc cpu found b can is test busy = by can.1
 
 -- a process does what it did, and has the current incarnation that it had
 pub run_and_current : (ps : List Process) (i : ℕ) (old : Process)
-    → set (set ps i (record (process_at ps i) { run = old.run })) i (record (process_at (set ps i (record (process_at ps i) { run = old.run })) i) { current = old.current }) ≡ set ps i old
+    → set (set ps i (record (process_at ps i) { run = old.run })) i
+    (record (process_at (set ps i (record (process_at ps i) { run = old.run })) i) { current = old.current }) ≡ set ps i old
 run_and_current [] i old = refl
 run_and_current (p ∷ ps) zero old = refl
 run_and_current (p ∷ ps) (suc i) old = ap (λ (qs : List Process). p ∷ qs) (run_and_current ps i old)
@@ -161,7 +156,8 @@ module _ {K : Type 0} (number : K → ℕ) where
   abbrev by_number : K → K → Ordering
   by_number a b = nat_cmp (number a) (number b)
 
-  remove_put : {X : Type 0} (es : List (K × X)) (k : K) (x : X) → lookup (λ (j : K). is_eq (by_number k j)) es ≡ None → remove_entry (λ (j : K). is_eq (by_number k j)) (insert_entry by_number es k x) ≡ es
+  remove_put : {X : Type 0} (es : List (K × X)) (k : K) (x : X) → lookup (λ (j : K). is_eq (by_number k j)) es ≡ None
+      → remove_entry (λ (j : K). is_eq (by_number k j)) (insert_entry by_number es k x) ≡ es
   remove_put {X = X} [] k x none = let it : is_eq (by_number k k) ≡ true = itself (number k) in rw it refl
     where
       itself : (n : ℕ) → is_eq (nat_cmp n n) ≡ true
@@ -171,7 +167,8 @@ module _ {K : Type 0} (number : K → ℕ) where
       itself : (n : ℕ) → is_eq (nat_cmp n n) ≡ true
       itself n = grind (arith, nat_tests)
 
-      by : (lookup (λ (j : K). is_eq (by_number k j)) es ≡ None → remove_entry (λ (j : K). is_eq (by_number k j)) (insert_entry by_number es k x) ≡ es) → (r : Ordering) → by_number k e.0 ≡ r
+      by : (lookup (λ (j : K). is_eq (by_number k j)) es ≡ None → remove_entry (λ (j : K). is_eq (by_number k j)) (insert_entry by_number es k x) ≡ es)
+          → (r : Ordering) → by_number k e.0 ≡ r
           → cond (is_eq r) (Some e.1) (lookup (λ (j : K). is_eq (by_number k j)) es) ≡ None
           → remove_entry (λ (j : K). is_eq (by_number k j)) (match_ordering r ((k, x) ∷ e ∷ es) ((e.0, x) ∷ es) (e ∷ insert_entry by_number es k x)) ≡ e ∷ es
       by rest Less c absent = let it : is_eq (by_number k k) ≡ true = itself (number k) in rw it refl
@@ -191,7 +188,8 @@ all_left (e ∷ left) live h =
 -- ---- where memory is short, the state is what it was
 
 rest_of : {X : Type 0} (xs : List X) (i j : ℕ) → j ≡ i → take (length xs - j) (drop j xs) ≡ drop i xs
-rest_of xs i j same = let few : length (drop j xs) ≤ length xs - j = omega (arith, length-drop j xs) in
+rest_of xs i j same =
+    let few : length (drop j xs) ≤ length xs - j = omega (arith, length-drop j xs) in
     take_all (length xs - j) (drop j xs) few ∙ ap (λ (k : ℕ). drop k xs) same
 
 pub taken_again : (s t after : State) (gone : List (Name × Object)) (at : ℕ) → 0 < at → AreNewObjects gone s.objects

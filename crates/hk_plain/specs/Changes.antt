@@ -93,13 +93,13 @@ entered_back entered s = if entered then remove_entry (same_inc (last_inc s)) s.
 -- the state before an event by which nothing went, from what it saved; the events are not counted here
 abbrev pub unsaved : Saved → State → State
 unsaved v s = record s {
-      objects = parts_back v.part (made_back v.made s);
-      incarnations = slots_back v.slot (entered_back v.entered s);
-      processes = processes_back v.process s.processes;
-      ready = ready_back v.turn s.ready;
-      next_name = if v.made then last_name s else s.next_name;
-      next_inc = if v.entered then last_inc s else s.next_inc;
-    }
+  objects = parts_back v.part (made_back v.made s);
+  incarnations = slots_back v.slot (entered_back v.entered s);
+  processes = processes_back v.process s.processes;
+  ready = ready_back v.turn s.ready;
+  next_name = if v.made then last_name s else s.next_name;
+  next_inc = if v.entered then last_inc s else s.next_inc;
+}
 
 -- the state before an event that changed this
 abbrev pub taken_back : Changes → State → State

@@ -7,3 +7,5 @@ pub mod Counts
 pub mod Marking
 pub mod Changes
 pub mod Restoring
+pub mod Removing
+pub mod Kept

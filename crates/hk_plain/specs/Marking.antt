@@ -48,9 +48,9 @@ pub record AreUnderway (s : State) (m : Marking) : Type 0 where
 abbrev pub is_none_of : List Name → Name → Bool
 is_none_of names name = not (is_among name names)
 
--- an object of these names goes, unless it is the one that is made
-abbrev pub goes : Name → List Name → Name → Bool
-goes name names other = not (other.0 == name.0 || is_none_of names other)
+-- an object stays that is made, or has none of these names
+abbrev pub stays_beside : Name → List Name → Name → Bool
+stays_beside name names other = other.0 == name.0 || is_none_of names other
 
 -- the objects that go where one more is made, or the refusal, or want of memory
 abbrev pub Spares : State → Result (BTreeSet Name) Stop → Type 0

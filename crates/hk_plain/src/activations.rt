@@ -1,11 +1,13 @@
 //! The incarnations of calls: how many a process has, one more, and one that goes.
 
-ghost use Rattle.std.specs.Prelude.{◌≡◌, OnOk, OnErr};
-ghost use Rattle.std.specs.Map.{remove_entry};
+ghost use Rattle.std.specs.Prelude.{◌≡◌, length, OnOk, OnErr};
+ghost use Rattle.std.specs.Map.{lookup, remove_entry};
 ghost use Rattle.hk_model.specs.State.{incarnation, same_inc};
 ghost use Rattle.hk_model.specs.Rule.{depth, enter};
 ghost use Rattle.hk_plain.specs.Numbers.{HasNumbers};
+ghost use Rattle.hk_plain.specs.Removing.{HasIncarnationsRoom, removed_at};
 
+use crate::removed::Removed;
 use crate::tables::Tables;
 use hk_model::{Inc, Incarnation, NoMemory, Proc, Slot};
 use std::alloc::Global;
@@ -36,10 +38,12 @@ impl Tables {
     }
 
     /// The incarnation goes.
-    pub(crate) fn remove_incarnation(&mut self, inc: Inc)
-        ensures { self.new ≡ record self.old { incarnations = remove_entry (same_inc inc) self.old.incarnations } }
+    pub(crate) fn remove_incarnation(&mut self, inc: Inc, removed: &mut Removed)
+        requires { HasIncarnationsRoom removed.old (length self.old.incarnations) }
+        ensures value { self.new ≡ record self.old { incarnations = remove_entry (same_inc inc) self.old.incarnations } }
+        ensures went { removed.new ≡ removed_at removed.old inc (lookup (same_inc inc) self.old.incarnations) }
     {
-        self.incarnations.remove(inc, &mut self.counts);
+        self.incarnations.remove(inc, &mut self.counts, removed);
     }
 
     /// Who called the incarnation, and the slot there that takes what it returns.

@@ -8,7 +8,10 @@ ghost use Rattle.hk_model.specs.Rule.{outcome, rule, answered, settled, counted}
 ghost use Rattle.hk_model.specs.Processors.{may_step, code_found, entered_code, is_running};
 ghost use Rattle.hk_plain.specs.Giving.{Gives};
 ghost use Rattle.hk_plain.specs.Numbers.{HasNumbers, FewNumbers, TakesOne};
+ghost use Rattle.hk_plain.specs.Changes.{call_saved};
+ghost use Rattle.hk_plain.specs.Removing.{HasRoom, CallWent, IsUndone, saved_by};
 
+use crate::removed::Removed;
 use crate::tables::Tables;
 use hk_calls::Stop;
 use hk_model::{Acted, Answer, Call, Entry, Inc, NoMemory, Path, Proc, Reply};
@@ -27,9 +30,19 @@ fn answered(answer: Answer) -> Reply
 
 impl Tables {
     /// What a call does, before it is counted.
-    fn serve(&mut self, alloc: Global, proc: Proc, inc: Inc, call: &Call) -> Result<Answer, Stop>
-        requires { HasNumbers self.old }
-        ensures { Gives self.old (outcome self.old proc inc call.now) result self.new }
+    fn serve(
+        &mut self,
+        alloc: Global,
+        proc: Proc,
+        inc: Inc,
+        call: &Call,
+        removed: &mut Removed,
+    ) -> Result<Answer, Stop>
+        requires numbers { HasNumbers self.old }
+        requires room { HasRoom self.old removed.old }
+        ensures gives { Gives self.old (outcome self.old proc inc call.now) result self.new }
+        ensures went { OnOk result (CallWent self.old inc call.now self.new removed.old removed.new) }
+        ensures none_went { OnErr result (removed.new ≡ removed.old) }
     {
         match call {
             Call::Get { of, at } => self.get(inc, of, *at),
@@ -44,15 +57,15 @@ impl Tables {
             Call::Restrict { slot, keep } => self.restrict(inc, *slot, *keep),
             Call::Look { of } => self.look(inc, of),
             Call::MakeTemplate { of, making, into } => self.make_template(inc, of, making, *into),
-            Call::Create { by, into } => self.create(alloc, inc, by, *into),
+            Call::Create { by, into } => self.create(alloc, inc, by, *into, removed),
             Call::Merge { with, cap, into } => self.merge_cap(inc, with, *cap, *into),
-            Call::Copy { of, into } => self.copy(alloc, inc, of, *into),
+            Call::Copy { of, into } => self.copy(alloc, inc, of, *into, removed),
             Call::Enter {
                 proc: path,
                 args,
                 into,
             } => self.enter(alloc, proc, inc, path, args, *into),
-            Call::Leave { give } => self.leave(proc, inc, *give),
+            Call::Leave { give } => self.leave(proc, inc, *give, removed),
             Call::P { of } => self.take_token(proc, inc, of),
             Call::V { of } => self.give_token(alloc, inc, of),
             Call::Yield => self.yield_up(proc),
@@ -66,15 +79,18 @@ impl Tables {
         proc: Proc,
         inc: Inc,
         call: &Call,
+        removed: &mut Removed,
     ) -> Result<Reply, NoMemory>
-        requires { HasNumbers self.old }
+        requires numbers { HasNumbers self.old }
+        requires room { HasRoom self.old removed.old }
         ensures reply { IfOk result (λ reply. settled self.old (outcome self.old proc inc call.now) ≡ (reply, counted (self.old.events + 1) self.new)) }
+        ensures back { IfOk result (λ reply. IsUndone (saved_by reply (call_saved self.old proc inc call.now)) self.old self.new removed.old removed.new) }
         ensures numbers { OnOk result (TakesOne self.old self.new) }
         ensures err { OnErr result (self.new ≡ self.old) }
     {
-        match self.serve(alloc, proc, inc, call) {
+        match self.serve(alloc, proc, inc, call, removed) {
             Ok(answer) => {
-                self.remove_lost();
+                self.remove_lost(removed);
                 Ok(answered(answer))
             }
             Err(Stop::Refused(refusal)) => Ok(Reply::No(refusal)),
@@ -106,19 +122,27 @@ impl Tables {
     }
 
     /// Makes a call of a process in its current incarnation. It is one event, refused or not.
-    pub(crate) fn act(&mut self, alloc: Global, proc: Proc, call: &Call) -> Result<Acted, NoMemory>
+    pub(crate) fn act(
+        &mut self,
+        alloc: Global,
+        proc: Proc,
+        call: &Call,
+        removed: &mut Removed,
+    ) -> Result<Acted, NoMemory>
         requires below { IsTrue (may_step self.old) }
         requires numbers { FewNumbers self.old }
+        requires room { HasRoom self.old removed.old }
         ensures reply { IfOk result (λ acted. rule self.old proc call.now ≡ (acted.reply, self.new)) }
         ensures code { IfOk result (λ acted. acted.code ≡ entered_code self.old (process self.old proc).current call.now acted.reply) }
         ensures gone { IfOk result (λ acted. acted.gone ≡ not (is_running (process self.new proc).run)) }
+        ensures back { IfOk result (λ acted. IsUndone (saved_by acted.reply (call_saved self.old proc (process self.old proc).current call.now)) self.old self.new removed.old removed.new) }
         ensures numbers { OnOk result (FewNumbers self.new) }
         ensures err { OnErr result (self.new ≡ self.old) }
     {
         let inc = self.current_of(proc);
         let events = self.next_event();
         let code = self.code_entered(inc, call);
-        let reply = self.settle(alloc, proc, inc, call)?;
+        let reply = self.settle(alloc, proc, inc, call, removed)?;
         self.set_events(events);
         Ok(Acted {
             reply,

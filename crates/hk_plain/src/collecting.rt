@@ -1,19 +1,21 @@
 //! Room in a full table: the objects that names lead to stay (`docs/RULES.md`, "Objects that vanish").
 
-ghost use Rattle.std.specs.Prelude.{◌≡◌, [], length, filter, IfOk, OnOk, OnErr};
+ghost use Rattle.std.specs.Prelude.{◌≡◌, ◌+◌, [], length, filter, IfOk, OnOk, OnErr};
 ghost use Rattle.std.specs.BTreeMap.{insert_entry};
 ghost use Rattle.hk_model.specs.declared.names.Name.{Name};
 ghost use Rattle.hk_model.specs.declared.objects.Object.{Object};
-ghost use Rattle.hk_model.specs.State.{name_cmp};
+ghost use Rattle.hk_model.specs.State.{name_cmp, add_object};
 ghost use Rattle.hk_model.specs.Keeping.{AreRooted, members};
 ghost use Rattle.hk_model.specs.Rule.{add_beside};
-ghost use Rattle.hk_plain.specs.Marking.{AreUnderway, Spares, is_none_of, goes};
+ghost use Rattle.hk_plain.specs.Marking.{AreUnderway, Spares, is_none_of, stays_beside};
 ghost use Rattle.hk_plain.specs.Counts.{Moved, inner_names};
 ghost use Rattle.hk_plain.specs.Numbers.{HasNumbers};
+ghost use Rattle.hk_plain.specs.Removing.{HasObjectsRoom, ObjectsWent};
 
-use crate::counted::insert;
+use crate::counted::{insert, remove};
 use crate::counts::Counts;
 use crate::marks::Marks;
+use crate::removed::Removed;
 use crate::tables::Tables;
 use hk_calls::Stop;
 use hk_model::limits::OBJECT_LIMIT;
@@ -35,27 +37,24 @@ fn count_but(objects: &BTreeMap<Name, Object>, spare: &BTreeSet<Name>) -> usize
     count
 }
 
-/// Whether an object goes, where one of this name is made.
-fn goes(name: Name, spare: &BTreeSet<Name>, other: Name) -> bool
-    ensures { result ≡ goes name spare.now.keys other }
-{
-    other.0 != name.0 && spare.contains(&other)
-}
-
-/// What the objects that go name is named no more by them.
-fn release_spare(
-    objects: &BTreeMap<Name, Object>,
+/// The objects of these names go, but not the one that is made.
+fn remove_spare(
+    objects: &mut BTreeMap<Name, Object>,
     name: Name,
     spare: &BTreeSet<Name>,
     counts: &mut Counts,
+    removed: &mut Removed,
 )
-    ensures { Moved counts.old counts.new [] (inner_names (filter (λ (e : Name × Object). goes name spare.now.keys e.0) objects.now.entries)) }
+    requires { HasObjectsRoom removed.old (length objects.old.entries) }
+    ensures objects { objects.new.entries ≡ filter (λ (e : Name × Object). stays_beside name spare.now.keys e.0) objects.old.entries }
+    ensures counted { Moved counts.old counts.new (inner_names objects.new.entries) (inner_names objects.old.entries) }
+    ensures went { ObjectsWent objects.old.entries objects.new.entries removed.old removed.new }
 {
-    for (other, object) in objects {
-        if !goes(name, spare, *other) {
-            continue;
+    let _many = objects.len();
+    for other in spare {
+        if other.0 != name.0 {
+            remove(objects, *other, counts, removed);
         }
-        counts.release_object(object);
     }
 }
 
@@ -66,16 +65,17 @@ fn put_beside(
     object: Object,
     spare: &BTreeSet<Name>,
     counts: &mut Counts,
+    removed: &mut Removed,
 ) -> Result<(), NoMemory>
+    requires { HasObjectsRoom removed.old (length objects.old.entries + 1) }
     ensures counted { Moved counts.old counts.new (inner_names objects.new.entries) (inner_names objects.old.entries) }
     ensures ok { OnOk result (objects.new.entries ≡ insert_entry name_cmp (filter (λ (e : Name × Object). is_none_of spare.now.keys e.0) objects.old.entries) name object) }
+    ensures went { OnOk result (ObjectsWent (insert_entry name_cmp objects.old.entries name object) objects.new.entries removed.old removed.new) }
     ensures err { OnErr result (objects.new.entries ≡ objects.old.entries) }
+    ensures none_went { OnErr result (removed.new ≡ removed.old) }
 {
     insert(objects, name, object, counts)?;
-    if !spare.is_empty() {
-        release_spare(objects, name, spare, counts);
-        objects.retain(|other, _| other.0 == name.0 || !spare.contains(other));
-    }
+    remove_spare(objects, name, spare, counts, removed);
     Ok(())
 }
 
@@ -125,14 +125,19 @@ impl Tables {
         &mut self,
         object: Object,
         spare: &BTreeSet<Name>,
+        removed: &mut Removed,
     ) -> Result<(), NoMemory>
-        requires { HasNumbers self.old }
+        requires numbers { HasNumbers self.old }
+        requires room { HasObjectsRoom removed.old (length self.old.objects + 1) }
         ensures ok { OnOk result (self.new ≡ add_beside self.old (members self.old (is_none_of spare.now.keys)) object) }
+        ensures went { OnOk result (ObjectsWent (add_object self.old object).objects self.new.objects removed.old removed.new) }
         ensures err { OnErr result (self.new ≡ self.old) }
+        ensures none_went { OnErr result (removed.new ≡ removed.old) }
     {
         let name = self.next_name;
-        self.counts.add(name, self.objects.len())?;
-        put_beside(&mut self.objects, name, object, spare, &mut self.counts)?;
+        let counts = &mut self.counts;
+        counts.add(name, self.objects.len())?;
+        put_beside(&mut self.objects, name, object, spare, counts, removed)?;
         self.next_name = Name(name.0 + 1);
         Ok(())
     }

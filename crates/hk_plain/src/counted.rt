@@ -8,8 +8,10 @@ ghost use Rattle.hk_model.specs.declared.objects.ProcessState.TheVariants.{Runni
 ghost use Rattle.hk_model.specs.Processors.{is_running, runner_from};
 ghost use Rattle.hk_running.specs.Runners.{with_run};
 ghost use Rattle.hk_plain.specs.Counts.{Moved, inner_names, waiting_names, object_in};
+ghost use Rattle.hk_plain.specs.Removing.{HasObjectsRoom, ObjectsWent};
 
 use crate::counts::Counts;
+use crate::removed::Removed;
 use hk_model::{Cpu, Entry, Name, NoMemory, Object, Proc, ProcessState, Template};
 use hk_running::Processes;
 use std::collections::BTreeMap;
@@ -42,12 +44,21 @@ pub(crate) fn insert(
 }
 
 /// The object goes, with what it names.
-pub(crate) fn remove(objects: &mut BTreeMap<Name, Object>, name: Name, counts: &mut Counts)
+pub(crate) fn remove(
+    objects: &mut BTreeMap<Name, Object>,
+    name: Name,
+    counts: &mut Counts,
+    removed: &mut Removed,
+)
+    requires { HasObjectsRoom removed.old (length objects.old.entries) }
     ensures objects { objects.new.entries ≡ remove_entry (same_name name) objects.old.entries }
     ensures counted { Moved counts.old counts.new (inner_names objects.new.entries) (inner_names objects.old.entries) }
+    ensures went { ObjectsWent objects.old.entries objects.new.entries removed.old removed.new }
 {
+    let _many = objects.len();
     if let Some(gone) = objects.remove(&name) {
         counts.release_object(&gone);
+        removed.add_object(name, gone);
     }
 }
 

@@ -5,15 +5,17 @@
 //! that goes costs that and a look at the stack of its process, and the end of a process costs that
 //! for each incarnation that goes.
 
-ghost use Rattle.std.specs.Prelude.{◌≡◌, ◌==◌, ◌<◌, ◌^◌, not, filter, OnOk, OnErr, count_by, [], None, option_copied};
+ghost use Rattle.std.specs.Prelude.{◌≡◌, ◌==◌, ◌<◌, ◌^◌, not, length, filter, OnOk, OnErr, count_by, [], None, option_copied};
 ghost use Rattle.std.specs.Map.{lookup, set_value, remove_entry};
 ghost use Rattle.hk_model.specs.State.{same_inc};
 ghost use Rattle.std.specs.BTreeMap.{insert_entry};
 ghost use Rattle.hk_model.specs.State.{inc_cmp};
 ghost use Rattle.hk_plain.specs.Stacks.{added, without_last, with_slot, remove_all};
 ghost use Rattle.hk_plain.specs.Counts.{Moved, slot_names};
+ghost use Rattle.hk_plain.specs.Removing.{HasIncarnationsRoom, IncarnationsWent, removed_at};
 
 use crate::counts::Counts;
+use crate::removed::Removed;
 use crate::stacks::Stacks;
 use hk_model::{Entry, Inc, Incarnation, NoMemory, Proc};
 use std::alloc::Global;
@@ -39,22 +41,38 @@ impl Model for Incarnations {
 }
 
 /// The incarnation of a number goes, with what its slots name.
-fn remove_one(live: &mut BTreeMap<Inc, Incarnation>, inc: Inc, counts: &mut Counts)
+fn remove_one(
+    live: &mut BTreeMap<Inc, Incarnation>,
+    inc: Inc,
+    counts: &mut Counts,
+    removed: &mut Removed,
+)
+    requires { HasIncarnationsRoom removed.old (length live.old.entries) }
     ensures live { live.new.entries ≡ remove_entry (same_inc inc) live.old.entries }
     ensures counted { Moved counts.old counts.new (slot_names live.new.entries) (slot_names live.old.entries) }
+    ensures went { IncarnationsWent live.old.entries live.new.entries removed.old removed.new }
 {
+    let _many = live.len();
     if let Some(gone) = live.remove(&inc) {
         counts.release_entries(gone.slots.as_slice());
+        removed.add_incarnation(inc, gone);
     }
 }
 
 /// The incarnations of these numbers go.
-fn remove_all(live: &mut BTreeMap<Inc, Incarnation>, numbers: &[Inc], counts: &mut Counts)
+fn remove_all(
+    live: &mut BTreeMap<Inc, Incarnation>,
+    numbers: &[Inc],
+    counts: &mut Counts,
+    removed: &mut Removed,
+)
+    requires { HasIncarnationsRoom removed.old (length live.old.entries) }
     ensures live { live.new.entries ≡ remove_all numbers.now live.old.entries }
     ensures counted { Moved counts.old counts.new (slot_names live.new.entries) (slot_names live.old.entries) }
+    ensures went { IncarnationsWent live.old.entries live.new.entries removed.old removed.new }
 {
     for number in numbers {
-        remove_one(live, *number, counts);
+        remove_one(live, *number, counts, removed);
     }
 }
 
@@ -210,25 +228,30 @@ impl Incarnations {
     }
 
     /// The incarnation goes.
-    pub(crate) fn remove(&mut self, inc: Inc, counts: &mut Counts)
+    pub(crate) fn remove(&mut self, inc: Inc, counts: &mut Counts, removed: &mut Removed)
+        requires { HasIncarnationsRoom removed.old (length self.old.live) }
         ensures value { self.new ≡ record self.old { live = remove_entry (same_inc inc) self.old.live } }
         ensures counted { Moved counts.old counts.new (slot_names self.new.live) (slot_names self.old.live) }
+        ensures went { removed.new ≡ removed_at removed.old inc (lookup (same_inc inc) self.old.live) }
     {
         let Some(gone) = self.live.remove(&inc) else {
             return;
         };
         counts.release_entries(gone.slots.as_slice());
         self.stacks.forget(gone.proc, inc);
+        removed.add_incarnation(inc, gone);
     }
 
     /// All incarnations of a process go.
-    pub(crate) fn remove_process(&mut self, proc: Proc, counts: &mut Counts)
+    pub(crate) fn remove_process(&mut self, proc: Proc, counts: &mut Counts, removed: &mut Removed)
+        requires { HasIncarnationsRoom removed.old (length self.old.live) }
         ensures value { self.new ≡ record self.old { live = filter (λ e. not (e.1.proc.0 == proc.0)) self.old.live } }
         ensures counted { Moved counts.old counts.new (slot_names self.new.live) (slot_names self.old.live) }
+        ensures went { IncarnationsWent self.old.live self.new.live removed.old removed.new }
     {
         let Some(stack) = self.stacks.take(proc) else {
             return;
         };
-        remove_all(&mut self.live, stack.as_slice(), counts);
+        remove_all(&mut self.live, stack.as_slice(), counts, removed);
     }
 }

@@ -1,6 +1,6 @@
 //! Which objects stay (`docs/RULES.md`, "Objects that vanish").
 
-ghost use Rattle.std.specs.Prelude.{◌≡◌, ◌||◌, true, false, List, IfSome, IfNone};
+ghost use Rattle.std.specs.Prelude.{◌≡◌, ◌||◌, true, false, List, length, IfSome, IfNone};
 ghost use Rattle.std.specs.List.{flat_map};
 ghost use Rattle.std.specs.Map.{remove_entry};
 ghost use Rattle.hk_model.specs.State.{same_name};
@@ -10,9 +10,11 @@ ghost use Rattle.hk_model.specs.declared.objects.Object.{Object};
 ghost use Rattle.hk_model.specs.declared.objects.Incarnation.{Incarnation};
 ghost use Rattle.hk_model.specs.declared.objects.Process.{Process};
 ghost use Rattle.hk_model.specs.Keeping.{entry_names, object_names, run_names, is_among, are_supporting, stands, kept_objects, restricted};
+ghost use Rattle.hk_plain.specs.Removing.{HasObjectsRoom, ObjectsWent};
 
 use crate::counted::remove;
 use crate::counts::last_unnamed;
+use crate::removed::Removed;
 use crate::tables::Tables;
 use hk_model::{Entry, Inc, Incarnation, Name, Object, Process, ProcessState, Template};
 use std::collections::BTreeMap;
@@ -132,19 +134,23 @@ impl Tables {
     }
 
     /// An object goes, with what it names.
-    fn remove_object(&mut self, name: Name)
-        ensures { self.new ≡ record self.old { objects = remove_entry (same_name name) self.old.objects } }
+    fn remove_object(&mut self, name: Name, removed: &mut Removed)
+        requires { HasObjectsRoom removed.old (length self.old.objects) }
+        ensures value { self.new ≡ record self.old { objects = remove_entry (same_name name) self.old.objects } }
+        ensures went { ObjectsWent self.old.objects self.new.objects removed.old removed.new }
     {
-        remove(&mut self.objects, name, &mut self.counts);
+        remove(&mut self.objects, name, &mut self.counts, removed);
     }
 
     /// The objects that are not kept vanish.
     #[tactic(auto, using(crate::proofs::KeepingLemmas::restricted_same))]
-    pub(crate) fn remove_lost(&mut self)
-        ensures { self.new ≡ restricted self.old }
+    pub(crate) fn remove_lost(&mut self, removed: &mut Removed)
+        requires { HasObjectsRoom removed.old (length self.old.objects) }
+        ensures value { self.new ≡ restricted self.old }
+        ensures went { ObjectsWent self.old.objects self.new.objects removed.old removed.new }
     {
         while let Some(lost) = self.next_lost() {
-            self.remove_object(lost);
+            self.remove_object(lost, removed);
         }
     }
 }

@@ -4,7 +4,8 @@
 //! subject: `tables` has the state, `processes`, `incarnations` and `stacks` its parts with what is
 //! kept beside them, `walks` and `targets` the tests that the calls share, `counts` how many times
 //! each made object is named, `counted` the writes that it follows, `keeping` which objects stay,
-//! `marks` and `collecting` the room in a full table, `plain` the kernel over them.
+//! `marks` and `collecting` the room in a full table, `undoing` and `restoring` the state before an
+//! event, `copies` what they copy, `plain` the kernel over them.
 //!
 //! A step costs no more than the size of what it touches and the logarithm of the number of
 //! objects, incarnations and processes. What it touches has the objects that vanish by it, with what
@@ -29,7 +30,9 @@ mod opening;
 mod plain;
 mod procedures;
 mod processors;
+mod removed;
 mod restoring;
+mod saving;
 mod semaphores;
 mod shows;
 mod slots;

@@ -1,6 +1,6 @@
 //! The calls that make objects: Create and Copy.
 
-ghost use Rattle.std.specs.Prelude.{◌≡◌, ◌≤◌, length, map, IfOk};
+ghost use Rattle.std.specs.Prelude.{◌≡◌, ◌≤◌, length, map, IfOk, OnOk, OnErr};
 ghost use Rattle.hk_model.specs.State.{object};
 ghost use Rattle.hk_model.specs.Keeping.{members};
 ghost use Rattle.hk_model.specs.Targets.{create_form};
@@ -9,7 +9,9 @@ ghost use Rattle.hk_plain.specs.Giving.{Gives};
 ghost use Rattle.hk_plain.specs.Numbers.{HasNumbers};
 ghost use Rattle.hk_plain.specs.Additions.{object_made};
 ghost use Rattle.hk_plain.specs.Marking.{is_none_of};
+ghost use Rattle.hk_plain.specs.Removing.{HasRoom, MadeWent};
 
+use crate::removed::Removed;
 use crate::tables::Tables;
 use crate::walks::reduced_rights;
 use hk_calls::{Stop, Wanted, slot_at};
@@ -109,12 +111,16 @@ impl Tables {
         slot: usize,
         new: Object,
         rights: Rights,
+        removed: &mut Removed,
     ) -> Result<Answer, Stop>
-        requires { HasNumbers self.old }
-        ensures { Gives self.old (object_made self.old (members self.old (is_none_of spare.now.keys)) inc slot new rights) result self.new }
+        requires numbers { HasNumbers self.old }
+        requires room { HasRoom self.old removed.old }
+        ensures gives { Gives self.old (object_made self.old (members self.old (is_none_of spare.now.keys)) inc slot new rights) result self.new }
+        ensures went { OnOk result (MadeWent self.old inc slot self.new removed.old removed.new) }
+        ensures none_went { OnErr result (removed.new ≡ removed.old) }
     {
         let name = self.next_name;
-        self.add_beside(new, spare)?;
+        self.add_beside(new, spare, removed)?;
         self.set_slot(inc, slot, Entry::Held(Cap { name, rights }));
         Ok(Answer::Done)
     }
@@ -144,9 +150,13 @@ impl Tables {
         inc: Inc,
         path: &Path,
         into: Slot,
+        removed: &mut Removed,
     ) -> Result<Answer, Stop>
-        requires { HasNumbers self.old }
-        ensures { Gives self.old (create_object self.old inc path.now into) result self.new }
+        requires numbers { HasNumbers self.old }
+        requires room { HasRoom self.old removed.old }
+        ensures gives { Gives self.old (create_object self.old inc path.now into) result self.new }
+        ensures went { OnOk result (MadeWent self.old inc into.0 self.new removed.old removed.new) }
+        ensures none_went { OnErr result (removed.new ≡ removed.old) }
     {
         let _ = PhantomData::<Template>; // Rattle is to know what an Entry holds
         let step = path.len() as u8;
@@ -158,7 +168,7 @@ impl Tables {
         }
         let spare = self.spare_objects(alloc)?;
         let new = plain_object(alloc, of, Words::new(alloc), Entries::new(alloc));
-        self.make_object(&spare, inc, slot, new, give)
+        self.make_object(&spare, inc, slot, new, give, removed)
     }
 
     /// Copy: a new object with the words and entries of another.
@@ -169,14 +179,18 @@ impl Tables {
         inc: Inc,
         path: &Path,
         into: Slot,
+        removed: &mut Removed,
     ) -> Result<Answer, Stop>
-        requires { HasNumbers self.old }
-        ensures { Gives self.old (copy_object self.old inc path.now into) result self.new }
+        requires numbers { HasNumbers self.old }
+        requires room { HasRoom self.old removed.old }
+        ensures gives { Gives self.old (copy_object self.old inc path.now into) result self.new }
+        ensures went { OnOk result (MadeWent self.old inc into.0 self.new removed.old removed.new) }
+        ensures none_went { OnErr result (removed.new ≡ removed.old) }
     {
         let slot = slot_at(into, path.len() as u8)?;
         let cap = self.target(inc, path, Wanted::General, Rights::COPY)?;
         let spare = self.spare_objects(alloc)?;
         let new = self.copy_of(alloc, &cap)?;
-        self.make_object(&spare, inc, slot, new, cap.rights)
+        self.make_object(&spare, inc, slot, new, cap.rights, removed)
     }
 }

@@ -7,6 +7,7 @@ ghost use Rattle.hk_model.specs.State.{same_name, same_inc};
 ghost use Rattle.hk_plain.specs.Changes.{IsBehind, taken_back};
 
 use crate::inverse::Inverse;
+use crate::removed::Removed;
 use crate::tables::Tables;
 use hk_model::{
     Acted, Call, Cpu, Inc, Incarnation, Kernel, Name, NoMemory, Object, Proc, Snapshot, World,
@@ -91,7 +92,10 @@ impl Kernel for Plain {
 
     fn act(&mut self, alloc: Global, cpu: Cpu, call: Call) -> Result<Acted, NoMemory> {
         match self.tables.runner(cpu) {
-            Some(proc) => self.tables.act(alloc, proc, &call),
+            Some(proc) => {
+                let mut removed = Removed::dropped();
+                self.tables.act(alloc, proc, &call, &mut removed)
+            }
             None => unreachable!(),
         }
     }
@@ -102,7 +106,10 @@ impl Kernel for Plain {
 
     fn halt(&mut self, cpu: Cpu) {
         match self.tables.runner(cpu) {
-            Some(proc) => self.tables.halt(proc),
+            Some(proc) => {
+                let mut removed = Removed::dropped();
+                self.tables.halt(proc, &mut removed);
+            }
             None => unreachable!(),
         }
     }

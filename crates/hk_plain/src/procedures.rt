@@ -1,12 +1,15 @@
 //! The calls of procedures: Enter and Leave.
 
-ghost use Rattle.std.specs.Prelude.{◌≡◌, ◌<◌, ◌≤◌, ◌+◌, length, map, IfOk};
-ghost use Rattle.hk_model.specs.State.{object, incarnation};
+ghost use Rattle.std.specs.Prelude.{◌≡◌, ◌<◌, ◌≤◌, ◌+◌, length, map, IfOk, OnOk, OnErr};
+ghost use Rattle.std.specs.Map.{lookup};
+ghost use Rattle.hk_model.specs.State.{object, incarnation, same_inc};
 ghost use Rattle.hk_model.specs.Rule.{slots_at, type_held, argument, enter_procedure, leave, returned_cap};
 ghost use Rattle.hk_model.specs.Merging.{name_space};
 ghost use Rattle.hk_plain.specs.Giving.{Gives};
 ghost use Rattle.hk_plain.specs.Numbers.{HasNumbers};
+ghost use Rattle.hk_plain.specs.Removing.{HasRoom, removed_at};
 
+use crate::removed::Removed;
 use crate::tables::Tables;
 use hk_calls::{Stop, Wanted, slot_at};
 use hk_merge::{Arg, allowed, build_space, held};
@@ -157,12 +160,21 @@ impl Tables {
 
     /// Leave: the incarnation goes, and its caller goes on, with a capability where a slot is named.
     #[tactic(auto, unfolding(hk_model::specs::Rule::leave))]
-    pub(crate) fn leave(&mut self, proc: Proc, inc: Inc, give: Option<Slot>) -> Result<Answer, Stop>
-        ensures { Gives self.old (leave self.old proc inc give) result self.new }
+    pub(crate) fn leave(
+        &mut self,
+        proc: Proc,
+        inc: Inc,
+        give: Option<Slot>,
+        removed: &mut Removed,
+    ) -> Result<Answer, Stop>
+        requires { HasRoom self.old removed.old }
+        ensures gives { Gives self.old (leave self.old proc inc give) result self.new }
+        ensures went { OnOk result (removed.new ≡ removed_at removed.old inc (lookup (same_inc inc) self.old.incarnations)) }
+        ensures none_went { OnErr result (removed.new ≡ removed.old) }
     {
         let cap = self.given(inc, give)?;
         let (caller, into) = self.return_place(inc);
-        self.remove_incarnation(inc);
+        self.remove_incarnation(inc, removed);
         match caller {
             None => self.set_run(proc, ProcessState::Ended),
             Some(caller) => {

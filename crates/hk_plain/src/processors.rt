@@ -5,8 +5,11 @@ ghost use Rattle.std.specs.List.{list_any};
 ghost use Rattle.hk_model.specs.declared.objects.Process.{Process};
 ghost use Rattle.hk_model.specs.State.{process};
 ghost use Rattle.hk_model.specs.Rule.{counted};
+ghost use Rattle.hk_plain.specs.Changes.{halt_saved};
+ghost use Rattle.hk_plain.specs.Removing.{HasRoom, HasIncarnationsRoom, IncarnationsWent, IsUndone};
 ghost use Rattle.hk_model.specs.Processors.{runner, runner_from, is_on, is_ready, is_running, may_step, dispatched, halted, is_over};
 
+use crate::removed::Removed;
 use crate::tables::Tables;
 use hk_model::{Cpu, Inc, Proc, ProcessState};
 
@@ -89,21 +92,26 @@ impl Tables {
     }
 
     /// All incarnations of a process go.
-    fn remove_incarnations(&mut self, proc: Proc)
-        ensures { self.new ≡ record self.old { incarnations = filter (λ e. not (e.1.proc.0 == proc.0)) self.old.incarnations } }
+    fn remove_incarnations(&mut self, proc: Proc, removed: &mut Removed)
+        requires { HasIncarnationsRoom removed.old (length self.old.incarnations) }
+        ensures value { self.new ≡ record self.old { incarnations = filter (λ e. not (e.1.proc.0 == proc.0)) self.old.incarnations } }
+        ensures went { IncarnationsWent self.old.incarnations self.new.incarnations removed.old removed.new }
     {
-        self.incarnations.remove_process(proc, &mut self.counts);
+        let counts = &mut self.counts;
+        self.incarnations.remove_process(proc, counts, removed);
     }
 
     /// Ends a process, with all its incarnations. What nothing names then vanishes.
-    pub(crate) fn halt(&mut self, proc: Proc)
-        requires { IsTrue (may_step self.old) }
-        ensures { self.new ≡ halted self.old proc }
+    pub(crate) fn halt(&mut self, proc: Proc, removed: &mut Removed)
+        requires below { IsTrue (may_step self.old) }
+        requires room { HasRoom self.old removed.old }
+        ensures value { self.new ≡ halted self.old proc }
+        ensures back { IsUndone (halt_saved self.old proc) self.old self.new removed.old removed.new }
     {
         let events = self.next_event();
         self.set_run(proc, ProcessState::Ended);
-        self.remove_incarnations(proc);
-        self.remove_lost();
+        self.remove_incarnations(proc, removed);
+        self.remove_lost(removed);
         self.set_events(events);
     }
 

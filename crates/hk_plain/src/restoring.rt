@@ -16,7 +16,9 @@ use crate::changes::{Part, Saved, Turn};
 use crate::copies;
 use crate::counts::Counts;
 use crate::tables::Tables;
-use hk_model::{Cpu, Entries, Items, Name, NoMemory, Object, Proc, Process, ProcessState, Template};
+use hk_model::{
+    Cpu, Entries, Items, Name, NoMemory, Object, Proc, Process, ProcessState, Template,
+};
 use std::alloc::{AllocError, Global};
 use std::collections::BTreeMap;
 use std::marker::PhantomData;
@@ -49,12 +51,7 @@ fn pop_counted(alloc: Global, entries: &mut Entries, counts: &mut Counts)
 
 /// The last entry of an object goes.
 #[tactic(auto, using(crate::proofs::Maps::set_value_absent))]
-fn pop_entry(
-    alloc: Global,
-    objects: &mut BTreeMap<Name, Object>,
-    name: Name,
-    counts: &mut Counts,
-)
+fn pop_entry(alloc: Global, objects: &mut BTreeMap<Name, Object>, name: Name, counts: &mut Counts)
     ensures objects { objects.new.entries ≡ set_value (same_name name) objects.old.entries (record (object_in objects.old.entries name) { entries = take (length (object_in objects.old.entries name).entries - 1) (object_in objects.old.entries name).entries }) }
     ensures counted { Moved counts.old counts.new (inner_names objects.new.entries) (inner_names objects.old.entries) }
 {

@@ -31,7 +31,7 @@ fn first_and_others(
 
 impl Tables {
     /// The tokens of a semaphore.
-    fn count_of(&self, name: Name) -> u32
+    pub(crate) fn count_of(&self, name: Name) -> u32
         ensures { result ≡ (object self.now name).count }
     {
         match self.object(name) {

@@ -15,6 +15,7 @@ ghost use Rattle.hk_plain.specs.Restoring.{objects_without, incarnations_without
 use crate::copies::{incarnation_copy, object_copy};
 use crate::counted::insert;
 use crate::inverse::Inverse;
+use crate::removed::Removed;
 use crate::restoring::take_out;
 use crate::tables::Tables;
 use hk_model::{Inc, Incarnation, Name, NoMemory, Object};
@@ -82,12 +83,19 @@ impl Tables {
         Ok(())
     }
 
+    /// An incarnation goes.
+    fn take_incarnation(&mut self, inc: Inc)
+        ensures { self.new ≡ record self.old { incarnations = remove_entry (same_inc inc) self.old.incarnations } }
+    {
+        self.remove_incarnation(inc, &mut Removed::dropped());
+    }
+
     /// The incarnations of these numbers go.
     fn take_incarnations(&mut self, left: &[(Inc, Incarnation)])
         ensures { self.new ≡ record self.old { incarnations = incarnations_without left.now self.old.incarnations } }
     {
         for (inc, _incarnation) in left {
-            self.remove_incarnation(*inc);
+            self.take_incarnation(*inc);
         }
     }
 
@@ -113,11 +121,7 @@ impl Tables {
     }
 
     /// The state before an event, from what it changed. NoMemory changes nothing.
-    pub(crate) fn take_back(
-        &mut self,
-        alloc: Global,
-        inverse: &Inverse,
-    ) -> Result<(), NoMemory>
+    pub(crate) fn take_back(&mut self, alloc: Global, inverse: &Inverse) -> Result<(), NoMemory>
         requires { IsBehind inverse.now self.old }
         ensures ok { OnOk result (self.new ≡ taken_back inverse.now self.old) }
         ensures err { OnErr result (self.new ≡ self.old) }

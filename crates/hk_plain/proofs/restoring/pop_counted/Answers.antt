@@ -1,5 +1,5 @@
 -- What the last entry names is released.
-use Rattle.std.proofs.Common.{◌≡◌, ◌+◌, ◌-◌, sym, subst, arith, List, length, get_or, []}
+use Rattle.std.proofs.Common.{◌≡◌, ◌+◌, ◌-◌, sym, subst, arith, List, length, get_or}
 use Rattle.std.specs.List.{flat_map}
 use Rattle.hk_model.specs.declared.entries.Entry.{Entry}
 use Rattle.hk_model.specs.Keeping.{entry_names}

@@ -1,5 +1,5 @@
 -- The stack that is there has one more number.
-use Rattle.std.proofs.Common.{◌∙◌, ap, refl, List, [], ◌∷◌, cond, ◌==◌}
+use Rattle.std.proofs.Common.{◌∙◌, ap, refl, List, cond, ◌==◌}
 use Rattle.std.specs.Map.{lookup}
 use Rattle.hk_model.specs.declared.names.Inc.{Inc}
 use Rattle.hk_model.specs.declared.names.Proc.{Proc}

@@ -1,5 +1,5 @@
 -- What was put back goes again.
-use Rattle.std.proofs.Common.{◌≡◌, ◌∙◌, ◌+◌, ◌-◌, sym, subst, length, take, drop}
+use Rattle.std.proofs.Common.{◌≡◌, ◌+◌, ◌-◌, sym, subst, length, take, drop}
 use Rattle.hk_model.specs.State.{State}
 use Rattle.hk_plain.specs.Restoring.{objects_without}
 use Rattle.hk_plain.proofs.StackLemmas.{on_err}

@@ -5,7 +5,7 @@ use Rattle.hk_model.specs.declared.names.Inc.{Inc}
 use Rattle.hk_model.specs.declared.objects.Object.{Object}
 use Rattle.hk_model.specs.declared.objects.Incarnation.{Incarnation}
 use Rattle.hk_model.specs.State.{State}
-use Rattle.hk_plain.specs.Changes.{Changes, AreNewObjects, AreNewIncarnations, objects_with}
+use Rattle.hk_plain.specs.Changes.{Changes, AreNewObjects, AreNewIncarnations}
 use Rattle.hk_plain.specs.Restoring.{objects_without, incarnations_without}
 use Rattle.hk_plain.proofs.StackLemmas.{on_err, on_ok}
 use Rattle.hk_plain.proofs.UndoLemmas.{all_taken, none_lives}
