@@ -1,10 +1,12 @@
 pub mod Maps
 pub mod Numbered
 pub mod StackLemmas
+pub mod PlacedLemmas
 pub mod CountLemmas
 pub mod CountedParts
 pub mod Naming
 pub mod KeepingLemmas
+pub mod UndoLemmas
 pub mod MarkLemmas
 pub mod PutBack
 pub mod Went

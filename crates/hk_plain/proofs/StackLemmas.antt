@@ -18,7 +18,7 @@ use Rattle.hk_model.specs.State.{same_inc, inc_cmp, no_incarnation}
 use Rattle.hk_plain.proofs.Maps.{set_value_absent}
 use Rattle.hk_plain.specs.Stacks.{numbers_of, same_proc, stack, without, remove_all, Rises, IsStacked}
 
-abbrev Live : Type 0
+abbrev pub Live : Type 0
 Live = List (Inc × Incarnation)
 
 -- numbers and their tests
@@ -48,11 +48,11 @@ same_as : (n k : ℕ) → is_eq (nat_cmp n k) ≡ (k == n)
 same_as n k = grind (arith, nat_tests)
 
 -- what rises from a number on rises from each lower one on
-rises_lower : (low lower : ℕ) (es : Live) (high : ℕ) → lower ≤ low → Rises low es high → Rises lower es high
+pub rises_lower : (low lower : ℕ) (es : Live) (high : ℕ) → lower ≤ low → Rises low es high → Rises lower es high
 rises_lower low lower [] high less h = omega arith
 rises_lower low lower (e ∷ es) high less h = (omega (arith, h.0), h.1)
 
-rises_span : (low : ℕ) (es : Live) (high : ℕ) → Rises low es high → low ≤ high
+pub rises_span : (low : ℕ) (es : Live) (high : ℕ) → Rises low es high → low ≤ high
 rises_span low [] high h = h
 rises_span low (e ∷ es) high h = omega (arith, h.0, rises_span (e.0.0 + 1) es high h.1)
 
@@ -203,11 +203,11 @@ numbers_others proc gone (e ∷ es) = by (e.1.proc.0 == gone.0) refl (gone.0 == 
     by false own s t rest = kept s t (e.1.proc.0 == proc.0) refl own (rw t at rest)
 
 -- the numbers lie above one that is below all
-abbrev AllAbove : ℕ → List Inc → Type 0
+abbrev pub AllAbove : ℕ → List Inc → Type 0
 AllAbove n [] = Unit {0}
 AllAbove n (i ∷ is) = (n < i.0) × AllAbove n is
 
-numbers_above : (proc : Proc) (low : ℕ) (es : Live) (high : ℕ) (n : ℕ) → n < low → Rises low es high → AllAbove n (numbers_of proc es)
+pub numbers_above : (proc : Proc) (low : ℕ) (es : Live) (high : ℕ) (n : ℕ) → n < low → Rises low es high → AllAbove n (numbers_of proc es)
 numbers_above proc low [] high n less h = tt
 numbers_above proc low (e ∷ es) high n less h = by (e.1.proc.0 == proc.0) (numbers_above proc (e.0.0 + 1) es high n (omega (arith, h.0)) h.1)
   where

@@ -6,6 +6,7 @@ pub mod Stacks
 pub mod Counts
 pub mod Marking
 pub mod Changes
+pub mod Restoring
 pub mod Removing
 pub mod Kept
 pub mod Forward

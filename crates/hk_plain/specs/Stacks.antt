@@ -1,5 +1,5 @@
 -- The live incarnations, and their numbers by process. docs/RULES.md, "Objects, incarnations, processes".
-use Rattle.std.specs.Prelude.{ℕ, Bool, ◌≡◌, ◌+◌, ◌≤◌, ◌==◌, not, List, [], ◌∷◌, filter, slice_set, if◌then◌else◌}
+use Rattle.std.specs.Prelude.{ℕ, Bool, ◌≡◌, ◌+◌, ◌-◌, ◌≤◌, ◌==◌, nat_lt, not, List, [], ◌∷◌, filter, slice_set, if◌then◌else◌}
 use Rattle.std.specs.Map.{lookup, remove_entry}
 use Rattle.std.specs.Option.{unwrap_or}
 use Rattle.std.specs.Ordering.{nat_cmp, is_eq}
@@ -19,6 +19,11 @@ pub record LiveOnes : Type 0 where
 abbrev pub added : LiveOnes → Incarnation → LiveOnes
 added ones new = record { live = insert_entry inc_cmp ones.live ones.next new; next = record { 0 = ones.next.0 + 1 } }
 
+-- without the one that took the last number, which is given back
+abbrev pub without_last : LiveOnes → LiveOnes
+without_last ones =
+    let last : Inc = record { 0 = ones.next.0 - 1 } in record { live = remove_entry (same_inc last) ones.live; next = last }
+
 -- an incarnation of these, with this entry in a slot
 abbrev pub with_slot : List (Inc × Incarnation) → Inc → ℕ → Entry → Incarnation
 with_slot live inc slot entry =
@@ -35,6 +40,11 @@ stack stacks proc = unwrap_or (lookup (same_proc proc) stacks) []
 -- the numbers but this one
 abbrev pub without : Inc → List Inc → List Inc
 without inc numbers = filter (λ i. not (i.0 == inc.0)) numbers
+
+-- the numbers with one more, before the first that is not below it
+abbrev pub placed : Inc → List Inc → List Inc
+placed inc [] = inc ∷ []
+placed inc (i ∷ is) = if nat_lt i.0 inc.0 then i ∷ placed inc is else inc ∷ i ∷ is
 
 -- the numbers of the live incarnations of a process, oldest first
 abbrev pub numbers_of : Proc → List (Inc × Incarnation) → List Inc

@@ -5,12 +5,12 @@
 //! that goes costs that and a look at the stack of its process, and the end of a process costs that
 //! for each incarnation that goes.
 
-ghost use Rattle.std.specs.Prelude.{◌≡◌, ◌==◌, ◌<◌, ◌^◌, not, length, filter, OnOk, OnErr, count_by, [], option_copied};
+ghost use Rattle.std.specs.Prelude.{◌≡◌, ◌==◌, ◌<◌, ◌^◌, not, length, filter, OnOk, OnErr, count_by, [], None, option_copied};
 ghost use Rattle.std.specs.Map.{lookup, set_value, remove_entry};
 ghost use Rattle.hk_model.specs.State.{same_inc};
 ghost use Rattle.std.specs.BTreeMap.{insert_entry};
 ghost use Rattle.hk_model.specs.State.{inc_cmp};
-ghost use Rattle.hk_plain.specs.Stacks.{Rises, added, with_slot, remove_all};
+ghost use Rattle.hk_plain.specs.Stacks.{Rises, added, without_last, with_slot, remove_all};
 ghost use Rattle.hk_plain.specs.Counts.{Moved, slot_names};
 ghost use Rattle.hk_plain.specs.Removing.{HasIncarnationsRoom, IncarnationsWent, removed_at};
 
@@ -195,6 +195,44 @@ impl Incarnations {
         }
         self.next = Inc(inc.0 + 1);
         Ok(())
+    }
+
+    /// An incarnation that went lives again, under its number.
+    pub(crate) fn put_back(
+        &mut self,
+        alloc: Global,
+        inc: Inc,
+        old: Incarnation,
+        counts: &mut Counts,
+    ) -> Result<(), NoMemory>
+        requires below { inc.0 < self.old.next.0 }
+        requires absent { lookup (same_inc inc) self.old.live ≡ None }
+        ensures ok { OnOk result (self.new ≡ record self.old { live = insert_entry inc_cmp self.old.live inc old }) }
+        ensures err { OnErr result (self.new ≡ self.old) }
+        ensures counted { Moved counts.old counts.new (slot_names self.new.live) (slot_names self.old.live) }
+    {
+        let proc = old.proc;
+        self.stacks.insert(alloc, proc, inc)?;
+        if insert(&mut self.live, inc, old, counts).is_err() {
+            self.stacks.forget(proc, inc);
+            return Err(NoMemory);
+        }
+        Ok(())
+    }
+
+    /// The incarnation that took the last number goes, and gives its number back.
+    pub(crate) fn remove_last(&mut self, counts: &mut Counts)
+        ensures value { self.new ≡ without_last self.old }
+        ensures counted { Moved counts.old counts.new (slot_names self.new.live) (slot_names self.old.live) }
+    {
+        let last = Inc(self.next.0.saturating_sub(1));
+        let Some(gone) = self.live.remove(&last) else {
+            self.next = last;
+            return;
+        };
+        counts.release_entries(gone.slots.as_slice());
+        self.stacks.forget(gone.proc, last);
+        self.next = last;
     }
 
     /// The incarnation goes.

@@ -4,7 +4,8 @@
 //! subject: `tables` has the state, `processes`, `incarnations` and `stacks` its parts with what is
 //! kept beside them, `walks` and `targets` the tests that the calls share, `counts` how many times
 //! each made object is named, `counted` the writes that it follows, `keeping` which objects stay,
-//! `marks` and `collecting` the room in a full table, `plain` the kernel over them.
+//! `marks` and `collecting` the room in a full table, `undoing` and `restoring` the state before an
+//! event, `copies` what they copy, `plain` the kernel over them.
 //!
 //! A step costs no more than the size of what it touches and the logarithm of the number of
 //! objects, incarnations and processes. What it touches has the objects that vanish by it, with what
@@ -16,6 +17,7 @@ mod activations;
 mod calls;
 mod changes;
 mod collecting;
+mod copies;
 mod counted;
 mod counts;
 mod forwarding;
@@ -30,6 +32,7 @@ mod plain;
 mod procedures;
 mod processors;
 mod removed;
+mod restoring;
 mod saving;
 mod semaphores;
 mod shows;
@@ -38,6 +41,7 @@ mod stacks;
 mod tables;
 mod targets;
 mod templates;
+mod undoing;
 mod walks;
 mod words;
 

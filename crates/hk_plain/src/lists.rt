@@ -17,7 +17,7 @@ use std::marker::PhantomData;
 
 impl Tables {
     /// Writes an entry of an object's list, over another.
-    fn set_entry(&mut self, name: Name, at: u32, entry: Entry)
+    pub(crate) fn set_entry(&mut self, name: Name, at: u32, entry: Entry)
         ensures { self.new ≡ put_object self.old name (record (object self.old name) { entries = slice_set (object self.old name).entries at entry }) }
     {
         set_entry(

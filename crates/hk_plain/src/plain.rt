@@ -1,6 +1,6 @@
 //! The plain kernel.
 
-ghost use Rattle.std.specs.Prelude.{◌≡◌, ◌↔◌, [], false, IfOk, OnErr, option_copied};
+ghost use Rattle.std.specs.Prelude.{◌≡◌, ◌↔◌, [], false, IfOk, OnOk, OnErr, option_copied};
 ghost use Rattle.std.specs.Map.{lookup};
 ghost use Rattle.hk_model.specs.Opening.{opening};
 ghost use Rattle.hk_model.specs.State.{same_name, same_inc};
@@ -141,6 +141,16 @@ impl Plain {
             Some(proc) => self.tables.halt_forward(alloc, proc),
             None => unreachable!(),
         }
+    }
+
+    /// Takes an event back: the state is the one before it, with all that went by it. NoMemory is
+    /// want of memory for what is put back; it changes nothing.
+    pub fn undo(&mut self, alloc: Global, inverse: &Inverse) -> Result<(), NoMemory>
+        requires behind { IsBehind inverse.now self.old }
+        ensures ok { OnOk result (self.new ≡ taken_back inverse.now self.old) }
+        ensures err { OnErr result (self.new ≡ self.old) }
+    {
+        self.tables.take_back(alloc, inverse)
     }
 }
 

@@ -52,7 +52,7 @@ impl Tables {
 
     /// Writes the number of tokens of a semaphore.
     #[tactic(auto, using(crate::proofs::Maps::set_value_absent))]
-    fn set_count(&mut self, name: Name, count: u32)
+    pub(crate) fn set_count(&mut self, name: Name, count: u32)
         ensures { self.new ≡ put_object self.old name (record (object self.old name) { count = count }) }
     {
         if let Some(object) = self.objects.get_mut(&name) {
@@ -62,7 +62,7 @@ impl Tables {
 
     /// Writes who waits at a semaphore.
     #[tactic(auto, using(crate::proofs::Maps::set_value_absent))]
-    fn set_waiters(&mut self, name: Name, waiters: Items<Proc>)
+    pub(crate) fn set_waiters(&mut self, name: Name, waiters: Items<Proc>)
         ensures { self.new ≡ put_object self.old name (record (object self.old name) { waiters = waiters }) }
     {
         if let Some(object) = self.objects.get_mut(&name) {

@@ -4,10 +4,10 @@
 //! numbers: its length and its end cost the same however many there are, and taking a number out of
 //! it looks at each.
 
-ghost use Rattle.std.specs.Prelude.{◌≡◌, ◌==◌, ◌-◌, [], ◌∷◌, ◌++◌, length, take, OnOk, OnErr, IsSome, unwrap_or, if◌then◌else◌};
+ghost use Rattle.std.specs.Prelude.{◌≡◌, ◌==◌, ◌-◌, ◌≤◌, [], ◌∷◌, ◌++◌, length, take, drop, OnOk, OnErr, IsSome, unwrap_or, if◌then◌else◌};
 ghost use Rattle.hk_model.specs.declared.names.Proc.{Proc};
 ghost use Rattle.std.specs.Map.{lookup, set_value};
-ghost use Rattle.hk_plain.specs.Stacks.{same_proc, stack, without};
+ghost use Rattle.hk_plain.specs.Stacks.{same_proc, stack, without, placed};
 
 use hk_model::{Inc, NoMemory, Proc};
 use std::alloc::Global;
@@ -52,6 +52,29 @@ impl Stack {
         ensures err { OnErr result (self.new ≡ self.old) }
     {
         self.numbers.push(inc)?;
+        Ok(())
+    }
+
+    /// Where a number stands among the others.
+    fn place_of(&self, inc: Inc) -> usize
+        ensures within { result ≤ length self.now }
+        ensures place { take result self.now ++ inc ∷ drop result self.now ≡ placed inc self.now }
+    {
+        for at in 0..self.numbers.len() {
+            if self.numbers[at].0 >= inc.0 {
+                return at;
+            }
+        }
+        self.numbers.len()
+    }
+
+    /// One more number, at its place.
+    pub(crate) fn insert(&mut self, inc: Inc) -> Result<(), NoMemory>
+        ensures ok { OnOk result (self.new ≡ placed inc self.old) }
+        ensures err { OnErr result (self.new ≡ self.old) }
+    {
+        let at = self.place_of(inc);
+        self.numbers.insert(at, inc)?;
         Ok(())
     }
 
@@ -145,6 +168,29 @@ impl Stacks {
     {
         self.open(alloc, proc)?;
         self.push_on(proc, inc)?;
+        Ok(())
+    }
+
+    /// One more number at its place on the stack of a process that has one.
+    #[tactic(auto, using(crate::proofs::Maps::set_value_absent, crate::proofs::Maps::set_value_same))]
+    fn insert_on(&mut self, proc: Proc, inc: Inc) -> Result<(), NoMemory>
+        requires { IsSome (lookup (same_proc proc) self.old) }
+        ensures ok { OnOk result (self.new ≡ set_value (same_proc proc) self.old (placed inc (stack self.old proc))) }
+        ensures err { OnErr result (self.new ≡ self.old) }
+    {
+        if let Some(stack) = self.stacks.get_mut(&proc) {
+            stack.insert(inc)?;
+        }
+        Ok(())
+    }
+
+    /// One more number at its place on the stack of a process.
+    pub(crate) fn insert(&mut self, alloc: Global, proc: Proc, inc: Inc) -> Result<(), NoMemory>
+        ensures ok { OnOk result ((q : Proc) → stack self.new q ≡ (if proc.0 == q.0 then placed inc (stack self.old q) else stack self.old q)) }
+        ensures err { OnErr result ((q : Proc) → stack self.new q ≡ stack self.old q) }
+    {
+        self.open(alloc, proc)?;
+        self.insert_on(proc, inc)?;
         Ok(())
     }
 

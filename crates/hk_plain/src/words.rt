@@ -39,7 +39,7 @@ impl Tables {
 
     /// Writes a word of an object, over another.
     #[tactic(auto, using(crate::proofs::Maps::set_value_absent))]
-    fn set_word(&mut self, name: Name, at: u32, word: u32)
+    pub(crate) fn set_word(&mut self, name: Name, at: u32, word: u32)
         ensures { self.new ≡ put_object self.old name (record (object self.old name) { words = slice_set (object self.old name).words at word }) }
     {
         if let Some(object) = self.objects.get_mut(&name) {
