@@ -1,1 +1,5 @@
+mod EventsMade
+mod FewFrames
+mod FramesKept
+mod LinesMade
 mod StateRows
