@@ -1,12 +1,14 @@
-use Rattle.std.proofs.Common.{◌≡◌, ◌<◌, IfSome, Some, get_or, length, ap, sym, arith, subst, slice_set}
+use Rattle.std.proofs.Common.{true, ◌≡◌, ◌<◌, IfSome, Some, get_or, length, ap, sym, arith, subst, slice_set}
 use Rattle.hk_model.specs.declared.calls.Call.{Call}
 use Rattle.hk_model.specs.declared.calls.Reply.{Reply}
 use Rattle.hk_model.specs.declared.names.Inc.{Inc}
 use Rattle.hk_model.specs.declared.names.Proc.{Proc}
 use Rattle.hk_model.specs.Processors.{running_on, may_step}
 use Rattle.hk_model.specs.Running.{Machine}
+use Rattle.hk_model.specs.declared.lines.Line.{Line}
 use Rattle.hk_program.specs.Machines.{IsSound}
 use Rattle.hk_program.proofs.Events.{context_within, read_frames, read_code, read_room}
+use Rattle.hk_undo.specs.declared.reversible.Made.{Made}
 use Rattle.hk_undo.specs.Pasts.{IsMade}
 use Rattle.hk_undo.proofs.EventsMade.{event_made, read_few}
 use Rattle.hk_undo.proofs.reversible.Reversible.event.Goals as goal
@@ -43,10 +45,13 @@ turn-requires-clause-room c =
 pub returns-clause-made : goal.returns-clause-made
 returns-clause-made c =
     let m : Machine = record { state = c.self.inside.kernel; contexts = c.self.inside.contexts.items } in
-    subst (λ (k : Machine). IsMade c.args.world.now k c.args.cpu _ _) c.self.view_is
+    let line : Line = record { cpu = c.args.cpu; proc = c.args.proc; inc = c.args.inc; what = c.in_ok-turned.turned.what; reply = c.in_ok-turned.turned.reply } in
+    let made : Made = record { line = line; inverse = c.in_ok-turned.turned.inverse; frames = Some c.in_ok-turned.turned.frames } in
+    let left : Machine = record { state = c.turn.new.kernel; contexts = slice_set m.contexts c.args.proc.0 c.turn.new.context } in
+    subst (λ (k : Machine). IsMade c.args.world.now k c.args.cpu made left) c.self.view_is
     (event_made c.args.world.now m c.args.cpu c.args.proc c.args.inc (subst (IsSound c.args.world.now) (sym c.self.view_is) c.requires.sound)
     (subst (λ (k : Machine). running_on k.state c.args.cpu ≡ Some (c.args.proc, c.args.inc)) (sym c.self.view_is) c.requires.runs)
     c.in_ok-turned.turned.what c.in_ok-turned.turned.reply c.turn.new.kernel c.turn.new.context c.in_ok-turned.turned.inverse c.in_ok-turned.turned.frames
     c.index_mut-context.result.now c.index_mut-context.ensures.value c.requires.cpu
-    (let may = c.requires.below in rw c.self.view_is may)
+    (subst (λ (k : Machine). may_step k.state ≡ true) (sym c.self.view_is) c.requires.below)
     c.in_ok-turned.ensures.made c.in_ok-turned.ensures.behind c.in_ok-turned.ensures.back c.in_ok-turned.ensures.frames)
