@@ -1,15 +1,17 @@
 -- Lines that were made, of which the last comes and goes.
-use Rattle.std.specs.Prelude.{◌≡◌, ℕ, List, [], ◌∷◌, ◌++◌, Option, Some, None, IfSome, map, option_map, refl}
+use Rattle.std.specs.Prelude.{◌≡◌, ℕ, zero, suc, ◌+◌, ◌-◌, ◌<◌, List, [], ◌∷◌, ◌++◌, length, take, Option, Some, None, IfSome, option_map, slice_get, refl}
 use Rattle.std.specs.Option.{unwrap_or}
-use Rattle.std.proofs.Common.{ap, sym, ◌∙◌, subst}
+use Rattle.std.proofs.Common.{arith, ap, sym, ◌∙◌, subst, length-append}
+use Rattle.std.proofs.lemmas.Option.{slice_get_within}
 use Rattle.hk_model.specs.declared.names.Cpu.{Cpu}
 use Rattle.hk_model.specs.declared.lines.Line.{Line}
 use Rattle.hk_model.specs.WorldValue.{WorldValue, IsWorld}
-use Rattle.hk_model.specs.Running.{Machine, AreSteps, AreStepsOf, after_lines, line_of, moved, opened, step}
+use Rattle.hk_model.specs.Running.{Machine, AreSteps, AreStepsOf, after_lines, context_of, line_of, moved, opened, step}
+use Rattle.hk_plain.specs.Changes.{IsBehind, taken_back}
 use Rattle.hk_program.specs.Machines.{IsSound}
 use Rattle.hk_program.proofs.Machines.{step_cpu}
 use Rattle.hk_undo.specs.declared.reversible.Made.{Made}
-use Rattle.hk_undo.specs.Pasts.{AreMade, IsMade, IsPast, lines_of, machine_back}
+use Rattle.hk_undo.specs.Pasts.{AreMade, CanPutBack, History, IsMade, IsPast, contexts_back, lines_of, machine_after, machine_back}
 
 -- what a step leaves, and its line
 moved_is : (w : WorldValue) (m : Machine) (cpu : Cpu) (line : Line) (new : Machine) → step w m cpu ≡ Some (line, new) → moved w m cpu ≡ new
@@ -80,3 +82,72 @@ pub past_less : (w : WorldValue) (m : Machine) (made : List Made) (one : Made) �
 past_less w m made one h =
     let found = past_last w m made one h in
     record { world = h.world; lines = subst (AreMade w (opened w) made) (sym found.one_made.back) found.rest }
+
+-- ---- by what callers see: the lines
+
+abbrev pub history_of : WorldValue → List Made → History
+history_of w made = record { world = w; lines = lines_of made }
+
+-- the machine is the one after them
+pub past_after : (w : WorldValue) (m : Machine) (made : List Made) (h : History) → IsPast w m made → history_of w made ≡ h → m ≡ machine_after h
+past_after w m made h past e = made_after w (opened w) made m past.lines ∙ ap machine_after e
+
+pub past_steps : (w : WorldValue) (m : Machine) (made : List Made) (h : History) → IsPast w m made → history_of w made ≡ h → AreStepsOf h.world h.lines
+past_steps w m made h past e = subst (λ (k : History). AreStepsOf k.world k.lines) e (made_steps w (opened w) made m past.lines)
+
+pub step_line : (w : WorldValue) (m : Machine) (made : List Made) (h : History) (cpu : Cpu) (one : Made) (new : Machine) → IsPast w m made → history_of w made ≡ h
+    → IsMade w m cpu one new → Some one.line ≡ line_of h.world (machine_after h) cpu
+step_line w m made h cpu one new past e more =
+    sym (line_is w m cpu one.line new more.step) ∙ (ap (λ (k : Machine). line_of w k cpu) (made_after w (opened w) made m past.lines)
+    ∙ ap (λ (k : History). line_of k.world (machine_after k) cpu) e)
+
+pub step_none : (w : WorldValue) (m : Machine) (made : List Made) (h : History) (cpu : Cpu) → IsPast w m made → history_of w made ≡ h
+    → step w m cpu ≡ None → ◌≡◌ {A = Option Line} None (line_of h.world (machine_after h) cpu)
+step_none w m made h cpu past e none =
+    sym (no_line w m cpu none) ∙ (ap (λ (k : Machine). line_of w k cpu) (made_after w (opened w) made m past.lines)
+    ∙ ap (λ (k : History). line_of k.world (machine_after k) cpu) e)
+
+-- ---- the last line, as the code reads it
+
+ends_with : (xs : List Made) (n : ℕ) (x : Made) → slice_get xs n ≡ Some x → length xs ≡ n + 1 → xs ≡ take n xs ++ x ∷ []
+ends_with [] n x h e = absurd (cc)
+ends_with (y ∷ []) zero x h e = let same : y ≡ x = cc in ap (λ (z : Made). z ∷ []) same
+ends_with (y ∷ z ∷ ys) zero x h e = absurd (omega arith)
+ends_with (y ∷ ys) (suc n) x h e = ap (λ (l : List Made). y ∷ l) (ends_with ys n x h (omega arith))
+
+get_last : (rest : List Made) (y : Made) → slice_get (rest ++ y ∷ []) (length rest) ≡ Some y
+get_last [] y = refl
+get_last (x ∷ rest) y = get_last rest y
+
+abbrev IsRead : List Made → Made → Type 0
+IsRead made one = Some one ≡ slice_get made (length made - 1)
+
+-- it can be taken back
+pub read_behind : (w : WorldValue) (m : Machine) (made : List Made) (one : Made) → IsPast w m made → IsRead made one → IsBehind one.inverse m.state
+read_behind w m made one past read =
+    let within = slice_get_within made (length made - 1) one (sym read) in
+    let whole = ends_with made (length made - 1) one (sym read) (omega (arith, within)) in
+    (past_last w m (take (length made - 1) made) one (subst (IsPast w m) whole past)).one_made.can.state
+
+-- and is the one that goes
+read_same : (made rest : List Made) (one last : Made) → IsRead made one → made ≡ rest ++ last ∷ [] → one ≡ last
+read_same made rest one last read e =
+    let more = length-append rest (last ∷ []) in
+    let place : length (rest ++ last ∷ []) - 1 ≡ length rest = omega (arith, more) in
+    let found : Some one ≡ Some last = subst (λ (xs : List Made). IsRead xs one) e read ∙ (ap (slice_get (rest ++ last ∷ [])) place ∙ get_last rest last) in
+    cc
+
+module _ (w : WorldValue) (m : Machine) (made rest : List Made) (one last : Made) (past : IsPast w m made) (read : IsRead made one) (whole : made ≡ rest ++ last ∷ [])
+  (taken : Machine) (took : taken ≡ record m { state = taken_back one.inverse m.state }) where
+  before : IsPast w m (rest ++ last ∷ [])
+  before = subst (IsPast w m) whole past
+
+  pub read_frames : IfSome last.frames (λ kept. (last.line.proc.0 < length taken.contexts) × CanPutBack kept (context_of taken last.line.proc))
+  read_frames = rw took (past_last w m rest last before).one_made.can.frames
+
+  -- the lines before it are left
+  pub read_less : (new : Machine) → new ≡ record taken { contexts = contexts_back taken last.line.proc last.frames } → IsPast w new rest
+  read_less new e = subst (λ (k : Machine). IsPast w k rest) (sym (e ∙ back)) (past_less w m rest last before)
+    where
+      back : ◌≡◌ {A = Machine} (record taken { contexts = contexts_back taken last.line.proc last.frames }) (machine_back last m)
+      back = rw (took, read_same made rest one last read whole) refl

@@ -77,8 +77,9 @@ impl Past {
         }
         match self.made.pop() {
             Some(made) => {
-                self.machine.put_back(made.line.proc, made.frames);
-                Ok(Some(made.line))
+                let line = made.line;
+                self.machine.put_back(line.proc, made.frames);
+                Ok(Some(line))
             }
             None => unreachable!(),
         }
