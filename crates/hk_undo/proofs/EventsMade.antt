@@ -19,10 +19,10 @@ use Rattle.hk_model.specs.Control.{Context, next}
 use Rattle.hk_model.specs.Running.{Machine, context_of, step, turn}
 use Rattle.hk_plain.specs.Changes.{Changes, IsBehind, taken_back}
 use Rattle.hk_program.specs.Machines.{IsSound}
-use Rattle.hk_program.proofs.Events.{context_within, context_read, dispatch_steps, dispatched_runs, nothing_steps, second_is, turn_steps}
+use Rattle.hk_program.proofs.Events.{context_within, context_read, dispatch_steps, dispatched_runs, nothing_steps, turn_steps}
 use Rattle.hk_undo.specs.declared.frames.FramesBefore.{FramesBefore}
 use Rattle.hk_undo.specs.declared.reversible.Made.{Made}
-use Rattle.hk_undo.specs.Pasts.{CanPutBack, IsMade, LeadsBack, frames_back, machine_back}
+use Rattle.hk_undo.specs.Pasts.{CanPutBack, IsMade, LeadsBack, frames_back}
 use Rattle.hk_undo.proofs.FewFrames.{sound_few}
 
 -- ---- one context written and written back
@@ -70,9 +70,9 @@ module _ (w : WorldValue) (m : Machine) (cpu : Cpu) (proc : Proc) (inc : Inc) (s
         frames = (omega (arith, set_length m.contexts proc.0 behind, within), subst (CanPutBack kept) (sym there) leads.can);
       };
       back = ap (λ (t : State). let k : Machine = record { state = t; contexts = slice_set left.contexts proc.0 (frames_back kept (context_of left proc)) } in k) back
-      ∙ ap (λ (cs : List Context). let k : Machine = record { state = m.state; contexts = cs } in k)
-      (ap (λ (f : Context). slice_set left.contexts proc.0 f) (ap (frames_back kept) there ∙ leads.back)
-      ∙ set_back m.contexts proc.0 behind frames (slice_get_read m.contexts (length m.contexts) proc.0 frames refl within read));
+          ∙ ap (λ (cs : List Context). let k : Machine = record { state = m.state; contexts = cs } in k)
+          (ap (λ (f : Context). slice_set left.contexts proc.0 f) (ap (frames_back kept) there ∙ leads.back)
+          ∙ set_back m.contexts proc.0 behind frames (slice_get_read m.contexts (length m.contexts) proc.0 frames refl within read));
     }
       where
         within : proc.0 < length m.contexts
@@ -91,7 +91,7 @@ none_ready w m cpu b low may idle h e =
     nothing_steps w m cpu low may idle (ap (dispatched_from m.state cpu) (ready_none m.state.ready b h e))
 
 module _ (w : WorldValue) (m : Machine) (cpu : Cpu) (sound : IsSound w m) (idle : running_on m.state cpu ≡ None) (s : State)
-  (given : (proc : Proc) × (dispatched m.state cpu ≡ Some (proc, s))) where
+    (given : (proc : Proc) × (dispatched m.state cpu ≡ Some (proc, s))) where
   runs : running_on s cpu ≡ Some (given.0, (process s given.0).current)
   runs = dispatched_runs w m cpu given.0 s sound idle given.1
 
@@ -105,7 +105,7 @@ module _ (w : WorldValue) (m : Machine) (cpu : Cpu) (sound : IsSound w m) (idle 
       (record { state = s; contexts = m.contexts })
   dispatch_made proc inc reply inverse low may on done can back = record {
     step = dispatch_steps w m cpu given.0 inc s low may idle given.1 (ap (λ (x : Proc × Inc). x.1) same ∙ refl)
-    ∙ ap (λ (l : Line). let found : Line × Machine = (l, record { state = s; contexts = m.contexts }) in Some found) line_is;
+        ∙ ap (λ (l : Line). let found : Line × Machine = (l, record { state = s; contexts = m.contexts }) in Some found) line_is;
     can = record { state = can; frames = tt };
     back = ap (λ (t : State). let k : Machine = record { state = t; contexts = m.contexts } in k) back;
   }

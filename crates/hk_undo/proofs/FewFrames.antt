@@ -1,5 +1,5 @@
 -- A process never has more than 64 frames.
-use Rattle.std.specs.Prelude.{◌≡◌, ℕ, zero, suc, ◌+◌, ◌<◌, ◌≤◌, List, [], ◌∷◌, length, Option, Some, None, IfSome, map, slice_get, slice_set, refl}
+use Rattle.std.specs.Prelude.{◌≡◌, ℕ, zero, suc, ◌<◌, ◌≤◌, List, [], ◌∷◌, length, Option, Some, None, IfSome, map, slice_get, slice_set}
 use Rattle.std.specs.Option.{unwrap_or}
 use Rattle.std.specs.List.{AllByRecursion}
 use Rattle.std.proofs.Common.{arith, ap, sym, ◌∙◌, subst}
@@ -8,14 +8,13 @@ use Rattle.hk_model.specs.declared.names.Cpu.{Cpu}
 use Rattle.hk_model.specs.declared.calls.Call.{Call}
 use Rattle.hk_model.specs.declared.calls.Reply.{Reply}
 use Rattle.hk_model.specs.declared.frames.Todo.{Todo}
-use Rattle.hk_model.specs.declared.frames.Todo.TheVariants.{Do, Halt}
 use Rattle.hk_model.specs.declared.lines.Line.{Line}
 use Rattle.hk_model.specs.declared.world.Task.{Task}
 use Rattle.hk_model.specs.WorldValue.{WorldValue}
 use Rattle.hk_model.specs.State.{process}
 use Rattle.hk_model.specs.Rule.{rule}
 use Rattle.hk_model.specs.Processors.{entered_code}
-use Rattle.hk_model.specs.Control.{Context, after, new_frame, next}
+use Rattle.hk_model.specs.Control.{Context, after, new_frame}
 use Rattle.hk_model.specs.Running.{Machine, after_lines, context_of, moved, opened}
 use Rattle.hk_program.specs.Machines.{IsSound}
 use Rattle.hk_program.proofs.Frames.{next_length, after_kept, after_length}

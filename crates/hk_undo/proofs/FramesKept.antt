@@ -1,10 +1,10 @@
 -- What an event keeps of the frames leads back to those before it.
-use Rattle.std.specs.Prelude.{◌≡◌, ℕ, ◌<◌, ◌≤◌, List, [], ◌∷◌, length, drop, Option, Some, None, refl}
-use Rattle.std.proofs.Common.{arith, subst, sym}
+use Rattle.std.specs.Prelude.{ℕ, ◌<◌, ◌≤◌, [], ◌∷◌, length, drop, Option, Some, None, refl}
+use Rattle.std.proofs.Common.{arith}
 use Rattle.hk_model.specs.declared.calls.Call.{Call}
 use Rattle.hk_model.specs.declared.calls.Call.TheVariants as call
 use Rattle.hk_model.specs.declared.calls.Reply.{Reply}
-use Rattle.hk_model.specs.declared.calls.Reply.TheVariants.{Done, Word, Waits, No}
+use Rattle.hk_model.specs.declared.calls.Reply.TheVariants.{Done}
 use Rattle.hk_model.specs.declared.frames.Frame.{Frame}
 use Rattle.hk_model.specs.WorldValue.{WorldValue}
 use Rattle.hk_model.specs.Control.{Context, after, behind, frames_after}

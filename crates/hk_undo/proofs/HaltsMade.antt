@@ -1,11 +1,8 @@
 -- A process without a frame is halted.
-use Rattle.std.specs.Prelude.{◌≡◌, List, [], ◌∷◌, Option, Some, None, Result, Ok, Err, IfOk, slice_get, refl}
+use Rattle.std.specs.Prelude.{◌≡◌, [], ◌∷◌, None, Result, Ok, Err, IfOk, slice_get, refl}
 use Rattle.hk_model.specs.declared.names.Cpu.{Cpu}
-use Rattle.hk_model.specs.declared.calls.Reply.{Reply}
 use Rattle.hk_model.specs.declared.calls.Reply.TheVariants.{Done}
-use Rattle.hk_model.specs.declared.frames.Frame.{Frame}
 use Rattle.hk_model.specs.declared.kernel.NoMemory.{NoMemory}
-use Rattle.hk_model.specs.declared.lines.What.{What}
 use Rattle.hk_model.specs.declared.lines.What.TheVariants as what
 use Rattle.hk_model.specs.WorldValue.{WorldValue}
 use Rattle.hk_model.specs.State.{State}

@@ -5,7 +5,7 @@ use Rattle.std.proofs.Common.{arith, ap, sym, ◌∙◌, subst, length-append}
 use Rattle.std.proofs.lemmas.Option.{slice_get_within}
 use Rattle.hk_model.specs.declared.names.Cpu.{Cpu}
 use Rattle.hk_model.specs.declared.lines.Line.{Line}
-use Rattle.hk_model.specs.WorldValue.{WorldValue, IsWorld}
+use Rattle.hk_model.specs.WorldValue.{WorldValue}
 use Rattle.hk_model.specs.Running.{Machine, AreSteps, AreStepsOf, after_lines, context_of, line_of, moved, opened, step}
 use Rattle.hk_plain.specs.Changes.{IsBehind, taken_back}
 use Rattle.hk_program.specs.Machines.{IsSound}
@@ -138,7 +138,7 @@ read_same made rest one last read e =
     cc
 
 module _ (w : WorldValue) (m : Machine) (made rest : List Made) (one last : Made) (past : IsPast w m made) (read : IsRead made one) (whole : made ≡ rest ++ last ∷ [])
-  (taken : Machine) (took : taken ≡ record m { state = taken_back one.inverse m.state }) where
+    (taken : Machine) (took : taken ≡ record m { state = taken_back one.inverse m.state }) where
   before : IsPast w m (rest ++ last ∷ [])
   before = subst (IsPast w m) whole past
 

@@ -12,9 +12,7 @@ ghost use Rattle.hk_undo.specs.Pasts.{CanPutBack, IsMade, contexts_back};
 use crate::frames::{FramesBefore, put_back};
 use crate::turning::turn;
 use hk_model::limits::CPU_LIMIT;
-use hk_model::{
-    Cpu, Frame, Inc, Kernel, Line, NoMemory, Proc, Reply, Snapshot, What, World,
-};
+use hk_model::{Cpu, Frame, Inc, Kernel, Line, NoMemory, Proc, Reply, Snapshot, What, World};
 use hk_plain::{Inverse, Plain};
 use hk_program::{Context, beginnings};
 use std::alloc::Global;
@@ -118,12 +116,7 @@ impl Reversible {
     }
 
     /// The dispatch of the first ready process. None exactly where none is ready.
-    fn dispatch(
-        &mut self,
-        alloc: Global,
-        world: &World,
-        cpu: Cpu,
-    ) -> Result<Option<Made>, NoMemory>
+    fn dispatch(&mut self, alloc: Global, world: &World, cpu: Cpu) -> Result<Option<Made>, NoMemory>
         requires sound { IsSound world.now self.old }
         requires cpu { cpu.0 < 16 }
         requires below { IsTrue (may_step self.old.state) }

@@ -1,5 +1,3 @@
-use Rattle.std.proofs.Common.{◌∷◌, drop}
-use Rattle.hk_undo.specs.Pasts.{LeadsBack}
 use Rattle.hk_undo.proofs.FramesKept.{call_leads}
 use Rattle.hk_undo.proofs.turning.called.Goals as goal
 

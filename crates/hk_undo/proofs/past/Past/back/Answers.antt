@@ -1,4 +1,4 @@
-use Rattle.std.proofs.Common.{◌≡◌, ◌-◌, ℕ, List, Some, length, slice_get, subst}
+use Rattle.std.proofs.Common.{◌≡◌, ◌-◌, List, Some, length, slice_get, subst}
 use Rattle.hk_undo.specs.declared.reversible.Made.{Made}
 use Rattle.hk_undo.proofs.LinesMade.{read_behind, read_frames, read_less}
 use Rattle.hk_undo.proofs.past.Past.back.Goals as goal

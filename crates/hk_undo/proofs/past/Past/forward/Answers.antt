@@ -1,7 +1,6 @@
-use Rattle.std.proofs.Common.{◌≡◌, ◌++◌, [], ◌∷◌, IfSome, IfNone, None, List, ap, ◌∙◌, sym, subst}
-use Rattle.hk_model.specs.Running.{step}
+use Rattle.std.proofs.Common.{◌++◌, [], ◌∷◌, List, ap, ◌∙◌, sym, subst}
 use Rattle.hk_undo.specs.declared.reversible.Made.{Made}
-use Rattle.hk_undo.specs.Pasts.{IsMade, IsPast}
+use Rattle.hk_undo.specs.Pasts.{IsPast}
 use Rattle.hk_undo.proofs.LinesMade.{past_more, past_sound, step_line, step_none}
 use Rattle.hk_undo.proofs.past.Past.forward.Goals as goal
 

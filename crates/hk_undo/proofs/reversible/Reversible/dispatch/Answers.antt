@@ -12,10 +12,12 @@ use Rattle.hk_undo.proofs.reversible.Reversible.dispatch.Goals as goal
 
 pub returns-then-not-any_ready-clause-none : goal.returns-then-not-any_ready-clause-none
 returns-then-not-any_ready-clause-none c =
-    let m : Machine = record { state = c.self.inside.kernel; contexts = c.self.inside.contexts.items } in
-    (subst (λ (k : Machine). step c.args.world.now k c.args.cpu ≡ None) c.self.view_is
-    (none_ready c.args.world.now m c.args.cpu c.any_ready.result c.requires.cpu (subst (λ (k : Machine). may_step k.state ≡ true) (sym c.self.view_is) c.requires.below)
-    (subst (λ (k : Machine). running_on k.state c.args.cpu ≡ None) (sym c.self.view_is) c.requires.idle) c.any_ready.ensures c.if-not-any_ready.true), refl)
+    let m : Machine = record { state = c.self.inside.kernel; contexts = c.self.inside.contexts.items } in (
+      subst (λ (k : Machine). step c.args.world.now k c.args.cpu ≡ None) c.self.view_is
+          (none_ready c.args.world.now m c.args.cpu c.any_ready.result c.requires.cpu (subst (λ (k : Machine). may_step k.state ≡ true) (sym c.self.view_is) c.requires.below)
+          (subst (λ (k : Machine). running_on k.state c.args.cpu ≡ None) (sym c.self.view_is) c.requires.idle) c.any_ready.ensures c.if-not-any_ready.true),
+      refl,
+    )
 
 pub unreachable-requires : goal.unreachable-requires
 unreachable-requires c =

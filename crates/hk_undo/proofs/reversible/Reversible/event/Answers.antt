@@ -1,8 +1,4 @@
-use Rattle.std.proofs.Common.{true, ◌≡◌, ◌<◌, IfSome, Some, get_or, length, ap, sym, arith, subst, slice_set}
-use Rattle.hk_model.specs.declared.calls.Call.{Call}
-use Rattle.hk_model.specs.declared.calls.Reply.{Reply}
-use Rattle.hk_model.specs.declared.names.Inc.{Inc}
-use Rattle.hk_model.specs.declared.names.Proc.{Proc}
+use Rattle.std.proofs.Common.{true, ◌≡◌, Some, get_or, length, ap, sym, arith, subst, slice_set}
 use Rattle.hk_model.specs.Processors.{running_on, may_step}
 use Rattle.hk_model.specs.Running.{Machine}
 use Rattle.hk_model.specs.declared.lines.Line.{Line}
