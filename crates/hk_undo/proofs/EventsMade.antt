@@ -47,7 +47,10 @@ set_length (x ∷ xs) (suc n) new = let rest = set_length xs n new in omega (ari
 module _ (w : WorldValue) (m : Machine) (cpu : Cpu) (proc : Proc) (inc : Inc) (sound : IsSound w m) (runs : running_on m.state cpu ≡ Some (proc, inc)) where
   -- its frames are at most 64
   pub read_few : (frames : Context) → frames ≡ get_or m.contexts proc.0 frames → length frames ≤ 64
-  read_few frames h = let few = sound_few w m proc sound in let same = ap (λ (f : Context). length f) (context_read w m cpu proc inc sound runs frames h) in omega (arith, few, same)
+  read_few frames h =
+      let few = sound_few w m proc sound in
+      let same = ap (λ (f : Context). length f) (context_read w m cpu proc inc sound runs frames h) in
+      omega (arith, few, same)
 
   module _ (what : What) (reply : Reply) (s : State) (behind : Context) (inverse : Changes) (kept : FramesBefore) where
     abbrev made : Made

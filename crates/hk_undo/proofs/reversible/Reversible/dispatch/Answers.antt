@@ -35,5 +35,6 @@ returns-clause-made c =
     subst (λ (k : Machine). IsMade c.args.world.now k c.args.cpu made left) c.self.view_is
     (dispatch_made c.args.world.now m c.args.cpu (subst (IsSound c.args.world.now) (sym c.self.view_is) c.requires.sound)
     (subst (λ (k : Machine). running_on k.state c.args.cpu ≡ None) (sym c.self.view_is) c.requires.idle) c.forward.new.self c.in_ok-acted.ensures.made.0
-    c.in-Some.proc c.in-Some.inc c.in_ok-acted.acted.reply c.in_ok-acted.inverse c.requires.cpu (subst (λ (k : Machine). may_step k.state ≡ true) (sym c.self.view_is) c.requires.below)
+    c.in-Some.proc c.in-Some.inc c.in_ok-acted.acted.reply c.in_ok-acted.inverse c.requires.cpu
+    (subst (λ (k : Machine). may_step k.state ≡ true) (sym c.self.view_is) c.requires.below)
     (sym c.current.ensures ∙ c.in-Some.is) (ap (λ (a : Acted). a.reply) c.in_ok-acted.ensures.made.1) c.in_ok-acted.ensures.behind c.in_ok-acted.ensures.back)
