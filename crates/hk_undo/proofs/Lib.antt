@@ -1,1 +1,6 @@
+mod EventsMade
+mod FewFrames
+mod FramesKept
+mod HaltsMade
+mod LinesMade
 mod StateRows

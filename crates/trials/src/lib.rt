@@ -11,6 +11,8 @@ mod json;
 #[cfg(test)]
 mod lines_read;
 #[cfg(test)]
+mod past;
+#[cfg(test)]
 mod print;
 #[cfg(test)]
 mod records_read;
