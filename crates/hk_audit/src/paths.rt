@@ -35,7 +35,13 @@ fn index(text: &[u8]) -> Option<u16>
     ensures { result ≡ (if is_index_numeral text.now then Some (value text.now) else None) }
 {
     match numeral(text) {
-        Some(n) => { if n < u64::from(INDEX_BOUND) { Some(n as u16) } else { None } }
+        Some(n) => {
+            if n < u64::from(INDEX_BOUND) {
+                Some(n as u16)
+            } else {
+                None
+            }
+        }
         None => None,
     }
 }

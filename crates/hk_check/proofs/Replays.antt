@@ -16,14 +16,9 @@ use Rattle.hk_model.specs.Running.{Machine, AreStepsOf, after_lines, opened, ste
 use Rattle.hk_model.specs.Legal.{IsLegal, end_word}
 use Rattle.hk_model.specs.Verdicts.{Differs, IsBySame, IsMisstep}
 use Rattle.hk_check.specs.Causes.{first_cause}
+use Rattle.hk_check.specs.Judged.{IsReplay}
 use Rattle.hk_program.specs.Machines.{IsSound}
 use Rattle.hk_program.proofs.Machines.{steps_snoc, step_cpu, lines_within}
-
--- these lines are steps, and lead to this machine
-pub record IsReplay (w : WorldValue) (lines : List Line) (m : Machine) : Type 0 where
-  pub steps : AreStepsOf w lines
-  pub is : m ≡ after_lines w (opened w) lines
-  pub sound : IsSound w m
 
 pub replay_begins : (w : WorldValue) (m : Machine) → m ≡ opened w → IsSound w m → IsReplay w [] m
 replay_begins w m h sound = record { steps = tt; is = h; sound = sound }

@@ -9,4 +9,3 @@ pub mod ReadWhole
 pub mod WordLemmas
 pub mod Written
 pub mod OneRun
-pub mod Going

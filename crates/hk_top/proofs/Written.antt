@@ -63,7 +63,7 @@ lawful w lines world steps = record {
 pub record IsStopped (w : WorldValue) (text : List ℕ) (s : State) (word : Option End) : Type 0 where
   pub there : word ≢ None
   pub written : (end : End) → (whole : List ℕ) → word ≡ Some end → ((v : WorldValue) → (lines : List Line) → text ≡ begun v lines
-    → whole ≡ record_text v lines end) → IsWrittenRun w whole end s
+      → whole ≡ record_text v lines end) → IsWrittenRun w whole end s
 
 pub told_last : (w : WorldValue) (text : List ℕ) (m : Machine) (found : Option Line) (after : Machine) (s : State) (word : Option End) → IsWorld w
     → IsTold w text m → IfNone found ((step w m first_processor ≡ None) × (after ≡ m)) → found ≡ None

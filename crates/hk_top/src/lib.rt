@@ -15,7 +15,6 @@ mod processors;
 mod processors_tests;
 mod running;
 mod served;
-mod states;
 pub mod status;
 mod words;
 mod written;

@@ -1,7 +1,7 @@
 //! The status and the text that are due to what a command read (`docs/FORMATS.md`, "Statuses and
 //! outputs").
 
-ghost use Rattle.std.specs.Prelude.{◌≡◌, ◌≢◌, ◌≤◌, IfOk, None, length};
+ghost use Rattle.std.specs.Prelude.{◌≡◌, ◌≢◌, ◌≤◌, ◌-◌, IfOk, None, length};
 ghost use Rattle.hk_format.specs.CauseTexts.{cause_name, refusal_text, too_long_text, verdict_text};
 ghost use Rattle.hk_model.specs.Limits.{script_bytes, record_bytes};
 ghost use Rattle.hk_format.specs.Canonical.{canon};
@@ -9,7 +9,8 @@ ghost use Rattle.hk_format.specs.Texts.{ended_line};
 ghost use Rattle.serde_json.specs.Written.{compact_text};
 ghost use Rattle.hk_json.specs.Values.{value};
 ghost use Rattle.hk_model.specs.Opening.{opening};
-ghost use Rattle.hk_model.specs.Running.{AreStepsOf};
+ghost use Rattle.hk_model.specs.Running.{AreStepsOf, state_at};
+ghost use Rattle.hk_model.specs.Snapshots.{shown};
 ghost use Rattle.hk_model.specs.declared.verdicts.Verdict.TheVariants.{Legal};
 ghost use Rattle.hk_top.specs.Words.{words_of, byte_limit, IsInRange, MayTakeBack, MayTrace, ReadsAlone, json_bytes};
 ghost use Rattle.hk_top.specs.BoundTexts.{AreTold};
@@ -21,17 +22,16 @@ use crate::causes::{refusal_text, verdict_text};
 use crate::maker::Maker;
 use crate::running::laws;
 use crate::served::{DueText, Served};
-use crate::states::state_behind;
 use crate::status;
 use crate::words::Command;
 use crate::written::write_run;
 use hk_audit::{Audit, RecordError, read_record, record_text, steps_have_texts};
 use hk_bound::bound;
-use hk_check::check;
+use hk_check::{Judged, check, check_and_show};
 use hk_format::Cause;
 use hk_json::{JsonError, json_text, read_json};
 use hk_load::{WorldError, read_world};
-use hk_model::{End, Kernel, Line, NoMemory, Text, Verdict, World};
+use hk_model::{End, Kernel, Line, NoMemory, Snapshot, Text, Verdict, World};
 use hk_print::script_text;
 use hk_report::{changes_text, report};
 use hk_trace::{chains_text, trace};
@@ -371,34 +371,43 @@ fn changes(alloc: Global, world: &World, lines: &[Line]) -> Result<DueText, NoMe
 }
 
 /// What is due to `back` with a number of lines, and a record: the state before its last lines, so many, or
-/// the verdict where the record is not legal.
+/// the verdict where the record is not legal. It goes over the record once.
 fn taken_back(alloc: Global, audit: &Audit, count: u32) -> Result<DueText, NoMemory>
     ensures { IfOk result (λ due. IsChecked audit.now (TellsState count) due.status due.text) }
 {
     let world = audit.world();
     let lines = audit.lines();
-    let found = check(alloc, world, lines, audit.end())?;
-    match found {
-        Verdict::Legal => {
+    let moment = lines.len().saturating_sub(count as usize);
+    let judged = check_and_show(alloc, world, lines, audit.end(), moment)?;
+    match judged {
+        Judged::Legal(state) => {
             laws(world, lines);
-            state_left(alloc, world, lines, count)
+            state_left(alloc, world, lines, count, &state)
         }
-        Verdict::Illegal { .. } => told(alloc, status::ILLEGAL, found),
+        Judged::Illegal { line, cause } => {
+            told(alloc, status::ILLEGAL, Verdict::Illegal { line, cause })
+        }
     }
 }
 
 /// The state before the last lines, so many, as a text.
 #[tactic(auto, using(hk_report::proofs::Lengths::lines_few))]
-fn state_left(alloc: Global, world: &World, lines: &[Line], count: u32) -> Result<DueText, NoMemory>
-    requires { AreStepsOf world.now lines.now }
+fn state_left(
+    alloc: Global,
+    world: &World,
+    lines: &[Line],
+    count: u32,
+    state: &Snapshot,
+) -> Result<DueText, NoMemory>
+    requires steps { AreStepsOf world.now lines.now }
+    requires state { state.now ≡ shown (state_at world.now lines.now (length lines.now - count)) }
     ensures { IfOk result (λ due. (due.status ≡ 0) × TellsState count world.now lines.now due.text) }
 {
     let _limit = world.limit();
     let left = lines.len().saturating_sub(count as usize);
-    let state = state_behind(alloc, world, &lines[..left])?;
     Ok(DueText {
         status: status::DONE,
-        text: state_text(alloc, &state, left as u32)?,
+        text: state_text(alloc, state, left as u32)?,
     })
 }
 
