@@ -351,26 +351,6 @@ parted n p q (e ∷ es) other = by (p e.0) (q e.0) (other e.0) (parted n p q es 
         omega (arith, x, y, h)
     by false false k h = absurd (false≢true k)
 
-pub parted_moved : (a b : Tally) (p q : Name → Bool) (es : List (Name × Object)) → ((m : Name) → q m ≡ not (p m))
-    → Moved a b [] (inner_names (filter (λ (e : Name × Object). q e.0) es)) → Moved a b (inner_names (filter (λ (e : Name × Object). p e.0) es)) (inner_names es)
-parted_moved a b p q es other f =
-    alike a b [] (inner_names (filter (λ (e : Name × Object). q e.0) es)) (inner_names (filter (λ (e : Name × Object). p e.0) es)) (inner_names es) (λ n.
-    let x = parted n p q es other in
-    let y = times_none n in
-    omega (arith, x, y)) f
-
--- one object more that goes, or that stays
-pub gone_more : (q : Name → Bool) (e : Name × Object) (rest : List (Name × Object)) (all : List Name) (a b c : Tally)
-    → ((final : Tally) → Moved b final [] (inner_names (filter (λ (x : Name × Object). q x.0) (e ∷ rest))) → Moved a final [] all) → q e.0 ≡ true → Moved b c [] (object_names e.1)
-    → (final : Tally) → Moved c final [] (inner_names (filter (λ (x : Name × Object). q x.0) rest)) → Moved a final [] all
-gone_more q e rest all a b c f it g final h =
-    f final (rw it (both b c final [] (object_names e.1) [] (inner_names (filter (λ (x : Name × Object). q x.0) rest)) g h))
-
-pub gone_same : (q : Name → Bool) (e : Name × Object) (rest : List (Name × Object)) (all : List Name) (a b : Tally)
-    → ((final : Tally) → Moved b final [] (inner_names (filter (λ (x : Name × Object). q x.0) (e ∷ rest))) → Moved a final [] all) → q e.0 ≡ false → (final : Tally)
-    → Moved b final [] (inner_names (filter (λ (x : Name × Object). q x.0) rest)) → Moved a final [] all
-gone_same q e rest all a b f it final h = f final (rw it h)
-
 -- ---- what the numbers show
 
 module _ (s : State) (t : Tally) (h : AreCounted s.incarnations s.processes s.objects t) (first : s.first_new ≡ t.first_new) (exact : t.exact ≡ true) where

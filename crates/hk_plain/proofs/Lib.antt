@@ -18,3 +18,4 @@ pub mod ObjectsMany
 pub mod Undone
 pub mod WholeStays
 pub mod RunningAgain
+pub mod Forwarded

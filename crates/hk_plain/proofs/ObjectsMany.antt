@@ -1,5 +1,5 @@
 -- How many objects stand after a call, and what a Leave leaves of the incarnations.
-use Rattle.std.proofs.Common.{◌≡◌, ◌∙◌, ℕ, ◌+◌, ◌-◌, ◌<◌, ◌≤◌, List, [], ◌∷◌, ◌++◌, length, Bool, true, false, Option, Some, None, Ok, cond, refl, sym, ap, arith, subst}
+use Rattle.std.proofs.Common.{◌≡◌, ◌∙◌, ℕ, ◌+◌, ◌-◌, ◌≤◌, List, [], ◌∷◌, ◌++◌, length, Bool, true, false, Option, Some, None, Ok, cond, refl, ap, arith}
 use Rattle.std.specs.Prelude.{IfOk, nat_lt}
 use Rattle.std.specs.Map.{lookup, set_value, remove_entry, keys_of}
 use Rattle.std.specs.List.Sorted.{IsStrictlySortedBy}
@@ -15,12 +15,12 @@ use Rattle.hk_model.specs.declared.calls.Call.TheVariants as call
 use Rattle.hk_model.specs.declared.calls.Refusal.TheVariants as refused
 use Rattle.hk_model.specs.declared.calls.What8.TheVariants as full
 use Rattle.hk_model.specs.declared.calls.Answer.{Answer}
-use Rattle.hk_model.specs.declared.calls.Answer.TheVariants.{Done, Word, Waits}
+use Rattle.hk_model.specs.declared.calls.Answer.TheVariants.{Done, Waits}
 use Rattle.hk_model.specs.declared.objects.Object.{Object}
 use Rattle.hk_model.specs.declared.objects.ProcessState.TheVariants.{Waiting}
 use Rattle.hk_model.specs.declared.objects.Incarnation.{Incarnation}
 use Rattle.hk_model.specs.Limits.{token_limit}
-use Rattle.hk_model.specs.State.{State, object, process, incarnation, put_object, put_process, put_slot, same_inc, inc_cmp}
+use Rattle.hk_model.specs.State.{State, object, process, put_object, put_process, same_inc, inc_cmp}
 use Rattle.hk_model.specs.Refusing.{unless}
 use Rattle.hk_model.specs.Targets.{SEMAPHORE, is_of_type, MODIFY+A0, target}
 use Rattle.hk_model.specs.Rule.{Outcome, outcome, leave_to, token_given, get_word, put_word, add_word, word_count, load_entry, store_entry}
@@ -162,5 +162,6 @@ left_next s proc inc give answer after is =
 pub left_many : (s : State) (proc : Proc) (inc : Inc) (give : Option Slot) (answer : Answer) (after : State) → outcome s proc inc (call.Leave give) ≡ Ok (answer, after)
     → length after.objects ≤ length s.objects + 1
 left_many s proc inc give answer after is =
-    let same = (if_ok (λ (f : Answer × State). (f.1.next_inc ≡ s.next_inc) × (f.1.objects ≡ s.objects)) (leave s proc inc give) (answer, after) (leave_same s proc inc give) is).1 in
+    let same =
+    (if_ok (λ (f : Answer × State). (f.1.next_inc ≡ s.next_inc) × (f.1.objects ≡ s.objects)) (leave s proc inc give) (answer, after) (leave_same s proc inc give) is).1 in
     rw same (same_many (length s.objects))

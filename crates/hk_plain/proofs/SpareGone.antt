@@ -1,6 +1,6 @@
 -- The objects of a set go, one by one.
-use Rattle.std.proofs.Common.{◌≡◌, ◌∙◌, ◌≤◌, ◌+◌, ℕ, List, [], ◌∷◌, length, Bool, true, false, Option, Some, cond, refl, sym, subst, ap, arith}
-use Rattle.std.specs.Prelude.{◌||◌, ◌==◌, not}
+use Rattle.std.proofs.Common.{◌≡◌, ◌∙◌, ◌≤◌, ◌+◌, ℕ, List, [], ◌∷◌, length, Bool, true, false, cond, refl, sym, subst, ap, arith}
+use Rattle.std.specs.Prelude.{◌||◌, ◌==◌}
 use Rattle.std.specs.Map.{keys_of, remove_entry}
 use Rattle.std.specs.BTreeMap.{insert_entry}
 use Rattle.std.specs.Ordering.{nat_cmp, is_eq, match_ordering}
@@ -13,7 +13,6 @@ use Rattle.std.proofs.lemmas.Map.Keys.{sorted_head, sorted_tail}
 use Rattle.hk_model.specs.declared.names.Name.{Name}
 use Rattle.hk_model.specs.declared.objects.Object.{Object}
 use Rattle.hk_model.specs.State.{name_cmp, same_name}
-use Rattle.hk_model.specs.Keeping.{is_among}
 use Rattle.hk_model.proofs.Keeping.{of_set}
 use Rattle.hk_model.proofs.Standing.{name_same, name_laws}
 use Rattle.hk_plain.specs.Marking.{is_none_of, stays_beside}

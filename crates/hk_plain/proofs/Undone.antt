@@ -1,7 +1,7 @@
 -- What an event saved and what went by it lead back to the state before it.
 use Rattle.std.proofs.Common.{◌≡◌, ◌∙◌, ℕ, ◌+◌, ◌-◌, ◌<◌, ◌≤◌, List, [], ◌∷◌, ◌++◌, length, Bool, true, false, Option, Some, None, Ok, cond, refl, sym, ap, arith, subst}
 use Rattle.std.specs.Prelude.{is_some}
-use Rattle.std.specs.Map.{lookup, set_value, remove_entry, keys_of}
+use Rattle.std.specs.Map.{lookup}
 use Rattle.std.specs.BTreeMap.{insert_entry}
 use Rattle.hk_model.specs.declared.names.Name.{Name}
 use Rattle.hk_model.specs.declared.names.Inc.{Inc}
@@ -11,7 +11,6 @@ use Rattle.hk_model.specs.declared.calls.Answer.{Answer}
 use Rattle.hk_model.specs.declared.calls.Answer.TheVariants.{Done, Word, Waits}
 use Rattle.hk_model.specs.declared.calls.Call.{Call}
 use Rattle.hk_model.specs.declared.calls.Call.TheVariants as call
-use Rattle.hk_model.specs.declared.entries.Entry.{Entry}
 use Rattle.hk_model.specs.declared.objects.Object.{Object}
 use Rattle.hk_model.specs.declared.objects.Incarnation.{Incarnation}
 use Rattle.hk_model.specs.State.{State, put_slot, add_object, same_name, same_inc, name_cmp}
@@ -19,9 +18,9 @@ use Rattle.hk_model.specs.Keeping.{restricted}
 use Rattle.hk_model.specs.Rule.{outcome, answered, counted, add_beside}
 use Rattle.hk_model.specs.Processors.{ended}
 use Rattle.hk_plain.specs.declared.changes.Saved.{Saved}
-use Rattle.hk_plain.specs.Changes.{unsaved, with_gone, objects_with, incarnations_with, AreNewObjects, AreNewIncarnations, call_saved, halt_saved, slot_saved, nothing_saved}
-use Rattle.hk_plain.specs.Removing.{Removal, HasObjectsRoom, ObjectsWent, IncarnationsWent, AreBelow, HasRoom, MadeWent, CallWent, IsFresh, IsOrderly, LeadsBack, IsUndone, saved_by}
-use Rattle.hk_plain.specs.Removing.{removed_at, with_incarnation}
+use Rattle.hk_plain.specs.Changes.{unsaved, with_gone, objects_with, incarnations_with, AreNewObjects, AreNewIncarnations, call_saved, halt_saved, slot_saved}
+use Rattle.hk_plain.specs.Removing.{Removal, HasObjectsRoom, ObjectsWent, IncarnationsWent, AreBelow, HasRoom, MadeWent, CallWent}
+use Rattle.hk_plain.specs.Removing.{removed_at, IsFresh, IsOrderly, LeadsBack, IsUndone, saved_by}
 use Rattle.hk_plain.proofs.Went.{found_below}
 use Rattle.hk_plain.proofs.WritesTakenBack.{made_slot_back}
 use Rattle.hk_plain.proofs.CallsTakenBack.{NothingGoes, call_back}
@@ -40,13 +39,16 @@ leads v s full after r back whole objects incarnations below = record {
 }
 
 -- where nothing went
-pub nothing_went : (v : Saved) (s after : State) (r : Removal) → IsFresh r → unsaved v after ≡ s → LeadsBack v s after r
-nothing_went v s after r fresh back =
+pub nothing_gone : (v : Saved) (s after : State) (r : Removal) → r.gone ≡ [] → r.left ≡ [] → unsaved v after ≡ s → LeadsBack v s after r
+nothing_gone v s after r none_gone none_left back =
     leads v s after after r back
-    (ap (λ (gone : List (Name × Object)). with_gone gone r.left after) fresh.gone ∙ ap (λ (left : List (Inc × Incarnation)). with_gone [] left after) fresh.left)
-    (subst (λ (gone : List (Name × Object)). AreNewObjects gone after.objects) (sym fresh.gone) tt)
-    (subst (λ (left : List (Inc × Incarnation)). AreNewIncarnations left after.incarnations) (sym fresh.left) tt)
-    (subst (λ (left : List (Inc × Incarnation)). AreBelow after.next_inc left) (sym fresh.left) tt)
+    (ap (λ (gone : List (Name × Object)). with_gone gone r.left after) none_gone ∙ ap (λ (left : List (Inc × Incarnation)). with_gone [] left after) none_left)
+    (subst (λ (gone : List (Name × Object)). AreNewObjects gone after.objects) (sym none_gone) tt)
+    (subst (λ (left : List (Inc × Incarnation)). AreNewIncarnations left after.incarnations) (sym none_left) tt)
+    (subst (λ (left : List (Inc × Incarnation)). AreBelow after.next_inc left) (sym none_left) tt)
+
+nothing_went : (v : Saved) (s after : State) (r : Removal) → IsFresh r → unsaved v after ≡ s → LeadsBack v s after r
+nothing_went v s after r fresh back = nothing_gone v s after r fresh.gone fresh.left back
 
 -- the next name is no object's
 next_absent : (s : State) → IsOrderly s → lookup (same_name s.next_name) s.objects ≡ None

@@ -1,5 +1,5 @@
 -- Objects and incarnations that went, one by one.
-use Rattle.std.proofs.Common.{◌≡◌, ◌∙◌, ℕ, ◌+◌, ◌-◌, ◌<◌, ◌≤◌, List, [], ◌∷◌, ◌++◌, length, Bool, true, false, Option, Some, None, cond, refl, sym, ap, arith, subst}
+use Rattle.std.proofs.Common.{◌≡◌, ◌∙◌, ◌+◌, ◌-◌, ◌<◌, ◌≤◌, List, [], ◌∷◌, ◌++◌, length, Bool, true, false, Some, None, cond, refl, sym, ap, arith, subst}
 use Rattle.std.specs.Map.{lookup, keys_of, remove_entry}
 use Rattle.std.specs.BTreeMap.{insert_entry}
 use Rattle.std.specs.List.{AllByRecursion}
@@ -13,7 +13,7 @@ use Rattle.hk_model.specs.declared.objects.Incarnation.{Incarnation}
 use Rattle.hk_model.specs.State.{name_cmp, inc_cmp, same_name, same_inc}
 use Rattle.hk_model.proofs.Standing.{name_same, inc_same, name_laws, inc_laws}
 use Rattle.hk_plain.specs.Changes.{objects_with, incarnations_with, AreNewObjects, AreNewIncarnations}
-use Rattle.hk_plain.specs.Removing.{Removal, HasObjectsRoom, HasIncarnationsRoom, with_object, with_incarnation, ObjectsWent, IncarnationsWent, AreBelow}
+use Rattle.hk_plain.specs.Removing.{Removal, with_object, with_incarnation, ObjectsWent, IncarnationsWent, AreBelow}
 use Rattle.hk_plain.proofs.PutBack.{objects_with_more, incarnations_with_more, object_put_back, incarnation_put_back}
 
 -- ---- lists of entries by number

@@ -9,3 +9,4 @@ pub mod Changes
 pub mod Restoring
 pub mod Removing
 pub mod Kept
+pub mod Forward

@@ -8,7 +8,7 @@ ghost use Rattle.hk_model.specs.Rule.{outcome, rule, answered, settled, counted}
 ghost use Rattle.hk_model.specs.Processors.{may_step, code_found, entered_code, is_running};
 ghost use Rattle.hk_plain.specs.Giving.{Gives};
 ghost use Rattle.hk_plain.specs.Numbers.{HasNumbers, FewNumbers, TakesOne};
-ghost use Rattle.hk_plain.specs.Changes.{call_saved};
+ghost use Rattle.hk_plain.specs.Changes.{IsWhole, call_saved};
 ghost use Rattle.hk_plain.specs.Removing.{HasRoom, CallWent, IsUndone, saved_by};
 
 use crate::removed::Removed;
@@ -122,6 +122,7 @@ impl Tables {
     }
 
     /// Makes a call of a process in its current incarnation. It is one event, refused or not.
+    #[tactic(auto, using(crate::proofs::WholeStays::rule_whole))]
     pub(crate) fn act(
         &mut self,
         alloc: Global,
@@ -137,6 +138,7 @@ impl Tables {
         ensures gone { IfOk result (λ acted. acted.gone ≡ not (is_running (process self.new proc).run)) }
         ensures back { IfOk result (λ acted. IsUndone (saved_by acted.reply (call_saved self.old proc (process self.old proc).current call.now)) self.old self.new removed.old removed.new) }
         ensures numbers { OnOk result (FewNumbers self.new) }
+        ensures whole { OnOk result (IsWhole self.old → IsWhole self.new) }
         ensures err { OnErr result (self.new ≡ self.old) }
     {
         let inc = self.current_of(proc);

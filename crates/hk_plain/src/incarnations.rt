@@ -10,7 +10,7 @@ ghost use Rattle.std.specs.Map.{lookup, set_value, remove_entry};
 ghost use Rattle.hk_model.specs.State.{same_inc};
 ghost use Rattle.std.specs.BTreeMap.{insert_entry};
 ghost use Rattle.hk_model.specs.State.{inc_cmp};
-ghost use Rattle.hk_plain.specs.Stacks.{added, without_last, with_slot, remove_all};
+ghost use Rattle.hk_plain.specs.Stacks.{Rises, added, without_last, with_slot, remove_all};
 ghost use Rattle.hk_plain.specs.Counts.{Moved, slot_names};
 ghost use Rattle.hk_plain.specs.Removing.{HasIncarnationsRoom, IncarnationsWent, removed_at};
 
@@ -135,6 +135,14 @@ impl Incarnations {
         ensures { result.now.entries ≡ self.now.live }
     {
         &self.live
+    }
+
+    /// How many incarnations there are. Their numbers rise.
+    pub(crate) fn len(&self) -> usize
+        ensures value { result ≡ length self.now.live }
+        ensures rising { Rises 0 self.now.live self.now.next.0 }
+    {
+        self.live.len()
     }
 
     /// The number that the next incarnation takes.

@@ -20,6 +20,7 @@ mod collecting;
 mod copies;
 mod counted;
 mod counts;
+mod forwarding;
 mod incarnations;
 mod inverse;
 mod keeping;

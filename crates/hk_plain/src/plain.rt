@@ -1,16 +1,17 @@
 //! The plain kernel.
 
-ghost use Rattle.std.specs.Prelude.{◌≡◌, IfOk, OnOk, OnErr, option_copied};
+ghost use Rattle.std.specs.Prelude.{◌≡◌, ◌↔◌, [], false, IfOk, OnOk, OnErr, option_copied};
 ghost use Rattle.std.specs.Map.{lookup};
 ghost use Rattle.hk_model.specs.Opening.{opening};
 ghost use Rattle.hk_model.specs.State.{same_name, same_inc};
 ghost use Rattle.hk_plain.specs.Changes.{IsBehind, taken_back};
+ghost use Rattle.hk_plain.specs.Forward.{CanGo, IsDone, IsIdle, IsDispatchDone, RunsOn, IsCallDone, IsHaltDone, IsInverse};
 
 use crate::inverse::Inverse;
 use crate::removed::Removed;
 use crate::tables::Tables;
 use hk_model::{
-    Acted, Call, Cpu, Inc, Incarnation, Kernel, Name, NoMemory, Object, Proc, Snapshot, World,
+    Acted, Call, Cpu, Inc, Incarnation, Kernel, Name, NoMemory, Object, Proc, Snapshot, What, World,
 };
 use std::alloc::Global;
 use std::marker::Model;
@@ -24,13 +25,13 @@ pub struct Plain {
 
 impl Model for Plain {
     ghost use Rattle.hk_model.specs.State.{State};
-    ghost use Rattle.hk_plain.specs.Numbers.{FewNumbers};
+    ghost use Rattle.hk_plain.specs.Changes.{IsWhole};
 
     ghost Value = { State };
 
     ghost view = { λ k. k.tables };
 
-    ghost invariant = { λ k. FewNumbers k.tables };
+    ghost invariant = { λ k. IsWhole k.tables };
 }
 
 impl Plain {
@@ -79,6 +80,77 @@ impl Plain {
         ensures err { OnErr result (self.new ≡ self.old) }
     {
         self.tables.take_back(alloc, inverse)
+    }
+
+    /// Whether a process is ready.
+    pub fn any_ready(&self) -> bool
+        ensures { (result ≡ false) ↔ (self.now.ready ≡ []) }
+    {
+        !self.tables.ready.is_empty()
+    }
+
+    /// The same event as by `dispatch`, `act` or `halt`, with what takes it back. A dispatch is asked
+    /// for where a process is ready. NoMemory is no event and changes nothing.
+    pub fn forward(
+        &mut self,
+        alloc: Global,
+        cpu: Cpu,
+        what: &What,
+    ) -> Result<(Acted, Inverse), NoMemory>
+        requires { CanGo self.old cpu what.now }
+        ensures done { IfOk result (λ r. IsDone self.old cpu what.now r.0 self.new) }
+        ensures back { IfOk result (λ r. taken_back r.1 self.new ≡ self.old) }
+        ensures behind { IfOk result (λ r. IsBehind r.1 self.new) }
+        ensures err { OnErr result (self.new ≡ self.old) }
+    {
+        match what {
+            What::Dispatch => Ok(self.forward_dispatch(alloc, cpu)),
+            What::Call(call) => self.forward_call(alloc, cpu, call),
+            What::Halt => self.forward_halt(alloc, cpu),
+        }
+    }
+
+    /// The processor gets the first ready process.
+    fn forward_dispatch(&mut self, alloc: Global, cpu: Cpu) -> (Acted, Inverse)
+        requires { IsIdle self.old cpu }
+        ensures done { IsDispatchDone self.old cpu result.0 self.new }
+        ensures inverse { IsInverse result.1 self.old self.new }
+    {
+        match self.tables.dispatch_forward(alloc, cpu) {
+            Some(done) => done,
+            None => unreachable!(),
+        }
+    }
+
+    /// A call of the process that the processor runs.
+    fn forward_call(
+        &mut self,
+        alloc: Global,
+        cpu: Cpu,
+        call: &Call,
+    ) -> Result<(Acted, Inverse), NoMemory>
+        requires { RunsOn self.old cpu }
+        ensures done { IfOk result (λ r. IsCallDone self.old cpu call.now r.0 self.new) }
+        ensures inverse { IfOk result (λ r. IsInverse r.1 self.old self.new) }
+        ensures err { OnErr result (self.new ≡ self.old) }
+    {
+        match self.tables.runner(cpu) {
+            Some(proc) => self.tables.call_forward(alloc, proc, call),
+            None => unreachable!(),
+        }
+    }
+
+    /// The process that the processor runs ends.
+    fn forward_halt(&mut self, alloc: Global, cpu: Cpu) -> Result<(Acted, Inverse), NoMemory>
+        requires { RunsOn self.old cpu }
+        ensures done { IfOk result (λ r. IsHaltDone self.old cpu r.0 self.new) }
+        ensures inverse { IfOk result (λ r. IsInverse r.1 self.old self.new) }
+        ensures err { OnErr result (self.new ≡ self.old) }
+    {
+        match self.tables.runner(cpu) {
+            Some(proc) => self.tables.halt_forward(alloc, proc),
+            None => unreachable!(),
+        }
     }
 }
 

@@ -5,7 +5,7 @@ ghost use Rattle.std.specs.List.{list_any};
 ghost use Rattle.hk_model.specs.declared.objects.Process.{Process};
 ghost use Rattle.hk_model.specs.State.{process};
 ghost use Rattle.hk_model.specs.Rule.{counted};
-ghost use Rattle.hk_plain.specs.Changes.{halt_saved};
+ghost use Rattle.hk_plain.specs.Changes.{IsWhole, halt_saved};
 ghost use Rattle.hk_plain.specs.Removing.{HasRoom, HasIncarnationsRoom, IncarnationsWent, IsUndone};
 ghost use Rattle.hk_model.specs.Processors.{runner, runner_from, is_on, is_ready, is_running, may_step, dispatched, halted, is_over};
 
@@ -77,12 +77,14 @@ impl Tables {
     }
 
     /// Gives the processor the first ready process.
+    #[tactic(auto, using(crate::proofs::WholeStays::dispatched_whole))]
     pub(crate) fn dispatch(&mut self, cpu: Cpu) -> Option<Proc>
         requires cpu { cpu.0 < 16 }
         requires idle { runner self.old cpu ≡ None }
         requires below { IsTrue (may_step self.old) }
         ensures given { IfSome result (λ proc. dispatched self.old cpu ≡ Some (proc, self.new)) }
         ensures none { IfNone result ((dispatched self.old cpu ≡ None) × (self.new ≡ self.old)) }
+        ensures whole { IsWhole self.old → IsWhole self.new }
     {
         let events = self.next_event();
         let first = self.take_ready()?;
@@ -106,6 +108,7 @@ impl Tables {
         requires below { IsTrue (may_step self.old) }
         requires room { HasRoom self.old removed.old }
         ensures value { self.new ≡ halted self.old proc }
+        ensures whole { IsWhole self.old → IsWhole self.new }
         ensures back { IsUndone (halt_saved self.old proc) self.old self.new removed.old removed.new }
     {
         let events = self.next_event();

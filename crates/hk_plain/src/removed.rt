@@ -1,6 +1,6 @@
 //! What becomes of the objects and incarnations that go (`docs/RULES.md`, "Lines taken back").
 
-ghost use Rattle.std.specs.Prelude.{◌≡◌, ◌≤◌, false, IfOk};
+ghost use Rattle.std.specs.Prelude.{◌≡◌, ◌≤◌, [], false, IfOk};
 ghost use Rattle.hk_plain.specs.Kept.{removal};
 ghost use Rattle.hk_plain.specs.Removing.{IsFresh, HasObjectsRoom, HasIncarnationsRoom, with_object, with_incarnation};
 
@@ -33,7 +33,9 @@ impl Model for Removed {
 impl Removed {
     /// Nothing is kept.
     pub(crate) fn dropped() -> Removed
-        ensures { result.keeps ≡ false }
+        ensures keeps { result.keeps ≡ false }
+        ensures gone { result.gone ≡ [] }
+        ensures left { result.left ≡ [] }
     {
         Removed { kept: None }
     }

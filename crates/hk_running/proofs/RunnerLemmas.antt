@@ -7,6 +7,7 @@ use Rattle.std.specs.List.{list_any}
 use Rattle.std.proofs.lemmas.List.{length-set}
 use Rattle.std.proofs.lemmas.List.Sums.{sum_by-set, sum_by-cons, get_or-le-sum_by}
 use Rattle.std.proofs.lemmas.Option.{unwrap_or-slice_get, slice_get_read}
+use Rattle.std.proofs.lemmas.Bool.{false≢true}
 use Rattle.std.proofs.lemmas.Bool.Decides.{nat_tests}
 use Rattle.hk_model.specs.declared.names.Inc.{Inc}
 use Rattle.hk_model.specs.declared.names.Proc.{Proc}
@@ -311,3 +312,19 @@ placed_current ps places live n x y h there read is =
       placed = same_shows ps places n x there same h.placed;
       counted = omega (arith, h.counted, recount ps n x there, ap weight same);
     }
+
+-- a process has a place among as many as there are processors
+pub place_below : (places : List (Option Proc)) (n q : ℕ) → has_place (unwrap_or (slice_get places n) None) q ≡ true → n < length places
+place_below [] n q has = absurd (false≢true has)
+place_below (x ∷ places) zero q has = omega arith
+place_below (x ∷ places) (suc n) q has = let below : n < length places = place_below places n q has in omega arith
+
+-- it is on its own processor
+on_itself : (cpu : Cpu) → is_on cpu (Running cpu) ≡ true
+on_itself cpu = same_is cpu.0 cpu.0 refl
+
+pub runs_below : (ps : List Process) (places : List (Option Proc)) (live : ℕ) → IsPlaced ps places live → length places ≡ 16
+    → (q : ℕ) (cpu : Cpu) → (process_at ps q).run ≡ Running cpu → cpu.0 < 16
+runs_below ps places live placed many q cpu runs =
+    let has : has_place (place_of places cpu) q ≡ true = sym (placed.placed q cpu) ∙ (ap (is_on cpu) runs ∙ on_itself cpu) in
+    let below : cpu.0 < length places = place_below places cpu.0 q has in omega (arith, below, many)

@@ -3,11 +3,12 @@
 //! Beside them stands a place for each processor, with the process that it runs, and how many processes are ready or run.
 //! So each call here costs the same however many processes there are.
 
-ghost use Rattle.std.specs.Prelude.{◌≡◌, ◌<◌, ◌≤◌, ◌+◌, false, length, None, count_by};
+ghost use Rattle.std.specs.Prelude.{◌≡◌, ◌<◌, ◌≤◌, ◌+◌, ℕ, true, false, length, None, count_by};
 ghost use Rattle.std.specs.List.{list_any};
 ghost use Rattle.hk_model.specs.declared.objects.Process.{Process};
 ghost use Rattle.hk_model.specs.declared.objects.ProcessState.TheVariants.{Running};
-ghost use Rattle.hk_model.specs.Processors.{runner_from, is_running};
+ghost use Rattle.hk_model.specs.declared.names.Cpu.{Cpu};
+ghost use Rattle.hk_model.specs.Processors.{runner_from, is_on, is_running};
 ghost use Rattle.hk_running.specs.Runners.{with_run, with_current, process_at, runner_lives, freed, place_of, weight};
 
 use hk_model::{Cpu, Inc, Proc, Process, ProcessState};
@@ -78,6 +79,14 @@ fn place_of(places: &[Option<Proc>; 16], cpu: Cpu) -> Option<Proc>
     }
 }
 
+/// How many processors have a place.
+fn count_places(places: &[Option<Proc>; 16]) -> usize
+    ensures value { result ≡ length places.now }
+    ensures many { length places.now ≡ 16 }
+{
+    places.len()
+}
+
 /// A processor runs no more what it ran.
 fn free(places: &mut [Option<Proc>; 16], before: ProcessState)
     ensures value { places.new ≡ freed places.old before }
@@ -112,6 +121,16 @@ impl Processes {
         ensures few { length result.now ≤ 256 }
     {
         self.all.as_slice()
+    }
+
+    /// How many processes there are. Each runs on a processor of its own, if it runs.
+    pub fn len(&self) -> usize
+        ensures value { result ≡ length self.now }
+        ensures alone { (q : ℕ) → (r : ℕ) → (cpu : Cpu) → is_on cpu (process_at self.now q).run ≡ true → is_on cpu (process_at self.now r).run ≡ true → q ≡ r }
+        ensures placed { (q : ℕ) → (cpu : Cpu) → (process_at self.now q).run ≡ Running cpu → cpu.0 < 16 }
+    {
+        let _places = count_places(&self.places);
+        self.all.len()
     }
 
     /// The process that a processor runs.

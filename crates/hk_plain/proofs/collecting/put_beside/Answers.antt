@@ -1,9 +1,6 @@
 -- Of those that stood only the ones that stay are left.
-use Rattle.std.proofs.Common.{◌≡◌, ◌∙◌, ◌+◌, ◌≤◌, arith, ap, length}
+use Rattle.std.proofs.Common.{◌∙◌, ◌+◌, ◌≤◌, arith, ap, length}
 use Rattle.hk_model.specs.declared.names.Name.{Name}
-use Rattle.hk_model.specs.declared.objects.Object.{Object}
-use Rattle.std.specs.BTreeMap.{insert_entry}
-use Rattle.hk_model.specs.State.{name_cmp}
 use Rattle.std.proofs.Common.{List}
 use Rattle.hk_model.proofs.Keeping.{of_set}
 use Rattle.hk_plain.specs.Marking.{is_none_of, stays_beside}

@@ -1,5 +1,5 @@
 -- No names are left.
-use Rattle.std.proofs.Common.{◌≡◌, ◌∙◌, List, subst, sym, []}
+use Rattle.std.proofs.Common.{◌≡◌, ◌∙◌, List, subst, []}
 use Rattle.hk_model.specs.declared.names.Name.{Name}
 use Rattle.hk_plain.proofs.SpareGone.{removed_beside, spare_gone}
 use Rattle.hk_plain.proofs.collecting.remove_spare.Goals as goal

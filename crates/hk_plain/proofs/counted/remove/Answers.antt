@@ -1,5 +1,5 @@
 -- What the object names is released, and it is kept where what goes is kept.
-use Rattle.std.proofs.Common.{◌∙◌, sym, subst, List}
+use Rattle.std.proofs.Common.{sym, subst, List}
 use Rattle.hk_model.specs.declared.names.Name.{Name}
 use Rattle.hk_model.specs.declared.objects.Object.{Object}
 use Rattle.std.specs.Map.{remove_entry}

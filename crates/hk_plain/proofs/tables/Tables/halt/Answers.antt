@@ -1,5 +1,5 @@
 -- What the halt saved and what went by it lead back.
-use Rattle.std.proofs.Common.{◌≡◌, ◌∙◌, ap, sym, subst}
+use Rattle.std.proofs.Common.{◌≡◌, ◌∙◌, ℕ, ap, sym, subst}
 use Rattle.std.specs.Prelude.{filter, not, ◌==◌}
 use Rattle.hk_model.specs.declared.names.Inc.{Inc}
 use Rattle.hk_model.specs.declared.names.Proc.{Proc}
@@ -7,11 +7,24 @@ use Rattle.hk_model.specs.declared.objects.Incarnation.{Incarnation}
 use Rattle.hk_model.specs.State.{State}
 use Rattle.hk_model.specs.Keeping.{restricted}
 use Rattle.hk_model.specs.Rule.{counted}
-use Rattle.hk_model.specs.Processors.{ended}
-use Rattle.hk_plain.specs.Changes.{halt_saved}
+use Rattle.hk_model.specs.Processors.{ended, halted}
+use Rattle.hk_plain.specs.Changes.{IsWhole, halt_saved}
 use Rattle.hk_plain.specs.Removing.{Removal, ObjectsWent, IncarnationsWent, LeadsBack}
+use Rattle.hk_plain.proofs.WholeStays.{halted_whole}
 use Rattle.hk_plain.proofs.Undone.{ended_undone, vanished, counted_back}
 use Rattle.hk_plain.proofs.tables.Tables.halt.Goals as goal
+
+pub returns-clause-whole : goal.returns-clause-whole
+returns-clause-whole c whole =
+    let s : State = c.args.self.now in
+    let proc : Proc = c.args.proc in
+    let e : c.remove_incarnations.new.self ≡ ended s proc =
+    c.remove_incarnations.ensures.value
+    ∙ ap (λ (u : State). let t : State = record u { incarnations = filter (λ (x : Inc × Incarnation). not (x.1.proc.0 == proc.0)) u.incarnations } in t) c.set_run.ensures in
+    let after : c.set_events.new.self ≡ halted s proc =
+    c.set_events.ensures ∙ (ap (counted c.next_event-events.result) (c.remove_lost.ensures.value ∙ ap restricted e)
+    ∙ ap (λ (n : ℕ). counted n (restricted (ended s proc))) c.next_event-events.ensures.value) in
+    subst IsWhole (sym after) (halted_whole s proc whole)
 
 pub returns-clause-back : goal.returns-clause-back
 returns-clause-back c orderly fresh =

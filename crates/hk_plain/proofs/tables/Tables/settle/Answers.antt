@@ -1,11 +1,11 @@
 -- What the call saved and what went by it lead back.
-use Rattle.std.proofs.Common.{◌≡◌, ◌∙◌, ap, sym, subst}
+use Rattle.std.proofs.Common.{◌∙◌, ap, sym, subst}
 use Rattle.hk_model.specs.State.{State}
 use Rattle.hk_model.specs.Keeping.{restricted}
 use Rattle.hk_plain.specs.declared.changes.Saved.{Saved}
 use Rattle.hk_plain.specs.Changes.{call_saved}
 use Rattle.hk_plain.specs.Removing.{ObjectsWent, LeadsBack, saved_by}
-use Rattle.hk_plain.proofs.Undone.{IsServed, call_served, vanished, saved_answered}
+use Rattle.hk_plain.proofs.Undone.{call_served, vanished, saved_answered}
 use Rattle.hk_plain.proofs.tables.Tables.settle.Goals as goal
 
 pub remove_lost-requires : goal.remove_lost-requires
