@@ -30,11 +30,16 @@ use Rattle.hk_model.specs.Targets.{MODIFY+A1, target}
 use Rattle.hk_model.specs.Rule.{outcome, token_given, counted, enter, called_incarnation, leave_to, enter_procedure, leave, take_token, give_token}
 use Rattle.hk_model.specs.Processors.{is_on, runner, runner_from, dispatched, dispatched_from, halted}
 use Rattle.hk_model.proofs.TestLemmas.{then_is, and_is, if_ok, ok_each}
-use Rattle.hk_running.specs.Runners.{process_at, RunAlone}
+use Rattle.hk_running.specs.Runners.{process_at}
 use Rattle.hk_plain.specs.declared.changes.Part.{Part}
 use Rattle.hk_plain.specs.declared.changes.Saved.{Saved}
 use Rattle.hk_plain.specs.Changes.{CanRun, call_saved, part_saved, wait_saved, give_saved, token_saved, process_saved, leave_saved, dispatch_saved, halt_saved}
 use Rattle.hk_plain.proofs.CallsTakenBack.{taken, wait_part}
+
+-- each processor runs one process at most, and there are 16
+pub record RunAlone (ps : List Process) : Type 0 where
+  pub alone : (q r : ℕ) (cpu : Cpu) → is_on cpu (process_at ps q).run ≡ true → is_on cpu (process_at ps r).run ≡ true → q ≡ r
+  pub few : (q : ℕ) (cpu : Cpu) → (process_at ps q).run ≡ Running cpu → cpu.0 < 16
 
 -- ---- one process has changed
 

@@ -72,6 +72,16 @@ impl Plain {
         self.tables.incarnations.next()
     }
 
+    /// Takes an event back: the state is the one before it, with all that went by it. NoMemory is
+    /// want of memory for what is put back; it changes nothing.
+    pub fn undo(&mut self, alloc: Global, inverse: &Inverse) -> Result<(), NoMemory>
+        requires behind { IsBehind inverse.now self.old }
+        ensures ok { OnOk result (self.new ≡ taken_back inverse.now self.old) }
+        ensures err { OnErr result (self.new ≡ self.old) }
+    {
+        self.tables.take_back(alloc, inverse)
+    }
+
     /// Whether a process is ready.
     pub fn any_ready(&self) -> bool
         ensures { (result ≡ false) ↔ (self.now.ready ≡ []) }
@@ -141,16 +151,6 @@ impl Plain {
             Some(proc) => self.tables.halt_forward(alloc, proc),
             None => unreachable!(),
         }
-    }
-
-    /// Takes an event back: the state is the one before it, with all that went by it. NoMemory is
-    /// want of memory for what is put back; it changes nothing.
-    pub fn undo(&mut self, alloc: Global, inverse: &Inverse) -> Result<(), NoMemory>
-        requires behind { IsBehind inverse.now self.old }
-        ensures ok { OnOk result (self.new ≡ taken_back inverse.now self.old) }
-        ensures err { OnErr result (self.new ≡ self.old) }
-    {
-        self.tables.take_back(alloc, inverse)
     }
 }
 
