@@ -83,20 +83,15 @@ module _ (w : WorldValue) (m : Machine) (cpu : Cpu) (proc : Proc) (inc : Inc) (s
 
 -- ---- a dispatch
 
--- where none is ready
-ready_none : (ready : List Proc) (b : Bool) → IsTrue b ↔ (ready ≢ []) → b ≡ false → ready ≡ []
-ready_none [] b h e = refl
-ready_none (p ∷ ps) b h e = absurd (true≢false (sym (h.1 (λ g. absurd (cc))) ∙ e))
-
+-- where none is ready there is no step
 pub none_ready : (w : WorldValue) (m : Machine) (cpu : Cpu) (b : Bool) → cpu.0 < 16 → may_step m.state ≡ true → running_on m.state cpu ≡ None
-    → IsTrue b ↔ (m.state.ready ≢ []) → b ≡ false → step w m cpu ≡ None
-none_ready w m cpu b low may idle h e =
-    nothing_steps w m cpu low may idle (ap (dispatched_from m.state cpu) (ready_none m.state.ready b h e))
+    → (b ≡ false) ↔ (m.state.ready ≡ []) → b ≡ false → step w m cpu ≡ None
+none_ready w m cpu b low may idle h e = nothing_steps w m cpu low may idle (ap (dispatched_from m.state cpu) (h.0 e))
 
-module _ (w : WorldValue) (m : Machine) (cpu : Cpu) (sound : IsSound w m) (idle : running_on m.state cpu ≡ None) (s : State)
-    (given : (proc : Proc) × (dispatched m.state cpu ≡ Some (proc, s))) where
-  runs : running_on s cpu ≡ Some (given.0, (process s given.0).current)
-  runs = dispatched_runs w m cpu given.0 s sound idle given.1
+module _ (w : WorldValue) (m : Machine) (cpu : Cpu) (sound : IsSound w m) (idle : running_on m.state cpu ≡ None) (s : State) (first : Proc)
+    (given : dispatched m.state cpu ≡ Some (first, s)) where
+  runs : running_on s cpu ≡ Some (first, (process s first).current)
+  runs = dispatched_runs w m cpu first s sound idle given
 
   -- the processor runs what it got
   pub never_none : running_on s cpu ≡ None → ⊥
@@ -107,15 +102,15 @@ module _ (w : WorldValue) (m : Machine) (cpu : Cpu) (sound : IsSound w m) (idle 
       → IsMade w m cpu (record { line = record { cpu = cpu; proc = proc; inc = inc; what = what.Dispatch; reply = reply }; inverse = inverse; frames = None })
       (record { state = s; contexts = m.contexts })
   dispatch_made proc inc reply inverse low may on done can back = record {
-    step = dispatch_steps w m cpu given.0 inc s low may idle given.1 (ap (λ (x : Proc × Inc). x.1) same ∙ refl)
+    step = dispatch_steps w m cpu first inc s low may idle given (ap (λ (x : Proc × Inc). x.1) same)
         ∙ ap (λ (l : Line). let found : Line × Machine = (l, record { state = s; contexts = m.contexts }) in Some found) line_is;
     can = record { state = can; frames = tt };
     back = ap (λ (t : State). let k : Machine = record { state = t; contexts = m.contexts } in k) back;
   }
     where
-      same : ◌≡◌ {A = Proc × Inc} (proc, inc) (given.0, (process s given.0).current)
+      same : ◌≡◌ {A = Proc × Inc} (proc, inc) (first, (process s first).current)
       same = cc (on, runs)
 
-      line_is : ◌≡◌ {A = Line} (record { cpu = cpu; proc = given.0; inc = inc; what = what.Dispatch; reply = Done })
+      line_is : ◌≡◌ {A = Line} (record { cpu = cpu; proc = first; inc = inc; what = what.Dispatch; reply = Done })
           (record { cpu = cpu; proc = proc; inc = inc; what = what.Dispatch; reply = reply })
       line_is = rw (done, ap (λ (x : Proc × Inc). x.0) same) refl

@@ -1,5 +1,4 @@
-use Rattle.std.proofs.Common.{true, ◌≡◌, refl, sym, ◌∙◌, subst, ap, None}
-use Rattle.hk_model.specs.declared.kernel.Acted.{Acted}
+use Rattle.std.proofs.Common.{true, ◌≡◌, refl, sym, ◌∙◌, subst, None}
 use Rattle.hk_model.specs.Processors.{may_step, running_on}
 use Rattle.hk_model.specs.Running.{Machine, step}
 use Rattle.hk_model.specs.declared.lines.Line.{Line}
@@ -23,7 +22,8 @@ pub unreachable-requires : goal.unreachable-requires
 unreachable-requires c =
     let m : Machine = record { state = c.self.inside.kernel; contexts = c.self.inside.contexts.items } in
     never_none c.args.world.now m c.args.cpu (subst (IsSound c.args.world.now) (sym c.self.view_is) c.requires.sound)
-    (subst (λ (k : Machine). running_on k.state c.args.cpu ≡ None) (sym c.self.view_is) c.requires.idle) c.forward.new.self c.in_ok-acted.ensures.made.0
+    (subst (λ (k : Machine). running_on k.state c.args.cpu ≡ None) (sym c.self.view_is) c.requires.idle) c.forward.new.self
+    c.in_ok-acted.ensures.done.first c.in_ok-acted.ensures.done.given
     (sym c.current.ensures ∙ c.in-None.is)
 
 pub returns-clause-made : goal.returns-clause-made
@@ -34,7 +34,8 @@ returns-clause-made c =
     let left : Machine = record { state = c.forward.new.self; contexts = m.contexts } in
     subst (λ (k : Machine). IsMade c.args.world.now k c.args.cpu made left) c.self.view_is
     (dispatch_made c.args.world.now m c.args.cpu (subst (IsSound c.args.world.now) (sym c.self.view_is) c.requires.sound)
-    (subst (λ (k : Machine). running_on k.state c.args.cpu ≡ None) (sym c.self.view_is) c.requires.idle) c.forward.new.self c.in_ok-acted.ensures.made.0
+    (subst (λ (k : Machine). running_on k.state c.args.cpu ≡ None) (sym c.self.view_is) c.requires.idle) c.forward.new.self
+    c.in_ok-acted.ensures.done.first c.in_ok-acted.ensures.done.given
     c.in-Some.proc c.in-Some.inc c.in_ok-acted.acted.reply c.in_ok-acted.inverse c.requires.cpu
     (subst (λ (k : Machine). may_step k.state ≡ true) (sym c.self.view_is) c.requires.below)
-    (sym c.current.ensures ∙ c.in-Some.is) (ap (λ (a : Acted). a.reply) c.in_ok-acted.ensures.made.1) c.in_ok-acted.ensures.behind c.in_ok-acted.ensures.back)
+    (sym c.current.ensures ∙ c.in-Some.is) c.in_ok-acted.ensures.done.reply c.in_ok-acted.ensures.behind c.in_ok-acted.ensures.back)
