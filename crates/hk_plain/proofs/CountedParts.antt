@@ -2,7 +2,7 @@
 use Rattle.std.proofs.Common.{◌≡◌, ℕ, zero, suc, ◌+◌, ◌-◌, ◌<◌, ◌≤◌, ◌==◌, nat_lt, List, [], ◌∷◌, ◌++◌, length, Bool, true, false, Option, Some, None, refl, sym, ◌∙◌, ap, arith}
 use Rattle.std.proofs.Common.{cond, get_or, set, subst}
 use mathlib.Core.Logic.{inl, inr}
-use Rattle.std.specs.Prelude.{◌⊎◌, is_some, IfSome, IfNone, filter, not}
+use Rattle.std.specs.Prelude.{◌⊎◌, is_some, IfSome, IfNone, filter}
 use Rattle.std.specs.Option.{unwrap_or, option_map, option_to_list}
 use Rattle.std.specs.List.{flat_map, sum_by}
 use Rattle.std.specs.List.Sorted.{IsStrictlySortedBy}
@@ -28,7 +28,7 @@ use Rattle.hk_model.specs.State.{State, same_name, name_cmp, inc_cmp}
 use Rattle.hk_model.proofs.Keeping.{of_all}
 use Rattle.hk_model.proofs.KeepingLemmas.{all_kept}
 use Rattle.std.proofs.lemmas.Bool.Decides.{nat_tests}
-use Rattle.std.proofs.lemmas.Bool.{true≢false, false≢true, false_from_ne_true}
+use Rattle.std.proofs.lemmas.Bool.{false≢true, false_from_ne_true}
 use Rattle.hk_model.proofs.Standing.{on_cond, name_same}
 use Rattle.hk_model.specs.declared.world.Task.{Task}
 use Rattle.hk_model.specs.Opening.{numbered, all_ready}
@@ -323,33 +323,6 @@ counted_beside live ps objects objects' t u t' name o p h f listed is g =
         → (has_made u k objects ≡ true) ⊎ IsFound t' k
     by e k true same there = inr (g.found e k (λ none. subst (λ (n : Name). is_among n u.lost ≡ true) (sym (name_same (made u k) name same)) listed))
     by e k false apart there = inl (part_stands p (made u k) objects (inserted_stands (made u k) name (filter (λ (e : Name × Object). p e.0) objects) o apart there))
-
--- ---- some objects go
-
--- what a table names is what the one part names and the other
-parted : (n : Name) (p q : Name → Bool) (es : List (Name × Object)) → ((m : Name) → q m ≡ not (p m))
-    → times n (inner_names (filter (λ (e : Name × Object). p e.0) es)) + times n (inner_names (filter (λ (e : Name × Object). q e.0) es)) ≡ times n (inner_names es)
-parted n p q [] other = let a = times_none n in omega (arith, a)
-parted n p q (e ∷ es) other = by (p e.0) (q e.0) (other e.0) (parted n p q es other)
-  where
-    ps : List (Name × Object)
-    ps = filter (λ (e : Name × Object). p e.0) es
-
-    qs : List (Name × Object)
-    qs = filter (λ (e : Name × Object). q e.0) es
-
-    by : (a b : Bool) → b ≡ not a → times n (inner_names ps) + times n (inner_names qs) ≡ times n (inner_names es)
-        → times n (inner_names (cond a (e ∷ ps) ps)) + times n (inner_names (cond b (e ∷ qs) qs)) ≡ times n (object_names e.1 ++ inner_names es)
-    by true true k h = absurd (true≢false k)
-    by true false k h =
-        let x = times_both n (object_names e.1) (inner_names ps) in
-        let y = times_both n (object_names e.1) (inner_names es) in
-        omega (arith, x, y, h)
-    by false true k h =
-        let x = times_both n (object_names e.1) (inner_names qs) in
-        let y = times_both n (object_names e.1) (inner_names es) in
-        omega (arith, x, y, h)
-    by false false k h = absurd (false≢true k)
 
 -- ---- what the numbers show
 

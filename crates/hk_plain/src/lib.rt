@@ -4,8 +4,10 @@
 //! subject: `tables` has the state, `processes`, `incarnations` and `stacks` its parts with what is
 //! kept beside them, `walks` and `targets` the tests that the calls share, `counts` how many times
 //! each made object is named, `counted` the writes that it follows, `keeping` which objects stay,
-//! `marks` and `collecting` the room in a full table, `undoing` and `restoring` the state before an
-//! event, `copies` what they copy, `plain` the kernel over them.
+//! `marks` and `collecting` the room in a full table, `removed` what becomes of what goes, `changes`
+//! and `saving` what an event writes over, `forwarding` an event that can be taken back, `inverse`
+//! what takes it back, `undoing` and `restoring` the state before an event, `copies` what they copy,
+//! `plain` the kernel over them.
 //!
 //! A step costs no more than the size of what it touches and the logarithm of the number of
 //! objects, incarnations and processes. What it touches has the objects that vanish by it, with what

@@ -9,7 +9,8 @@ use std::marker::PhantomData;
 use std::test::Fail;
 
 /// A process calls a procedure that makes an object and returns it, loses it, and is halted.
-const SCRIPT: &[u8] = b"hydra 1\nprocedure make go\ncreate DATA ALL\nend\ncode main\nset r1 7\ncall 0 1\ndrop 1\nlabel l\ngoto l\nend\ncode go\nset r2 5\ncreate 0 3\nreturn 3\nend\nprocess a main\ncap make A0+UNCONF\nend\n";
+const SCRIPT: &[u8] =
+    b"hydra 1\nprocedure make go\ncreate DATA ALL\nend\ncode main\nset r1 7\ncall 0 1\ndrop 1\nlabel l\ngoto l\nend\ncode go\nset r2 5\ncreate 0 3\nreturn 3\nend\nprocess a main\ncap make A0+UNCONF\nend\n";
 
 /// The world of the process, of which no line was made.
 fn begun(alloc: Global) -> Result<Past, Fail> {
