@@ -31,10 +31,12 @@ use Rattle.hk_top.specs.declared.served.Silence.{Silence}
 use Rattle.hk_top.specs.declared.served.Silence.TheVariants as silence
 use Rattle.hk_top.specs.declared.words.Command.{Command}
 use Rattle.hk_top.specs.declared.words.Command.TheVariants as command
-use Rattle.hk_top.specs.Words.{IsCommand, IsReading, IsAlone, IsInRange, MayGenerate, MayTakeBack, MayTrace, ReadsAlone, ReadsScript, ReadsRecord, ReadsAtMost, words_of, byte_limit}
+use Rattle.hk_top.specs.Words.{IsCommand, IsReading, IsAlone, IsInRange, MayGenerate, MayTakeBack}
+use Rattle.hk_top.specs.Words.{MayTrace, ReadsAlone, ReadsScript, ReadsRecord, ReadsAtMost, words_of, byte_limit}
 use Rattle.hk_top.specs.BoundTexts.{AreTold}
 use Rattle.hk_top.specs.Served.{IsSummary, IsTooLong, silent_status}
-use Rattle.hk_top.specs.Outputs.{Due, DueTo, Answer, IsRecorded, IsSummed, IsChecked, IsLawful, Stream, IsSaid, status_of, read, record_of, script_of, bounds_of, json_of, world_of, verdict_of, changes_of, chains_of, state_of, script_refused, bad_json_text}
+use Rattle.hk_top.specs.Outputs.{Due, DueTo, Answer, IsRecorded, IsSummed, IsChecked, IsLawful, Stream, IsSaid, status_of, read}
+use Rattle.hk_top.specs.Outputs.{record_of, script_of, bounds_of, json_of, world_of, verdict_of, changes_of, chains_of, state_of, script_refused, bad_json_text}
 use Rattle.hk_top.specs.Outputs.{TellsLegal, TellsChanges, TellsChains, TellsState}
 use Rattle.hk_top.specs.Outputs.{record_refused, json_refused, legal, illegal, summed, too_long, written, read_fault, no_memory, write_fault, HadFault}
 

@@ -15,7 +15,8 @@ use Rattle.hk_check.proofs.OneVerdict.{one_verdict}
 use Rattle.hk_top.specs.declared.words.Command.TheVariants as command
 use Rattle.hk_top.specs.Words.{words_of, ReadsScript}
 use Rattle.hk_top.proofs.WordLemmas.{no_record, no_json_record}
-use Rattle.hk_top.specs.Outputs.{DueTo, IsChecked, IsRunOf, record_of, script_of, bounds_of, json_of, world_of, verdict_of, changes_of, chains_of, state_of, script_refused, record_refused, json_refused, TellsLegal, legal, illegal, alone, shared}
+use Rattle.hk_top.specs.Outputs.{DueTo, IsChecked, IsRunOf, record_of, script_of, bounds_of, json_of, world_of, verdict_of, changes_of}
+use Rattle.hk_top.specs.Outputs.{chains_of, state_of, script_refused, record_refused, json_refused, TellsLegal, legal, illegal, alone, shared}
 
 -- the words `check` read no script and ask for no run
 no_run : {w : WorldValue} {lines : List Line} {end : End} → IsRunOf (words_of command.Check) w lines end → ⊥

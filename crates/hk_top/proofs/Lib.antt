@@ -7,5 +7,5 @@ pub mod Ends
 pub mod FoundLegal
 pub mod ReadWhole
 pub mod WordLemmas
-pub mod Written
+pub mod WrittenRuns
 pub mod OneRun

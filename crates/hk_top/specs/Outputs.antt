@@ -40,7 +40,8 @@ use Rattle.hk_report.specs.ChangeTexts.{changes_text}
 use Rattle.hk_undo.specs.StateTexts.{state_text}
 use Rattle.hk_trace.specs.ChainTexts.{chains_text}
 use Rattle.hk_trace.specs.Traced.{trace_of}
-use Rattle.hk_top.specs.Words.{IsRun, IsRunOn, IsShow, IsBound, IsJson, IsUnjson, IsCheck, IsConfine, IsTrace, IsBack, IsGen, ReadsScript, ReadsRecord, IsReading, IsCommand, ReadsAtMost}
+use Rattle.hk_top.specs.Words.{IsRun, IsRunOn, IsShow, IsBound, IsJson, IsUnjson, IsCheck, IsConfine}
+use Rattle.hk_top.specs.Words.{IsTrace, IsBack, IsGen, ReadsScript, ReadsRecord, IsReading, IsCommand, ReadsAtMost}
 
 -- what is written of words that are no command
 abbrev pub usage_text : List ℕ

@@ -105,7 +105,7 @@ fn run_script<M: Maker>(
 }
 
 /// What is due to `run` and a world, run on this kernel: the record of its run.
-#[tactic(auto, using(crate::proofs::Written::written_due))]
+#[tactic(auto, using(crate::proofs::WrittenRuns::written_due))]
 fn recorded<K: Kernel>(alloc: Global, world: &World, kernel: K) -> Result<Served<K>, NoMemory>
     requires { K.state kernel ≡ opening world.now }
     ensures { IfOk result (λ served. Records K.state (words_of Command.Run) world.now served) }

@@ -1,6 +1,6 @@
 use Rattle.std.proofs.Common.{◌∙◌, sym, subst}
 use Rattle.hk_top.specs.Outputs.{IsWrittenRun}
-use Rattle.hk_top.proofs.Written.{told_none, told_line, told_fewer, told_more, told_last}
+use Rattle.hk_top.proofs.WrittenRuns.{told_none, told_line, told_fewer, told_more, told_last}
 use Rattle.hk_top.proofs.written.write_run.Goals as goal
 
 pub loop-writer-init : goal.loop-writer-init

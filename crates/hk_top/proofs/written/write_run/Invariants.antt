@@ -1,6 +1,6 @@
 use Rattle.std.proofs.Common.{◌-◌}
 use Rattle.hk_program.specs.Machines.{IsSound}
-use Rattle.hk_top.proofs.Written.{IsTold}
+use Rattle.hk_top.proofs.WrittenRuns.{IsTold}
 use Rattle.hk_top.proofs.written.write_run.Given as goal
 
 -- the record so far is of a history of processor 0, and the machine stands behind it
