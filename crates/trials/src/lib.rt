@@ -11,8 +11,6 @@ mod json;
 #[cfg(test)]
 mod lines_read;
 #[cfg(test)]
-mod past;
-#[cfg(test)]
 mod print;
 #[cfg(test)]
 mod records_read;
