@@ -21,12 +21,14 @@ some_before b [] y = refl
 some_before b (x ∷ xs) y = refl
 
 -- the text of the next item is written behind what stands before it
-pub joined_next : {X : Type 0} (b : ℕ) (text : X → List ℕ) (xs : List X) (i : ℕ) (d : X) {out before pushed new : List ℕ} → i < length xs
-    → out ≡ join_with_byte b (map text (take i xs)) → before ≡ separator b (take i xs) → pushed ≡ out ++ before → new ≡ pushed ++ text (get_or xs i d)
-    → new ≡ join_with_byte b (map text (take (i + 1) xs))
-joined_next b text xs i d inside e f p n =
-    n ∙ rw (p, e, f, take_more xs i d inside) (append_assoc (join_with_byte b (map text (take i xs))) (separator b (take i xs)) (text (get_or xs i d))
-    ∙ sym (joined b text (take i xs) (get_or xs i d)))
+pub joined_next : {X : Type 0} (b : ℕ) (text : X → List ℕ) (old : List ℕ) (xs : List X) (i : ℕ) (d : X) {out before pushed new : List ℕ} → i < length xs
+    → out ≡ old ++ join_with_byte b (map text (take i xs)) → before ≡ separator b (take i xs) → pushed ≡ out ++ before → new ≡ pushed ++ text (get_or xs i d)
+    → new ≡ old ++ join_with_byte b (map text (take (i + 1) xs))
+joined_next b text old xs i d inside e f p n =
+    let so_far = join_with_byte b (map text (take i xs)) in
+    let next = text (get_or xs i d) in
+    n ∙ rw (p, e, f, take_more xs i d inside) (append_assoc (old ++ so_far) (separator b (take i xs)) next
+    ∙ append_assoc old so_far (separator b (take i xs) ++ next) ∙ ap (λ (t : List ℕ). old ++ t) (sym (joined b text (take i xs) (get_or xs i d))))
 
 -- and the byte stands before the one behind it
 pub separated_next : {X : Type 0} (b : ℕ) (xs : List X) (i : ℕ) (d : X) → i < length xs → (b ∷ []) ≡ separator b (take (i + 1) xs)

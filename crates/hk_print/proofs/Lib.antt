@@ -6,7 +6,6 @@ mod Joined
 mod Names
 pub mod Pieces
 mod Places
-mod Registers
 pub mod StepByStep
 mod WordByWord
 pub mod Spelled

@@ -2,7 +2,7 @@
 use Rattle.std.proofs.Common.{◌≡◌, ℕ, ◌+◌, ◌<◌, Bool, true, false, cond, List, [], ◌∷◌, ◌++◌, length, map, take, get_or, refl, sym, ap, ◌∙◌, Option, Some, None, IsTrue}
 use Rattle.std.specs.List.{filter, join_with_byte}
 use Rattle.std.proofs.lemmas.List.{take_more}
-use mathlib.Core.List.{append-nil}
+use mathlib.Core.List.{append_assoc, append-nil}
 use Rattle.hk_rights.specs.Rights.{has, is_right, IsRightsWord, name_of}
 use Rattle.hk_rights.proofs.Words.{HasAll-all_rights}
 use Rattle.hk_rights.proofs.Table.{has-all_rights}
@@ -22,12 +22,15 @@ kept test (m ∷ ns) n = go (test m) (kept test ns n)
     go false e = e
 
 -- the name of the next right is written
-pub name_pushed : (test : ℕ → Bool) (ns : List ℕ) (i d : ℕ) (text before : List ℕ) → i < length ns → test (get_or ns i d) ≡ true → text ≡ names_text (filter test (take i ns))
+pub name_pushed : (test : ℕ → Bool) (old : List ℕ) (ns : List ℕ) (i d : ℕ) (text before : List ℕ) → i < length ns → test (get_or ns i d) ≡ true → text ≡ old ++ names_text (filter test (take i ns))
     → before ≡ separator 43 (filter test (take i ns))
-    → (text ++ (before ++ name_of (get_or ns i d)) ≡ names_text (filter test (take (i + 1) ns))) × ((43 ∷ []) ≡ separator 43 (filter test (take (i + 1) ns)))
-name_pushed test ns i d text before inside has e f =
-    let more : filter test (take (i + 1) ns) ≡ filter test (take i ns) ++ get_or ns i d ∷ [] = rw (take_more ns i d inside) (kept test (take i ns) (get_or ns i d) ∙ rw has refl) in
-    (rw (e, f, more) (sym (joined 43 name_of (filter test (take i ns)) (get_or ns i d))), rw more (sym (some_before 43 (filter test (take i ns)) (get_or ns i d))))
+    → (text ++ (before ++ name_of (get_or ns i d)) ≡ old ++ names_text (filter test (take (i + 1) ns))) × ((43 ∷ []) ≡ separator 43 (filter test (take (i + 1) ns)))
+name_pushed test old ns i d text before inside has e f =
+    let more : filter test (take (i + 1) ns) ≡ filter test (take i ns) ++ get_or ns i d ∷ [] = rw (take_more ns i d inside) (kept test (take i ns) (get_or ns i d) ∙ rw has refl) in (
+      rw (e, f, more) (append_assoc old (names_text (filter test (take i ns))) (separator 43 (filter test (take i ns)) ++ name_of (get_or ns i d))
+          ∙ ap (λ (t : List ℕ). old ++ t) (sym (joined 43 name_of (filter test (take i ns)) (get_or ns i d)))),
+      rw more (sym (some_before 43 (filter test (take i ns)) (get_or ns i d))),
+    )
 
 -- or the set does not have it
 pub name_passed : (test : ℕ → Bool) (ns : List ℕ) (i d : ℕ) → i < length ns → test (get_or ns i d) ≡ false → filter test (take (i + 1) ns) ≡ filter test (take i ns)

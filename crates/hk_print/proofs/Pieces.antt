@@ -1,16 +1,23 @@
 -- The texts of pieces that stand for names and rights.
 use Rattle.std.proofs.Common.{◌≡◌, ℕ, Bool, true, false, cond, List, [], ◌∷◌, ◌++◌, refl, sym, ap}
-use Rattle.std.specs.Prelude.{codes}
+use Rattle.std.specs.Prelude.{codes, map}
+use Rattle.std.specs.List.{join_with_byte}
+use Rattle.std.specs.Fmt.{decimal}
+use Rattle.hk_model.specs.declared.entries.Making.{Making}
+use Rattle.hk_model.specs.declared.entries.Making.TheVariants as making
+use Rattle.hk_model.specs.declared.names.Slot.{Slot}
+use Rattle.hk_format.specs.RightsTexts.{rights_text}
+use Rattle.hk_format.specs.Canonical.{making_text}
 use mathlib.Core.List.{append_assoc}
 use Rattle.hk_format.specs.declared.syntax.Body.TheVariants.{CapEntry, AmplifyEntry, CreateEntry, ParamIs}
 use Rattle.hk_format.specs.declared.syntax.Head.TheVariants.{ObjectIs, ProcedureIs, ProcessIs}
 use Rattle.hk_format.specs.Texts.{spell_line}
-use Rattle.hk_format.specs.Spelling.{head_pieces, body_pieces}
+use Rattle.hk_format.specs.Spelling.{head_pieces, body_pieces, making_text_pieces}
 use Rattle.hk_format.proofs.LineAgain.{same_is}
 use Rattle.hk_print.specs.ItemTexts.{pieces_line}
 use Rattle.hk_model.specs.Labels.{is_word, same_text}
 use Rattle.hk_format.specs.Pieces.{Word, Upper, Dash, spell}
-use Rattle.hk_format.specs.Operands.{type_piece, rights_piece}
+use Rattle.hk_format.specs.Operands.{type_piece, rights_piece, rights_set_piece, slot_piece}
 
 pub spelled_type : (t : List ℕ) → spell (type_piece t) ≡ t
 spelled_type t = go (is_word t)
@@ -25,6 +32,26 @@ spelled_rights t = go (same_text t (codes "-")) refl
     go : (b : Bool) → same_text t (codes "-") ≡ b → spell (cond b Dash (Upper t)) ≡ t
     go true e = sym (same_is t (codes "-") e)
     go false e = refl
+
+-- a word, a slot and rights
+pub slot_rights_text : (word : List ℕ) (slot : Slot) (rights : ℕ)
+    → spell_line (Word word ∷ slot_piece slot ∷ rights_set_piece rights ∷ []) ≡ word ++ 32 ∷ (decimal slot.0 ++ 32 ∷ rights_text rights)
+slot_rights_text word slot rights = rw (spelled_rights (rights_text rights)) refl
+
+-- what a template is made of
+pub amplify_made : (check give : ℕ) → spell_line (making_text_pieces (making_text (making.Amplify check give))) ≡ codes "amplify" ++ 32 ∷ (rights_text check ++ 32 ∷ rights_text give)
+amplify_made check give = rw (spelled_rights (rights_text check), spelled_rights (rights_text give)) refl
+
+pub create_made : (give : ℕ) → spell_line (making_text_pieces (making_text (making.Create give))) ≡ codes "create " ++ rights_text give
+create_made give = rw (spelled_rights (rights_text give)) refl
+
+-- what a template is made of, and a slot behind it
+pub template_spelled : (m : Making) (front : List ℕ) (into : Slot)
+    → join_with_byte 32 (front ∷ map spell (making_text_pieces (making_text m) ++ slot_piece into ∷ []))
+    ≡ front ++ 32 ∷ (spell_line (making_text_pieces (making_text m)) ++ 32 ∷ decimal into.0)
+template_spelled (making.Amplify check give) front into =
+    ap (λ (t : List ℕ). front ++ 32 ∷ (codes "amplify " ++ t)) (sym (append_assoc (spell (rights_piece (rights_text check))) (32 ∷ spell (rights_piece (rights_text give))) (32 ∷ decimal into.0)))
+template_spelled (making.Create give) front into = refl
 
 -- the texts of capabilities, templates and parameters
 

@@ -6,8 +6,6 @@ use mathlib.Core.List.{append_assoc, append-nil}
 use Rattle.hk_model.specs.declared.instructions.Instr.{Instr}
 use Rattle.hk_format.specs.declared.syntax.Body.TheVariants.{LabelIs, StepIs}
 use Rattle.hk_format.specs.Canonical.{code_parts, jumps_to, label_parts, label_text, part, written_of}
-use Rattle.hk_format.specs.Texts.{spell_line}
-use Rattle.hk_format.specs.Spelling.{written_pieces}
 use Rattle.hk_print.specs.ItemTexts.{body_text, parts_text}
 use Rattle.hk_print.proofs.Items.{parts_joined}
 
@@ -31,17 +29,17 @@ pub label_written : (all : List Instr) (n : ℕ) (mark : Bool) (old new : List �
 label_written all n mark old new e written = written ∙ ap (λ (t : List ℕ). old ++ t) (rw e (sym (label_spelled all n)))
 
 -- the label and the line of an instruction are what the lines from it on begin with
-pub step_written : (all : List Instr) (i : ℕ) (d : Instr) (whole out labelled text new : List ℕ) → i < length all → out ++ parts_text (code_parts all i (drop i all)) ≡ whole
-    → labelled ≡ out ++ parts_text (label_parts all i) → text ≡ spell_line (written_pieces (written_of (get_or all i d))) → new ≡ labelled ++ (text ++ 10 ∷ [])
+pub step_written : (all : List Instr) (i : ℕ) (d : Instr) (whole out labelled new : List ℕ) → i < length all → out ++ parts_text (code_parts all i (drop i all)) ≡ whole
+    → labelled ≡ out ++ parts_text (label_parts all i) → new ≡ labelled ++ body_text (StepIs (written_of (get_or all i d)))
     → new ++ parts_text (code_parts all (i + 1) (drop (i + 1) all)) ≡ whole
-step_written all i d whole out labelled text new inside before l e n =
+step_written all i d whole out labelled new inside before l n =
     let cut = drop_more all i d inside in
     let line = body_text (StepIs (written_of (get_or all i d))) in
     let label = parts_text (label_parts all i) in
     let rest = parts_text (code_parts all (i + 1) (drop (i + 1) all)) in
     let split : parts_text (code_parts all i (drop i all)) ≡ label ++ (line ++ rest) = rw cut
     (parts_joined (label_parts all i) (part (StepIs (written_of (get_or all i d))) ∷ code_parts all (i + 1) (drop (i + 1) all))) in
-    rw (n, e, l) (append_assoc (out ++ label) line rest ∙ append_assoc out label (line ++ rest)) ∙ (ap (λ (t : List ℕ). out ++ t) (sym split) ∙ before)
+    rw (n, l) (append_assoc (out ++ label) line rest ∙ append_assoc out label (line ++ rest)) ∙ (ap (λ (t : List ℕ). out ++ t) (sym split) ∙ before)
 
 drop_all : (all : List Instr) → drop (length all) all ≡ []
 drop_all [] = refl

@@ -2,15 +2,17 @@
 
 ghost use Rattle.std.specs.Prelude.{◌≡◌, ◌++◌, ◌∷◌, [], ◌+◌, ◌≤◌, ℕ, true, false, OnOk, IfOk, string_bytes, length, slice_index_or, if◌then◌else◌};
 ghost use Rattle.std.specs.List.{AllByRecursion, flat_map, list_any};
-ghost use Rattle.hk_format.specs.declared.syntax.Body.TheVariants.{LabelIs};
+ghost use Rattle.hk_format.specs.declared.syntax.Body.TheVariants.{LabelIs, StepIs};
 ghost use Rattle.hk_model.specs.declared.world.Code.{Code};
 ghost use Rattle.hk_model.specs.Limits.{code_limit};
 ghost use Rattle.hk_model.specs.WorldValue.{IsCode, IsInstr};
-ghost use Rattle.hk_format.specs.Canonical.{code_item, code_parts, jumps_to, label_text};
+ghost use Rattle.hk_format.specs.Canonical.{code_item, code_parts, jumps_to, label_text, written_of};
 ghost use Rattle.hk_print.specs.ItemTexts.{body_text, item_text, parts_text};
 ghost use Rattle.hk_print.specs.Jumps.{target_of};
 
-use crate::instructions::instr_text;
+use crate::heads::write_name;
+use crate::instructions::write_instr;
+use crate::numbers::write_number;
 use hk_model::{Code, Instr, NoMemory, World};
 use std::alloc::Global;
 
@@ -29,8 +31,7 @@ fn write_code(alloc: Global, out: &mut String, code: &Code) -> Result<(), NoMemo
     requires { IsCode code.now }
     ensures { OnOk result (string_bytes out.new ≡ string_bytes out.old ++ item_text (code_item code.now)) }
 {
-    let label = code.label.as_str();
-    write!(out, "code {label}\n")?;
+    write_name(out, "code ", code.label.as_str())?;
     write_steps(alloc, out, code.steps.as_slice())?;
     out.push_str("end\n")?;
     Ok(())
@@ -45,10 +46,19 @@ fn write_steps(alloc: Global, out: &mut String, steps: &[Instr]) -> Result<(), N
     let marks = marks(alloc, steps)?;
     for (place, step) in steps.iter().enumerate() {
         write_label(out, marks[place], place)?;
-        let text = instr_text(alloc, step, steps.len())?;
-        write!(out, "{text}\n")?;
+        write_step(out, step, steps.len())?;
     }
     write_label(out, marks[steps.len()], steps.len())?;
+    Ok(())
+}
+
+/// Writes the line of an instruction of a code of so many.
+fn write_step(out: &mut String, step: &Instr, len: usize) -> Result<(), NoMemory>
+    requires { IsInstr len step.now }
+    ensures { OnOk result (string_bytes out.new ≡ string_bytes out.old ++ body_text (StepIs (written_of step.now))) }
+{
+    write_instr(out, step, len)?;
+    out.push('\n')?;
     Ok(())
 }
 
@@ -57,7 +67,9 @@ fn write_label(out: &mut String, marked: bool, place: usize) -> Result<(), NoMem
     ensures { OnOk result (string_bytes out.new ≡ string_bytes out.old ++ (if marked then body_text (LabelIs (label_text place)) else [])) }
 {
     if marked {
-        write!(out, "label l{place}\n")?;
+        out.push_str("label l")?;
+        write_number(out, place as u64)?;
+        out.push('\n')?;
     }
     Ok(())
 }

@@ -8,14 +8,12 @@ ghost use Rattle.hk_format.specs.EntryTexts.{entry_text, param_text, AreSpelledI
 ghost use Rattle.hk_format.specs.Names.{spoken};
 ghost use Rattle.hk_print.specs.ItemTexts.{entry_line, param_line};
 
-use crate::rights::rights_text;
-use crate::spellers::{Speller, kind_text};
+use crate::rights::{write_both, write_rights};
+use crate::spellers::{Speller, write_kind};
 use hk_model::{Entry, NoMemory, Param, Template, World};
-use std::alloc::Global;
 
 /// Writes a line for each entry.
 pub(crate) fn write_entries(
-    alloc: Global,
     out: &mut String,
     world: &World,
     entries: &[Entry],
@@ -24,53 +22,43 @@ pub(crate) fn write_entries(
     ensures { OnOk result (string_bytes out.new ≡ string_bytes out.old ++ flat_map (entry_line (spoken world.now)) entries.now) }
 {
     for entry in entries {
-        write_entry_line(alloc, out, world, *entry)?;
+        write_entry_line(out, world, *entry)?;
     }
     Ok(())
 }
 
 /// Writes the line of an entry.
 #[tactic(auto, using(crate::proofs::Spelled::entry_names))]
-fn write_entry_line(
-    alloc: Global,
-    out: &mut String,
-    world: &World,
-    entry: Entry,
-) -> Result<(), NoMemory>
+fn write_entry_line(out: &mut String, world: &World, entry: Entry) -> Result<(), NoMemory>
     requires { IsEntry world.now entry }
     ensures { OnOk result (string_bytes out.new ≡ string_bytes out.old ++ entry_line (spoken world.now) entry) }
 {
-    write_entry(alloc, out, world, entry)?;
-    out.push_str("\n")?;
+    write_entry(out, world, entry)?;
+    out.push('\n')?;
     Ok(())
 }
 
 /// Writes the text of an entry, without a line feed: `empty`, a capability or a template, in which
 /// names are as the speller has them. The only error is want of memory.
-pub fn write_entry<S: Speller>(
-    alloc: Global,
-    out: &mut String,
-    speller: &S,
-    entry: Entry,
-) -> Result<(), NoMemory>
+pub fn write_entry<S: Speller>(out: &mut String, speller: &S, entry: Entry) -> Result<(), NoMemory>
     requires { AreSpelledIn (S.spells speller.now) entry }
     ensures { OnOk result (string_bytes out.new ≡ string_bytes out.old ++ entry_text (S.name_text speller.now) entry) }
 {
     match entry {
         Entry::Empty => out.push_str("empty")?,
         Entry::Held(cap) => {
-            let object = speller.spell(alloc, cap.name)?;
-            let rights = rights_text(alloc, cap.rights)?;
-            write!(out, "cap {object} {rights}")?;
+            out.push_str("cap ")?;
+            speller.spell(out, cap.name)?;
+            out.push(' ')?;
+            write_rights(out, cap.rights)?;
         }
-        Entry::Form(template) => write_template(alloc, out, speller, template)?,
+        Entry::Form(template) => write_template(out, speller, template)?,
     }
     Ok(())
 }
 
 /// Writes the text of a template.
 fn write_template<S: Speller>(
-    alloc: Global,
     out: &mut String,
     speller: &S,
     template: Template,
@@ -80,15 +68,15 @@ fn write_template<S: Speller>(
 {
     match template {
         Template::Amplify { of, check, give } => {
-            let kind = kind_text(alloc, speller, of)?;
-            let check = rights_text(alloc, check)?;
-            let give = rights_text(alloc, give)?;
-            write!(out, "amplify {kind} {check} {give}")?;
+            out.push_str("amplify ")?;
+            write_kind(out, speller, of)?;
+            write_both(out, check, give)?;
         }
         Template::Create { of, give } => {
-            let kind = speller.spell(alloc, of)?;
-            let give = rights_text(alloc, give)?;
-            write!(out, "create {kind} {give}")?;
+            out.push_str("create ")?;
+            speller.spell(out, of)?;
+            out.push(' ')?;
+            write_rights(out, give)?;
         }
     }
     Ok(())
@@ -96,7 +84,6 @@ fn write_template<S: Speller>(
 
 /// Writes a line for each parameter.
 pub(crate) fn write_params(
-    alloc: Global,
     out: &mut String,
     world: &World,
     params: &[Param],
@@ -105,41 +92,30 @@ pub(crate) fn write_params(
     ensures { OnOk result (string_bytes out.new ≡ string_bytes out.old ++ flat_map (param_line (spoken world.now)) params.now) }
 {
     for param in params {
-        write_param_line(alloc, out, world, *param)?;
+        write_param_line(out, world, *param)?;
     }
     Ok(())
 }
 
 /// Writes the line of a parameter.
 #[tactic(auto, using(crate::proofs::Spelled::kind_names))]
-fn write_param_line(
-    alloc: Global,
-    out: &mut String,
-    world: &World,
-    param: Param,
-) -> Result<(), NoMemory>
+fn write_param_line(out: &mut String, world: &World, param: Param) -> Result<(), NoMemory>
     requires { IsParam world.now param }
     ensures { OnOk result (string_bytes out.new ≡ string_bytes out.old ++ param_line (spoken world.now) param) }
 {
-    write_param(alloc, out, world, param)?;
-    out.push_str("\n")?;
+    write_param(out, world, param)?;
+    out.push('\n')?;
     Ok(())
 }
 
 /// Writes the text of a parameter, without a line feed, in which names are as the speller has them.
 /// The only error is want of memory.
-pub fn write_param<S: Speller>(
-    alloc: Global,
-    out: &mut String,
-    speller: &S,
-    param: Param,
-) -> Result<(), NoMemory>
+pub fn write_param<S: Speller>(out: &mut String, speller: &S, param: Param) -> Result<(), NoMemory>
     requires { IsSpelledOrAny (S.spells speller.now) param.of }
     ensures { OnOk result (string_bytes out.new ≡ string_bytes out.old ++ param_text (S.name_text speller.now) param) }
 {
-    let kind = kind_text(alloc, speller, param.of)?;
-    let check = rights_text(alloc, param.check)?;
-    let give = rights_text(alloc, param.give)?;
-    write!(out, "param {kind} {check} {give}")?;
+    out.push_str("param ")?;
+    write_kind(out, speller, param.of)?;
+    write_both(out, param.check, param.give)?;
     Ok(())
 }

@@ -6,6 +6,7 @@ ghost use Rattle.hk_format.specs.Canonical.{canon, limit_items};
 ghost use Rattle.hk_print.specs.ItemTexts.{item_text};
 
 use crate::codes::write_codes;
+use crate::numbers::write_number;
 use crate::objects::write_objects;
 use crate::processes::write_processes;
 use hk_model::limits::USUAL_LIMIT;
@@ -20,9 +21,9 @@ pub fn script_text(alloc: Global, world: &World) -> Result<Text, NoMemory>
 {
     let mut out = String::from_str(alloc, "hydra 1\n")?;
     write_limit(&mut out, world.limit())?;
-    write_objects(alloc, &mut out, world)?;
+    write_objects(&mut out, world)?;
     write_codes(alloc, &mut out, world)?;
-    write_processes(alloc, &mut out, world)?;
+    write_processes(&mut out, world)?;
     Ok(Text::from_string(out))
 }
 
@@ -31,7 +32,9 @@ fn write_limit(out: &mut String, limit: u32) -> Result<(), NoMemory>
     ensures { OnOk result (string_bytes out.new ≡ string_bytes out.old ++ flat_map item_text (limit_items limit)) }
 {
     if limit != USUAL_LIMIT {
-        write!(out, "limit {limit}\n")?;
+        out.push_str("limit ")?;
+        write_number(out, limit as u64)?;
+        out.push('\n')?;
     }
     Ok(())
 }

@@ -1,10 +1,11 @@
 //! What gives names their texts (`docs/FORMATS.md`, "Names").
 
-ghost use Rattle.std.specs.Prelude.{◌≡◌, IfOk, string_bytes};
+ghost use Rattle.std.specs.Prelude.{◌≡◌, ◌++◌, IfOk, OnOk, string_bytes};
 ghost use Rattle.hk_model.specs.WorldValue.{IsTypeOrAny};
 ghost use Rattle.hk_format.specs.EntryTexts.{kind_spelled, IsSpelledOrAny};
 
 use crate::labels::object_label;
+use crate::numbers::write_number;
 use hk_model::{Name, NoMemory, World};
 use std::alloc::Global;
 
@@ -19,10 +20,10 @@ pub trait Speller {
     /// The text of each.
     ghost name_text: { Self → Name → List ℕ };
 
-    /// The text of a name. The only error is want of memory.
-    fn spell(&self, alloc: Global, name: Name) -> Result<String, NoMemory>
+    /// Writes the text of a name. The only error is want of memory.
+    fn spell(&self, out: &mut String, name: Name) -> Result<(), NoMemory>
         requires { spells self.now name }
-        ensures { IfOk result (λ t. string_bytes t ≡ name_text self.now name) };
+        ensures { OnOk result (string_bytes out.new ≡ string_bytes out.old ++ name_text self.now name) };
 }
 
 /// The labels of its objects.
@@ -34,8 +35,9 @@ impl Speller for World {
 
     ghost name_text = { λ w name. object_text (spoken w) name };
 
-    fn spell(&self, alloc: Global, name: Name) -> Result<String, NoMemory> {
-        Ok(String::from_str(alloc, object_label(self, name))?)
+    fn spell(&self, out: &mut String, name: Name) -> Result<(), NoMemory> {
+        out.push_str(object_label(self, name))?;
+        Ok(())
     }
 }
 
@@ -50,9 +52,8 @@ impl Speller for ByNumber {
 
     ghost name_text = { λ _ name. by_number name };
 
-    fn spell(&self, alloc: Global, name: Name) -> Result<String, NoMemory> {
-        let number = name.0;
-        Ok(format!(in alloc; "{number}")?)
+    fn spell(&self, out: &mut String, name: Name) -> Result<(), NoMemory> {
+        write_number(out, name.0)
     }
 }
 
@@ -65,8 +66,25 @@ pub fn kind_text<S: Speller>(
     requires { IsSpelledOrAny (S.spells speller.now) of }
     ensures { IfOk result (λ t. string_bytes t ≡ kind_spelled (S.name_text speller.now) of) }
 {
+    let mut out = String::new(alloc);
+    write_kind(&mut out, speller, of)?;
+    Ok(out)
+}
+
+/// Writes the text of a type, or `any`.
+pub(crate) fn write_kind<S: Speller>(
+    out: &mut String,
+    speller: &S,
+    of: Option<Name>,
+) -> Result<(), NoMemory>
+    requires { IsSpelledOrAny (S.spells speller.now) of }
+    ensures { OnOk result (string_bytes out.new ≡ string_bytes out.old ++ kind_spelled (S.name_text speller.now) of) }
+{
     match of {
-        Some(name) => speller.spell(alloc, name),
-        None => Ok(String::from_str(alloc, "any")?),
+        Some(name) => speller.spell(out, name),
+        None => {
+            out.push_str("any")?;
+            Ok(())
+        }
     }
 }

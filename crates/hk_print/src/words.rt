@@ -8,13 +8,13 @@ ghost use Rattle.hk_print.specs.WordLines.{begun_lines};
 
 use hk_model::NoMemory;
 use hk_model::limits::LINE_BYTES;
-use std::alloc::Global;
+use itoa::Buffer;
 
 /// The bytes of `words`.
 const WORDS_BYTES: usize = 5;
 
 /// Writes the words, in as few lines as keep each within its length. The only error is want of memory.
-pub fn write_words(alloc: Global, out: &mut String, words: &[u32]) -> Result<(), NoMemory>
+pub fn write_words(out: &mut String, words: &[u32]) -> Result<(), NoMemory>
     ensures { OnOk result (string_bytes out.new ≡ string_bytes out.old ++ parts_text (word_parts words.now)) }
 {
     if words.is_empty() {
@@ -23,7 +23,7 @@ pub fn write_words(alloc: Global, out: &mut String, words: &[u32]) -> Result<(),
     out.push_str("words")?;
     let mut used = WORDS_BYTES;
     for word in words {
-        used = write_word(alloc, out, used, *word)?;
+        used = write_word(out, used, *word)?;
     }
     out.push_str("\n")?;
     Ok(())
@@ -31,18 +31,29 @@ pub fn write_words(alloc: Global, out: &mut String, words: &[u32]) -> Result<(),
 
 /// Writes a word on a line that has so many bytes, where it fits, and else on the next. The bytes of
 /// the line that the word stands on, which goes on behind it.
-fn write_word(alloc: Global, out: &mut String, used: usize, word: u32) -> Result<usize, NoMemory>
+fn write_word(out: &mut String, used: usize, word: u32) -> Result<usize, NoMemory>
     requires { used ≤ line_bytes }
     ensures few { IfOk result (λ end. end ≤ line_bytes) }
     ensures text { IfOk result (λ end. (rest : List ℕ)
         → string_bytes out.new ++ begun_lines (words_from end rest) ≡ string_bytes out.old ++ begun_lines (words_from used (word ∷ rest))) }
 {
-    let number = format!(in alloc; " {word}")?;
-    if used + number.len() <= LINE_BYTES {
-        out.push_str(number.as_str())?;
-        return Ok(used + number.len());
+    let mut digits = Buffer::new();
+    let number = digits.format(word);
+    let more = 1 + number.len();
+    if used + more <= LINE_BYTES {
+        write_behind_space(out, number)?;
+        return Ok(used + more);
     }
     out.push_str("\nwords")?;
-    out.push_str(number.as_str())?;
-    Ok(WORDS_BYTES + number.len())
+    write_behind_space(out, number)?;
+    Ok(WORDS_BYTES + more)
+}
+
+/// Writes a space and a text.
+fn write_behind_space(out: &mut String, text: &str) -> Result<(), NoMemory>
+    ensures { OnOk result (string_bytes out.new ≡ string_bytes out.old ++ 32 ∷ text.now) }
+{
+    out.push(' ')?;
+    out.push_str(text)?;
+    Ok(())
 }

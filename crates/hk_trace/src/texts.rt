@@ -18,7 +18,7 @@ pub fn chains_text(alloc: Global, lines: &[Line], chains: &[Chain]) -> Result<Te
 {
     let mut out = String::new(alloc);
     for chain in chains {
-        write_chain(alloc, &mut out, lines, chain)?;
+        write_chain(&mut out, lines, chain)?;
     }
     let count = chains.len();
     write!(&mut out, "steps {count}\n")?;
@@ -26,56 +26,46 @@ pub fn chains_text(alloc: Global, lines: &[Line], chains: &[Chain]) -> Result<Te
 }
 
 /// Writes the lines of a chain.
-fn write_chain(
-    alloc: Global,
-    out: &mut String,
-    lines: &[Line],
-    chain: &Chain,
-) -> Result<(), NoMemory>
+fn write_chain(out: &mut String, lines: &[Line], chain: &Chain) -> Result<(), NoMemory>
     ensures { OnOk result (string_bytes out.new ≡ string_bytes out.old ++ chain_text lines.now chain.now) }
 {
     let step = chain.step;
     write!(out, "step {step} ")?;
-    write_standing(alloc, out, chain.at)?;
+    write_standing(out, chain.at)?;
     out.push_str("\n")?;
-    write_links(alloc, out, lines, chain.links.as_slice())?;
+    write_links(out, lines, chain.links.as_slice())?;
     write_origin(out, chain.origin)
 }
 
 /// Writes the lines of the links of a chain.
-fn write_links(
-    alloc: Global,
-    out: &mut String,
-    lines: &[Line],
-    links: &[Link],
-) -> Result<(), NoMemory>
+fn write_links(out: &mut String, lines: &[Line], links: &[Link]) -> Result<(), NoMemory>
     ensures { OnOk result (string_bytes out.new ≡ string_bytes out.old ++ flat_map (link_text lines.now) links.now) }
 {
     for link in links {
-        write_link(alloc, out, lines, *link)?;
+        write_link(out, lines, *link)?;
     }
     Ok(())
 }
 
 /// Writes the line of a link.
-fn write_link(alloc: Global, out: &mut String, lines: &[Line], link: Link) -> Result<(), NoMemory>
+fn write_link(out: &mut String, lines: &[Line], link: Link) -> Result<(), NoMemory>
     ensures { OnOk result (string_bytes out.new ≡ string_bytes out.old ++ link_text lines.now link) }
 {
     let line = link.line;
     let word = word_at(lines, line);
     write!(out, "{line} {word} ")?;
-    write_standing(alloc, out, link.from)?;
+    write_standing(out, link.from)?;
     out.push_str("\n")?;
     Ok(())
 }
 
 /// Writes a place and what stands there.
-fn write_standing(alloc: Global, out: &mut String, at: Standing) -> Result<(), NoMemory>
+fn write_standing(out: &mut String, at: Standing) -> Result<(), NoMemory>
     ensures { OnOk result (string_bytes out.new ≡ string_bytes out.old ++ standing_text at) }
 {
     write_place(out, at.place)?;
     out.push_str(" ")?;
-    write_entry(alloc, out, &ByNumber, at.entry)
+    write_entry(out, &ByNumber, at.entry)
 }
 
 /// Writes a place.

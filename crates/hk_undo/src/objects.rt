@@ -7,7 +7,6 @@ ghost use Rattle.hk_undo.specs.StateTexts.{code_line, list_lines, object_lines, 
 
 use crate::places::{write_places, write_queue, write_words};
 use hk_model::{Entry, Name, NoMemory, Proc, Seen};
-use std::alloc::Global;
 
 /// Whether objects of a type have a list.
 fn is_listed(of: Name) -> bool
@@ -17,7 +16,7 @@ fn is_listed(of: Name) -> bool
 }
 
 /// Writes the lines of an object's list, where its type has one.
-fn write_list(alloc: Global, out: &mut String, of: Name, entries: &[Entry]) -> Result<(), NoMemory>
+fn write_list(out: &mut String, of: Name, entries: &[Entry]) -> Result<(), NoMemory>
     ensures { OnOk result (string_bytes out.new ≡ string_bytes out.old ++ list_lines of entries.now) }
 {
     if !is_listed(of) {
@@ -25,7 +24,7 @@ fn write_list(alloc: Global, out: &mut String, of: Name, entries: &[Entry]) -> R
     }
     let count = entries.len();
     write!(out, "entries {count}\n")?;
-    write_places(alloc, out, "entry ", entries)
+    write_places(out, "entry ", entries)
 }
 
 /// Writes the tokens of a semaphore, and who waits for one.
@@ -50,37 +49,33 @@ fn write_code(out: &mut String, code: Option<u16>) -> Result<(), NoMemory>
 }
 
 /// Writes the lines of an object.
-fn write_object(alloc: Global, out: &mut String, object: &Seen) -> Result<(), NoMemory>
+fn write_object(out: &mut String, object: &Seen) -> Result<(), NoMemory>
     ensures { OnOk result (string_bytes out.new ≡ string_bytes out.old ++ object_lines object.now) }
 {
     let (name, of) = (object.name.0, object.of.0);
     write!(out, "object {name} {of}\n")?;
     write_words(out, object.words.as_slice())?;
-    write_list(alloc, out, object.of, object.entries.as_slice())?;
+    write_list(out, object.of, object.entries.as_slice())?;
     write_tokens(out, object.of, object.count, object.waiters.as_slice())?;
     write_code(out, object.code)
 }
 
 /// Writes the lines of an object that is no kernel type.
-fn write_shown(alloc: Global, out: &mut String, object: &Seen) -> Result<(), NoMemory>
+fn write_shown(out: &mut String, object: &Seen) -> Result<(), NoMemory>
     ensures { OnOk result (string_bytes out.new ≡ string_bytes out.old ++ shown_object object.now) }
 {
     if object.name.0 < 7 {
         return Ok(());
     }
-    write_object(alloc, out, object)
+    write_object(out, object)
 }
 
 /// Writes the lines of all objects but the kernel types.
-pub(crate) fn write_objects(
-    alloc: Global,
-    out: &mut String,
-    objects: &[Seen],
-) -> Result<(), NoMemory>
+pub(crate) fn write_objects(out: &mut String, objects: &[Seen]) -> Result<(), NoMemory>
     ensures { OnOk result (string_bytes out.new ≡ string_bytes out.old ++ flat_map shown_object objects.now) }
 {
     for object in objects {
-        write_shown(alloc, out, object)?;
+        write_shown(out, object)?;
     }
     Ok(())
 }

@@ -6,7 +6,6 @@ ghost use Rattle.hk_undo.specs.StateTexts.{numbers_line, place_line, place_lines
 
 use hk_model::{Entry, NoMemory, Proc};
 use hk_print::{ByNumber, write_entry};
-use std::alloc::Global;
 
 /// Writes a space and a number for each word.
 fn write_spaced(out: &mut String, numbers: &[u32]) -> Result<(), NoMemory>
@@ -56,35 +55,24 @@ pub(crate) fn write_queue(out: &mut String, word: &str, procs: &[Proc]) -> Resul
 }
 
 /// Writes the line of an entry or a slot. None where nothing stands there.
-fn write_place(
-    alloc: Global,
-    out: &mut String,
-    word: &str,
-    number: usize,
-    entry: Entry,
-) -> Result<(), NoMemory>
+fn write_place(out: &mut String, word: &str, number: usize, entry: Entry) -> Result<(), NoMemory>
     ensures { OnOk result (string_bytes out.new ≡ string_bytes out.old ++ place_line word.now number entry) }
 {
     if entry == Entry::Empty {
         return Ok(());
     }
     write!(out, "{word}{number} ")?;
-    write_entry(alloc, out, &ByNumber, entry)?;
+    write_entry(out, &ByNumber, entry)?;
     out.push_str("\n")?;
     Ok(())
 }
 
 /// Writes the lines of entries or slots, which begin with this word.
-pub(crate) fn write_places(
-    alloc: Global,
-    out: &mut String,
-    word: &str,
-    entries: &[Entry],
-) -> Result<(), NoMemory>
+pub(crate) fn write_places(out: &mut String, word: &str, entries: &[Entry]) -> Result<(), NoMemory>
     ensures { OnOk result (string_bytes out.new ≡ string_bytes out.old ++ place_lines word.now 0 entries.now) }
 {
     for (number, entry) in entries.iter().enumerate() {
-        write_place(alloc, out, word, number, *entry)?;
+        write_place(out, word, number, *entry)?;
     }
     Ok(())
 }

@@ -6,7 +6,6 @@ ghost use Rattle.hk_undo.specs.StateTexts.{beginning, incarnation_line, incarnat
 
 use crate::places::write_places;
 use hk_model::{Live, NoMemory, ProcessState};
-use std::alloc::Global;
 
 /// Writes how an incarnation began.
 fn write_beginning(out: &mut String, live: &Live) -> Result<(), NoMemory>
@@ -36,23 +35,19 @@ fn write_line(out: &mut String, live: &Live) -> Result<(), NoMemory>
 
 /// Writes the lines of an incarnation.
 #[tactic(auto, unfolding(crate::specs::StateTexts::incarnation_lines))]
-fn write_incarnation(alloc: Global, out: &mut String, live: &Live) -> Result<(), NoMemory>
+fn write_incarnation(out: &mut String, live: &Live) -> Result<(), NoMemory>
     ensures { OnOk result (string_bytes out.new ≡ string_bytes out.old ++ incarnation_lines live.now) }
 {
     write_line(out, live)?;
-    write_places(alloc, out, "slot ", live.slots.as_slice())
+    write_places(out, "slot ", live.slots.as_slice())
 }
 
 /// Writes the lines of all incarnations.
-pub(crate) fn write_incarnations(
-    alloc: Global,
-    out: &mut String,
-    incarnations: &[Live],
-) -> Result<(), NoMemory>
+pub(crate) fn write_incarnations(out: &mut String, incarnations: &[Live]) -> Result<(), NoMemory>
     ensures { OnOk result (string_bytes out.new ≡ string_bytes out.old ++ flat_map incarnation_lines incarnations.now) }
 {
     for live in incarnations {
-        write_incarnation(alloc, out, live)?;
+        write_incarnation(out, live)?;
     }
     Ok(())
 }

@@ -17,8 +17,8 @@ pub fn state_text(alloc: Global, snapshot: &Snapshot, moment: u32) -> Result<Tex
 {
     let mut out = String::new(alloc);
     write!(&mut out, "moment {moment}\n")?;
-    write_objects(alloc, &mut out, snapshot.objects.as_slice())?;
-    write_incarnations(alloc, &mut out, snapshot.incarnations.as_slice())?;
+    write_objects(&mut out, snapshot.objects.as_slice())?;
+    write_incarnations(&mut out, snapshot.incarnations.as_slice())?;
     write_processes(&mut out, snapshot.processes.as_slice())?;
     write_queue(&mut out, "ready", snapshot.ready.as_slice())?;
     let (name, inc) = (snapshot.next_name.0, snapshot.next_inc.0);

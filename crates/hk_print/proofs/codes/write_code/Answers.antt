@@ -10,6 +10,6 @@ pub returns : goal.returns
 returns c =
     let label = c.args.code.now.label in
     let steps = c.args.code.now.steps in
-    let begun : string_bytes c.write.new.self ≡ string_bytes c.args.out.now ++ pieces_line (head_pieces (CodeIs label)) = search rules in
-    item_written (CodeIs label) (code_parts steps 0 steps) (string_bytes c.args.out.now) (string_bytes c.write.new.self) (string_bytes c.write_steps.new.out)
+    let begun : string_bytes c.write_name.new.out ≡ string_bytes c.args.out.now ++ pieces_line (head_pieces (CodeIs label)) = search rules in
+    item_written (CodeIs label) (code_parts steps 0 steps) (string_bytes c.args.out.now) (string_bytes c.write_name.new.out) (string_bytes c.write_steps.new.out)
     (string_bytes c.push_str.new.self) refl begun (search rules) (search rules)

@@ -1,10 +1,9 @@
 use Rattle.std.proofs.Common.{◌≡◌, ◌++◌, ◌∙◌, ap, length, get_or, string_bytes, rules, arith}
 use Rattle.std.specs.List.{list_any}
 use Rattle.hk_model.specs.declared.instructions.Instr.{Instr}
-use Rattle.hk_format.specs.Texts.{spell_line}
-use Rattle.hk_format.specs.Spelling.{written_pieces}
+use Rattle.hk_format.specs.declared.syntax.Body.TheVariants.{StepIs}
 use Rattle.hk_format.specs.Canonical.{code_parts, jumps_to, label_parts, written_of}
-use Rattle.hk_print.specs.ItemTexts.{parts_text}
+use Rattle.hk_print.specs.ItemTexts.{body_text, parts_text}
 use Rattle.hk_print.proofs.StepByStep.{label_written, mark_found, step_written, steps_over}
 use Rattle.hk_print.proofs.codes.write_steps.Goals as goal
 
@@ -18,10 +17,10 @@ loop-place-preserved c =
     label_written all place c.index.result.now (string_bytes c.loop-place.out) (string_bytes c.write_label.new.out) mark c.in_ok-write_label.ensures in
     let step = c.index-steps-place.result in
     let here : step ≡ get_or all place step = search rules in
-    let text : string_bytes c.in_ok-text.text ≡ spell_line (written_pieces (written_of (get_or all place step))) = c.in_ok-text.ensures
-    ∙ ap (λ (i : Instr). spell_line (written_pieces (written_of i))) here in
+    let text : string_bytes c.write_step.new.out ≡ string_bytes c.write_label.new.out ++ body_text (StepIs (written_of (get_or all place step))) =
+    c.in_ok-write_step.ensures ∙ ap (λ (i : Instr). string_bytes c.write_label.new.out ++ body_text (StepIs (written_of i))) here in
     step_written all place step (string_bytes c.args.out.now ++ parts_text (code_parts all 0 all)) (string_bytes c.loop-place.out) (string_bytes c.write_label.new.out)
-    (string_bytes c.in_ok-text.text) (string_bytes c.write.new.self) c.loop-place-test.true c.loop-place.invariant label text c.in_ok-write.ensures.bytes
+    (string_bytes c.write_step.new.out) c.loop-place-test.true c.loop-place.invariant label text
 
 pub returns : goal.returns
 returns c =

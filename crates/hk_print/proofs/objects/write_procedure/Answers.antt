@@ -15,9 +15,9 @@ returns c =
     let code = code_text s c.args.code in
     let params = c.args.params.now in
     let entries = c.args.entries.now in
-    let wrote : string_bytes c.write.new.self ≡ string_bytes c.args.out.now ++ (codes "procedure " ++ (label ++ 32 ∷ (code ++ 10 ∷ []))) = search rules in
+    let wrote : string_bytes c.write_head.new.out ≡ string_bytes c.args.out.now ++ (codes "procedure " ++ (label ++ 32 ∷ (code ++ 10 ∷ []))) = search rules in
     let begun = wrote ∙ ap (λ (t : List ℕ). string_bytes c.args.out.now ++ t) (sym (procedure_spelled label code)) in
-    let half : string_bytes c.write_params.new.out ≡ string_bytes c.write.new.self ++ parts_text (param_parts s params) = rw (params_spelled s params) (search rules) in
+    let half : string_bytes c.write_params.new.out ≡ string_bytes c.write_head.new.out ++ parts_text (param_parts s params) = rw (params_spelled s params) (search rules) in
     let filled : string_bytes c.write_entries.new.out ≡ string_bytes c.write_params.new.out ++ parts_text (entry_parts s entries) = rw (entries_spelled s entries) (search rules) in
-    item_of_two (ProcedureIs label code) (param_parts s params) (entry_parts s entries) (string_bytes c.args.out.now) (string_bytes c.write.new.self)
+    item_of_two (ProcedureIs label code) (param_parts s params) (entry_parts s entries) (string_bytes c.args.out.now) (string_bytes c.write_head.new.out)
     (string_bytes c.write_params.new.out) (string_bytes c.write_entries.new.out) (string_bytes c.push_str.new.self) refl begun half filled (search rules)
