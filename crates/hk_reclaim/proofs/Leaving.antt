@@ -4,7 +4,6 @@ use Rattle.std.proofs.Common.{get_or-set_same, get_or-set_other, length-set, Opt
 use Rattle.std.proofs.lemmas.Bool.Decides.{nat_tests}
 use Rattle.std.proofs.lemmas.Bool.{cases_eq, cases_lt}
 use Rattle.std.proofs.lemmas.List.{drop_all, get_or_past}
-use Rattle.std.specs.Bool.{◌==◌}
 use Rattle.hk_model.specs.declared.names.Name.{Name}
 use Rattle.hk_objects.specs.declared.body.Body.{Body}
 use Rattle.hk_model.specs.declared.entries.Entry.{Entry}
@@ -14,7 +13,7 @@ use Rattle.hk_objects.proofs.Standing.{within_some}
 use Rattle.hk_reclaim.specs.Made.{is_made, IsMadeAt, IsSweptTo, AreLeft, IsHalfLeft, IsTakeable, IsTakenOff}
 use Rattle.hk_reclaim.specs.Naming.{names_in, named_in, named, with_name, times, namings}
 use Rattle.hk_reclaim.specs.Tally.{Tally, lowered, owing, AreCounted}
-use Rattle.hk_reclaim.proofs.Counting.{times_none, times_same, times_other, same_names, namings_gone}
+use Rattle.hk_reclaim.proofs.Counting.{times_none, times_same, times_other, namings_gone}
 use Rattle.hk_reclaim.proofs.Settling.{name_of_some, named_counts}
 use Rattle.hk_reclaim.proofs.Releasing.{slot_names, next_names, first_name}
 

@@ -1,5 +1,5 @@
 -- What a mark does to the flags and to the order.
-use Rattle.std.proofs.Common.{◌≡◌, ◌≢◌, ℕ, zero, suc, ◌+◌, ◌<◌, ◌≤◌, Bool, true, false, cond, List, [], ◌∷◌, ◌++◌, length, get_or, set, take, refl, ap, ◌∙◌, sym, arith}
+use Rattle.std.proofs.Common.{◌≡◌, ◌≢◌, ℕ, zero, suc, ◌+◌, ◌<◌, ◌≤◌, Bool, true, false, cond, List, [], ◌∷◌, length, get_or, set, take, refl, ap, ◌∙◌, sym, arith}
 use Rattle.std.proofs.Common.{⊎_elim, get_or-set_same, get_or-set_other, length-set, Some, None, ◌||◌, ◌&&◌, not, slice_get}
 use Rattle.std.proofs.lemmas.Bool.Decides.{nat_tests}
 use Rattle.std.proofs.lemmas.Bool.{cases_eq, cases_lt}
@@ -146,7 +146,8 @@ unmark_step old now new slots i s low read within e h k =
 -- all taken down
 pub marks_cleared : (marked cleared : List Bool) (order : List ℕ) (number : ℕ) → AreMarks marked order number → length cleared ≡ length marked
     → ((k : ℕ) → get_or cleared k false ≡ (get_or marked k false && not (has (take number order) k))) → AreMarks cleared order 0
-marks_cleared marked cleared order number h size down = no_marks cleared order (h.sizes ∙ sym size) (λ k. down k ∙ ap (λ (b : Bool). b && not (has (take number order) k)) (h.flags k)
+marks_cleared marked cleared order number h size down = no_marks cleared order (h.sizes ∙ sym size)
+    (λ k. down k ∙ ap (λ (b : Bool). b && not (has (take number order) k)) (h.flags k)
     ∙ neither (has (take number order) k)) where
       neither : (b : Bool) → (b && not b) ≡ false
       neither true = refl

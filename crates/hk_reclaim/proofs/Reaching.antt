@@ -182,7 +182,8 @@ pub type_marked : (first : Name) (ps : List (Option (Name × Body))) (s : ℕ) (
 type_marked first ps s of es t u apart some h g r final f =
     rw (slot_names (place ps s) of es some h g) (grows_name first ps (Some of) (named_in es) t u final apart r f)
 
-pub entry_marked : (first : Name) (ps : List (Option (Name × Body))) (all : List Name) (es : List Entry) (i : ℕ) (name : Option Name) (t u v : Marked) → AreApart ps → i < length es
+pub entry_marked : (first : Name) (ps : List (Option (Name × Body))) (all : List Name) (es : List Entry) (i : ℕ) (name : Option Name) (t u v : Marked) → AreApart ps
+    → i < length es
     → name ≡ named (get_or es i Empty)
     → IsMarkedBy first ps name u v → ((final : Marked) → Grows first ps (named_in (drop i es)) u final → Grows first ps all t final)
     → (final : Marked) → Grows first ps (named_in (drop (i + 1) es)) v final → Grows first ps all t final
@@ -242,7 +243,8 @@ walk_step first ps old now new j s h at g =
           (g.only k i);
     }
 
-pub walk_ends : (first : Name) (ps : List (Option (Name × Body))) (old now : Marked) (j : ℕ) → length now.slots ≤ j → IsWalked first ps old now j → IsWalked first ps old now (length now.slots)
+pub walk_ends : (first : Name) (ps : List (Option (Name × Body))) (old now : Marked) (j : ℕ) → length now.slots ≤ j → IsWalked first ps old now j
+    → IsWalked first ps old now (length now.slots)
 walk_ends first ps old now j high h = record {
   size = h.size;
   kept = h.kept;

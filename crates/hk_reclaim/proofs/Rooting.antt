@@ -1,14 +1,13 @@
 -- The marked objects and the opening ones are those that are reached.
-use Rattle.std.proofs.Common.{◌≡◌, ◌≢◌, ℕ, zero, suc, ◌+◌, ◌<◌, ◌≤◌, Bool, true, false, cond, List, [], ◌∷◌, length, get_or, refl, ap, ◌∙◌, sym, subst, arith, ⊎_elim, inl}
-use Rattle.std.proofs.Common.{inr, ◌⊎◌, Option, Some, None, IsSome, option_map, ◌||◌, ◌&&◌, not, nat_lt}
+use Rattle.std.proofs.Common.{◌≡◌, ℕ, ◌+◌, ◌<◌, ◌≤◌, Bool, true, false, cond, List, length, get_or, refl, ap, ◌∙◌, sym, subst, arith, ⊎_elim, inl}
+use Rattle.std.proofs.Common.{inr, Option, Some, None, IsSome, option_map, ◌||◌, ◌&&◌, not, nat_lt}
 use Rattle.std.proofs.lemmas.Bool.Decides.{nat_tests}
 use Rattle.std.proofs.lemmas.Bool.{cases_lt}
 use Rattle.hk_model.specs.declared.names.Name.{Name}
 use Rattle.hk_objects.specs.declared.body.Body.{Body}
 use Rattle.hk_objects.specs.Slots.{place, name_at}
 use Rattle.hk_reclaim.specs.Naming.{names_in, times, namings}
-use Rattle.hk_reclaim.specs.Kept.{IsClosed}
-use Rattle.hk_reclaim.specs.Made.{is_made, AreMade, IsSweptTo, AreLeft, IsHalfLeft}
+use Rattle.hk_reclaim.specs.Made.{is_made, AreMade, IsSweptTo, AreLeft}
 use Rattle.hk_reclaim.specs.Marks.{Marked}
 use Rattle.hk_reclaim.specs.Reach.{IsInRoom, IsWalked, IsMarking, is_opening, is_lost, stays}
 use Rattle.hk_reclaim.specs.Tally.{has}
@@ -50,7 +49,8 @@ stays_unlost first ps marks k h = by (name_at ps k) (has marks k) h where
   by None b h = refl
   by (Some n) b h = both (nat_lt n.0 first.0) b h
 
-pub leaves_lost : (first : Name) (ps : List (Option (Name × Body))) (marks : List ℕ) (k : ℕ) → stays first ps marks k ≡ false → IsSome (place ps k) → is_lost first ps marks k ≡ true
+pub leaves_lost : (first : Name) (ps : List (Option (Name × Body))) (marks : List ℕ) (k : ℕ) → stays first ps marks k ≡ false → IsSome (place ps k)
+    → is_lost first ps marks k ≡ true
 leaves_lost first ps marks k h some = by (place ps k) (has marks k) some h where
   both : (a b : Bool) → (a || b) ≡ false → (not a && not b) ≡ true
   both true b h = absurd (cc)

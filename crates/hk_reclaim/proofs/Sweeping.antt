@@ -1,6 +1,6 @@
 -- What taking away the unmarked objects keeps.
-use Rattle.std.proofs.Common.{◌≡◌, ◌≢◌, ℕ, zero, suc, ◌+◌, ◌<◌, ◌≤◌, Bool, true, false, cond, List, [], ◌∷◌, length, get_or, set, refl, ap, ◌∙◌, sym, subst, arith, ⊎_elim, inl}
-use Rattle.std.proofs.Common.{inr, ◌⊎◌, Option, Some, None, IsSome, option_map, ◌||◌, ◌&&◌, not, nat_lt, get_or-set_same, get_or-set_other, length-set}
+use Rattle.std.proofs.Common.{◌≡◌, ◌≢◌, ℕ, ◌+◌, ◌<◌, ◌≤◌, Bool, true, false, cond, List, [], length, get_or, set, refl, ap, ◌∙◌, sym, subst, arith, ⊎_elim, inl}
+use Rattle.std.proofs.Common.{inr, ◌⊎◌, Option, Some, None, IsSome, option_map, ◌&&◌, not, nat_lt, get_or-set_same, get_or-set_other, length-set}
 use Rattle.std.proofs.lemmas.Bool.Decides.{nat_tests}
 use Rattle.std.proofs.lemmas.Bool.{cases_eq, cases_lt}
 use Rattle.std.proofs.lemmas.List.{ext_get_or}

@@ -1,4 +1,4 @@
-use Rattle.std.proofs.Common.{◌≡◌, ◌<◌, ◌≤◌, ℕ, arith}
+use Rattle.std.proofs.Common.{arith}
 use Rattle.hk_reclaim.proofs.Leaving.{made_all}
 use Rattle.hk_reclaim.proofs.made.read_stands.Goals as goal
 

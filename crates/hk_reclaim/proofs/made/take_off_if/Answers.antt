@@ -1,6 +1,4 @@
-use Rattle.std.proofs.Common.{◌≡◌, true, false, sym, ◌∙◌}
-use Rattle.hk_objects.specs.Slots.{name_at}
-use Rattle.hk_reclaim.specs.Made.{is_made}
+use Rattle.std.proofs.Common.{sym, ◌∙◌}
 use Rattle.hk_reclaim.proofs.Leaving.{leaving_owed, leaving_takes, leaving_keeps, made_stands}
 use Rattle.hk_reclaim.proofs.made.take_off_if.Goals as goal
 

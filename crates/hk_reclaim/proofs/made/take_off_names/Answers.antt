@@ -1,4 +1,4 @@
-use Rattle.std.proofs.Common.{◌≡◌, arith, ap, ◌∙◌, Some}
+use Rattle.std.proofs.Common.{arith, ap, ◌∙◌, Some}
 use Rattle.std.proofs.lemmas.List.{get_or_read}
 use Rattle.hk_model.specs.declared.entries.Entry.TheVariants.{Empty}
 use Rattle.hk_reclaim.specs.Naming.{named}
@@ -29,7 +29,8 @@ loop-entry-preserved c =
       left =
           entry_off c.args.first_new c.args.objects.now.slots _ c.entries-entry-items.result.now c.loop-entry.entry-index c.entry_name.result c.args.left.now.items
           c.loop-entry.left.items c.take_off-in-loop-entry.new.left.items c.of.ensures.apart c.loop-entry-test.true
-          (c.entry_name.ensures ∙ ap named (get_or_read c.entries-entry-items.result.now c.loop-entry.entry-index c.entry-item.result c.loop-entry-test.true c.entry-item.is Empty))
+          (c.entry_name.ensures
+          ∙ ap named (get_or_read c.entries-entry-items.result.now c.loop-entry.entry-index c.entry-item.result c.loop-entry-test.true c.entry-item.is Empty))
           c.take_off-in-loop-entry.ensures i.left;
       size =
           off_size c.args.first_new c.args.objects.now.slots c.entry_name.result c.loop-entry.left.items c.take_off-in-loop-entry.new.left.items

@@ -1,4 +1,4 @@
-use Rattle.std.proofs.Common.{refl, ◌∙◌}
+use Rattle.std.proofs.Common.{refl}
 use Rattle.hk_reclaim.proofs.Releasing.{same_tally, same_more}
 use Rattle.hk_reclaim.specs.Reach.{is_lost}
 use Rattle.hk_reclaim.proofs.Sweeping.{sweep_starts, lost_at, lost_stands}

@@ -1,4 +1,4 @@
-use Rattle.std.proofs.Common.{◌≡◌, ℕ, List, ap, subst, ◌∙◌}
+use Rattle.std.proofs.Common.{◌≡◌, ap, subst, ◌∙◌}
 use Rattle.hk_model.specs.declared.names.Name.{Name}
 use Rattle.hk_reclaim.specs.Kept.{IsReached}
 use Rattle.hk_reclaim.specs.Made.{IsHalfLeft}

@@ -1,4 +1,4 @@
-use Rattle.std.proofs.Common.{◌≡◌, ◌<◌, ◌≤◌, ◌∙◌, Some, ℕ, take, slice_get, length, get_or, sym, ap, arith}
+use Rattle.std.proofs.Common.{◌≡◌, ◌≤◌, ◌∙◌, Some, ℕ, take, slice_get, length, sym, ap, arith}
 use Rattle.std.proofs.lemmas.List.{get_or_read}
 use Rattle.hk_reclaim.proofs.Marking.{few_marks, get_taken, none_taken, get_has, mark_within}
 use Rattle.hk_reclaim.proofs.marks.Marks.at.Goals as goal
