@@ -2,6 +2,9 @@ pub mod Fields
 pub mod Counting
 pub mod Settling
 pub mod Releasing
+pub mod Marking
+pub mod Leaving
 pub mod Reaching
+pub mod Rooting
 pub mod Sweeping
 pub mod Keeping

@@ -14,30 +14,19 @@ use Rattle.hk_objects.specs.Slots.{place, name_at, AreApart}
 use Rattle.hk_reclaim.specs.Naming.{names_in, named_in, named, with_name, times}
 use Rattle.hk_reclaim.specs.Tally.{has}
 use Rattle.hk_reclaim.specs.Marks.{Marked, marked_with}
+use Rattle.hk_reclaim.specs.Made.{IsMadeAt}
 use Rattle.hk_reclaim.specs.Reach.{IsMarkedBy, Grows, IsWalked}
 use Rattle.hk_reclaim.proofs.Counting.{times_none, times_same, times_other, same_names}
+use Rattle.hk_reclaim.proofs.Marking.{get_has}
 use Rattle.hk_reclaim.proofs.Settling.{name_of_some, some_name}
 use Rattle.hk_reclaim.proofs.Releasing.{slot_names, next_names}
 
 -- places in a list
-pub get_append : (xs ys : List ℕ) (i s : ℕ) → slice_get xs i ≡ Some s → slice_get (xs ++ ys) i ≡ Some s
-get_append [] ys i s e = absurd (cc)
-get_append (x ∷ xs) ys zero s e = e
-get_append (x ∷ xs) ys (suc i) s e = get_append xs ys i s e
-
 pub get_front : (xs ys : List ℕ) (i j s t : ℕ) → i ≤ j → slice_get xs j ≡ Some t → slice_get (xs ++ ys) i ≡ Some s → slice_get xs i ≡ Some s
 get_front [] ys i j s t le e f = absurd (cc)
 get_front (x ∷ xs) ys zero j s t le e f = f
 get_front (x ∷ xs) ys (suc i) zero s t le e f = absurd (omega arith)
 get_front (x ∷ xs) ys (suc i) (suc j) s t le e f = get_front xs ys i j s t (omega arith) e f
-
-pub get_has : (xs : List ℕ) (i s : ℕ) → slice_get xs i ≡ Some s → has xs s ≡ true
-get_has [] i s e = absurd (cc)
-get_has (x ∷ xs) zero s e = let f : s ≡ x = cc in grind (arith, nat_tests)
-get_has (x ∷ xs) (suc i) s e = let h : has xs s ≡ true = get_has xs i s e in either (s == x) (has xs s) h where
-  either : (a b : Bool) → b ≡ true → (a || b) ≡ true
-  either true b h = refl
-  either false b h = h
 
 pub has_get : (xs : List ℕ) (s : ℕ) → has xs s ≡ true → (i : ℕ) × (slice_get xs i ≡ Some s)
 has_get [] s e = absurd (cc)
@@ -83,15 +72,15 @@ has_marked xs s k = by (has xs s) refl where
       (cases_eq k s)
   by false h = list_any-append (λ x. k == x) xs (s ∷ []) ∙ or_last (has xs k) (k == s)
 
-or_left : (a b : Bool) → a ≡ true → (a || b) ≡ true
+pub or_left : (a b : Bool) → a ≡ true → (a || b) ≡ true
 or_left true b h = refl
 or_left false b h = absurd (cc)
 
-or_right : (a b : Bool) → b ≡ true → (a || b) ≡ true
+pub or_right : (a b : Bool) → b ≡ true → (a || b) ≡ true
 or_right true b h = refl
 or_right false b h = h
 
-or_cases : (a b : Bool) → (a || b) ≡ true → (a ≡ true) ⊎ (b ≡ true)
+pub or_cases : (a b : Bool) → (a || b) ≡ true → (a ≡ true) ⊎ (b ≡ true)
 or_cases true b h = inl refl
 or_cases false b h = inr h
 
@@ -111,11 +100,11 @@ marked_more xs s = by (has xs s) where
   by true = ([], nil xs)
   by false = (s ∷ [], refl)
 
-pub grows_nil : (ps : List (Option (Name × Body))) (m : Marked) → Grows ps [] m m
-grows_nil ps m = record {
+pub grows_nil : (first : Name) (ps : List (Option (Name × Body))) (m : Marked) → Grows first ps [] m m
+grows_nil first ps m = record {
   size = refl;
   more = ([], nil m.slots);
-  all = λ k n h e. absurd (omega (arith, times_none n));
+  all = λ k n h made e. absurd (omega (arith, times_none n));
   only = λ k h. inl h;
 } where
   nil : (ys : List ℕ) → ys ≡ ys ++ []
@@ -128,9 +117,9 @@ named_more n x rest h = ⊎_elim
     (λ (ne : n.0 ≢ x.0). rw (times_other n x rest (λ e. ne (ap (λ (m : Name). m.0) e))) h)
     (cases_eq n.0 x.0)
 
-grows_one : (ps : List (Option (Name × Body))) (x : Name) (rest : List Name) (old mid new : Marked) (s : ℕ) → AreApart ps → name_at ps s ≡ Some x
-    → mid ≡ record old { slots = marked_with old.slots s } → Grows ps rest mid new → Grows ps (x ∷ rest) old new
-grows_one ps x rest old mid new s apart here e g =
+grows_one : (first : Name) (ps : List (Option (Name × Body))) (x : Name) (rest : List Name) (old mid new : Marked) (s : ℕ) → AreApart ps → name_at ps s ≡ Some x
+    → mid ≡ record old { slots = marked_with old.slots s } → Grows first ps rest mid new → Grows first ps (x ∷ rest) old new
+grows_one first ps x rest old mid new s apart here e g =
     let es : mid.slots ≡ marked_with old.slots s = ap (λ (m : Marked). m.slots) e in
     let hm : (k : ℕ) → has mid.slots k ≡ (has old.slots k || (k == s)) = λ k. ap (λ (xs : List ℕ). has xs k) es ∙ has_marked old.slots s k in
     let w : (more : List ℕ) × (marked_with old.slots s ≡ old.slots ++ more) = marked_more old.slots s in
@@ -138,11 +127,11 @@ grows_one ps x rest old mid new s apart here e g =
     record {
       size = g.size ∙ ap (λ (m : Marked). m.size) e;
       more = (w.0 ++ g.more.0, g.more.1 ∙ ap (λ (xs : List ℕ). xs ++ g.more.0) (es ∙ w.1) ∙ append_assoc old.slots w.0 g.more.0);
-      all = λ k n h named. ⊎_elim
+      all = λ k n h made named. ⊎_elim
           (λ (same : n.0 ≡ x.0).
           let k' : k ≡ s = apart k s n named (here ∙ ap (λ (m : Name). Some m) (sym (same_names n x same))) in
           kept k (hm k ∙ or_right (has old.slots k) (k == s) (slot_same k s k')))
-          (λ (ne : n.0 ≢ x.0). g.all k n (rw (← times_other n x rest (λ e. ne (ap (λ (m : Name). m.0) e))) h) named)
+          (λ (ne : n.0 ≢ x.0). g.all k n (rw (← times_other n x rest (λ e. ne (ap (λ (m : Name). m.0) e))) h) made named)
           (cases_eq n.0 x.0);
       only = λ k h. ⊎_elim
           (λ (m : has mid.slots k ≡ true). ⊎_elim
@@ -153,14 +142,14 @@ grows_one ps x rest old mid new s apart here e g =
           (g.only k h);
     }
 
-grows_none : (ps : List (Option (Name × Body))) (x : Name) (rest : List Name) (old new : Marked) → ((k : ℕ) → name_at ps k ≡ Some x → ⊥) → Grows ps rest old new
-    → Grows ps (x ∷ rest) old new
-grows_none ps x rest old new none g = record {
+grows_none : (first : Name) (ps : List (Option (Name × Body))) (x : Name) (rest : List Name) (old new : Marked) → ((k : ℕ) → IsMadeAt first ps (Some x) k → ⊥)
+    → Grows first ps rest old new → Grows first ps (x ∷ rest) old new
+grows_none first ps x rest old new none g = record {
   size = g.size;
   more = g.more;
-  all = λ k n h named. ⊎_elim
-      (λ (same : n.0 ≡ x.0). absurd (none k (named ∙ ap (λ (m : Name). Some m) (same_names n x same))))
-      (λ (ne : n.0 ≢ x.0). g.all k n (rw (← times_other n x rest (λ e. ne (ap (λ (m : Name). m.0) e))) h) named)
+  all = λ k n h made named. ⊎_elim
+      (λ (same : n.0 ≡ x.0). absurd (none k (n, ap (λ (m : Name). Some m) (sym (same_names n x same)), made, named)))
+      (λ (ne : n.0 ≢ x.0). g.all k n (rw (← times_other n x rest (λ e. ne (ap (λ (m : Name). m.0) e))) h) made named)
       (cases_eq n.0 x.0);
   only = λ k h. ⊎_elim
       (λ (o : has old.slots k ≡ true). inl o)
@@ -168,66 +157,71 @@ grows_none ps x rest old new none g = record {
       (g.only k h);
 }
 
-pub grows_name : (ps : List (Option (Name × Body))) (name : Option Name) (rest : List Name) (old mid new : Marked) → AreApart ps → IsMarkedBy ps name old mid
-    → Grows ps rest mid new → Grows ps (with_name name rest) old new
-grows_name ps None rest old mid new apart e g = subst (λ (m : Marked). Grows ps rest m new) e g
-grows_name ps (Some x) rest old mid new apart r g = ⊎_elim
-    (λ (w : (k : ℕ) × (name_at ps k ≡ Some x) × (mid ≡ record old { slots = marked_with old.slots k })). grows_one ps x rest old mid new w.0 apart w.1 w.2 g)
-    (λ (w : ((k : ℕ) → name_at ps k ≡ Some x → ⊥) × (mid ≡ old)). grows_none ps x rest old new w.0 (subst (λ (m : Marked). Grows ps rest m new) w.1 g))
+pub grows_name : (first : Name) (ps : List (Option (Name × Body))) (name : Option Name) (rest : List Name) (old mid new : Marked) → AreApart ps
+    → IsMarkedBy first ps name old mid → Grows first ps rest mid new → Grows first ps (with_name name rest) old new
+grows_name first ps None rest old mid new apart r g = ⊎_elim
+    (λ (w : (k : ℕ) × IsMadeAt first ps None k × (mid ≡ record old { slots = marked_with old.slots k })). absurd (let e : None ≡ Some w.1.0 = w.1.1 in cc))
+    (λ (w : ((k : ℕ) → IsMadeAt first ps None k → ⊥) × (mid ≡ old)). subst (λ (m : Marked). Grows first ps rest m new) w.1 g)
+    r
+grows_name first ps (Some x) rest old mid new apart r g = ⊎_elim
+    (λ (w : (k : ℕ) × IsMadeAt first ps (Some x) k × (mid ≡ record old { slots = marked_with old.slots k })).
+    grows_one first ps x rest old mid new w.0 apart (w.1.3 ∙ sym w.1.1) w.2 g)
+    (λ (w : ((k : ℕ) → IsMadeAt first ps (Some x) k → ⊥) × (mid ≡ old)).
+    grows_none first ps x rest old new w.0 (subst (λ (m : Marked). Grows first ps rest m new) w.1 g))
     r
 
-pub same_size : (ps : List (Option (Name × Body))) (name : Option Name) (old mid : Marked) → IsMarkedBy ps name old mid → mid.size ≡ old.size
-same_size ps None old mid e = ap (λ (m : Marked). m.size) e
-same_size ps (Some x) old mid r = ⊎_elim
-    (λ (w : (k : ℕ) × (name_at ps k ≡ Some x) × (mid ≡ record old { slots = marked_with old.slots k })). ap (λ (m : Marked). m.size) w.2)
-    (λ (w : ((k : ℕ) → name_at ps k ≡ Some x → ⊥) × (mid ≡ old)). ap (λ (m : Marked). m.size) w.1)
+pub same_size : (first : Name) (ps : List (Option (Name × Body))) (name : Option Name) (old mid : Marked) → IsMarkedBy first ps name old mid → mid.size ≡ old.size
+same_size first ps name old mid r = ⊎_elim
+    (λ (w : (k : ℕ) × IsMadeAt first ps name k × (mid ≡ record old { slots = marked_with old.slots k })). ap (λ (m : Marked). m.size) w.2)
+    (λ (w : ((k : ℕ) → IsMadeAt first ps name k → ⊥) × (mid ≡ old)). ap (λ (m : Marked). m.size) w.1)
     r
 
-pub type_marked : (ps : List (Option (Name × Body))) (s : ℕ) (of : Name) (es : List Entry) (t u : Marked) → AreApart ps → IsSome (place ps s)
+pub type_marked : (first : Name) (ps : List (Option (Name × Body))) (s : ℕ) (of : Name) (es : List Entry) (t u : Marked) → AreApart ps → IsSome (place ps s)
     → IfSome (place ps s) (λ e. of ≡ e.1.of) → IfSome (place ps s) (λ e. es ≡ e.1.entries)
-    → IsMarkedBy ps (Some of) t u → (final : Marked) → Grows ps (named_in es) u final → Grows ps (names_in (place ps s)) t final
-type_marked ps s of es t u apart some h g r final f =
-    rw (slot_names (place ps s) of es some h g) (grows_name ps (Some of) (named_in es) t u final apart r f)
+    → IsMarkedBy first ps (Some of) t u → (final : Marked) → Grows first ps (named_in es) u final → Grows first ps (names_in (place ps s)) t final
+type_marked first ps s of es t u apart some h g r final f =
+    rw (slot_names (place ps s) of es some h g) (grows_name first ps (Some of) (named_in es) t u final apart r f)
 
-pub entry_marked : (ps : List (Option (Name × Body))) (all : List Name) (es : List Entry) (i : ℕ) (name : Option Name) (t u v : Marked) → AreApart ps → i < length es
+pub entry_marked : (first : Name) (ps : List (Option (Name × Body))) (all : List Name) (es : List Entry) (i : ℕ) (name : Option Name) (t u v : Marked) → AreApart ps
+    → i < length es
     → name ≡ named (get_or es i Empty)
-    → IsMarkedBy ps name u v → ((final : Marked) → Grows ps (named_in (drop i es)) u final → Grows ps all t final)
-    → (final : Marked) → Grows ps (named_in (drop (i + 1) es)) v final → Grows ps all t final
-entry_marked ps all es i name t u v apart low read r h final f =
-    h final (rw (next_names es i low) (grows_name ps (named (get_or es i Empty)) (named_in (drop (i + 1) es)) u v final apart
-    (subst (λ (n : Option Name). IsMarkedBy ps n u v) read r) f))
+    → IsMarkedBy first ps name u v → ((final : Marked) → Grows first ps (named_in (drop i es)) u final → Grows first ps all t final)
+    → (final : Marked) → Grows first ps (named_in (drop (i + 1) es)) v final → Grows first ps all t final
+entry_marked first ps all es i name t u v apart low read r h final f =
+    h final (rw (next_names es i low) (grows_name first ps (named (get_or es i Empty)) (named_in (drop (i + 1) es)) u v final apart
+    (subst (λ (n : Option Name). IsMarkedBy first ps n u v) read r) f))
 
-pub all_marked : (ps : List (Option (Name × Body))) (all : List Name) (es : List Entry) (i : ℕ) (t u : Marked) → length es ≤ i
-    → ((final : Marked) → Grows ps (named_in (drop i es)) u final → Grows ps all t final) → Grows ps all t u
-all_marked ps all es i t u high h = h u (rw (drop_all i es high) (grows_nil ps u))
+pub all_marked : (first : Name) (ps : List (Option (Name × Body))) (all : List Name) (es : List Entry) (i : ℕ) (t u : Marked) → length es ≤ i
+    → ((final : Marked) → Grows first ps (named_in (drop i es)) u final → Grows first ps all t final) → Grows first ps all t u
+all_marked first ps all es i t u high h = h u (rw (drop_all i es high) (grows_nil first ps u))
 
 -- the walk
-pub walk_starts : (ps : List (Option (Name × Body))) (m : Marked) → ((k : ℕ) → has m.slots k ≡ true → IsSome (place ps k)) → IsWalked ps m m 0
-walk_starts ps m stand = record {
+pub walk_starts : (first : Name) (ps : List (Option (Name × Body))) (m : Marked) → ((k : ℕ) → has m.slots k ≡ true → IsSome (place ps k)) → IsWalked first ps m m 0
+walk_starts first ps m stand = record {
   size = refl;
   kept = λ k h. h;
-  closed = λ i s low e n k h named. absurd (omega arith);
+  closed = λ i s low e n k h made named. absurd (omega arith);
   held = λ k h. inl h;
   least = λ T roots closed k n h named. roots k n h named;
   stand = stand;
 }
 
-pub walk_step : (ps : List (Option (Name × Body))) (old now new : Marked) (j s : ℕ) → IsWalked ps old now j → slice_get now.slots j ≡ Some s
-    → Grows ps (names_in (place ps s)) now new → IsWalked ps old new (j + 1)
-walk_step ps old now new j s h at g =
+pub walk_step : (first : Name) (ps : List (Option (Name × Body))) (old now new : Marked) (j s : ℕ) → IsWalked first ps old now j → slice_get now.slots j ≡ Some s
+    → Grows first ps (names_in (place ps s)) now new → IsWalked first ps old new (j + 1)
+walk_step first ps old now new j s h at g =
     let more : (k : ℕ) → has now.slots k ≡ true → has new.slots k ≡ true = λ k i. ap (λ (xs : List ℕ). has xs k) g.more.1 ∙ has_append now.slots g.more.0 k i in
     let here : has now.slots s ≡ true = get_has now.slots j s at in
     record {
       size = g.size ∙ h.size;
       kept = λ k i. more k (h.kept k i);
-      closed = λ i t low e n k named there.
+      closed = λ i t low e n k named made there.
           let f : slice_get now.slots i ≡ Some t = get_front now.slots g.more.0 i j t s (omega arith) at (sym (ap (λ (xs : List ℕ). slice_get xs i) g.more.1) ∙ e) in
           ⊎_elim
-          (λ (l : i < j). more k (h.closed i t l f n k named there))
+          (λ (l : i < j). more k (h.closed i t l f n k named made there))
           (λ (l : j ≤ i).
           let ij : i ≡ j = omega arith in
           let ts : t ≡ s = (let a : Some t ≡ Some s = sym f ∙ ap (slice_get now.slots) ij ∙ at in cc) in
-          g.all k n (subst (λ (q : ℕ). 0 < times n (names_in (place ps q))) ts named) there)
+          g.all k n (subst (λ (q : ℕ). 0 < times n (names_in (place ps q))) ts named) made there)
           (cases_lt i j);
       held = λ k i. ⊎_elim
           (λ (m : has now.slots k ≡ true). ⊎_elim
@@ -249,12 +243,9 @@ walk_step ps old now new j s h at g =
           (g.only k i);
     }
 
-pub walk_next : (ps : List (Option (Name × Body))) (ns : List Name) (now new : Marked) (j s : ℕ) → slice_get now.slots j ≡ Some s → Grows ps ns now new
-    → slice_get new.slots j ≡ Some s
-walk_next ps ns now new j s at g = ap (λ (xs : List ℕ). slice_get xs j) g.more.1 ∙ get_append now.slots g.more.0 j s at
-
-pub walk_ends : (ps : List (Option (Name × Body))) (old now : Marked) (j : ℕ) → length now.slots ≤ j → IsWalked ps old now j → IsWalked ps old now (length now.slots)
-walk_ends ps old now j high h = record {
+pub walk_ends : (first : Name) (ps : List (Option (Name × Body))) (old now : Marked) (j : ℕ) → length now.slots ≤ j → IsWalked first ps old now j
+    → IsWalked first ps old now (length now.slots)
+walk_ends first ps old now j high h = record {
   size = h.size;
   kept = h.kept;
   closed = λ i s low. h.closed i s (omega arith);

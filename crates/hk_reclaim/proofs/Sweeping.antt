@@ -1,10 +1,9 @@
 -- What taking away the unmarked objects keeps.
-use Rattle.std.proofs.Common.{◌≡◌, ◌≢◌, ℕ, zero, suc, ◌+◌, ◌<◌, ◌≤◌, Bool, true, false, cond, List, [], ◌∷◌, length, get_or, set, refl, ap, ◌∙◌, sym, subst, arith, ⊎_elim, inl}
-use Rattle.std.proofs.Common.{inr, ◌⊎◌, Option, Some, None, IsSome, option_map, ◌||◌, ◌&&◌, not, nat_lt, slice_get, get_or-set_same, get_or-set_other, length-set}
+use Rattle.std.proofs.Common.{◌≡◌, ◌≢◌, ℕ, ◌+◌, ◌<◌, ◌≤◌, Bool, true, false, cond, List, [], length, get_or, set, refl, ap, ◌∙◌, sym, subst, arith, ⊎_elim, inl}
+use Rattle.std.proofs.Common.{inr, ◌⊎◌, Option, Some, None, IsSome, option_map, ◌&&◌, not, nat_lt, get_or-set_same, get_or-set_other, length-set}
 use Rattle.std.proofs.lemmas.Bool.Decides.{nat_tests}
 use Rattle.std.proofs.lemmas.Bool.{cases_eq, cases_lt}
 use Rattle.std.proofs.lemmas.List.{ext_get_or}
-use Rattle.std.specs.Option.{is_some}
 use Rattle.hk_links.specs.Chained.{without}
 use Rattle.hk_model.specs.declared.names.Name.{Name}
 use Rattle.hk_objects.specs.declared.body.Body.{Body}
@@ -12,138 +11,52 @@ use Rattle.hk_objects.specs.Slots.{place, name_at, AreApart}
 use Rattle.hk_objects.proofs.Standing.{within_some}
 use Rattle.hk_reclaim.specs.Naming.{names_in, times, namings, stands}
 use Rattle.hk_reclaim.specs.Kept.{IsReached}
+use Rattle.hk_reclaim.specs.Made.{is_made, AreMade, IsSweptTo}
 use Rattle.hk_reclaim.specs.Tally.{Tally, has, owing, AreCounted, SameOutside}
-use Rattle.hk_reclaim.specs.Marks.{Marked}
-use Rattle.hk_reclaim.specs.Reach.{IsInRoom, is_root_at, IsWalked, IsMarking, is_lost, IsSweptTo, IsHalfSwept, IsDropped}
-use Rattle.hk_reclaim.proofs.Counting.{times_none, times-le-namings, namer, namings_gone, counted_same, removed_one, no_some}
-use Rattle.hk_reclaim.proofs.Settling.{name_of_some, stands_at, stands_where, pending_stands, named_counts}
-use Rattle.hk_reclaim.proofs.Reaching.{has_get}
-
--- the marks of the roots, and then of all that they lead to
-pub marking : (first : Name) (outside : List ℕ) (ps : List (Option (Name × Body))) (size : ℕ) (old new : Marked) → IsInRoom ps size
-    → ((k : ℕ) → has old.slots k ≡ (nat_lt k size && is_root_at first (get_or outside k 0) (name_at ps k)))
-    → IsWalked ps old new (length new.slots) → IsMarking first outside ps new.slots
-marking first outside ps size old new room roots h = record {
-  stand = h.stand;
-  roots = λ k n e r. h.kept k (roots k ∙ root_true k n e r);
-  closed = λ s k n m named e. let w = has_get new.slots s m in h.closed w.0 s (get_low new.slots w.0 s w.1) w.1 n k named e;
-  held = λ k n m e. ⊎_elim
-      (λ (o : has old.slots k ≡ true). inl (root_from k n e (sym (roots k) ∙ o)))
-      (λ (w : (s : ℕ) × (x : Name) × (has new.slots s ≡ true) × (name_at ps k ≡ Some x) × (0 < times x (names_in (place ps s)))).
-      let xn : w.1 ≡ n = (let a : Some w.1 ≡ Some n = sym w.3 ∙ e in cc) in
-      inr (w.0, w.2, subst (λ (q : Name). 0 < times q (names_in (place ps w.0))) xn w.4))
-      (h.held k m);
-  least = λ T closed k n m e. h.least T (λ j x o f. closed.roots x (j, f, root_from j x f (sym (roots j) ∙ o))) closed.named k n m e;
-} where
-  get_low : (xs : List ℕ) (i s : ℕ) → slice_get xs i ≡ Some s → i < length xs
-  get_low [] i s e = absurd (cc)
-  get_low (x ∷ xs) zero s e = omega arith
-  get_low (x ∷ xs) (suc i) s e = let h = get_low xs i s e in omega arith
-
-  test_true : (n : Name) (out : ℕ) → (n.0 < first.0) ⊎ (0 < out) → (nat_lt n.0 first.0 || nat_lt 0 out) ≡ true
-  test_true n out r = ⊎_elim
-      (λ (l : n.0 < first.0). grind (arith, nat_tests))
-      (λ (o : 0 < out). ⊎_elim (λ (l : n.0 < first.0). grind (arith, nat_tests)) (λ (g : first.0 ≤ n.0). grind (arith, nat_tests)) (cases_lt n.0 first.0))
-      r
-
-  test_from : (n : Name) (out : ℕ) → (nat_lt n.0 first.0 || nat_lt 0 out) ≡ true → (n.0 < first.0) ⊎ (0 < out)
-  test_from n out t = ⊎_elim
-      (λ (l : n.0 < first.0). inl l)
-      (λ (g : first.0 ≤ n.0). ⊎_elim (λ (o : 0 < out). inr o)
-      (λ (z : out ≤ 0). absurd (let f : (nat_lt n.0 first.0 || nat_lt 0 out) ≡ false = grind (arith, nat_tests) in cc)) (cases_lt 0 out))
-      (cases_lt n.0 first.0)
-
-  root_true : (k : ℕ) (n : Name) → name_at ps k ≡ Some n → (n.0 < first.0) ⊎ (0 < get_or outside k 0)
-      → (nat_lt k size && is_root_at first (get_or outside k 0) (name_at ps k)) ≡ true
-  root_true k n e r =
-      let low : k < size = room k (name_of_some (place ps k) n e) in
-      let t : nat_lt k size ≡ true = grind (arith, nat_tests) in
-      rw (t, e) (test_true n (get_or outside k 0) r)
-
-  and_right : (a b : Bool) → (a && b) ≡ true → b ≡ true
-  and_right true b h = h
-  and_right false b h = absurd (cc)
-
-  root_from : (k : ℕ) (n : Name) → name_at ps k ≡ Some n → (nat_lt k size && is_root_at first (get_or outside k 0) (name_at ps k)) ≡ true
-      → (n.0 < first.0) ⊎ (0 < get_or outside k 0)
-  root_from k n e t =
-      test_from n (get_or outside k 0) (subst (λ (p : Option Name). is_root_at first (get_or outside k 0) p ≡ true) e
-      (and_right (nat_lt k size) (is_root_at first (get_or outside k 0) (name_at ps k)) t))
+use Rattle.hk_reclaim.specs.Reach.{IsInRoom, IsMarking, stays, is_lost, IsHalfSwept, IsDropped}
+use Rattle.hk_reclaim.proofs.Counting.{times_none, times-le-namings, namer, counted_same, removed_one, no_some}
+use Rattle.hk_reclaim.proofs.Leaving.{swept_none, swept_keeps, swept_loses, swept_owed, made_stands}
+use Rattle.hk_reclaim.proofs.Rooting.{stays_unlost, leaves_lost}
+use Rattle.hk_reclaim.proofs.Settling.{stands_at, stands_where, pending_stands, named_counts}
 
 -- nothing is swept yet
-pub sweep_starts : (ps : List (Option (Name × Body))) (marks : List ℕ) (t : Tally) → AreCounted ps (namings ps) t → IsHalfSwept ps marks 0 t
-sweep_starts ps marks t h = (ps, record { room = refl; places = λ k. let f : nat_lt k 0 ≡ false = grind (arith, nat_tests) in rw f refl }, h)
+pub sweep_starts : (ps : List (Option (Name × Body))) (flag : ℕ → Bool) (t : Tally) → AreCounted ps (namings ps) t → IsHalfSwept ps flag 0 t
+sweep_starts ps flag t h = (ps, swept_none ps flag, h)
 
 -- an object that is kept
-pub sweep_keeps : (ps : List (Option (Name × Body))) (marks : List ℕ) (i : ℕ) (t : Tally) → is_lost marks ps i ≡ false → IsHalfSwept ps marks i t → IsHalfSwept ps marks (i + 1) t
-sweep_keeps ps marks i t keep h = (
-  h.0,
-  record {
-    room = h.1.room;
-    places = λ k. h.1.places k ∙ ⊎_elim
-        (λ (same : k ≡ i). rw same (at_i (place ps i) (has marks i) keep))
-        (λ (ne : k ≢ i). let f : nat_lt k i ≡ nat_lt k (i + 1) = lt_more k i ne in rw f refl)
-        (cases_eq k i);
-  },
-  h.2,
-) where
-  lt_more : (k i : ℕ) → k ≢ i → nat_lt k i ≡ nat_lt k (i + 1)
-  lt_more k i ne = grind (arith, nat_tests)
-
-  cases : (p : Option (Name × Body)) (b : Bool) → (is_some (option_map (λ (e : Name × Body). e.0) p) && not b) ≡ false → p ≡ cond (not b) None p
-  cases None true h = refl
-  cases None false h = refl
-  cases (Some q) true h = refl
-  cases (Some q) false h = absurd (cc)
-
-  at_i : (p : Option (Name × Body)) (b : Bool) → (is_some (option_map (λ (e : Name × Body). e.0) p) && not b) ≡ false
-      → cond (nat_lt i i && not b) None p ≡ cond (nat_lt i (i + 1) && not b) None p
-  at_i p b h = let f : nat_lt i i ≡ false = grind (arith, nat_tests) in let g : nat_lt i (i + 1) ≡ true = grind (arith, nat_tests) in rw (f, g) (cases p b h)
-
-lost_some : (p : Option (Name × Body)) (b : Bool) → (is_some (option_map (λ (e : Name × Body). e.0) p) && not b) ≡ true → IsSome p × (b ≡ false)
-lost_some None b h = absurd (cc)
-lost_some (Some q) true h = absurd (cc)
-lost_some (Some q) false h = (refl, refl)
-
-pub lost_stands : (ps : List (Option (Name × Body))) (marks : List ℕ) (i : ℕ) → is_lost marks ps i ≡ true → IsSome (place ps i)
-lost_stands ps marks i lost = (lost_some (place ps i) (has marks i) lost).0
-
-not_yet : (ps qs : List (Option (Name × Body))) (marks : List ℕ) (i : ℕ) → IsSweptTo ps marks i qs → place qs i ≡ place ps i
-not_yet ps qs marks i h = h.places i ∙ (let f : nat_lt i i ≡ false = grind (arith, nat_tests) in rw f refl)
+pub sweep_keeps : (ps : List (Option (Name × Body))) (flag : ℕ → Bool) (i : ℕ) (t : Tally) → flag i ≡ false → IsHalfSwept ps flag i t → IsHalfSwept ps flag (i + 1) t
+sweep_keeps ps flag i t down h = (h.0, swept_keeps ps h.0 flag i down h.1, h.2)
 
 -- before the names of a lost object are taken back, they are owed
-lost_counted : (ps : List (Option (Name × Body))) (marks : List ℕ) (i : ℕ) (t : Tally) → is_lost marks ps i ≡ true → (h : IsHalfSwept ps marks i t)
+lost_counted : (ps : List (Option (Name × Body))) (flag : ℕ → Bool) (i : ℕ) (t : Tally) → IsSome (place ps i) → (h : IsHalfSwept ps flag i t)
     → AreCounted ps (owing (namings (set h.0 i None)) (names_in (place ps i))) t
-lost_counted ps marks i t lost h =
-    let low : i < length h.0 = rw h.1.room (within_some ps i (lost_stands ps marks i lost)) in
-    let e : place h.0 i ≡ place ps i = not_yet ps h.0 marks i h.1 in
-    counted_same ps (namings h.0) (owing (namings (set h.0 i None)) (names_in (place ps i))) t
-    (λ n. namings_gone h.0 i n low ∙ ap (λ (p : Option (Name × Body)). namings (set h.0 i None) n + times n (names_in p)) e) h.2
+lost_counted ps flag i t some h =
+    counted_same ps (namings h.0) (owing (namings (set h.0 i None)) (names_in (place ps i))) t (swept_owed ps h.0 flag i some h.1) h.2
 
-pub lost_owed : (ps : List (Option (Name × Body))) (marks : List ℕ) (i : ℕ) (t : Tally) → is_lost marks ps i ≡ true → IsHalfSwept ps marks i t
+pub lost_owed : (ps : List (Option (Name × Body))) (so : Bool) (i : ℕ) (t : Tally) → IsSome (place ps i)
+    → (flag : ℕ → Bool) × (so ≡ flag i) × IsHalfSwept ps flag i t
     → (owed : Name → ℕ) × AreCounted ps (owing owed (names_in (place ps i))) t
-lost_owed ps marks i t lost h = (namings (set h.0 i None), lost_counted ps marks i t lost h)
+lost_owed ps so i t some w = (namings (set w.2.0 i None), lost_counted ps w.0 i t some w.2)
 
 -- an object that is lost
-pub sweep_loses : (ps : List (Option (Name × Body))) (marks : List ℕ) (i : ℕ) (t u : Tally) → is_lost marks ps i ≡ true → IsHalfSwept ps marks i t
-    → ((owed : Name → ℕ) → AreCounted ps (owing owed (names_in (place ps i))) t → AreCounted ps owed u) → IsHalfSwept ps marks (i + 1) u
-sweep_loses ps marks i t u lost h release =
-    let low : i < length h.0 = rw h.1.room (within_some ps i (lost_stands ps marks i lost)) in (
-      set h.0 i None,
-      record {
-        room = length-set h.0 i None ∙ h.1.room;
-        places = λ k. ⊎_elim
-            (λ (same : k ≡ i).
-            let g : nat_lt i (i + 1) ≡ true = grind (arith, nat_tests) in
-            let f : has marks i ≡ false = (lost_some (place ps i) (has marks i) lost).1 in
-            rw (same, g, f) (get_or-set_same h.0 i None None low))
-            (λ (ne : k ≢ i). let f : nat_lt k (i + 1) ≡ nat_lt k i = lt_more k i ne in rw f (get_or-set_other h.0 i k None None ne ∙ h.1.places k))
-            (cases_eq k i);
-      },
-      release (namings (set h.0 i None)) (lost_counted ps marks i t lost h),
-    ) where
-      lt_more : (k i : ℕ) → k ≢ i → nat_lt k (i + 1) ≡ nat_lt k i
-      lt_more k i ne = grind (arith, nat_tests)
+pub sweep_loses : (ps : List (Option (Name × Body))) (flag : ℕ → Bool) (i : ℕ) (t u : Tally) → flag i ≡ true → IsSome (place ps i)
+    → ((owed : Name → ℕ) → AreCounted ps (owing owed (names_in (place ps i))) t → AreCounted ps owed u) → IsHalfSwept ps flag i t → IsHalfSwept ps flag (i + 1) u
+sweep_loses ps flag i t u up some release h = (
+  set h.0 i None,
+  swept_loses ps h.0 flag i up some h.1,
+  release (namings (set h.0 i None)) (lost_counted ps flag i t some h),
+)
+
+-- a made object without a mark is lost
+pub lost_at : (first : Name) (ps : List (Option (Name × Body))) (flags : List Bool) (marks : List ℕ) (i : ℕ) (so : Bool) → AreMade first ps flags
+    → so ≡ (get_or flags i false && not (has marks i)) → so ≡ is_lost first ps marks i
+lost_at first ps flags marks i so made e = e ∙ ap (λ (b : Bool). b && not (has marks i)) (made i)
+
+pub lost_stands : (first : Name) (ps : List (Option (Name × Body))) (marks : List ℕ) (i : ℕ) (so : Bool) → so ≡ is_lost first ps marks i → so ≡ true → IsSome (place ps i)
+lost_stands first ps marks i so e up = made_stands first ps i (left_true (is_made first (name_at ps i)) (not (has marks i)) (sym e ∙ up)) where
+  left_true : (a b : Bool) → (a && b) ≡ true → a ≡ true
+  left_true true b t = refl
+  left_true false b t = absurd (cc)
 
 -- dropping what is pending
 pub drop_starts : (first : Name) (outside : List ℕ) (owed : Name → ℕ) (ps : List (Option (Name × Body))) → IsDropped first outside owed ps ps
@@ -179,31 +92,36 @@ pub drop_counted : (now new : List (Option (Name × Body))) (owed : Name → ℕ
 drop_counted now new owed t u s in' en eu h = rw (en, eu) (removed_one now owed t s (within_some now s (pending_stands now owed t s h in')) in' h)
 
 module _ (first : Name) (outside : List ℕ) (ps qs rs : List (Option (Name × Body))) (marks : List ℕ) (size : ℕ) (t : Tally)
-    (apart : AreApart ps) (room : IsInRoom ps size) (m : IsMarking first outside ps marks) (ef : t.first_new ≡ first) (eo : t.outside ≡ outside)
-    (sw : IsSweptTo ps marks size qs) (dr : IsDropped first outside (namings qs) ps rs) (h : AreCounted rs (namings qs) t) (none : t.pending ≡ []) where
-  marked_place : (k : ℕ) → has marks k ≡ true → place qs k ≡ place ps k
-  marked_place k i = sw.places k ∙ rw i (last (nat_lt k size)) where
+    (apart : AreApart ps) (room : IsInRoom ps size) (m : IsMarking first outside ps (stays first ps marks)) (ef : t.first_new ≡ first) (eo : t.outside ≡ outside)
+    (sw : IsSweptTo ps (is_lost first ps marks) size qs) (dr : IsDropped first outside (namings qs) ps rs) (h : AreCounted rs (namings qs) t) (none : t.pending ≡ []) where
+  marked_place : (k : ℕ) → stays first ps marks k ≡ true → place qs k ≡ place ps k
+  marked_place k i = sw.places k ∙ (rw (stays_unlost first ps marks k i) (last (nat_lt k size))) where
     last : (b : Bool) → cond (b && false) None (place ps k) ≡ place ps k
     last true = refl
     last false = refl
 
-  unmarked_place : (k : ℕ) → has marks k ≡ false → place qs k ≡ None
-  unmarked_place k i = sw.places k ∙ rw i (⊎_elim
-      (λ (l : k < size). let f : nat_lt k size ≡ true = grind (arith, nat_tests) in rw f refl)
-      (λ (g : size ≤ k). let f : nat_lt k size ≡ false = grind (arith, nat_tests) in rw f (past (place ps k) (λ s. let l : k < size = room k s in omega arith)))
-      (cases_lt k size)) where
-        past : (p : Option (Name × Body)) → (IsSome p → ⊥) → p ≡ None
-        past None h = refl
-        past (Some q) h = absurd (h refl)
+  unmarked_place : (k : ℕ) → stays first ps marks k ≡ false → place qs k ≡ None
+  unmarked_place k i = by (place ps k) refl where
+    none_is : (b : Bool) → cond {A = Option (Name × Body)} b None None ≡ None
+    none_is true = refl
+    none_is false = refl
 
-  by_mark : {A : Type 0} (k : ℕ) → (has marks k ≡ true → A) → (has marks k ≡ false → A) → A
-  by_mark {A} k y n = by (has marks k) refl where
-    by : (b : Bool) → has marks k ≡ b → A
+    by : (p : Option (Name × Body)) → place ps k ≡ p → place qs k ≡ None
+    by None e = sw.places k ∙ (rw e (none_is (nat_lt k size && false)))
+    by (Some q) e =
+        let some : IsSome (place ps k) = rw e refl in
+        let low : k < size = room k some in
+        let f : nat_lt k size ≡ true = grind (arith, nat_tests) in
+        sw.places k ∙ (rw (f, leaves_lost first ps marks k i some) refl)
+
+  by_mark : {A : Type 0} (k : ℕ) → (stays first ps marks k ≡ true → A) → (stays first ps marks k ≡ false → A) → A
+  by_mark {A} k y n = by (stays first ps marks k) refl where
+    by : (b : Bool) → stays first ps marks k ≡ b → A
     by true e = y e
     by false e = n e
 
   -- what is marked stays
-  marked_stays : (k : ℕ) → has marks k ≡ true → place rs k ≡ place ps k
+  marked_stays : (k : ℕ) → stays first ps marks k ≡ true → place rs k ≡ place ps k
   marked_stays k i = ⊎_elim
       (λ (p : place rs k ≡ place ps k). p)
       (λ (p : place rs k ≡ None). ⊎_elim
@@ -214,7 +132,7 @@ module _ (first : Name) (outside : List ℕ) (ps qs rs : List (Option (Name × B
       let c : namings qs w.0 ≡ 0 = w.4 in
       ⊎_elim
       (λ (r : (w.0.0 < first.0) ⊎ (0 < get_or outside k 0)). ⊎_elim (λ (l : w.0.0 < first.0). omega arith) (λ (o : 0 < get_or outside k 0). omega arith) r)
-      (λ (v : (s : ℕ) × (has marks s ≡ true) × (0 < times w.0 (names_in (place ps s)))).
+      (λ (v : (s : ℕ) × (stays first ps marks s ≡ true) × (0 < times w.0 (names_in (place ps s)))).
       let d : 0 < times w.0 (names_in (place qs v.0)) = rw (marked_place v.0 v.1) v.2 in
       omega (arith, times-le-namings qs v.0 w.0))
       (m.held k w.0 i w.1)))
@@ -232,7 +150,7 @@ module _ (first : Name) (outside : List ℕ) (ps qs rs : List (Option (Name × B
   names_some (Some q) n h = refl
 
   -- what stands in the end is marked
-  left_marked : (k : ℕ) (n : Name) → name_at rs k ≡ Some n → has marks k ≡ true
+  left_marked : (k : ℕ) (n : Name) → name_at rs k ≡ Some n → stays first ps marks k ≡ true
   left_marked k n e =
       let e' : name_at ps k ≡ Some n = (was k n e).1 in
       let c : get_or t.total k 0 ≡ get_or t.outside k 0 + namings qs n = named_counts rs (namings qs) t k n h e in
@@ -262,12 +180,12 @@ module _ (first : Name) (outside : List ℕ) (ps qs rs : List (Option (Name × B
   pub swept_is : rs ≡ qs
   swept_is = ext_get_or None rs qs (dr.part.room ∙ sym sw.room) (λ k low. by_mark k
       (λ y. marked_stays k y ∙ sym (marked_place k y))
-      (λ y. none_or (place rs k) (λ n e. let f : has marks k ≡ true = left_marked k n e in cc) ∙ sym (unmarked_place k y)))
+      (λ y. none_or (place rs k) (λ n e. let f : stays first ps marks k ≡ true = left_marked k n e in cc) ∙ sym (unmarked_place k y)))
 
   pub collected_counted : AreCounted rs (namings rs) t
   collected_counted = counted_same rs (namings qs) (namings rs) t (λ n. ap (λ (xs : List (Option (Name × Body))). namings xs n) (sym swept_is)) h
 
-  marked_name : (k : ℕ) (n : Name) → has marks k ≡ true → name_at ps k ≡ Some n → stands rs n ≡ true
+  marked_name : (k : ℕ) (n : Name) → stays first ps marks k ≡ true → name_at ps k ≡ Some n → stands rs n ≡ true
   marked_name k n i e = stands_at rs k n (ap (option_map (λ (q : Name × Body). q.0)) (marked_stays k i) ∙ e)
 
   -- and that is the least set that has the roots and all that its members name
@@ -278,25 +196,24 @@ module _ (first : Name) (outside : List ℕ) (ps qs rs : List (Option (Name × B
       named = λ n k e w.
           let v : (j : ℕ) × (name_at rs j ≡ Some w.1) = stands_where rs w.1 w.3 in
           let j : v.0 ≡ w.0 = apart v.0 w.0 w.1 (was v.0 w.1 v.1).1 w.2 in
-          let i : has marks w.0 ≡ true = subst (λ (q : ℕ). has marks q ≡ true) j (left_marked v.0 w.1 v.1) in
+          let i : stays first ps marks w.0 ≡ true = subst (λ (q : ℕ). stays first ps marks q ≡ true) j (left_marked v.0 w.1 v.1) in
           marked_name k n (m.closed w.0 k n i w.4 e) e;
     };
     least = λ T closed n s. let v : (j : ℕ) × (name_at rs j ≡ Some n) = stands_where rs n s in m.least T closed v.0 n (left_marked v.0 n v.1) (was v.0 n v.1).1;
   }
 
 -- all of it
-pub collected : (first : Name) (outside : List ℕ) (ps rs : List (Option (Name × Body))) (marks : List ℕ) (size : ℕ) (old t u v : Tally) → AreApart ps → IsInRoom ps size
-    → t ≡ old → first ≡ t.first_new → outside ≡ t.outside
-    → IsMarking first outside ps marks → IsHalfSwept ps marks size u → SameOutside t u → SameOutside u v
+pub collected : (ps rs : List (Option (Name × Body))) (marks : List ℕ) (size : ℕ) (t u v : Tally) → AreApart ps → IsInRoom ps size
+    → IsMarking t.first_new t.outside ps (stays t.first_new ps marks) → IsHalfSwept ps (is_lost t.first_new ps marks) size u → SameOutside t u → SameOutside u v
     → ((owed : Name → ℕ) → AreCounted ps owed u → IsDropped u.first_new u.outside owed ps rs)
     → ((owed : Name → ℕ) → AreCounted ps owed u → AreCounted rs owed v)
-    → v.pending ≡ [] → IsReached old.first_new old.outside ps (stands rs) × AreCounted rs (namings rs) v
-collected first outside ps rs marks size old t u v apart room e ef eo m hs st sv dropped counted none =
+    → v.pending ≡ [] → IsReached t.first_new t.outside ps (stands rs) × AreCounted rs (namings rs) v
+collected ps rs marks size t u v apart room m hs st sv dropped counted none =
     let qs : List (Option (Name × Body)) = hs.0 in
-    let m' : IsMarking u.first_new u.outside ps marks = rw (st.first_new, st.outside, ← ef, ← eo) m in
-    let d : IsDropped u.first_new u.outside (namings qs) ps rs = dropped (namings qs) hs.2 in
+    let d : IsDropped t.first_new t.outside (namings qs) ps rs = rw (← st.first_new, ← st.outside) (dropped (namings qs) hs.2) in
     let c : AreCounted rs (namings qs) v = counted (namings qs) hs.2 in
-    let r : IsReached u.first_new u.outside ps (stands rs) = collected_reached u.first_new u.outside ps qs rs marks size v apart room m' sv.first_new sv.outside hs.1 d c none in (
-      rw (← e, ← st.first_new, ← st.outside) r,
-      collected_counted u.first_new u.outside ps qs rs marks size v apart room m' sv.first_new sv.outside hs.1 d c none,
+    let ef : v.first_new ≡ t.first_new = sv.first_new ∙ st.first_new in
+    let eo : v.outside ≡ t.outside = sv.outside ∙ st.outside in (
+      collected_reached t.first_new t.outside ps qs rs marks size v apart room m ef eo hs.1 d c none,
+      collected_counted t.first_new t.outside ps qs rs marks size v apart room m ef eo hs.1 d c none,
     )

@@ -2,4 +2,5 @@ pub mod Naming
 pub mod Kept
 pub mod Tally
 pub mod Marks
+pub mod Made
 pub mod Reach

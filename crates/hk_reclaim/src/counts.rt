@@ -7,6 +7,7 @@ ghost use Rattle.hk_reclaim.specs.Naming.{stands};
 ghost use Rattle.hk_reclaim.specs.Tally.{raised, lowered, released, IsCounted, SameOutside};
 
 use crate::finding::read_apart;
+use crate::made::Made;
 use crate::marks::Marks;
 use crate::numbers::Numbers;
 use crate::reach::mark_reached;
@@ -22,18 +23,20 @@ use std::marker::Model;
 #[derive(Drop)]
 pub struct Counts {
     numbers: Numbers,
+    made: Made,
     marks: Marks,
 }
 
 impl Model for Counts {
-    ghost use Rattle.std.specs.Prelude.{◌≡◌, [], length};
+    ghost use Rattle.std.specs.Prelude.{length};
+    ghost use Rattle.hk_reclaim.specs.Reach.{IsIdle};
     ghost use Rattle.hk_reclaim.specs.Tally.{Tally};
 
     ghost Value = { Tally };
 
     ghost view = { λ a. a.numbers };
 
-    ghost invariant = { λ a. a.marks ≡ record { size = length a.numbers.total; slots = [] } };
+    ghost invariant = { λ a. IsIdle (length a.numbers.total) a.made.stands.items a.made.left.items a.marks };
 }
 
 impl Counts {
@@ -43,6 +46,7 @@ impl Counts {
     {
         Ok(Counts {
             numbers: Numbers::with(alloc, slots, first_new)?,
+            made: Made::with(alloc, slots)?,
             marks: Marks::with(alloc, slots)?,
         })
     }
@@ -115,14 +119,10 @@ impl Counts {
         read_apart(objects);
         let size = self.numbers.size();
         let first_new = self.numbers.first_new();
-        mark_reached(
-            &mut self.marks,
-            size,
-            self.numbers.outside(),
-            first_new,
-            objects,
-        );
-        release_lost(&mut self.numbers, &self.marks, size, objects);
+        self.made
+            .read(size, self.numbers.total(), first_new, objects);
+        mark_reached(&mut self.marks, size, &self.made, first_new, objects);
+        release_lost(&mut self.numbers, &self.made, &self.marks, size, objects);
         let removed = drop_pending(&mut self.numbers, objects);
         self.marks.clear();
         removed

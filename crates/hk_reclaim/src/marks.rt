@@ -1,40 +1,53 @@
 //! Slots that are marked, in the order in which they were.
 
-ghost use Rattle.std.specs.Prelude.{◌≡◌, ◌<◌, ◌≤◌, ◌+◌, ℕ, Some, None, [], true, false, length, IfSome, IfOk, slice_get};
+ghost use Rattle.std.specs.Prelude.{◌≡◌, ◌<◌, ◌≤◌, ◌&&◌, ℕ, not, true, [], false, length, IfSome, IfOk, slice_get, slice_index_or};
 ghost use Rattle.hk_reclaim.specs.Marks.{marked_with};
 ghost use Rattle.hk_reclaim.specs.Tally.{has};
 
-use crate::finding::one_list;
-use hk_links::Chains;
+use crate::arrays::{falses, zeros};
 use hk_model::NoMemory;
 use std::alloc::Global;
 use std::marker::Model;
 
-/// Marked slots: a slot is marked where it is in the one list.
+/// Marked slots: for each slot whether it is marked, and the first so many of `order` are the marked ones.
 #[derive(Drop)]
 pub(crate) struct Marks {
-    chains: Chains,
+    marked: Vec<bool>,
+    order: Vec<u32>,
+    number: usize,
 }
 
 impl Model for Marks {
-    ghost use Rattle.std.specs.Prelude.{◌≡◌, ◌∷◌, []};
-    ghost use Rattle.hk_links.specs.Chained.{listed};
-    ghost use Rattle.hk_reclaim.specs.Marks.{Marked};
+    ghost use Rattle.std.specs.Prelude.{length, take};
+    ghost use Rattle.hk_reclaim.specs.Marks.{Marked, AreMarks};
 
     ghost Value = { Marked };
 
-    ghost view = { λ a. record { size = a.chains.cells; slots = listed a.chains.lists 0 } };
+    ghost view = { λ a. record { size = length a.marked.items; slots = take a.number a.order.items } };
 
-    ghost invariant = { λ a. a.chains.lists ≡ listed a.chains.lists 0 ∷ [] };
+    ghost invariant = { λ a. AreMarks a.marked.items a.order.items a.number };
+}
+
+/// Takes the marks of these slots away.
+fn unmark(marked: &mut Vec<bool>, slots: &[u32])
+    requires { (k : ℕ) → has slots.now k ≡ true → k < length marked.old.items }
+    ensures size { length marked.new.items ≡ length marked.old.items }
+    ensures others { (k : ℕ) → slice_index_or marked.new.items k false ≡ (slice_index_or marked.old.items k false && not (has slots.now k)) }
+{
+    for i in 0..slots.len() {
+        marked[slots[i] as usize] = false;
+    }
 }
 
 impl Marks {
-    /// No marks, with room for so many slots.
+    /// No marks, with room for so many slots. No other call takes memory.
     pub(crate) fn with(alloc: Global, slots: u32) -> Result<Marks, NoMemory>
         ensures { IfOk result (λ m. m ≡ record { size = slots; slots = [] }) }
     {
         Ok(Marks {
-            chains: one_list(alloc, slots)?,
+            marked: falses(alloc, slots as usize)?,
+            order: zeros(alloc, slots as usize)?,
+            number: 0,
         })
     }
 
@@ -43,10 +56,7 @@ impl Marks {
         requires { slot < self.now.size }
         ensures { result ≡ has self.now.slots slot }
     {
-        match self.chains.list_of(slot) {
-            Some(0) => true,
-            _ => false,
-        }
+        self.marked[slot as usize]
     }
 
     /// Marks a slot.
@@ -54,45 +64,31 @@ impl Marks {
         requires { slot < self.old.size }
         ensures { self.new ≡ record self.old { slots = marked_with self.old.slots slot } }
     {
-        if !self.is_marked(slot) {
-            self.chains.push_back(0, slot);
+        if !self.marked[slot as usize] {
+            self.marked[slot as usize] = true;
+            self.order[self.number] = slot;
+            self.number += 1;
         }
     }
 
-    /// The first mark.
-    pub(crate) fn first(&self) -> Option<u32>
-        ensures first { result ≡ slice_get self.now.slots 0 }
+    /// The mark that came after so many others.
+    pub(crate) fn at(&self, place: u32) -> Option<u32>
+        ensures at { result ≡ slice_get self.now.slots place }
         ensures slot { IfSome result (λ s. s < self.now.size) }
         ensures few { length self.now.slots ≤ self.now.size }
     {
-        self.chains.front(0)
-    }
-
-    /// The mark behind a mark.
-    pub(crate) fn next(&self, slot: u32) -> Option<u32>
-        requires { slot < self.now.size }
-        ensures next { (k : ℕ) → slice_get self.now.slots k ≡ Some slot → result ≡ slice_get self.now.slots (k + 1) }
-        ensures slot { IfSome result (λ s. s < self.now.size) }
-    {
-        self.chains.next(slot)
+        if (place as usize) < self.number {
+            Some(self.order[place as usize])
+        } else {
+            None
+        }
     }
 
     /// Takes all marks away.
     pub(crate) fn clear(&mut self)
         ensures { self.new ≡ record self.old { slots = [] } }
     {
-        while self.take_first() {}
-    }
-
-    /// Takes the first mark away, if there is one.
-    fn take_first(&mut self) -> bool
-        ensures size { self.new.size ≡ self.old.size }
-        ensures none { result ≡ false → self.old.slots ≡ [] × (self.new.slots ≡ []) }
-        ensures some { result ≡ true → length self.new.slots < length self.old.slots }
-    {
-        match self.chains.pop_front(0) {
-            Some(_) => true,
-            None => false,
-        }
+        unmark(&mut self.marked, &self.order.as_slice()[..self.number]);
+        self.number = 0;
     }
 }

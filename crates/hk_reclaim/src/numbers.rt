@@ -8,6 +8,7 @@ ghost use Rattle.hk_reclaim.specs.Kept.{IsKept, IsPartOf, HasLost};
 ghost use Rattle.hk_reclaim.specs.Naming.{named, names_in, stands};
 ghost use Rattle.hk_reclaim.specs.Tally.{has, raised, lowered, released, is_due, owing, AreCounted, IsCounted, IsReleasable, IsReleased, SameOutside};
 
+use crate::arrays::zeros;
 use crate::finding::{one_list, read_apart, slot_of};
 use hk_links::Chains;
 use hk_model::{Entry, Name, NoMemory, Template};
@@ -33,17 +34,6 @@ impl Model for Numbers {
     ghost view = { λ a. record { first_new = a.first_new; outside = a.outside.items; total = a.total.items; pending = listed a.pending.lists 0 } };
 
     ghost invariant = { λ a. IsTally a.outside.items a.total.items a.pending };
-}
-
-/// As many zeros.
-fn zeros(alloc: Global, size: usize) -> Result<Vec<u32>, NoMemory>
-    ensures { IfOk result (λ v. v.items ≡ replicate size 0) }
-{
-    let mut all = Vec::with_capacity(alloc, size)?;
-    for _i in 0..size {
-        all.push(0)?;
-    }
-    Ok(all)
 }
 
 /// Nothing counts an object any longer, and it is no opening object.
@@ -85,12 +75,11 @@ impl Numbers {
         self.total.len() as u32
     }
 
-    /// The numbers of namings from outside.
-    pub(crate) fn outside(&self) -> &[u32]
-        ensures value { result.now ≡ self.now.outside }
-        ensures size { length result.now ≡ length self.now.total }
+    /// The numbers of all namings.
+    pub(crate) fn total(&self) -> &[u32]
+        ensures { result.now ≡ self.now.total }
     {
-        self.outside.as_slice()
+        self.total.as_slice()
     }
 
     /// The first name of an object that is no opening object.

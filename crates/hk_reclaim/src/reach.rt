@@ -1,49 +1,38 @@
-//! Marking what is reached.
+//! Marking what is reached among the made objects.
 
-ghost use Rattle.std.specs.Prelude.{◌≡◌, ◌<◌, ◌≤◌, ◌&&◌, ℕ, Some, None, [], true, cond, length, IsSome, nat_lt, slice_index};
+ghost use Rattle.std.specs.Prelude.{◌≡◌, ◌<◌, ◌&&◌, ℕ, List, [], true, false, cond, length, IsSome, nat_lt, slice_index, slice_index_or};
 ghost use Rattle.hk_objects.specs.Slots.{place, name_at};
+ghost use Rattle.hk_reclaim.specs.Made.{AreMade, IsHalfLeft};
 ghost use Rattle.hk_reclaim.specs.Marks.{marked_with};
 ghost use Rattle.hk_reclaim.specs.Naming.{names_in};
-ghost use Rattle.hk_reclaim.specs.Reach.{IsInRoom, is_root_at, IsMarkedBy, Grows, IsWalked, IsMarking};
+ghost use Rattle.hk_reclaim.specs.Reach.{IsInRoom, IsMarkedBy, Grows, IsWalked, IsMarking, stays};
 ghost use Rattle.hk_reclaim.specs.Tally.{has};
 
-use crate::finding::slot_of;
+use crate::made::{Made, made_slot};
 use crate::marks::Marks;
 use crate::numbers::entry_name;
 use hk_model::Name;
 use hk_objects::{Objects, SlotNo};
 
-/// Marks the object of a name, if it stands.
-fn mark_name(marks: &mut Marks, objects: &Objects, name: Option<Name>)
+/// Marks the made object of a name, if there is one.
+fn mark_name(marks: &mut Marks, objects: &Objects, name: Option<Name>, first_new: Name)
     requires { IsInRoom objects.now.slots marks.old.size }
-    ensures { IsMarkedBy objects.now.slots name marks.old marks.new }
+    ensures { IsMarkedBy first_new objects.now.slots name marks.old marks.new }
 {
-    if let Some(name) = name {
-        if let Some(slot) = slot_of(objects, name) {
-            marks.mark(slot.0);
-        }
+    if let Some(slot) = made_slot(objects, name, first_new) {
+        marks.mark(slot.0);
     }
 }
 
-/// Marks all that an object names.
-fn mark_names(marks: &mut Marks, objects: &Objects, slot: SlotNo)
+/// Marks all made objects that an object names.
+fn mark_names(marks: &mut Marks, objects: &Objects, slot: SlotNo, first_new: Name)
     requires room { IsInRoom objects.now.slots marks.old.size }
     requires stands { IsSome (place objects.now.slots slot.0) }
-    ensures { Grows objects.now.slots (names_in (place objects.now.slots slot.0)) marks.old marks.new }
+    ensures { Grows first_new objects.now.slots (names_in (place objects.now.slots slot.0)) marks.old marks.new }
 {
-    mark_name(marks, objects, Some(objects.of(slot)));
+    mark_name(marks, objects, Some(objects.of(slot)), first_new);
     for entry in objects.entries(slot) {
-        mark_name(marks, objects, entry_name(entry));
-    }
-}
-
-/// The object in a slot is an opening object or is named from outside.
-fn is_root(objects: &Objects, slot: SlotNo, outside: u32, first_new: Name) -> bool
-    ensures { result ≡ is_root_at first_new outside (name_at objects.now.slots slot.0) }
-{
-    match objects.name_of(slot) {
-        Some(name) => name.0 < first_new.0 || 0 < outside,
-        None => false,
+        mark_name(marks, objects, entry_name(entry), first_new);
     }
 }
 
@@ -57,59 +46,52 @@ fn mark_if(marks: &mut Marks, slot: u32, so: bool)
     }
 }
 
-/// Marks the opening objects, and those that are named from outside.
-pub(crate) fn mark_roots(
-    marks: &mut Marks,
-    size: u32,
-    outside: &[u32],
-    first_new: Name,
-    objects: &Objects,
-)
-    requires size { size ≡ length outside.now }
+/// Marks the made objects of which a naming is left.
+fn mark_roots(marks: &mut Marks, size: u32, made: &Made)
+    requires stands { length made.now.stands.items ≡ size }
+    requires left { length made.now.left.items ≡ size }
     requires empty { marks.old ≡ record { size = size; slots = [] } }
     ensures size { marks.new.size ≡ size }
-    ensures roots { (k : ℕ) → has marks.new.slots k ≡ (nat_lt k size && is_root_at first_new (slice_index outside.now k) (name_at objects.now.slots k)) }
+    ensures roots { (k : ℕ) → has marks.new.slots k ≡ (nat_lt k size && (slice_index_or made.now.stands.items k false && nat_lt 0 (slice_index made.now.left.items k))) }
 {
     for i in 0..size {
-        let root = is_root(objects, SlotNo(i), outside[i as usize], first_new);
-        mark_if(marks, i, root);
+        mark_if(marks, i, made.is_root(i));
     }
 }
 
-/// Marks all that marked objects name, mark by mark.
-pub(crate) fn walk(marks: &mut Marks, size: u32, objects: &Objects)
+/// Marks all made objects that marked objects name, mark by mark.
+fn walk(marks: &mut Marks, size: u32, objects: &Objects, first_new: Name)
     requires size { size ≡ marks.old.size }
     requires room { IsInRoom objects.now.slots marks.old.size }
     requires stand { (k : ℕ) → has marks.old.slots k ≡ true → IsSome (place objects.now.slots k) }
-    ensures { IsWalked objects.now.slots marks.old marks.new (length marks.new.slots) }
+    ensures { IsWalked first_new objects.now.slots marks.old marks.new (length marks.new.slots) }
 {
-    let mut cursor = marks.first();
-    for _k in 0..size {
-        match cursor {
-            Some(slot) => {
-                mark_names(marks, objects, SlotNo(slot));
-                cursor = marks.next(slot);
-            }
+    for k in 0..size {
+        match marks.at(k) {
+            Some(slot) => mark_names(marks, objects, SlotNo(slot), first_new),
             None => return,
         }
     }
-    let _few = marks.first();
+    let _few = marks.at(0);
 }
 
-/// Marks all that is reached.
+/// Marks the made objects that are reached.
 pub(crate) fn mark_reached(
     marks: &mut Marks,
     size: u32,
-    outside: &[u32],
+    made: &Made,
     first_new: Name,
     objects: &Objects,
 )
-    requires size { size ≡ length outside.now }
+    requires stands_size { length made.now.stands.items ≡ size }
+    requires left_size { length made.now.left.items ≡ size }
     requires empty { marks.old ≡ record { size = size; slots = [] } }
     requires room { IsInRoom objects.now.slots size }
+    requires stands { AreMade first_new objects.now.slots made.now.stands.items }
     ensures size { marks.new.size ≡ size }
-    ensures marks { IsMarking first_new outside.now objects.now.slots marks.new.slots }
+    ensures marks { (outside : List ℕ) → IsHalfLeft first_new objects.now.slots outside size made.now.left.items
+        → IsMarking first_new outside objects.now.slots (stays first_new objects.now.slots marks.new.slots) }
 {
-    mark_roots(marks, size, outside, first_new, objects);
-    walk(marks, size, objects);
+    mark_roots(marks, size, made);
+    walk(marks, size, objects, first_new);
 }

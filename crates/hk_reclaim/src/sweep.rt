@@ -1,44 +1,57 @@
 //! Taking away what is not marked.
 
-ghost use Rattle.std.specs.Prelude.{◌≡◌, ◌<◌, ◌+◌, ◌↔◌, ℕ, [], IsTrue};
+ghost use Rattle.std.specs.Prelude.{◌≡◌, ◌<◌, ◌+◌, ◌↔◌, ◌&&◌, not, ℕ, Bool, true, false, [], length, IsSome, IsTrue, slice_index_or};
 ghost use Rattle.hk_model.specs.declared.names.Name.{Name};
 ghost use Rattle.hk_reclaim.specs.Kept.{HasLost};
-ghost use Rattle.hk_reclaim.specs.Reach.{IsInRoom, IsHalfSwept, IsDropped, is_lost};
-ghost use Rattle.hk_reclaim.specs.Tally.{AreCounted, IsCounted, SameOutside};
+ghost use Rattle.hk_objects.specs.Slots.{place};
+ghost use Rattle.hk_reclaim.specs.Made.{AreMade};
+ghost use Rattle.hk_reclaim.specs.Reach.{IsHalfSwept, IsDropped, is_lost};
+ghost use Rattle.hk_reclaim.specs.Tally.{has, AreCounted, IsCounted, SameOutside};
 
+use crate::made::Made;
 use crate::marks::Marks;
 use crate::numbers::Numbers;
 use hk_objects::{Objects, SlotNo};
 
-/// An object stands in a slot without a mark.
-fn is_lost(marks: &Marks, objects: &Objects, slot: u32) -> bool
-    requires { slot < marks.now.size }
-    ensures { result ≡ is_lost marks.now.slots objects.now.slots slot }
-{
-    objects.name_of(SlotNo(slot)).is_some() && !marks.is_marked(slot)
-}
-
-/// Takes back what the object in a slot names, if it has no mark.
-fn release_one(numbers: &mut Numbers, marks: &Marks, objects: &Objects, slot: u32)
-    requires size { slot < marks.now.size }
-    requires counted { IsHalfSwept objects.now.slots marks.now.slots slot numbers.old }
-    ensures counted { IsHalfSwept objects.now.slots marks.now.slots (slot + 1) numbers.new }
+/// Takes back what the object in a slot names, if asked to.
+fn release_if(numbers: &mut Numbers, objects: &Objects, slot: u32, so: bool)
+    requires stands { so ≡ true → IsSome (place objects.now.slots slot) }
+    requires counted { (flag : ℕ → Bool) × (so ≡ flag slot) × IsHalfSwept objects.now.slots flag slot numbers.old }
+    ensures counted { (flag : ℕ → Bool) → so ≡ flag slot → IsHalfSwept objects.now.slots flag slot numbers.old → IsHalfSwept objects.now.slots flag (slot + 1) numbers.new }
     ensures outside { SameOutside numbers.old numbers.new }
 {
-    if is_lost(marks, objects, slot) {
+    if so {
         numbers.release_names(objects, SlotNo(slot));
     }
 }
 
-/// Takes back what the objects without a mark name.
-pub(crate) fn release_lost(numbers: &mut Numbers, marks: &Marks, size: u32, objects: &Objects)
+/// A made object stands in a slot without a mark.
+fn is_lost(made: &Made, marks: &Marks, slot: u32) -> bool
+    requires made { slot < length made.now.stands.items }
+    requires marks { slot < marks.now.size }
+    ensures { result ≡ (slice_index_or made.now.stands.items slot false && not (has marks.now.slots slot)) }
+{
+    made.is_made(slot) && !marks.is_marked(slot)
+}
+
+/// Takes back what the made objects without a mark name.
+pub(crate) fn release_lost(
+    numbers: &mut Numbers,
+    made: &Made,
+    marks: &Marks,
+    size: u32,
+    objects: &Objects,
+)
     requires size { size ≡ marks.now.size }
+    requires made_size { length made.now.stands.items ≡ size }
+    requires made { (first : Name) × AreMade first objects.now.slots made.now.stands.items }
     requires counted { IsCounted objects.now.slots numbers.old }
-    ensures counted { IsHalfSwept objects.now.slots marks.now.slots size numbers.new }
+    ensures counted { (first : Name) → AreMade first objects.now.slots made.now.stands.items
+        → IsHalfSwept objects.now.slots (is_lost first objects.now.slots marks.now.slots) size numbers.new }
     ensures outside { SameOutside numbers.old numbers.new }
 {
     for i in 0..size {
-        release_one(numbers, marks, objects, i);
+        release_if(numbers, objects, i, is_lost(made, marks, i));
     }
 }
 
