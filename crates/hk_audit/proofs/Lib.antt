@@ -30,3 +30,4 @@ mod ScriptLengths
 mod LineLengths
 pub mod RecordLengths
 pub mod Begun
+pub mod ReadOn

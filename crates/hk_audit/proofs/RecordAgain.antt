@@ -72,7 +72,7 @@ lines_unbroken (ps ∷ ls) h =
 
 -- an audit line
 
-line_unbroken : (l : Line) → IsLine l → is_unbroken (line_body l) ≡ true
+pub line_unbroken : (l : Line) → IsLine l → is_unbroken (line_body l) ≡ true
 unfolding line_body
 line_unbroken l h =
     let event = (clear_texts (event_pieces l) (clear_event l h)).unbroken in
@@ -98,7 +98,7 @@ not_end l h e = go (same_text (line_body l) (end_text e)) refl
     go false s = refl
     go true s = let read = (read_body_is (end_text e) l).1 (h, same_is (line_body l) (end_text e) s) in let none = end_unread e in absurd (cc)
 
-no_end : (l : Line) → IsLine l → None ≡ end_spelled (line_body l)
+pub no_end : (l : Line) → IsLine l → None ≡ end_spelled (line_body l)
 no_end l h = rw (not_end l h end.Done, not_end l h end.Stuck, not_end l h end.Limit) refl
 
 -- what stands behind the line `record` tells the lines and the end word

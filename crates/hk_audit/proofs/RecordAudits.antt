@@ -30,14 +30,14 @@ unfolding world
 world_is script = refl
 
 -- what is behind a world
-abbrev behind_world : List ℕ → List ℕ → WorldValue → Result Audited Refused
+abbrev pub behind_world : List ℕ → List ℕ → WorldValue → Result Audited Refused
 behind_world script behind w = events_behind (length (lines_of script) + 1) (behind_first behind) >>= λ found. Ok (audited w found)
 
 pub script_refused : (bytes script behind : List ℕ) (e : Refused) → Parted bytes script behind → world script ≡ Err e → audit bytes ≡ Err e
 script_refused bytes script behind e h bad =
     audit_is bytes script behind h ∙ ap (λ r. r >>= behind_world script behind) (sym (world_is script) ∙ bad)
 
-behind_given : (bytes script behind : List ℕ) (w : WorldValue) → Parted bytes script behind → world script ≡ Ok w → audit bytes ≡ behind_world script behind w
+pub behind_given : (bytes script behind : List ℕ) (w : WorldValue) → Parted bytes script behind → world script ≡ Ok w → audit bytes ≡ behind_world script behind w
 behind_given bytes script behind w h good =
     audit_is bytes script behind h ∙ ap (λ r. r >>= behind_world script behind) (sym (world_is script) ∙ good)
 

@@ -26,7 +26,7 @@ parts_have_none (b ∷ bytes) = go (eqb b 10) refl (texts_of bytes) (parts_have_
     go false e [] h = rw e
     go false e (t ∷ ts) h = rw e h
 
-texts_some : (bytes : List ℕ) → is_none (texts_of bytes) ≡ false
+pub texts_some : (bytes : List ℕ) → is_none (texts_of bytes) ≡ false
 texts_some [] = refl
 texts_some (b ∷ bytes) = go (eqb b 10) (texts_of bytes)
   where
@@ -55,7 +55,7 @@ drop_behind : (x rest : List ℕ) (k : ℕ) → drop (length x + 1 + k) (x ++ 10
 drop_behind [] rest k = let one : 0 + 1 + k ≡ suc k = omega arith in rw one refl
 drop_behind (b ∷ x) rest k = let more : length (b ∷ x) + 1 + k ≡ suc (length x + 1 + k) = omega arith in rw more (drop_behind x rest k)
 
-behind_is : (bytes x : List ℕ) (more : List (List ℕ)) → is_none bytes ≡ false → texts_of bytes ≡ x ∷ more → behind_first bytes ≡ Some more
+pub behind_is : (bytes x : List ℕ) (more : List (List ℕ)) → is_none bytes ≡ false → texts_of bytes ≡ x ∷ more → behind_first bytes ≡ Some more
 behind_is [] x more some e = absurd (false≢true (sym some))
 behind_is (b ∷ bytes) x more some e = ap (λ (ts : List (List ℕ)). Some (drop 1 ts)) e
 

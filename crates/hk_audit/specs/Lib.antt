@@ -7,3 +7,4 @@ pub mod Halves
 pub mod RecordCuts
 pub mod RecordEvents
 pub mod Begun
+pub mod Followed

@@ -102,7 +102,7 @@ fn before<'a>(text: &'a [u8], end: &[u8]) -> Option<&'a [u8]>
 }
 
 /// The text behind this beginning.
-fn behind<'a>(text: &'a [u8], start: &[u8]) -> Option<&'a [u8]>
+pub(crate) fn behind<'a>(text: &'a [u8], start: &[u8]) -> Option<&'a [u8]>
     ensures some { IfSome result (λ t. start.now ++ t.now ≡ text.now) }
     ensures none { IfNone result ((t : List ℕ) → start.now ++ t ≡ text.now → ⊥) }
 {

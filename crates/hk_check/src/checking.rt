@@ -2,6 +2,7 @@
 
 ghost use Rattle.std.specs.Prelude.{◌≡◌, ◌≤◌, Decides, IfOk, IfNone, IfSome, Some, length, take};
 ghost use Rattle.hk_model.specs.Legal.{end_word};
+ghost use Rattle.hk_model.specs.Opening.{opening};
 ghost use Rattle.hk_model.specs.Running.{line_of, step};
 ghost use Rattle.hk_model.specs.declared.lines.End.{End};
 ghost use Rattle.hk_model.specs.Verdicts.{Differs, IsMisstep, IsVerdict};
@@ -16,12 +17,26 @@ use std::alloc::Global;
 
 /// The verdict on the lines and the end word of a record of a world (`docs/FORMATS.md`, "Legal
 /// records"): Legal, or the first bad line, counted from 1, with its first cause. It runs the
-/// world again from its opening, and compares each line with the step of its processor. NoMemory is
-/// want of memory.
+/// world again from its opening, on a plain kernel, and compares each line with the step of its
+/// processor. NoMemory is want of memory.
 pub fn check(alloc: Global, world: &World, lines: &[Line], end: End) -> Result<Verdict, NoMemory>
     ensures { IfOk result (λ verdict. IsVerdict world.now lines.now end verdict) }
 {
     let kernel = Plain::new(alloc, world)?;
+    check_on(alloc, world, lines, end, kernel)
+}
+
+/// The same verdict, by a kernel that has opened the world. NoMemory is want of memory.
+pub fn check_on<K: Kernel>(
+    alloc: Global,
+    world: &World,
+    lines: &[Line],
+    end: End,
+    kernel: K,
+) -> Result<Verdict, NoMemory>
+    requires { K.state kernel ≡ opening world.now }
+    ensures { IfOk result (λ verdict. IsVerdict world.now lines.now end verdict) }
+{
     let mut machine = Machine::open(alloc, world, kernel)?;
     match first_misstep(alloc, world, &mut machine, lines, 0, lines.len())? {
         Some((line, cause)) => Ok(Verdict::Illegal { line, cause }),
@@ -52,6 +67,22 @@ pub fn check_and_show(
     ensures { IfOk result (λ judged. IsJudged world.now lines.now end moment judged) }
 {
     let kernel = Plain::new(alloc, world)?;
+    check_and_show_on(alloc, world, lines, end, moment, kernel)
+}
+
+/// The same verdict and state, by a kernel that has opened the world. NoMemory is want of memory.
+pub fn check_and_show_on<K: Kernel>(
+    alloc: Global,
+    world: &World,
+    lines: &[Line],
+    end: End,
+    moment: usize,
+    kernel: K,
+) -> Result<Judged, NoMemory>
+    requires moment { moment ≤ length lines.now }
+    requires opening { K.state kernel ≡ opening world.now }
+    ensures { IfOk result (λ judged. IsJudged world.now lines.now end moment judged) }
+{
     let mut machine = Machine::open(alloc, world, kernel)?;
     if let Some((line, cause)) = first_misstep(alloc, world, &mut machine, lines, 0, moment)? {
         return Ok(Judged::Illegal { line, cause });

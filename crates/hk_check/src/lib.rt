@@ -10,6 +10,6 @@ mod differences;
 mod tests;
 mod verdicts;
 
-pub use checking::{Judged, check, check_and_show};
+pub use checking::{Judged, check, check_and_show, check_and_show_on, check_on};
 pub use hk_model::{End, Line, Misstep, NoMemory, Snapshot, Verdict, World};
 pub use verdicts::verdict_is_one;

@@ -1,4 +1,0 @@
-use Rattle.hk_check.proofs.checking.check.Goals as goal
-
-pub returns-in-Some : goal.returns-in-Some
-returns-in-Some c = rw c.in-Some.is at (c.in_ok-line.ensures.some c.args.end)
