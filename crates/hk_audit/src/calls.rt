@@ -10,9 +10,8 @@ ghost use Rattle.hk_format.specs.Operands.{argument_pieces, path_piece, rights_s
 ghost use Rattle.hk_format.specs.Pieces.{spell, Word, Number};
 ghost use Rattle.hk_format.specs.Texts.{spell_line};
 
-use crate::numbers::{write_number, write_operand};
 use hk_model::{Args, Call, Making, NoMemory, Path, Slot};
-use hk_print::rights_text;
+use hk_print::{rights_text, write_next_number, write_number};
 use hk_rights::Rights;
 use std::alloc::Global;
 
@@ -59,7 +58,7 @@ fn slot_alone(out: &mut String, word: &str, slot: Slot) -> Result<(), NoMemory>
     ensures { OnOk result (string_bytes out.new ≡ string_bytes out.old ++ spell_line (Word word.now ∷ slot_piece slot ∷ [])) }
 {
     out.push_str(word)?;
-    write_operand(out, slot.0 as u64)
+    write_next_number(out, slot.0 as u64)
 }
 
 /// A word, a slot and rights.
@@ -94,7 +93,7 @@ fn path_number(out: &mut String, word: &str, path: &Path, number: u32) -> Result
     ensures { OnOk result (string_bytes out.new ≡ string_bytes out.old ++ spell_line (Word word.now ∷ path_piece path.now ∷ Number number ∷ [])) }
 {
     path_alone(out, word, path)?;
-    write_operand(out, number as u64)
+    write_next_number(out, number as u64)
 }
 
 /// A word, a path and a slot.
@@ -103,7 +102,7 @@ fn path_slot(out: &mut String, word: &str, path: &Path, slot: Slot) -> Result<()
     ensures { OnOk result (string_bytes out.new ≡ string_bytes out.old ++ spell_line (Word word.now ∷ path_piece path.now ∷ slot_piece slot ∷ [])) }
 {
     path_alone(out, word, path)?;
-    write_operand(out, slot.0 as u64)
+    write_next_number(out, slot.0 as u64)
 }
 
 /// A word, a path and two numbers.
@@ -118,7 +117,7 @@ fn path_numbers(
     ensures { OnOk result (string_bytes out.new ≡ string_bytes out.old ++ spell_line (Word word.now ∷ path_piece path.now ∷ Number first ∷ Number second ∷ [])) }
 {
     path_number(out, word, path, first)?;
-    write_operand(out, second as u64)
+    write_next_number(out, second as u64)
 }
 
 /// A word, a path, a number and a slot.
@@ -133,7 +132,7 @@ fn path_number_slot(
     ensures { OnOk result (string_bytes out.new ≡ string_bytes out.old ++ spell_line (Word word.now ∷ path_piece path.now ∷ Number number ∷ slot_piece slot ∷ [])) }
 {
     path_number(out, word, path, number)?;
-    write_operand(out, slot.0 as u64)
+    write_next_number(out, slot.0 as u64)
 }
 
 /// A word, a path and two slots.
@@ -148,7 +147,7 @@ fn path_slots(
     ensures { OnOk result (string_bytes out.new ≡ string_bytes out.old ++ spell_line (Word word.now ∷ path_piece path.now ∷ slot_piece first ∷ slot_piece second ∷ [])) }
 {
     path_slot(out, word, path, first)?;
-    write_operand(out, second.0 as u64)
+    write_next_number(out, second.0 as u64)
 }
 
 /// A word, a path, the slots of arguments and a last slot.
@@ -164,7 +163,7 @@ fn path_arguments(
 {
     path_alone(out, word, path)?;
     write_slots(out, args)?;
-    write_operand(out, into.0 as u64)?;
+    write_next_number(out, into.0 as u64)?;
     Ok(())
 }
 
@@ -173,7 +172,7 @@ fn write_slots(out: &mut String, args: &Args) -> Result<(), NoMemory>
     ensures { OnOk result (string_bytes out.new ≡ string_bytes out.old ++ flat_map (λ slot. 32 ∷ decimal slot) args.now) }
 {
     for slot in args.as_slice() {
-        write_operand(out, *slot as u64)?;
+        write_next_number(out, *slot as u64)?;
     }
     Ok(())
 }

@@ -9,7 +9,6 @@ mod events;
 mod forms;
 mod lengths;
 mod lines;
-mod numbers;
 mod parts;
 mod paths;
 mod ranges;

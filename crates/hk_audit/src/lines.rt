@@ -8,9 +8,9 @@ ghost use Rattle.hk_format.specs.Records.{lines_text};
 ghost use Rattle.hk_format.specs.Texts.{spell_line};
 
 use crate::calls::write_call;
-use crate::numbers::{write_number, write_operand};
 use crate::replies::write_reply;
 use hk_model::{Line, NoMemory, Text, What};
+use hk_print::{write_next_number, write_number};
 use std::alloc::Global;
 
 /// The text of a line, with its line feed. The only error is want of memory.
@@ -52,8 +52,8 @@ fn write_actor(out: &mut String, line: &Line) -> Result<(), NoMemory>
     ensures { OnOk result (string_bytes out.new ≡ string_bytes out.old ++ (decimal line.now.cpu.0 ++ 32 ∷ (decimal line.now.proc.0 ++ 32 ∷ (decimal line.now.inc.0 ++ 32 ∷ [])))) }
 {
     write_number(out, line.cpu.0 as u64)?;
-    write_operand(out, line.proc.0 as u64)?;
-    write_operand(out, line.inc.0)?;
+    write_next_number(out, line.proc.0 as u64)?;
+    write_next_number(out, line.inc.0)?;
     out.push(' ')?;
     Ok(())
 }

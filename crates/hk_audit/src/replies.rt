@@ -5,8 +5,8 @@ ghost use Rattle.hk_format.specs.AuditLines.{full_word, refusal_pieces, reply_pi
 ghost use Rattle.hk_format.specs.Pieces.{Word, Number};
 ghost use Rattle.hk_format.specs.Texts.{spell_line};
 
-use crate::numbers::write_operand;
 use hk_model::{NoMemory, Refusal, Reply, What8};
+use hk_print::write_next_number;
 
 /// Writes a reply.
 pub(crate) fn write_reply(out: &mut String, reply: &Reply) -> Result<(), NoMemory>
@@ -51,7 +51,7 @@ fn word_number(out: &mut String, word: &str, n: u32) -> Result<(), NoMemory>
     ensures { OnOk result (string_bytes out.new ≡ string_bytes out.old ++ spell_line (Word word.now ∷ Number n ∷ [])) }
 {
     out.push_str(word)?;
-    write_operand(out, n as u64)
+    write_next_number(out, n as u64)
 }
 
 /// The word for what has no room for one more.
