@@ -6,6 +6,7 @@ mod causes;
 mod commands;
 #[cfg(test)]
 mod commands_tests;
+mod followed;
 mod generated;
 mod maker;
 mod outputs;
