@@ -8,4 +8,5 @@ pub mod FoundLegal
 pub mod ReadWhole
 pub mod WordLemmas
 pub mod WrittenRuns
+pub mod FollowedRuns
 pub mod OneRun

@@ -49,7 +49,7 @@ told_more w text new m found line after t made is add =
     record { lines = t.lines ++ line ∷ []; history = (grows_by w t.lines m found line after t.history made is).history; text_is = add w t.lines t.text_is }
 
 -- the laws hold of the lines of a history
-lawful : (w : WorldValue) (lines : List Line) → IsWorld w → AreStepsOf w lines → IsLawful w lines
+pub lawful : (w : WorldValue) (lines : List Line) → IsWorld w → AreStepsOf w lines → IsLawful w lines
 lawful w lines world steps = record {
   descent = descent w lines steps;
   environment = environment w lines steps;

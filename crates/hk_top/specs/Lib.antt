@@ -1,6 +1,7 @@
 pub mod BoundTexts
 pub mod Summaries
 pub mod Outputs
+pub mod Follows
 pub mod Served
 pub mod Words
 pub mod Workers

@@ -4,6 +4,7 @@
 mod bounds;
 mod causes;
 mod commands;
+mod followed;
 mod generated;
 mod maker;
 mod outputs;

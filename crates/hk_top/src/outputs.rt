@@ -19,15 +19,16 @@ ghost use Rattle.hk_top.specs.Served.{IsDueTo, Records};
 
 use crate::bounds::bounds_text;
 use crate::causes::{refusal_text, verdict_text};
+use crate::followed::{follow, follow_lines};
 use crate::maker::Maker;
 use crate::running::laws;
 use crate::served::{DueText, Served};
 use crate::status;
 use crate::words::Command;
 use crate::written::write_run;
-use hk_audit::{Audit, RecordError, read_record, record_text, steps_have_texts};
+use hk_audit::{Audit, Reader, RecordError, read_record, record_text, steps_have_texts};
 use hk_bound::bound;
-use hk_check::{Judged, check, check_and_show};
+use hk_check::{Judged, check_and_show_on, check_on};
 use hk_format::Cause;
 use hk_json::{JsonError, json_text, read_json};
 use hk_load::{WorldError, read_world};
@@ -58,10 +59,10 @@ pub(crate) fn due_to_bytes<M: Maker>(
         Command::Bound => Ok(text_alone(bound_script(alloc, bytes)?)),
         Command::Json => Ok(text_alone(json_script(alloc, bytes)?)),
         Command::Unjson => Ok(text_alone(unjson(alloc, bytes)?)),
-        Command::Check => Ok(text_alone(check_record(alloc, bytes)?)),
-        Command::Confine => Ok(text_alone(confine_record(alloc, bytes)?)),
-        Command::Trace(line) => Ok(text_alone(trace_record(alloc, bytes, line)?)),
-        Command::Back(count) => Ok(text_alone(back_record(alloc, bytes, count)?)),
+        Command::Check => Ok(text_alone(check_record(alloc, bytes, kernels)?)),
+        Command::Confine => Ok(text_alone(confine_record(alloc, bytes, kernels)?)),
+        Command::Trace(line) => Ok(text_alone(trace_record(alloc, bytes, line, kernels)?)),
+        Command::Back(count) => Ok(text_alone(back_record(alloc, bytes, count, kernels)?)),
     }
 }
 
@@ -170,51 +171,124 @@ fn unjson(alloc: Global, bytes: &[u8]) -> Result<DueText, NoMemory>
     }
 }
 
-/// What is due to `check` and the bytes of a record.
-fn check_record(alloc: Global, bytes: &[u8]) -> Result<DueText, NoMemory>
+/// What is due to `check` and the bytes of a record. The record is followed step by step; where that finds a
+/// difference, it is read.
+fn check_record<M: Maker>(alloc: Global, bytes: &[u8], kernels: &M) -> Result<DueText, NoMemory>
+    requires few { length bytes.now ≤ record_bytes }
+    ensures { IfOk result (λ due. DueTo (words_of Command.Check) bytes.now due.status due.text None) }
+{
+    match Reader::open(alloc, bytes) {
+        Ok((world, reader)) => {
+            let kernel = kernels.make(alloc, &world)?;
+            match follow(alloc, &world, reader, kernel)? {
+                Some(_end) => told(alloc, status::DONE, Verdict::Legal),
+                None => check_read(alloc, bytes, kernels),
+            }
+        }
+        Err(RecordError::Refused { line, cause }) => refused(alloc, line, cause),
+        Err(RecordError::NoMemory) => Err(NoMemory),
+    }
+}
+
+/// What is due to `check` and the bytes of a record, which is read and then checked.
+fn check_read<M: Maker>(alloc: Global, bytes: &[u8], kernels: &M) -> Result<DueText, NoMemory>
     requires few { length bytes.now ≤ record_bytes }
     ensures { IfOk result (λ due. DueTo (words_of Command.Check) bytes.now due.status due.text None) }
 {
     match read_record(alloc, bytes) {
-        Ok(audit) => verdict(alloc, &audit),
+        Ok(audit) => verdict(alloc, &audit, kernels),
         Err(RecordError::Refused { line, cause }) => refused(alloc, line, cause),
         Err(RecordError::NoMemory) => Err(NoMemory),
     }
 }
 
-/// What is due to `confine` and the bytes of a record.
-fn confine_record(alloc: Global, bytes: &[u8]) -> Result<DueText, NoMemory>
+/// What is due to `confine` and the bytes of a record. The record is followed step by step; where that finds a
+/// difference, it is read.
+fn confine_record<M: Maker>(alloc: Global, bytes: &[u8], kernels: &M) -> Result<DueText, NoMemory>
+    requires few { length bytes.now ≤ record_bytes }
+    ensures { IfOk result (λ due. DueTo (words_of Command.Confine) bytes.now due.status due.text None) }
+{
+    match Reader::open(alloc, bytes) {
+        Ok((world, reader)) => {
+            let kernel = kernels.make(alloc, &world)?;
+            match follow_lines(alloc, &world, reader, kernel)? {
+                Some(lines) => changes(alloc, &world, lines.as_slice()),
+                None => confine_read(alloc, bytes, kernels),
+            }
+        }
+        Err(RecordError::Refused { line, cause }) => refused(alloc, line, cause),
+        Err(RecordError::NoMemory) => Err(NoMemory),
+    }
+}
+
+/// What is due to `confine` and the bytes of a record, which is read and then checked.
+fn confine_read<M: Maker>(alloc: Global, bytes: &[u8], kernels: &M) -> Result<DueText, NoMemory>
     requires few { length bytes.now ≤ record_bytes }
     ensures { IfOk result (λ due. DueTo (words_of Command.Confine) bytes.now due.status due.text None) }
 {
     match read_record(alloc, bytes) {
-        Ok(audit) => confined(alloc, &audit),
+        Ok(audit) => confined(alloc, &audit, kernels),
         Err(RecordError::Refused { line, cause }) => refused(alloc, line, cause),
         Err(RecordError::NoMemory) => Err(NoMemory),
     }
 }
 
-/// What is due to `trace` with the number of a line, and the bytes of a record.
-fn trace_record(alloc: Global, bytes: &[u8], line: u32) -> Result<DueText, NoMemory>
+/// What is due to `trace` with the number of a line, and the bytes of a record. The record is followed step by
+/// step; where that finds a difference, it is read.
+fn trace_record<M: Maker>(
+    alloc: Global,
+    bytes: &[u8],
+    line: u32,
+    kernels: &M,
+) -> Result<DueText, NoMemory>
+    requires few { length bytes.now ≤ record_bytes }
+    requires line { MayTrace line }
+    ensures { IfOk result (λ due. DueTo (words_of (Command.Trace line)) bytes.now due.status due.text None) }
+{
+    match Reader::open(alloc, bytes) {
+        Ok((world, reader)) => {
+            let kernel = kernels.make(alloc, &world)?;
+            match follow_lines(alloc, &world, reader, kernel)? {
+                Some(lines) => chains(alloc, &world, lines.as_slice(), line),
+                None => trace_read(alloc, bytes, line, kernels),
+            }
+        }
+        Err(RecordError::Refused { line, cause }) => refused(alloc, line, cause),
+        Err(RecordError::NoMemory) => Err(NoMemory),
+    }
+}
+
+/// What is due to `trace` with the number of a line, and the bytes of a record, which is read and then checked.
+fn trace_read<M: Maker>(
+    alloc: Global,
+    bytes: &[u8],
+    line: u32,
+    kernels: &M,
+) -> Result<DueText, NoMemory>
     requires few { length bytes.now ≤ record_bytes }
     requires line { MayTrace line }
     ensures { IfOk result (λ due. DueTo (words_of (Command.Trace line)) bytes.now due.status due.text None) }
 {
     match read_record(alloc, bytes) {
-        Ok(audit) => traced(alloc, &audit, line),
+        Ok(audit) => traced(alloc, &audit, line, kernels),
         Err(RecordError::Refused { line, cause }) => refused(alloc, line, cause),
         Err(RecordError::NoMemory) => Err(NoMemory),
     }
 }
 
 /// What is due to `back` with a number of lines, and the bytes of a record.
-fn back_record(alloc: Global, bytes: &[u8], count: u32) -> Result<DueText, NoMemory>
+fn back_record<M: Maker>(
+    alloc: Global,
+    bytes: &[u8],
+    count: u32,
+    kernels: &M,
+) -> Result<DueText, NoMemory>
     requires few { length bytes.now ≤ record_bytes }
     requires count { MayTakeBack count }
     ensures { IfOk result (λ due. DueTo (words_of (Command.Back count)) bytes.now due.status due.text None) }
 {
     match read_record(alloc, bytes) {
-        Ok(audit) => taken_back(alloc, &audit, count),
+        Ok(audit) => taken_back(alloc, &audit, count, kernels),
         Err(RecordError::Refused { line, cause }) => refused(alloc, line, cause),
         Err(RecordError::NoMemory) => Err(NoMemory),
     }
@@ -297,12 +371,13 @@ fn bounds(alloc: Global, world: &World) -> Result<DueText, NoMemory>
 }
 
 /// What is due to `check` and a record: the verdict on it.
-fn verdict(alloc: Global, audit: &Audit) -> Result<DueText, NoMemory>
+fn verdict<M: Maker>(alloc: Global, audit: &Audit, kernels: &M) -> Result<DueText, NoMemory>
     ensures { IfOk result (λ due. IsChecked audit.now TellsLegal due.status due.text) }
 {
     let world = audit.world();
     let lines = audit.lines();
-    let verdict = check(alloc, world, lines, audit.end())?;
+    let kernel = kernels.make(alloc, world)?;
+    let verdict = check_on(alloc, world, lines, audit.end(), kernel)?;
     match verdict {
         Verdict::Legal => {
             laws(world, lines);
@@ -314,12 +389,18 @@ fn verdict(alloc: Global, audit: &Audit) -> Result<DueText, NoMemory>
 
 /// What is due to `trace` with the number of a line, and a record: the chains of what the line used, or
 /// the verdict where the record is not legal.
-fn traced(alloc: Global, audit: &Audit, line: u32) -> Result<DueText, NoMemory>
+fn traced<M: Maker>(
+    alloc: Global,
+    audit: &Audit,
+    line: u32,
+    kernels: &M,
+) -> Result<DueText, NoMemory>
     ensures { IfOk result (λ due. IsChecked audit.now (TellsChains line) due.status due.text) }
 {
     let world = audit.world();
     let lines = audit.lines();
-    let found = check(alloc, world, lines, audit.end())?;
+    let kernel = kernels.make(alloc, world)?;
+    let found = check_on(alloc, world, lines, audit.end(), kernel)?;
     match found {
         Verdict::Legal => {
             laws(world, lines);
@@ -343,12 +424,13 @@ fn chains(alloc: Global, world: &World, lines: &[Line], line: u32) -> Result<Due
 
 /// What is due to `confine` and a record: its changes under confined calls, each with its reason, or the
 /// verdict where the record is not legal.
-fn confined(alloc: Global, audit: &Audit) -> Result<DueText, NoMemory>
+fn confined<M: Maker>(alloc: Global, audit: &Audit, kernels: &M) -> Result<DueText, NoMemory>
     ensures { IfOk result (λ due. IsChecked audit.now TellsChanges due.status due.text) }
 {
     let world = audit.world();
     let lines = audit.lines();
-    let found = check(alloc, world, lines, audit.end())?;
+    let kernel = kernels.make(alloc, world)?;
+    let found = check_on(alloc, world, lines, audit.end(), kernel)?;
     match found {
         Verdict::Legal => {
             laws(world, lines);
@@ -372,13 +454,19 @@ fn changes(alloc: Global, world: &World, lines: &[Line]) -> Result<DueText, NoMe
 
 /// What is due to `back` with a number of lines, and a record: the state before its last lines, so many, or
 /// the verdict where the record is not legal. It goes over the record once.
-fn taken_back(alloc: Global, audit: &Audit, count: u32) -> Result<DueText, NoMemory>
+fn taken_back<M: Maker>(
+    alloc: Global,
+    audit: &Audit,
+    count: u32,
+    kernels: &M,
+) -> Result<DueText, NoMemory>
     ensures { IfOk result (λ due. IsChecked audit.now (TellsState count) due.status due.text) }
 {
     let world = audit.world();
     let lines = audit.lines();
     let moment = lines.len().saturating_sub(count as usize);
-    let judged = check_and_show(alloc, world, lines, audit.end(), moment)?;
+    let kernel = kernels.make(alloc, world)?;
+    let judged = check_and_show_on(alloc, world, lines, audit.end(), moment, kernel)?;
     match judged {
         Judged::Legal(state) => {
             laws(world, lines);

@@ -1,16 +1,24 @@
-use Rattle.std.proofs.Common.{Err, arith, ap, ◌∙◌, inl, inr, refl}
+use Rattle.std.proofs.Common.{Err, IfOk, List, subst, arith, ap, ◌≡◌, ◌∙◌, inl, inr, refl}
+use Rattle.hk_format.specs.Audits.{audited, events}
 use Rattle.hk_text.proofs.LineCount.{lines_few}
+use Rattle.hk_model.specs.declared.lines.Line.{Line}
+use Rattle.hk_top.specs.Outputs.{TellsChanges}
 use Rattle.hk_top.specs.declared.words.Command.TheVariants as command
 use Rattle.hk_top.proofs.AnswerLemmas.{changes_due, record_refused_due}
+use Rattle.hk_top.proofs.FollowedRuns.{followed_due}
 use Rattle.hk_top.proofs.outputs.confine_record.Goals as goal
 
-pub read_record-requires : goal.read_record-requires
-read_record-requires c = omega (arith, lines_few c.args.bytes.now, c.requires.few)
+pub open-requires : goal.open-requires
+open-requires g c = omega (arith, lines_few c.args.bytes.now, c.requires.few)
 
-pub returns-in-Ok : goal.returns-in-Ok
-returns-in-Ok c = changes_due c.args.bytes.now c.in-Ok.audit c.confined.result c.in-Ok.ensures.ok c.confined.ensures
+pub returns-in-Some : goal.returns-in-Some
+returns-in-Some g c =
+    let found = rw c.in-Some.is at c.in_ok-lines-in-Ok.ensures in
+    changes_due c.args.bytes.now (audited c.in-Ok.world (events c.in-Some.lines found.0)) c.changes.result (found.1.told c.args.bytes.now c.in-Ok.ensures.ok)
+    (followed_due c.in-Ok.world c.in-Ok.reader c.in-Some.lines found.0 TellsChanges c.changes.result found.1
+    (subst (λ (lines : List Line). IfOk c.changes.result (λ due. (due.status ≡ 0) × TellsChanges c.in-Ok.world lines due.text)) c.as_slice.ensures c.changes.ensures))
 
 pub returns-in-Err-Refused : goal.returns-in-Err-Refused
-returns-in-Err-Refused c =
+returns-in-Err-Refused g c =
     record_refused_due command.Confine c.args.bytes.now c.in-Err-Refused.line c.in-Err-Refused.cause c.refused.result (inr (inl refl))
-    (c.read_record.ensures.refused c.in-Err-Refused.line c.in-Err-Refused.cause (c.in-Err-Refused.is ∙ ap (λ e. Err e) c.in-Err-Refused.field-0-is)) c.refused.ensures
+    (c.open.ensures.refused c.in-Err-Refused.line c.in-Err-Refused.cause (c.in-Err-Refused.is ∙ ap (λ e. Err e) c.in-Err-Refused.field-0-is)) c.refused.ensures

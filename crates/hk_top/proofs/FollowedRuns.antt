@@ -1,0 +1,100 @@
+-- A record, as its lines are found to be steps.
+use Rattle.std.proofs.Common.{◌≡◌, ℕ, ◌+◌, ◌<◌, List, [], ◌∷◌, ◌++◌, length, Option, Some, None, Ok, Err, IfOk, Result, refl, sym, ap, subst, ◌∙◌, arith}
+use Rattle.std.specs.Prelude.{All, IfSome}
+use Rattle.std.proofs.lemmas.List.{length-append}
+use Rattle.std.proofs.lemmas.List.Elements.{All-pop}
+use Rattle.hk_model.specs.declared.kernel.NoMemory.{NoMemory}
+use Rattle.hk_model.specs.declared.names.Cpu.{Cpu}
+use Rattle.hk_model.specs.declared.lines.Line.{Line}
+use Rattle.hk_model.specs.declared.lines.End.{End}
+use Rattle.hk_model.specs.WorldValue.{WorldValue, IsWorld}
+use Rattle.hk_model.specs.Legal.{end_word}
+use Rattle.hk_model.specs.Running.{Machine, AreStepsOf, after_lines, opened, step}
+use Rattle.hk_format.specs.AuditLines.{line_body, line_text}
+use Rattle.hk_format.specs.LineRanges.{IsLine}
+use Rattle.hk_format.specs.Audits.{audit, audited, events}
+use Rattle.hk_audit.specs.Followed.{IsReadTo}
+use Rattle.hk_audit.proofs.ReadOn.{read_more}
+use Rattle.hk_audit.proofs.StepsInRange.{steps_in_range}
+use Rattle.hk_program.specs.Machines.{IsSound}
+use Rattle.hk_program.proofs.Machines.{steps_snoc}
+use Rattle.hk_top.specs.declared.served.DueText.{DueText}
+use Rattle.hk_top.specs.Follows.{IsFollowed}
+use Rattle.hk_top.specs.Outputs.{IsChecked, legal}
+use Rattle.hk_top.proofs.WrittenRuns.{lawful}
+
+-- these lines were read from the record, and lead to the machine
+pub record IsOnWay (w : WorldValue) (first left : List ℕ) (lines : List Line) (m : Machine) : Type 0 where
+  pub read : (bytes : List ℕ) → IsReadTo bytes w [] first → IsReadTo bytes w lines left
+  pub steps : AreStepsOf w lines
+  pub is : m ≡ after_lines w (opened w) lines
+
+-- some lines were
+abbrev pub IsSomeWay : WorldValue → List ℕ → List ℕ → Machine → Type 0
+IsSomeWay w first left m = (lines : List Line) × IsOnWay w first left lines m
+
+pub way_begins : (w : WorldValue) (first : List ℕ) (lines : List Line) (m : Machine) → lines ≡ [] → m ≡ opened w → IsOnWay w first first lines m
+way_begins w first lines m none is = rw (none, is) (record { read = λ bytes r. r; steps = tt; is = refl })
+
+-- the line of a step has a text
+pub step_has_text : (w : WorldValue) (m : Machine) (cpu : Cpu) (found : Option Line) (line : Line) (after : Machine) → IsSound w m
+    → IfSome found (λ line. step w m cpu ≡ Some (line, after)) → found ≡ Some line → IsLine line
+step_has_text w m cpu found line after sound made is =
+    let e = rw is at made in
+    let longer = steps_snoc w sound.lines m cpu line after sound.steps sound.is e in
+    (All-pop IsLine (sound.lines ++ line ∷ []) sound.lines (Some line) refl (steps_in_range w (sound.lines ++ line ∷ []) sound.world longer.steps)).1
+
+-- one line more
+pub way_goes_on : (w : WorldValue) (first left new : List ℕ) (lines : List Line) (m after : Machine) (cpu : Cpu) (found : Option Line) (line : Line) → IsOnWay w first left lines m
+    → IfSome found (λ line. step w m cpu ≡ Some (line, after)) → IfSome found (λ line. IsLine line × (left ≡ line_text line ++ new)) → found ≡ Some line
+    → IsOnWay w first new (lines ++ line ∷ []) after
+way_goes_on w first left new lines m after cpu found line h made taken is =
+    let e = rw is at made in
+    let t = rw is at taken in
+    let longer = steps_snoc w lines m cpu line after h.steps h.is e in
+    record {
+      read = λ bytes r. read_more bytes w lines line left new t.0 t.1 (h.read bytes r);
+      steps = longer.steps;
+      is = longer.is;
+    }
+
+pub some_way_goes_on : (w : WorldValue) (first left new : List ℕ) (m after : Machine) (cpu : Cpu) (found : Option Line) (line : Line) → IsSomeWay w first left m
+    → IfSome found (λ line. step w m cpu ≡ Some (line, after)) → IfSome found (λ line. IsLine line × (left ≡ line_text line ++ new)) → found ≡ Some line
+    → IsSomeWay w first new after
+some_way_goes_on w first left new m after cpu found line h made taken is =
+    (h.0 ++ line ∷ [], way_goes_on w first left new h.0 m after cpu found line h.1 made taken is)
+
+-- fewer bytes are left
+pub fewer_left : (left new : List ℕ) (found : Option Line) (line : Line) → IfSome found (λ line. IsLine line × (left ≡ line_text line ++ new)) → found ≡ Some line
+    → length new < length left
+fewer_left left new found line taken is =
+    let t = rw is at taken in
+    let size = ap (λ (b : List ℕ). length b) t.1 in
+    let parts = length-append (line_text line) new in
+    let text = length-append (line_body line) (10 ∷ []) in
+    omega (arith, size, parts, text)
+
+-- the end of the record
+pub way_ends : (w : WorldValue) (first left : List ℕ) (lines : List Line) (m : Machine) (end : End) → IsWorld w → IsOnWay w first left lines m → end_word m.state ≡ Some end
+    → ((bytes : List ℕ) (v : WorldValue) (told : List Line) → IsReadTo bytes v told left → audit bytes ≡ Ok (audited v (events told end))) → IsFollowed w first lines end
+way_ends w first left lines m end world h ends whole = record {
+  told = λ bytes r. whole bytes w lines (h.read bytes r);
+  legal = record { steps = h.steps; ends = subst (λ (k : Machine). end_word k.state ≡ Some end) h.is ends };
+  laws = lawful w lines world h.steps;
+}
+
+-- the same, of the end word that was found
+pub way_ends_by : (w : WorldValue) (first left : List ℕ) (m : Machine) (r : Result (Option End) NoMemory) → IsWorld w → IsSomeWay w first left m
+    → IfOk r (λ found. IfSome found (λ end. end_word m.state ≡ Some end))
+    → IfOk r (λ found. IfSome found (λ end. (bytes : List ℕ) (v : WorldValue) (told : List Line) → IsReadTo bytes v told left → audit bytes ≡ Ok (audited v (events told end))))
+    → IfOk r (λ found. IfSome found (λ end. (lines : List Line) × IsFollowed w first lines end))
+way_ends_by w first left m (Ok None) world h ends whole = tt
+way_ends_by w first left m (Ok (Some end)) world h ends whole = (h.0, way_ends w first left h.0 m end world h.1 ends whole)
+way_ends_by w first left m (Err error) world h ends whole = tt
+
+-- what is told of a record that was followed
+pub followed_due : (w : WorldValue) (left : List ℕ) (lines : List Line) (end : End) (Told : WorldValue → List Line → List ℕ → Type 0) (r : Result DueText NoMemory)
+    → IsFollowed w left lines end → IfOk r (λ due. (due.status ≡ 0) × Told w lines due.text)
+    → IfOk r (λ due. IsChecked (audited w (events lines end)) Told due.status due.text)
+followed_due w left lines end Told (Ok due) f h = rw h.0 (legal due.text f.legal f.laws h.1)
+followed_due w left lines end Told (Err error) f h = tt

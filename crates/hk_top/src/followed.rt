@@ -1,0 +1,111 @@
+//! Records that are followed step by step (`docs/FORMATS.md`, "Legal records").
+
+ghost use Rattle.std.specs.Prelude.{◌≡◌, ◌++◌, ℕ, List, Ok, Some, IfOk, IfSome};
+ghost use Rattle.hk_model.specs.declared.lines.Line.{Line};
+ghost use Rattle.hk_model.specs.declared.lines.End.{End};
+ghost use Rattle.hk_model.specs.WorldValue.{WorldValue};
+ghost use Rattle.hk_model.specs.Legal.{end_word};
+ghost use Rattle.hk_model.specs.Opening.{opening};
+ghost use Rattle.hk_model.specs.Running.{step};
+ghost use Rattle.hk_format.specs.AuditLines.{line_text};
+ghost use Rattle.hk_format.specs.Audits.{audit, audited, events};
+ghost use Rattle.hk_format.specs.LineRanges.{IsLine};
+ghost use Rattle.hk_audit.specs.Followed.{IsReadTo};
+ghost use Rattle.hk_program.specs.Machines.{IsSound};
+ghost use Rattle.hk_top.specs.Follows.{IsFollowed};
+
+use hk_audit::Reader;
+use hk_model::{Cpu, End, Items, Kernel, Line, NoMemory, World};
+use hk_program::{Machine, end_word};
+use std::alloc::Global;
+
+/// The end word of a legal record, whose world and reader these are. It makes the step of the processor of
+/// each line on a kernel that has opened the world, compares its text with the bytes, and keeps no line.
+/// None where it finds a difference: then the record is to be read. NoMemory is want of memory.
+pub(crate) fn follow<K: Kernel>(
+    alloc: Global,
+    world: &World,
+    reader: Reader<'_>,
+    kernel: K,
+) -> Result<Option<End>, NoMemory>
+    requires { K.state kernel ≡ opening world.now }
+    ensures { IfOk result (λ found. IfSome found (λ end. (lines : List Line) × IsFollowed world.now reader.entry lines end)) }
+{
+    let mut reader = reader;
+    let mut machine = Machine::open(alloc, world, kernel)?;
+    while let Some(cpu) = reader.cpu() {
+        let Some(_line) = taken_step(alloc, world, &mut machine, &mut reader, cpu)? else {
+            return Ok(None);
+        };
+    }
+    end_reached(alloc, &machine, &reader)
+}
+
+/// The lines of a legal record, followed in the same way. None where it finds a difference. NoMemory is want
+/// of memory.
+pub(crate) fn follow_lines<K: Kernel>(
+    alloc: Global,
+    world: &World,
+    reader: Reader<'_>,
+    kernel: K,
+) -> Result<Option<Items<Line>>, NoMemory>
+    requires { K.state kernel ≡ opening world.now }
+    ensures { IfOk result (λ found. IfSome found (λ lines. (end : End) × IsFollowed world.now reader.entry lines end)) }
+{
+    let mut reader = reader;
+    let mut machine = Machine::open(alloc, world, kernel)?;
+    let mut lines = Items::new(alloc);
+    while let Some(cpu) = reader.cpu() {
+        let Some(line) = taken_step(alloc, world, &mut machine, &mut reader, cpu)? else {
+            return Ok(None);
+        };
+        lines.push(line)?;
+    }
+    match end_reached(alloc, &machine, &reader)? {
+        Some(_end) => Ok(Some(lines)),
+        None => Ok(None),
+    }
+}
+
+/// The step of a processor, where its text is the next line of the record: it is made, and the line is read.
+/// None where there is no such step, or it has another text. NoMemory is want of memory.
+fn taken_step<K: Kernel>(
+    alloc: Global,
+    world: &World,
+    machine: &mut Machine<K>,
+    reader: &mut Reader<'_>,
+    cpu: Cpu,
+) -> Result<Option<Line>, NoMemory>
+    requires { IsSound world.now machine.old }
+    ensures made { IfOk result (λ found. IfSome found (λ line. step world.now machine.old cpu ≡ Some (line, machine.new))) }
+    ensures read { IfOk result (λ found. IfSome found (λ line. IsLine line × (reader.old ≡ line_text line ++ reader.new))) }
+    ensures sound { IsSound world.now machine.new }
+{
+    let Some(line) = machine.step(alloc, world, cpu)? else {
+        return Ok(None);
+    };
+    if reader.take(alloc, &line)? {
+        Ok(Some(line))
+    } else {
+        Ok(None)
+    }
+}
+
+/// The end word with which a record ends here, where the machine's state has it. NoMemory is want of memory.
+fn end_reached<K: Kernel>(
+    alloc: Global,
+    machine: &Machine<K>,
+    reader: &Reader<'_>,
+) -> Result<Option<End>, NoMemory>
+    ensures state { IfOk result (λ found. IfSome found (λ end. end_word machine.now.state ≡ Some end)) }
+    ensures whole { IfOk result (λ found. IfSome found (λ end. (bytes : List ℕ) (w : WorldValue) (lines : List Line) → IsReadTo bytes w lines reader.now
+        → audit bytes ≡ Ok (audited w (events lines end)))) }
+{
+    let Some(end) = reader.end() else {
+        return Ok(None);
+    };
+    match end_word(alloc, machine.kernel())? {
+        Some(word) if word == end => Ok(Some(end)),
+        _ => Ok(None),
+    }
+}
