@@ -9,8 +9,6 @@ mod gaps;
 mod opening;
 mod rows;
 mod spreading;
-#[cfg(test)]
-mod tests;
 
 ghost use Rattle.hk_model.specs.Running.{AreStepsOf};
 ghost use Rattle.hk_bound.specs.Bounds.{DiffersInCodes, BoundLaw};

@@ -6,8 +6,6 @@
 
 mod checking;
 mod differences;
-#[cfg(test)]
-mod tests;
 mod verdicts;
 
 pub use checking::{Judged, check, check_and_show};

@@ -5,8 +5,6 @@
 mod contents;
 mod processes;
 mod steps;
-#[cfg(test)]
-mod tests;
 
 ghost use Rattle.std.specs.Prelude.{◌≡◌, ◌<◌, ◌≤◌, IfOk};
 ghost use Rattle.hk_model.specs.Limits.{process_limit};

@@ -14,10 +14,6 @@ mod loading;
 mod names;
 mod rights;
 mod steps;
-#[cfg(test)]
-mod tests;
-#[cfg(test)]
-mod world_tests;
 mod worlds;
 
 pub use crate::errors::LoadError;

@@ -18,8 +18,6 @@ pub mod objects;
 pub mod paths;
 pub mod reaches;
 pub mod snapshot;
-#[cfg(test)]
-mod tests;
 pub mod vanishing;
 pub mod verdicts;
 pub mod world;

@@ -49,6 +49,3 @@ mod words;
 
 pub use inverse::Inverse;
 pub use plain::Plain;
-
-#[cfg(test)]
-mod tests;

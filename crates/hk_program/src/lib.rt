@@ -14,8 +14,6 @@ mod machine;
 mod operands;
 mod running;
 mod stepping;
-#[cfg(test)]
-mod tests;
 mod vanishing;
 
 pub use answering::after;

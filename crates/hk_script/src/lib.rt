@@ -13,8 +13,6 @@ mod parts;
 mod reading;
 mod script;
 mod spelled;
-#[cfg(test)]
-mod tests;
 mod verbs;
 
 pub use crate::errors::ParseError;

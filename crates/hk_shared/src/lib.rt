@@ -9,8 +9,6 @@ mod calling;
 mod desk;
 mod naming;
 mod shared;
-#[cfg(test)]
-mod tests;
 
 pub use book::Book;
 pub use naming::Naming;

@@ -4,15 +4,11 @@
 mod bounds;
 mod causes;
 mod commands;
-#[cfg(test)]
-mod commands_tests;
 mod generated;
 mod maker;
 mod outputs;
 mod printed;
 mod processors;
-#[cfg(test)]
-mod processors_tests;
 mod running;
 mod served;
 pub mod status;

@@ -1,4 +1,0 @@
-use Rattle.hk_shared.proofs.tests.idle.Given as goal
-
-abbrev pub ghosts-idle_named : goal.ghosts-idle_named
-ghosts-idle_named g a = record { world = a.world.now }

@@ -1,4 +1,0 @@
-use Rattle.hk_shared.proofs.tests.run.Given as goal
-
-abbrev pub ghosts-run_named : goal.ghosts-run_named
-ghosts-run_named g a = record { world = a.world.now }
