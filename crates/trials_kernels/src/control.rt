@@ -1,0 +1,126 @@
+// Local instructions up to a call, refusals, and frames that come and go.
+
+ghost use Rattle.std.specs.Prelude.{◌≡◌, ◌<◌, IfOk, length};
+ghost use Rattle.hk_program.specs.Contexts.{AreFrames};
+
+use crate::worlds::world;
+use hk_model::{Acted, Args, Call, Path, Refusal, Reply, Slot, World};
+use hk_program::{Context, Frame, Todo, after, next};
+use std::alloc::Global;
+use std::test::Fail;
+
+/// The context of a process that begins the first code.
+fn begun(alloc: Global, world: &World) -> Result<Context, Fail>
+    ensures frames { IfOk result (λ context. AreFrames world.now context) }
+    ensures depth { IfOk result (λ context. length context ≡ 1) }
+{
+    if world.codes().is_empty() {
+        return Err("a code".into());
+    }
+    match Context::new(alloc, 0) {
+        Ok(context) => Ok(context),
+        Err(_) => Err("a context".into()),
+    }
+}
+
+/// What a process with a frame does next.
+fn next_of(context: &mut Context, world: &World) -> Option<Todo>
+    requires { AreFrames world.now context.old }
+    ensures frames { AreFrames world.now context.new }
+    ensures depth { length context.new ≡ length context.old }
+{
+    if context.top().is_none() {
+        return None;
+    }
+    Some(next(context, world))
+}
+
+/// Answers a call of a process with a frame; no procedure is entered.
+fn answer(context: &mut Context, world: &World, call: &Call, reply: Reply)
+    requires { AreFrames world.now context.old }
+    ensures { AreFrames world.now context.new }
+{
+    let acted = Acted {
+        reply,
+        code: None,
+        gone: false,
+    };
+    if context.top().is_some() {
+        after(context, world, call, &acted);
+    }
+}
+
+/// Answers a call of a process with a frame, by which it enters a procedure of the second code.
+fn enter(context: &mut Context, world: &World, call: &Call)
+    requires frames { AreFrames world.now context.old }
+    requires room { length context.old < 64 }
+    ensures { AreFrames world.now context.new }
+{
+    let acted = Acted {
+        reply: Reply::Done,
+        code: Some(1),
+        gone: false,
+    };
+    if context.top().is_some() && world.codes().len() > 1 {
+        after(context, world, call, &acted);
+    }
+}
+
+/// A code that counts to 3 before its call, and then asks whether this was refused.
+const COUNTS: &[u8] =
+    b"hydra 1\ncode first\nlabel again\nadd r0 1\niflt r0 3 again\nputdata 0 9 r0\nifdenied refused\nyield\nlabel refused\ndrop 1\nend\n";
+
+#[test]
+fn a_loop_counts_up_to_its_call_and_a_refusal_is_told(rt: HostRuntime) -> Result<(), Fail> {
+    let world = world(rt.alloc(), COUNTS)?;
+    let of = Path::new(&[0]).ok_or("a path")?;
+    let put = Call::Put { of, at: 9, word: 3 };
+    let mut context = begun(rt.alloc(), &world)?;
+    assert_eq!(rt; next_of(&mut context, &world), Some(Todo::Do(put)));
+    answer(&mut context, &world, &put, Reply::No(Refusal::Count));
+    let drop = Call::Drop { slot: Slot(1) };
+    assert_eq!(rt; next_of(&mut context, &world), Some(Todo::Do(drop)));
+    let frame = Frame {
+        code: 0,
+        at: 5,
+        registers: [3, 0, 0, 0, 0, 0, 0, 0],
+        refused: true,
+    };
+    assert_eq!(rt; context.top(), Some(frame));
+    Ok(())
+}
+
+/// A code that calls a procedure of the second.
+const CALLS: &[u8] = b"hydra 1\ncode first\ncall 0 1\nend\ncode second\nlook 0 r2\nend\n";
+
+#[test]
+fn an_enter_puts_a_frame_on_top_and_a_return_takes_it(rt: HostRuntime) -> Result<(), Fail> {
+    let world = world(rt.alloc(), CALLS)?;
+    let args = Args::new(&[]).ok_or("arguments")?;
+    let proc = Path::new(&[0]).ok_or("a path")?;
+    let into = Slot(1);
+    let call = Call::Enter { proc, args, into };
+    let mut context = begun(rt.alloc(), &world)?;
+    assert_eq!(rt; next_of(&mut context, &world), Some(Todo::Do(call)));
+    enter(&mut context, &world, &call);
+    let look = Call::Look { of: proc };
+    assert_eq!(rt; next_of(&mut context, &world), Some(Todo::Do(look)));
+    answer(&mut context, &world, &look, Reply::Word(7));
+    let mut frame = Frame {
+        code: 1,
+        at: 1,
+        registers: [0, 0, 7, 0, 0, 0, 0, 0],
+        refused: false,
+    };
+    assert_eq!(rt; context.top(), Some(frame));
+    let leave = Call::Leave { give: None };
+    assert_eq!(rt; next_of(&mut context, &world), Some(Todo::Do(leave)));
+    answer(&mut context, &world, &leave, Reply::Done);
+    frame.code = 0;
+    frame.registers = [0; 8];
+    assert_eq!(rt; context.top(), Some(frame));
+    assert_eq!(rt; next_of(&mut context, &world), Some(Todo::Do(leave)));
+    answer(&mut context, &world, &leave, Reply::Done);
+    assert_eq!(rt; context.top(), None);
+    Ok(())
+}

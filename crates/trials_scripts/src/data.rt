@@ -1,0 +1,76 @@
+// The plain data: lists, paths and worlds, made and copied.
+
+ghost use Rattle.std.specs.Prelude.{◌≡◌, IfOk};
+
+use hk_model::{Args, Born, Items, Kind, Path, Slot, Text, Words, World};
+use std::alloc::{AllocError, Global};
+use std::test::Fail;
+
+/// A text of its own.
+fn text(alloc: Global, letters: &str) -> Result<Text, AllocError>
+    ensures { IfOk result (λ text. text ≡ letters.now) }
+{
+    Ok(Text::from_string(String::from_str(alloc, letters)?))
+}
+
+#[test]
+fn paths_and_arguments_keep_their_lengths(rt: HostRuntime) -> Result<(), Fail> {
+    assert!(rt; Path::new(&[]).is_none());
+    assert!(rt; Path::new(&[0; 9]).is_none());
+    let path = Path::new(&[3, 65_535]).ok_or("a path")?;
+    assert_eq!(rt; path.len(), 2);
+    assert_eq!(rt; path.at(1), 65_535);
+    assert_eq!(rt; path.as_slice(), [3, 65_535].as_slice());
+    assert!(rt; Args::new(&[Slot(0); 9]).is_none());
+    let args = Args::new(&[Slot(7), Slot(8)]).ok_or("arguments")?;
+    assert_eq!(rt; args.len(), 2);
+    assert_eq!(rt; args.at(1), Slot(8));
+    assert_eq!(rt; args.as_slice(), [7, 8].as_slice());
+    assert!(rt; !args.is_empty());
+    Ok(())
+}
+
+#[test]
+fn lists_are_written_and_copied(rt: HostRuntime) -> Result<(), Fail> {
+    let alloc = rt.alloc();
+    let mut words = Words::new(alloc);
+    assert!(rt; words.is_empty());
+    words.push(5)?;
+    words.push(6)?;
+    words.set(1, 7);
+    words.set(2, 8);
+    assert_eq!(rt; words.copy(alloc)?.into_vec().as_slice(), [5, 7].as_slice());
+    assert_eq!(rt; words.len(), 2);
+    let mut items = Items::new(alloc);
+    items.push(Slot(1))?;
+    items.set(0, Slot(2));
+    assert_eq!(rt;
+        items.copy(alloc)?.into_vec().as_slice(),
+        [Slot(2)].as_slice()
+    );
+    assert_eq!(rt; items.len(), 1);
+    let label = text(alloc, "cell")?;
+    assert_eq!(rt; label.copy(alloc)?.as_str(), "cell");
+    assert_eq!(rt; label.as_bytes(), b"cell".as_slice());
+    Ok(())
+}
+
+/// A world of one type.
+fn world(alloc: Global) -> Result<World, Fail> {
+    let born = Born {
+        label: text(alloc, "t")?,
+        kind: Kind::TypeObject,
+    };
+    let objects = Items::from_vec(vec![in alloc; born]?);
+    Ok(World::new(100, objects, Items::new(alloc), Items::new(alloc)))
+}
+
+#[test]
+fn worlds_are_copied(rt: HostRuntime) -> Result<(), Fail> {
+    let copy = world(rt.alloc())?.copy(rt.alloc()).ok().ok_or("a copy")?;
+    assert_eq!(rt; copy.limit(), 100);
+    assert_eq!(rt; copy.objects().len(), 1);
+    assert_eq!(rt; copy.codes().len(), 0);
+    assert_eq!(rt; copy.tasks().len(), 0);
+    Ok(())
+}

@@ -1,0 +1,18 @@
+//! Public calls run with ample memory, each against what was worked out by hand: the plain data, scripts that are read, printed or
+//! refused, and JSON.
+//!
+//! A crate with tests of its own is proved twice, so those of large crates stand here (`CONTRIBUTING.md`, "The gate").
+#![tactic(auto)]
+
+#[cfg(test)]
+mod data;
+#[cfg(test)]
+mod items;
+#[cfg(test)]
+mod json;
+#[cfg(test)]
+mod loaded;
+#[cfg(test)]
+mod print;
+#[cfg(test)]
+mod worlds;

@@ -1,0 +1,136 @@
+// The top call over streams in memory.
+
+ghost use Rattle.std.specs.Prelude.{◌≡◌, [], ◌∷◌, IfOk, codes, map, string_bytes};
+
+use hk_io::{Bytes, Out, Sink, Source, SureBytes, SureOut};
+use hk_model::{Cpu, Kernel};
+use hk_procs::Gate;
+use hk_top::{Maker, Maps, Slots, answer, hydra, status};
+use std::alloc::{AllocError, Global};
+use std::sync::Wait;
+use std::test::Fail;
+use std::thread::Threads;
+
+const SCRIPT: &'static [u8; 96] =
+    b"hydra 1\nobject d DATA\nwords 7\nend\ncode main\ngetdata 0 0 r0\nend\nprocess a main\ncap d GETDATA\nend\n";
+
+const RECORD: &'static [u8; 184] =
+    b"hydra 1\nobject d DATA\nwords 7\nend\ncode main\ngetdata 0 0 r0\nend\nprocess a main\ncap d GETDATA\nend\nrecord\n0 0 0 dispatch -> done\n0 0 0 getdata 0 0 -> word 7\n0 0 0 return -> done\nend done\n";
+
+/// It holds nobody up.
+pub struct Open;
+
+impl Gate for Open {
+    fn before(&self, _cpu: Cpu, _nth: u64) {}
+}
+
+/// The status of the top call, over plain kernels.
+pub fn status_of<S: Source, W: Sink, R: Threads + Wait + Sync>(
+    rt: &R,
+    alloc: Global,
+    words: &[String],
+    input: &mut S,
+    output: &mut W,
+) -> u8 {
+    hydra(rt, alloc, words, input, output, &Open, &Maps).0
+}
+
+/// These words, as the program gets them.
+pub fn words(alloc: Global, spelled: &[&str]) -> Result<Vec<String>, AllocError> {
+    let mut words = Vec::new(alloc);
+    for word in spelled {
+        words.push(String::from_str(alloc, word)?)?;
+    }
+    Ok(words)
+}
+
+/// A source of the script that gives 20 bytes a read.
+pub fn source(alloc: Global, fails: Vec<u32>) -> Result<Bytes, AllocError> {
+    Ok(Bytes::new(SCRIPT.to_vec(alloc)?, 20, fails))
+}
+
+/// A sink that takes 10 bytes a write.
+pub fn sink(alloc: Global, fails: Vec<u32>) -> Result<Out, Fail> {
+    Ok(Out::with(alloc, 400, 10, fails).ok().ok_or("a sink")?)
+}
+
+#[test]
+fn writes_the_record_of_the_run(rt: HostRuntime) -> Result<(), Fail> {
+    let alloc = rt.alloc();
+    let run = words(alloc, &["run"])?;
+    let mut input = source(alloc, Vec::new(alloc))?;
+    let mut output = sink(alloc, Vec::new(alloc))?;
+    assert_eq!(rt;
+        status_of(&rt, alloc, &run, &mut input, &mut output),
+        status::DONE
+    );
+    assert_eq!(rt; output.taken(), RECORD.as_slice());
+    Ok(())
+}
+
+/// The word `run`.
+fn run_word(alloc: Global) -> Result<Vec<String>, AllocError>
+    ensures { IfOk result (λ words. map string_bytes words.items ≡ codes "run" ∷ []) }
+{
+    Ok(vec![in alloc; String::from_str(alloc, "run")?]?)
+}
+
+#[test]
+fn hands_back_the_kernel_that_was_run(rt: HostRuntime) -> Result<(), Fail> {
+    let alloc = rt.alloc();
+    let run = run_word(alloc)?;
+    let mut input = SureBytes::new(SCRIPT.to_vec(alloc)?);
+    let mut output = SureOut::new();
+    let (status, kernel) = answer(alloc, &run, &mut input, &mut output, &Maps);
+    assert_eq!(rt; status, status::DONE);
+    let kernel = kernel.ok_or("a kernel")?;
+    let snapshot = kernel.snapshot(alloc).ok().ok_or("a snapshot")?;
+    assert_eq!(rt; snapshot.events, 3);
+    Ok(())
+}
+
+#[test]
+fn tells_faults_of_reading_and_writing(rt: HostRuntime) -> Result<(), Fail> {
+    let alloc = rt.alloc();
+    let run = words(alloc, &["run"])?;
+    let mut input = source(alloc, vec![in alloc; 2]?)?;
+    let mut output = sink(alloc, Vec::new(alloc))?;
+    assert_eq!(rt;
+        status_of(&rt, alloc, &run, &mut input, &mut output),
+        status::READ_FAULT
+    );
+    assert_eq!(rt; output.taken().len(), 0);
+
+    let mut input = source(alloc, Vec::new(alloc))?;
+    let mut output = sink(alloc, vec![in alloc; 2]?)?;
+    assert_eq!(rt;
+        status_of(&rt, alloc, &run, &mut input, &mut output),
+        status::WRITE_FAULT
+    );
+    assert_eq!(rt; output.taken(), b"hydra 1\nob".as_slice());
+    Ok(())
+}
+
+/// The summary of the generated world of three processes, on kernels of this maker.
+fn summary<M: Maker, R: Threads + Wait + Sync>(
+    rt: &R,
+    alloc: Global,
+    kernels: &M,
+) -> Result<Out, Fail> {
+    let asked = words(alloc, &["gen", "3"])?;
+    let mut input = source(alloc, Vec::new(alloc))?;
+    let mut output = sink(alloc, Vec::new(alloc))?;
+    let (_status, _kernel) = hydra(rt, alloc, &asked, &mut input, &mut output, &Open, kernels);
+    Ok(output)
+}
+
+#[test]
+fn both_kernels_make_one_run(rt: HostRuntime) -> Result<(), Fail> {
+    let alloc = rt.alloc();
+    let maps = summary(&rt, alloc, &Maps)?;
+    let slots = summary(&rt, alloc, &Slots)?;
+    let text = b"gen 3\nobjects 10\nlines 1806\nchanges 300\nend done\n";
+    assert_eq!(rt; maps.taken(), text.as_slice());
+    assert_eq!(rt; slots.taken(), text.as_slice());
+    Ok(())
+}
