@@ -8,8 +8,8 @@ ghost use Rattle.hk_format.specs.Operands.{operand_piece, register_piece, route_
 use crate::numbers::write_number;
 use hk_model::{Index, NoMemory, Operand, Route};
 
-/// Writes a number, or `r` and the number of a register. The only error is want of memory.
-pub fn write_operand(out: &mut String, operand: Operand) -> Result<(), NoMemory>
+/// Writes a number, or `r` and the number of a register.
+pub(crate) fn write_operand(out: &mut String, operand: Operand) -> Result<(), NoMemory>
     requires { IsOperand operand }
     ensures { OnOk result (string_bytes out.new ≡ string_bytes out.old ++ spell (operand_piece operand)) }
 {
@@ -19,8 +19,8 @@ pub fn write_operand(out: &mut String, operand: Operand) -> Result<(), NoMemory>
     }
 }
 
-/// Writes `r` and the number of a register. The only error is want of memory.
-pub fn write_register(out: &mut String, reg: u8) -> Result<(), NoMemory>
+/// Writes `r` and the number of a register.
+pub(crate) fn write_register(out: &mut String, reg: u8) -> Result<(), NoMemory>
     requires { IsReg reg }
     ensures { OnOk result (string_bytes out.new ≡ string_bytes out.old ++ register_text reg) }
 {
@@ -47,8 +47,8 @@ pub(crate) fn write_next_register(out: &mut String, reg: u8) -> Result<(), NoMem
     write_register(out, reg)
 }
 
-/// Writes the indices of a path, joined by points. The only error is want of memory.
-pub fn write_route(out: &mut String, route: &Route) -> Result<(), NoMemory>
+/// Writes the indices of a path, joined by points.
+pub(crate) fn write_route(out: &mut String, route: &Route) -> Result<(), NoMemory>
     requires { IsRoute route.now }
     ensures { OnOk result (string_bytes out.new ≡ string_bytes out.old ++ spell (route_piece route.now)) }
 {
