@@ -78,7 +78,7 @@ fn write_plain(alloc: Global, out: &mut String, object: &Value) -> Result<(), No
     let of = text_at(object, "type");
     write!(out, "object {name} {of}\n")?;
     let words = words_said(alloc, list_at(object, "words"))?;
-    write_words(alloc, out, words.as_slice())?;
+    write_words(out, words.as_slice())?;
     write_entries(out, list_at(object, "entries"))?;
     out.push_str("end\n")?;
     Ok(())
