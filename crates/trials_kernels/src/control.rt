@@ -23,16 +23,18 @@ fn begun(alloc: Global, world: &World) -> Result<Context, Fail>
     }
 }
 
-/// What a process with a frame does next.
-fn next_of(context: &mut Context, world: &World) -> Option<Todo>
+/// Whether a process with a frame makes this call next.
+fn makes(context: &mut Context, world: &World, call: &Call) -> bool
     requires { AreFrames world.now context.old }
     ensures frames { AreFrames world.now context.new }
     ensures depth { length context.new ≡ length context.old }
 {
-    if context.top().is_none() {
-        return None;
-    }
-    Some(next(context, world))
+    context.top().is_some() && next(context, world) == Todo::Do(*call)
+}
+
+/// Whether this is the current frame.
+fn is_on_top(context: &Context, frame: &Frame) -> bool {
+    context.top() == Some(*frame)
 }
 
 /// Answers a call of a process with a frame; no procedure is entered.
@@ -76,17 +78,17 @@ fn a_loop_counts_up_to_its_call_and_a_refusal_is_told(rt: HostRuntime) -> Result
     let of = Path::new(&[0]).ok_or("a path")?;
     let put = Call::Put { of, at: 9, word: 3 };
     let mut context = begun(rt.alloc(), &world)?;
-    assert_eq!(rt; next_of(&mut context, &world), Some(Todo::Do(put)));
+    assert!(rt; makes(&mut context, &world, &put));
     answer(&mut context, &world, &put, Reply::No(Refusal::Count));
     let drop = Call::Drop { slot: Slot(1) };
-    assert_eq!(rt; next_of(&mut context, &world), Some(Todo::Do(drop)));
+    assert!(rt; makes(&mut context, &world, &drop));
     let frame = Frame {
         code: 0,
         at: 5,
         registers: [3, 0, 0, 0, 0, 0, 0, 0],
         refused: true,
     };
-    assert_eq!(rt; context.top(), Some(frame));
+    assert!(rt; is_on_top(&context, &frame));
     Ok(())
 }
 
@@ -101,10 +103,10 @@ fn an_enter_puts_a_frame_on_top_and_a_return_takes_it(rt: HostRuntime) -> Result
     let into = Slot(1);
     let call = Call::Enter { proc, args, into };
     let mut context = begun(rt.alloc(), &world)?;
-    assert_eq!(rt; next_of(&mut context, &world), Some(Todo::Do(call)));
+    assert!(rt; makes(&mut context, &world, &call));
     enter(&mut context, &world, &call);
     let look = Call::Look { of: proc };
-    assert_eq!(rt; next_of(&mut context, &world), Some(Todo::Do(look)));
+    assert!(rt; makes(&mut context, &world, &look));
     answer(&mut context, &world, &look, Reply::Word(7));
     let mut frame = Frame {
         code: 1,
@@ -112,15 +114,15 @@ fn an_enter_puts_a_frame_on_top_and_a_return_takes_it(rt: HostRuntime) -> Result
         registers: [0, 0, 7, 0, 0, 0, 0, 0],
         refused: false,
     };
-    assert_eq!(rt; context.top(), Some(frame));
+    assert!(rt; is_on_top(&context, &frame));
     let leave = Call::Leave { give: None };
-    assert_eq!(rt; next_of(&mut context, &world), Some(Todo::Do(leave)));
+    assert!(rt; makes(&mut context, &world, &leave));
     answer(&mut context, &world, &leave, Reply::Done);
     frame.code = 0;
     frame.registers = [0; 8];
-    assert_eq!(rt; context.top(), Some(frame));
-    assert_eq!(rt; next_of(&mut context, &world), Some(Todo::Do(leave)));
+    assert!(rt; is_on_top(&context, &frame));
+    assert!(rt; makes(&mut context, &world, &leave));
     answer(&mut context, &world, &leave, Reply::Done);
-    assert_eq!(rt; context.top(), None);
+    assert!(rt; context.top().is_none());
     Ok(())
 }

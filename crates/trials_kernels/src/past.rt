@@ -42,34 +42,35 @@ fn counts(alloc: Global, past: &Past) -> Result<(usize, u32), Fail> {
     }
 }
 
-/// The current frame of a process.
-fn frame_of(past: &Past, proc: Proc) -> Option<Frame> {
-    past.frame(proc)
-}
-
-/// The frame of the process at an instruction, with the register that it sets.
-fn frame(at: u16, register: u32) -> Frame {
-    Frame {
+/// Whether the process stands at an instruction, with this word in the register that it sets.
+fn stands(past: &Past, at: u16, word: u32) -> bool {
+    let frame = Frame {
         code: 0,
         at,
-        registers: [0, register, 0, 0, 0, 0, 0, 0],
+        registers: [0, word, 0, 0, 0, 0, 0, 0],
         refused: false,
-    }
+    };
+    past.frame(Proc(0)) == Some(frame)
+}
+
+/// Whether there are so many lines, and so many events in the state.
+fn has(alloc: Global, past: &Past, count: u32) -> Result<bool, Fail> {
+    let (lines, events) = counts(alloc, past)?;
+    Ok(lines == count as usize && events == count)
 }
 
 #[test]
 fn frames_and_states_go_and_come_back(rt: HostRuntime) -> Result<(), Fail> {
     let alloc = rt.alloc();
     let mut past = begun(alloc)?;
-    assert_eq!(rt; frame_of(&past, Proc(0)), Some(frame(0, 0)));
-    assert_eq!(rt; frame_of(&past, Proc(1)), None);
+    assert!(rt; stands(&past, 0, 0));
     assert!(rt; forward(alloc, &mut past)?);
     assert!(rt; forward(alloc, &mut past)?);
-    assert_eq!(rt; frame_of(&past, Proc(0)), Some(frame(2, 7)));
-    assert_eq!(rt; counts(alloc, &past)?, (2, 2));
+    assert!(rt; stands(&past, 2, 7));
+    assert!(rt; has(alloc, &past, 2)?);
     assert!(rt; back(alloc, &mut past)?);
-    assert_eq!(rt; frame_of(&past, Proc(0)), Some(frame(0, 0)));
-    assert_eq!(rt; counts(alloc, &past)?, (1, 1));
+    assert!(rt; stands(&past, 0, 0));
+    assert!(rt; has(alloc, &past, 1)?);
     assert!(rt; back(alloc, &mut past)?);
     assert!(rt; !back(alloc, &mut past)?);
     Ok(())

@@ -44,22 +44,22 @@ fn without_lines(alloc: Global, audit: &Audit) -> Result<Text, Fail> {
 #[test]
 fn records_without_lines_are_read_and_written_again(rt: HostRuntime) -> Result<(), Fail> {
     let alloc = rt.alloc();
-    let rows = [
-        ("hydra 1\nrecord\nend done\n", End::Done),
-        ("hydra 1\nrecord\nend stuck\n", End::Stuck),
-        ("hydra 1\nlimit 2\nrecord\nend limit\n", End::Limit),
+    let rows: [(&[u8], End); 3] = [
+        (b"hydra 1\nrecord\nend done\n", End::Done),
+        (b"hydra 1\nrecord\nend stuck\n", End::Stuck),
+        (b"hydra 1\nlimit 2\nrecord\nend limit\n", End::Limit),
     ];
-    for (text, end) in rows {
-        let audit = read(alloc, text.as_bytes())?;
+    for (bytes, end) in rows {
+        let audit = read(alloc, bytes)?;
         assert_eq!(rt; size(&audit), (0, 0, end));
-        assert_eq!(rt; without_lines(alloc, &audit)?.as_str(), text);
+        assert_eq!(rt; without_lines(alloc, &audit)?.as_bytes(), bytes);
     }
     Ok(())
 }
 
 /// A record of two lines.
-const RECORD: &str =
-    "hydra 1\ncode c\nend\nprocess p c\nend\nrecord\n0 0 1 dispatch -> done\n0 0 1 halt -> done\nend done\n";
+const RECORD: &[u8] =
+    b"hydra 1\ncode c\nend\nprocess p c\nend\nrecord\n0 0 1 dispatch -> done\n0 0 1 halt -> done\nend done\n";
 
 /// The lines that it tells.
 fn told() -> [Line; 2] {
@@ -99,10 +99,10 @@ fn written(alloc: Global, audit: &Audit) -> Result<Text, Fail> {
 #[test]
 fn lines_stand_behind_a_script(rt: HostRuntime) -> Result<(), Fail> {
     let alloc = rt.alloc();
-    let audit = read(alloc, RECORD.as_bytes())?;
+    let audit = read(alloc, RECORD)?;
     assert_eq!(rt; size(&audit), (1, 2, End::Done));
     assert_eq!(rt; audit.lines(), told().as_slice());
-    assert_eq!(rt; written(alloc, &audit)?.as_str(), RECORD);
+    assert_eq!(rt; written(alloc, &audit)?.as_bytes(), RECORD);
     let commented = read(
         alloc,
         b"\nhydra 1\r\n# record\n\t#record\nrecord\nend limit\n",
