@@ -12,7 +12,7 @@ use Rattle.hk_model.specs.declared.lines.End.{End}
 use Rattle.hk_model.specs.declared.verdicts.Misstep.{Misstep}
 use Rattle.hk_model.specs.declared.verdicts.Misstep.TheVariants as misstep
 use Rattle.hk_model.specs.WorldValue.{WorldValue}
-use Rattle.hk_model.specs.Running.{Machine, AreStepsOf, after_lines, opened, step, line_of}
+use Rattle.hk_model.specs.Running.{Machine, after_lines, opened, step, line_of}
 use Rattle.hk_model.specs.Legal.{IsLegal, end_word}
 use Rattle.hk_model.specs.Verdicts.{Differs, IsBySame, IsMisstep}
 use Rattle.hk_check.specs.Causes.{first_cause}

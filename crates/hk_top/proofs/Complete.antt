@@ -1,5 +1,5 @@
 -- Where nothing failed, the text that is due to the bytes was written whole.
-use Rattle.std.proofs.Common.{◌≡◌, ◌∙◌, ◌≤◌, ◌⊎◌, ℕ, List, [], ◌∷◌, ◌++◌, length, Option, Some, None, refl, sym, subst, ap, arith, inl, inr, length-append, append-nil}
+use Rattle.std.proofs.Common.{◌≡◌, ◌∙◌, ◌≤◌, ◌⊎◌, ℕ, List, ◌++◌, length, Option, Some, None, refl, sym, subst, ap, arith, inl, inr, length-append, append-nil}
 use Rattle.std.specs.Io.KnownBytes.{Appends, Consumes, IsAtEnd}
 use Rattle.hk_model.specs.State.{State}
 use Rattle.hk_top.specs.Words.{IsGen, IsReading, ReadsAtMost}

@@ -1,9 +1,5 @@
-use Rattle.std.proofs.Common.{◌≡◌, ℕ, List, length, take, arith, subst}
-use Rattle.std.specs.Prelude.{Some}
-use Rattle.std.proofs.lemmas.Bool.Decides.{not_from_Decides}
-use Rattle.hk_model.specs.State.{State}
-use Rattle.hk_model.specs.Legal.{end_word}
-use Rattle.hk_check.proofs.Replays.{few_in_all, whole_replay, record_is_legal, end_is_bad}
+use Rattle.std.proofs.Common.{length, arith}
+use Rattle.hk_check.proofs.Replays.{few_in_all, whole_replay}
 use Rattle.hk_check.proofs.checking.last_verdict.Goals as goal
 
 pub overflow_cast-result : goal.overflow_cast-result
