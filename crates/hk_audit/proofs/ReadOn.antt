@@ -1,7 +1,8 @@
 -- A record that is read line by line: how it begins, goes on and ends.
 use Rattle.std.proofs.Common.{◌≡◌, ℕ, zero, suc, ◌+◌, ◌-◌, ◌<◌, ◌≤◌, ◌==◌, Bool, true, false, cond, eqb, ltb, List, [], ◌∷◌, ◌++◌, length}
-use Rattle.std.proofs.Common.{take, drop, refl, sym, ap, ◌∙◌, arith, Result, Ok, Err}
-use Rattle.std.specs.List.{list_any, position_or_len, slice_range}
+use Rattle.std.proofs.Common.{take, drop, map, Some, refl, sym, ap, ◌∙◌, arith, Result, Ok, Err}
+use Rattle.std.specs.List.{join_with_byte, list_any, position_or_len, slice_range}
+use Rattle.std.specs.Fmt.{decimal, digits}
 use Rattle.std.proofs.lemmas.Bool.{false≢true, ltb-true, ltb-false}
 use Rattle.std.proofs.lemmas.List.{drop_all, length-drop, take_all}
 use mathlib.Core.List.{append-nil, append_assoc}
@@ -15,7 +16,8 @@ use Rattle.hk_format.specs.declared.causes.Cause.TheVariants.{OfParse}
 use Rattle.hk_format.specs.declared.causes.ParseCause.TheVariants.{Missing}
 use Rattle.hk_format.specs.declared.errors.ReadError.TheVariants as read_error
 use Rattle.hk_format.specs.Outcomes.{IsRefused}
-use Rattle.hk_format.specs.AuditLines.{line_body, line_text}
+use Rattle.hk_format.specs.AuditLines.{arrow, line_body, line_text, reply_pieces, what_pieces}
+use Rattle.hk_format.specs.Pieces.{Number, spell}
 use Rattle.hk_format.specs.LineRanges.{IsLine}
 use Rattle.hk_format.specs.Records.{end_text}
 use Rattle.hk_format.specs.Texts.{ended_line, is_none, lines_of}
@@ -23,7 +25,7 @@ use Rattle.hk_format.specs.Worlds.{Refused, world}
 use Rattle.hk_format.specs.Audits.{Events, audit, audited, events, events_behind, events_from, line_before}
 use Rattle.hk_format.proofs.Cutting.{split_at}
 use Rattle.hk_text.proofs.Turns.{cut_turn}
-use Rattle.hk_audit.specs.Followed.{IsReadTo, with_lines}
+use Rattle.hk_audit.specs.Followed.{IsReadTo, cpu_by, digit_at, with_lines}
 use Rattle.hk_audit.specs.RecordCuts.{behind_first, texts_of}
 use Rattle.hk_audit.proofs.RecordAgain.{line_unbroken, no_end}
 use Rattle.hk_audit.proofs.RecordAudits.{Parted, behind_given, behind_refused}
@@ -127,3 +129,37 @@ pub read_whole : (bytes : List ℕ) (w : WorldValue) (lines : List Line) (e : En
 read_whole bytes w lines e left is r =
     r.told ∙ ap (λ (t : List ℕ). with_lines w lines (events_from r.number (texts_of t))) is ∙ ap (with_lines w lines) (end_told e r.number)
     ∙ ap (λ (ls : List Line). Ok (audited w (events ls e))) (append-nil lines)
+
+-- the processor of the line with which the bytes begin
+digits_told : (n : ℕ) (t : List ℕ) → n < 16 → cpu_by (digit_at (decimal n ++ 32 ∷ t) 0) (digit_at (decimal n ++ 32 ∷ t) 1) ≡ Some (record { 0 = n })
+unfolding digits
+digits_told zero t h = refl
+digits_told (suc zero) t h = refl
+digits_told (suc (suc zero)) t h = refl
+digits_told (suc (suc (suc zero))) t h = refl
+digits_told (suc (suc (suc (suc zero)))) t h = refl
+digits_told (suc (suc (suc (suc (suc zero))))) t h = refl
+digits_told (suc (suc (suc (suc (suc (suc zero)))))) t h = refl
+digits_told (suc (suc (suc (suc (suc (suc (suc zero))))))) t h = refl
+digits_told (suc (suc (suc (suc (suc (suc (suc (suc zero)))))))) t h = refl
+digits_told (suc (suc (suc (suc (suc (suc (suc (suc (suc zero))))))))) t h = refl
+digits_told (suc (suc (suc (suc (suc (suc (suc (suc (suc (suc zero)))))))))) t h = refl
+digits_told (suc (suc (suc (suc (suc (suc (suc (suc (suc (suc (suc zero))))))))))) t h = refl
+digits_told (suc (suc (suc (suc (suc (suc (suc (suc (suc (suc (suc (suc zero)))))))))))) t h = refl
+digits_told (suc (suc (suc (suc (suc (suc (suc (suc (suc (suc (suc (suc (suc zero))))))))))))) t h = refl
+digits_told (suc (suc (suc (suc (suc (suc (suc (suc (suc (suc (suc (suc (suc (suc zero)))))))))))))) t h = refl
+digits_told (suc (suc (suc (suc (suc (suc (suc (suc (suc (suc (suc (suc (suc (suc (suc zero))))))))))))))) t h = refl
+digits_told (suc (suc (suc (suc (suc (suc (suc (suc (suc (suc (suc (suc (suc (suc (suc (suc n)))))))))))))))) t h = absurd (omega arith)
+
+number_first : (line : Line) (rest : List ℕ) → (t : List ℕ) × (line_text line ++ rest ≡ decimal line.cpu.0 ++ 32 ∷ t)
+unfolding line_body
+number_first line rest =
+    let more = join_with_byte 32 (map spell (Number line.proc.0 ∷ Number line.inc.0 ∷ what_pieces line.what) ++ arrow ∷ map spell (reply_pieces line.reply)) in (
+      (more ++ 10 ∷ []) ++ rest,
+      ap (λ (t : List ℕ). t ++ rest) (append_assoc (decimal line.cpu.0) (32 ∷ more) (10 ∷ [])) ∙ append_assoc (decimal line.cpu.0) (32 ∷ (more ++ 10 ∷ [])) rest,
+    )
+
+pub cpu_found : (line : Line) (rest bytes : List ℕ) → IsLine line → bytes ≡ line_text line ++ rest → cpu_by (digit_at bytes 0) (digit_at bytes 1) ≡ Some line.cpu
+cpu_found line rest bytes h e =
+    let w = number_first line rest in
+    rw (e, w.1) (digits_told line.cpu.0 w.0 h.cpu)

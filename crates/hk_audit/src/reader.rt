@@ -1,6 +1,6 @@
 //! A record, read as its lines are told (`docs/FORMATS.md`, "Audit lines and records").
 
-ghost use Rattle.std.specs.Prelude.{◌≡◌, ◌≢◌, ◌<◌, ◌-◌, ◌^◌, ◌+◌, ◌++◌, ◌∷◌, [], true, false, ℕ, List, Ok, Err, Decides, IfOk, IfSome, IfNone, OnErr, length};
+ghost use Rattle.std.specs.Prelude.{◌≡◌, ◌≢◌, ◌<◌, ◌-◌, ◌^◌, ◌+◌, ◌++◌, ◌∷◌, [], true, false, ℕ, List, Some, Ok, Err, Decides, IfOk, IfSome, IfNone, OnErr, length};
 ghost use Rattle.hk_model.specs.declared.lines.Line.{Line};
 ghost use Rattle.hk_model.specs.WorldValue.{WorldValue};
 ghost use Rattle.hk_format.specs.declared.causes.Cause.{Cause};
@@ -12,7 +12,7 @@ ghost use Rattle.hk_format.specs.Outcomes.{IsRefused};
 ghost use Rattle.hk_format.specs.Records.{end_text};
 ghost use Rattle.hk_format.specs.Texts.{ended_line, lines_of};
 ghost use Rattle.hk_format.specs.Audits.{audit, audited, events, events_behind, events_from};
-ghost use Rattle.hk_audit.specs.Followed.{IsReadTo};
+ghost use Rattle.hk_audit.specs.Followed.{IsReadTo, cpu_by, digit_at};
 ghost use Rattle.hk_audit.specs.RecordCuts.{behind_first, texts_of};
 
 use crate::audits::RecordError;
@@ -69,17 +69,14 @@ impl<'a> Reader<'a> {
         }
     }
 
-    /// The processor with whose number the next line begins. It is found in the first bytes of the line,
-    /// so whether a line stands there is still to be seen. None where no such number stands there.
+    /// The processor of the line that stands next: where what is left begins with the text of a line, it is that line's.
+    /// It is found by the first two bytes, so whether a line stands there is still to be seen.
+    #[tactic(auto, using(crate::proofs::ReadOn::cpu_found))]
     pub fn cpu(&self) -> Option<Cpu>
-        ensures { IfSome result (λ cpu. cpu.0 < 16) }
+        ensures number { (line : Line) (rest : List ℕ) → IsLine line → self.now ≡ line_text line ++ rest → result ≡ Some line.cpu }
+        ensures below { IfSome result (λ cpu. cpu.0 < 16) }
     {
-        let first = digit(self.left, 0)?;
-        match digit(self.left, 1) {
-            Some(second) if first == 1 && second < 6 => Some(Cpu(10 + second)),
-            Some(_) => None,
-            None => Some(Cpu(first)),
-        }
+        cpu_by(digit(self.left, 0), digit(self.left, 1))
     }
 
     /// Takes this line, if what is left begins with its text: then what stands behind the text is left, and
@@ -137,15 +134,39 @@ fn behind_record(bytes: &[u8]) -> Option<&[u8]>
     Some(&bytes[start.min(bytes.len())..])
 }
 
+/// A processor, by the two digits with which its line can begin.
+fn cpu_by(first: Option<u8>, second: Option<u8>) -> Option<Cpu>
+    requires { IfSome first (λ digit. digit < 10) }
+    ensures cpu { result ≡ cpu_by first second }
+    ensures below { IfSome result (λ cpu. cpu.0 < 16) }
+{
+    let first = first?;
+    match second {
+        Some(second) => {
+            if first == 1 && second < 6 {
+                Some(Cpu(10 + second))
+            } else {
+                None
+            }
+        }
+        None => Some(Cpu(first)),
+    }
+}
+
 /// The digit that stands at a place.
 fn digit(bytes: &[u8], at: usize) -> Option<u8>
-    ensures { IfSome result (λ digit. digit < 10) }
+    ensures digit { result ≡ digit_at bytes.now at }
+    ensures below { IfSome result (λ digit. digit < 10) }
 {
-    let byte = *bytes.get(at)?;
-    if byte.is_ascii_digit() {
-        Some(byte - b'0')
-    } else {
-        None
+    match bytes.get(at) {
+        Some(byte) => {
+            if b'0' <= *byte && *byte <= b'9' {
+                Some(*byte - b'0')
+            } else {
+                None
+            }
+        }
+        None => None,
     }
 }
 
