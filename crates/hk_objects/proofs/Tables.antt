@@ -1,9 +1,8 @@
 -- What keeps a table with its index and its free slots.
-use Rattle.std.proofs.Common.{◌≡◌, ◌≢◌, ℕ, ◌+◌, ◌<◌, Bool, true, false, ◌||◌, List, [], ◌∷◌, ◌++◌, length, set, Option, Some, None, IsSome, option_map, refl, ap, ◌∙◌, sym, arith}
+use Rattle.std.proofs.Common.{◌≡◌, ◌≢◌, ℕ, ◌+◌, ◌<◌, Bool, true, false, List, [], ◌∷◌, length, set, Option, Some, None, IsSome, option_map, refl, ap, ◌∙◌, sym, arith}
 use Rattle.std.proofs.Common.{⊎_elim, get_or-set_same, get_or-set_other, length-set, IsTrue, ◌↔◌}
 use Rattle.std.specs.Prelude.{◌==◌, nat_lt}
 use Rattle.std.proofs.lemmas.Bool.Decides.{nat_tests}
-use Rattle.std.proofs.lemmas.List.Folds.{list_any-append}
 use Rattle.hk_model.specs.declared.names.Name.{Name}
 use Rattle.hk_links.specs.Chained.{without}
 use Rattle.hk_links.proofs.Paths.{any-without}
@@ -23,10 +22,6 @@ unnamed (Some p) e = absurd (cc)
 named_some : (p : Option (Name × Body)) → IsSome p → option_map (λ (e : Name × Body). e.0) p ≡ None → ⊥
 named_some None some e = absurd (cc)
 named_some (Some p) some e = absurd (cc)
-
--- one more slot among some
-pub has-more : (slots : List ℕ) (s k : ℕ) → has (slots ++ s ∷ []) k ≡ has slots k || (k == s)
-has-more slots s k = list_any-append (λ x. k == x) slots (s ∷ []) ∙ grind (arith, nat_tests)
 
 module _ (ps : List (Option (Name × Body))) (names : List (Option Name)) (free : List ℕ) (next : Name) (h : IsTable ps names free next) where
   -- another part of an object
@@ -73,7 +68,7 @@ module _ (ps : List (Option (Name × Body))) (names : List (Option Name)) (free 
       }
 
   -- an object taken away
-  pub table_gone : (s : ℕ) → s < 65536 → IsTable (set ps s None) (set names s None) (free ++ s ∷ []) next
+  pub table_gone : (s : ℕ) → s < 65536 → IsTable (set ps s None) (set names s None) (s ∷ free) next
   table_gone s low =
       let inside : s < length ps = omega (arith, h.shelf.room) in
       record {
@@ -85,20 +80,13 @@ module _ (ps : List (Option (Name × Body))) (names : List (Option Name)) (free 
             (name_at_set ps s None k inside);
         free = λ k small. ⊎_elim
             (λ (x : k ≡ s × (name_at (set ps s None) k ≡ None)).
-            let yes : has (free ++ s ∷ []) k ≡ true = has-more free s k ∙ (let t : (k == s) ≡ true = grind (arith, nat_tests, x.0) in rw t (either (has free k))) in
+            let yes : has (s ∷ free) k ≡ true = let t : (k == s) ≡ true = grind (arith, nat_tests, x.0) in rw t refl in
             (λ a. x.1, λ a. yes))
             (λ (x : k ≢ s × (name_at (set ps s None) k ≡ name_at ps k)).
-            let same : has (free ++ s ∷ []) k ≡ has free k = has-more free s k ∙ (let t : (k == s) ≡ false = grind (arith, nat_tests, x.0) in rw t (none (has free k))) in
+            let same : has (s ∷ free) k ≡ has free k = let t : (k == s) ≡ false = grind (arith, nat_tests, x.0) in rw t refl in
             (λ a. x.1 ∙ (h.free k small).0 (sym same ∙ a), λ a. same ∙ (h.free k small).1 (sym x.1 ∙ a)))
             (name_at_set ps s None k inside);
-      } where
-        either : (b : Bool) → (b || true) ≡ true
-        either true = refl
-        either false = refl
-
-        none : (b : Bool) → (b || false) ≡ b
-        none true = refl
-        none false = refl
+      }
 
   -- where no slot is free as many objects stand as there are slots
   pub full_table : free ≡ [] → length (standing ps) ≡ 65536

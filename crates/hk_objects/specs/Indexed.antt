@@ -1,6 +1,6 @@
 -- How the names and the free slots of a table stand in lists of cells.
 use Rattle.std.specs.Prelude.{◌≡◌, ℕ, ◌<◌, ◌%◌, ◌==◌, ◌↔◌, Bool, true, List, length, Option, Some, None, IsSome, slice_index_or}
-use Rattle.std.specs.List.{list_any}
+use Rattle.std.specs.List.{list_any, IsDistinct}
 use Rattle.hk_model.specs.declared.names.Name.{Name}
 use Rattle.hk_objects.specs.declared.body.Body.{Body}
 use Rattle.hk_objects.specs.Slots.{name_at}
@@ -23,10 +23,10 @@ pub record IsIndexed (names : List (Option Name)) (c : Chained) : Type 0 where
   pub there : (slot : ℕ) (name : Name) → named_at names slot ≡ Some name → in_list c.lists (name.0 % 65536) slot ≡ true
   pub named : (l slot : ℕ) → l < 65536 → in_list c.lists l slot ≡ true → IsSome (named_at names slot)
 
--- one list over as many cells as there are slots
-pub record IsOneList (c : Chained) : Type 0 where
-  pub cells : c.cells ≡ 65536
-  pub one : length c.lists ≡ 1
+-- slots of the table, each once
+pub record AreSlots (slots : List ℕ) : Type 0 where
+  pub once : IsDistinct (λ x y. x == y) slots
+  pub low : (slot : ℕ) → has slots slot ≡ true → slot < 65536
 
 -- the index has the name of each slot, and just the slots in which nothing stands are free
 pub record IsTable (slots : List (Option (Name × Body))) (index : List (Option Name)) (idle : List ℕ) (next : Name) : Type 0 where

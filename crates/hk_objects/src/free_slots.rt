@@ -1,45 +1,44 @@
 //! The slots in which nothing stands.
 
-ghost use Rattle.std.specs.Prelude.{◌≡◌, ◌<◌, ◌++◌, ◌∷◌, [], ℕ, true, false, nat_lt, IfOk, IfSome, IfNone};
+ghost use Rattle.std.specs.Prelude.{◌≡◌, ◌<◌, ◌∷◌, [], ℕ, true, false, nat_lt, IfOk, IfSome, IfNone};
 ghost use Rattle.hk_links.specs.Chained.{without};
 ghost use Rattle.hk_objects.specs.Indexed.{has};
 
 use crate::objects::SLOTS;
-use hk_links::Chains;
 use hk_model::NoMemory;
+use hk_model::limits::OBJECT_LIMIT;
 use std::alloc::Global;
 use std::marker::Model;
 
-/// The free slots of 65,536, the first to be taken first. Contracts see the list of them.
+/// The free slots of 65,536, of which the one that became free last is taken first: so few slots serve
+/// where few objects stand at a time. Contracts see the list of them in this order.
 #[derive(Drop)]
 pub(crate) struct FreeSlots {
-    chains: Chains,
+    // The first to be taken stands last.
+    slots: Vec<u32>,
 }
 
 impl Model for FreeSlots {
-    ghost use Rattle.std.specs.Prelude.{ℕ, List};
-    ghost use Rattle.hk_links.specs.Chained.{listed};
-    ghost use Rattle.hk_objects.specs.Indexed.{IsOneList};
+    ghost use Rattle.std.specs.Prelude.{ℕ, List, ◌≤◌, reverse, vec_capacity};
+    ghost use Rattle.hk_objects.specs.Indexed.{AreSlots};
 
     ghost Value = { List ℕ };
 
-    ghost view = { λ a. listed a.chains.lists 0 };
+    ghost view = { λ a. reverse a.slots.items };
 
-    ghost invariant = { λ a. IsOneList a.chains };
+    ghost invariant = { λ a. AreSlots (reverse a.slots.items) × (65536 ≤ vec_capacity a.slots) };
 }
 
 impl FreeSlots {
-    /// No slot.
+    /// No slot, and room for all.
     fn none(alloc: Global) -> Result<FreeSlots, NoMemory>
         ensures { IfOk result (λ free. free ≡ []) }
     {
-        match Chains::with(alloc, 1, SLOTS) {
-            Ok(chains) => Ok(FreeSlots { chains }),
-            Err(_refused) => Err(NoMemory),
-        }
+        let slots = Vec::with_capacity(alloc, OBJECT_LIMIT)?;
+        Ok(FreeSlots { slots })
     }
 
-    /// All slots, by their numbers. No other call takes memory.
+    /// All slots. No other call takes memory.
     pub(crate) fn all(alloc: Global) -> Result<FreeSlots, NoMemory>
         ensures { IfOk result (λ free. (k : ℕ) → has free k ≡ nat_lt k 65536) }
     {
@@ -58,22 +57,16 @@ impl FreeSlots {
         ensures none { IfNone result (self.old ≡ []) }
         ensures same { IfNone result (self.new ≡ self.old) }
     {
-        match self.chains.front(0) {
-            Some(slot) => {
-                self.chains.unlink(slot);
-                Some(slot)
-            }
-            None => None,
-        }
+        self.slots.pop()
     }
 
-    /// Puts a slot that is not among them at the end.
+    /// Puts a slot that is not among them before them.
     pub(crate) fn give(&mut self, slot: u32)
         requires slot { slot < 65536 }
         requires taken { has self.old slot ≡ false }
-        ensures { self.new ≡ self.old ++ slot ∷ [] }
+        ensures { self.new ≡ slot ∷ self.old }
     {
-        self.chains.push_back(0, slot);
+        self.slots.push_reserved(slot);
     }
 
     /// Whether there is none.
@@ -81,9 +74,6 @@ impl FreeSlots {
         ensures yes { result ≡ true → self.now ≡ [] }
         ensures no { result ≡ false → (slot : ℕ) × (slot < 65536) × (has self.now slot ≡ true) }
     {
-        match self.chains.front(0) {
-            Some(_slot) => false,
-            None => true,
-        }
+        self.slots.is_empty()
     }
 }

@@ -1,10 +1,10 @@
-use Rattle.std.proofs.Common.{sym, ◌∙◌, arith}
-use Rattle.hk_objects.proofs.Frees.{first_has, none_first}
+use Rattle.std.proofs.Common.{arith}
+use Rattle.std.proofs.lemmas.Bool.Decides.{nat_tests}
+use Rattle.std.proofs.lemmas.List.{length-reverse}
+use Rattle.hk_objects.proofs.Frees.{some_left}
 use Rattle.hk_objects.proofs.free_slots.FreeSlots.is_empty.Goals as goal
 
-pub returns-in-None-clause-yes : goal.returns-in-None-clause-yes
-returns-in-None-clause-yes c = rw (← c.self.view_is) (λ _. none_first _ (sym c.in-None.is ∙ c.front.ensures.first))
-
-pub returns-in-Some-clause-no : goal.returns-in-Some-clause-no
-returns-in-Some-clause-no c =
-    rw (← c.self.view_is) (λ _. (c.in-Some._slot, omega (arith, c.in-Some.ensures.cell, c.self.invariant.cells), first_has _ _ c.in-Some.ensures.first))
+pub returns-clause-no : goal.returns-clause-no
+returns-clause-no c none =
+    let same = length-reverse c.self.inside.slots.items in
+    rw (← c.self.view_is) (some_left _ c.self.invariant.0 (grind (arith, nat_tests, same, c.is_empty.ensures, none)))

@@ -1,12 +1,15 @@
-use Rattle.std.proofs.Common.{sym, ◌∙◌}
-use Rattle.hk_objects.proofs.Frees.{first_has, one_taken, none_first}
+use Rattle.std.proofs.Common.{arith}
+use Rattle.hk_objects.proofs.Frees.{last_taken}
 use Rattle.hk_objects.proofs.free_slots.FreeSlots.take.Goals as goal
 
-pub returns-in-Some-clause-among : goal.returns-in-Some-clause-among
-returns-in-Some-clause-among c = rw (← c.self.view_is) (first_has _ _ c.in-Some.ensures.first)
+pub invariant_of-self : goal.invariant_of-self
+invariant_of-self c = (
+  (last_taken c.self.inside.slots.items c.pop.new.self.items c.pop.result c.pop.ensures.items c.self.invariant.0).left,
+  omega (arith, c.pop.ensures.capacity, c.self.invariant.1),
+)
 
-pub returns-in-Some-clause-rest : goal.returns-in-Some-clause-rest
-returns-in-Some-clause-rest c = rw (← c.self.view_is) (one_taken _ _ _ c.unlink.ensures.lists)
+pub returns-clause-slot : goal.returns-clause-slot
+returns-clause-slot c = (last_taken c.self.inside.slots.items c.pop.new.self.items c.pop.result c.pop.ensures.items c.self.invariant.0).low
 
-pub returns-in-None-clause-none : goal.returns-in-None-clause-none
-returns-in-None-clause-none c = rw (← c.self.view_is) (none_first _ (sym c.in-None.is ∙ c.front.ensures.first))
+pub returns-clause-rest : goal.returns-clause-rest
+returns-clause-rest c = rw (← c.self.view_is) ((last_taken c.self.inside.slots.items c.pop.new.self.items c.pop.result c.pop.ensures.items c.self.invariant.0).rest)
