@@ -1,5 +1,5 @@
 -- The event of a process as a step: what its call is given, and what it leaves.
-use Rattle.std.specs.Prelude.{◌≡◌, ℕ, zero, suc, ◌+◌, ◌<◌, ◌==◌, List, [], ◌∷◌, length, Bool, true, false, Option, Some, None, IfSome, IfNone, not, nat_lt, slice_set, get_or}
+use Rattle.std.specs.Prelude.{◌≡◌, ℕ, zero, suc, ◌+◌, ◌<◌, ◌==◌, List, [], ◌∷◌, length, Bool, true, false, Option, Some, None, IfSome, not, nat_lt, slice_set, get_or}
 use Rattle.std.specs.Prelude.{option_map, map, refl}
 use Rattle.std.proofs.Common.{arith, ap, sym, ◌∙◌, subst, cond}
 use Rattle.std.proofs.lemmas.Bool.{true≢false}
@@ -196,11 +196,7 @@ pub not_reached : (reached may : Bool) → reached ≡ not may → reached ≡ t
 not_reached reached true h g = absurd (true≢false (sym g ∙ h))
 not_reached reached false h g = refl
 
-pub if_none : (P : Type 0) (o : Option Line) → P → IfNone o P
-if_none P None h = h
-if_none P (Some line) h = tt
-
-pub dispatch_sound : (w : WorldValue) (m new : Machine) (cpu : Cpu) (o : Option Line) → IsSound w m → IfSome o (λ line. step w m cpu ≡ Some (line, new))
-    → IfNone o ((step w m cpu ≡ None) × (new ≡ m)) → IsSound w new
-dispatch_sound w m new cpu (Some line) h g k = step_sound w m cpu line new h g
-dispatch_sound w m new cpu None h g k = subst (IsSound w) (sym k.1) h
+pub dispatch_sound : (w : WorldValue) (m new : Machine) (cpu : Cpu) (line : Line) (made : Bool) → IsSound w m → (made ≡ true → step w m cpu ≡ Some (line, new))
+    → (made ≡ false → (step w m cpu ≡ None) × (new ≡ m)) → IsSound w new
+dispatch_sound w m new cpu line true h g k = step_sound w m cpu line new h (g refl)
+dispatch_sound w m new cpu line false h g k = subst (IsSound w) (sym (k refl).1) h

@@ -10,16 +10,19 @@ use hk_model::{End, Kernel, NoMemory, ProcessState};
 use std::alloc::Global;
 
 /// The end word of the state that a kernel is in (`docs/RULES.md`, "Steps of processors"). None
-/// exactly where the state has none. NoMemory is want of memory for a snapshot.
+/// exactly where the state has none. NoMemory is want of memory for a snapshot, which is taken only
+/// where no process is ready or runs.
 pub fn end_word<K: Kernel>(alloc: Global, kernel: &K) -> Result<Option<End>, NoMemory>
     ensures { IfOk result (λ end. end ≡ end_word (K.state kernel.now)) }
 {
+    let full = kernel.limit_reached();
+    if !kernel.over() {
+        return Ok(first_word(false, false, full));
+    }
     let snapshot = kernel.snapshot(alloc)?;
     let processes = snapshot.processes.as_slice();
     let done = all_ended(processes);
-    let waits = one_waits(processes);
-    let stuck = kernel.over() & waits;
-    let full = kernel.limit_reached();
+    let stuck = one_waits(processes);
     Ok(first_word(done, stuck, full))
 }
 

@@ -17,7 +17,7 @@ mod stepping;
 mod vanishing;
 
 pub use answering::after;
-pub use carrying::{Carried, carry_out};
+pub use carrying::{Carried, blank_line, carry_out};
 pub use context::Context;
 pub use ending::end_word;
 pub use hk_model::{Frame, Todo};

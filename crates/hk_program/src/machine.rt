@@ -1,6 +1,6 @@
 //! A kernel with the control of its processes, and the steps of processors.
 
-ghost use Rattle.std.specs.Prelude.{◌≡◌, ◌<◌, [], ◌∷◌, length, map, IfOk, OnErr, IfSome, IfNone, IsSome, IsTrue, Some, None};
+ghost use Rattle.std.specs.Prelude.{◌≡◌, ◌<◌, [], ◌∷◌, true, false, length, map, IfOk, OnOk, OnErr, IfSome, IfNone, IsSome, IsTrue, Some, None};
 ghost use Rattle.hk_model.specs.declared.calls.Call.{Call};
 ghost use Rattle.hk_model.specs.declared.calls.Reply.{Reply};
 ghost use Rattle.hk_model.specs.declared.world.Task.{Task};
@@ -12,11 +12,11 @@ ghost use Rattle.hk_model.specs.Running.{opened, step, turn};
 ghost use Rattle.hk_program.specs.Contexts.{AreFrames};
 ghost use Rattle.hk_program.specs.Machines.{IsSound};
 
-use crate::carrying::carry_out;
+use crate::carrying::{blank_line, carry_into};
 use crate::context::Context;
 use crate::running::next;
 use hk_model::limits::CPU_LIMIT;
-use hk_model::{Call, Cpu, Inc, Kernel, Line, NoMemory, Proc, Reply, Task, What, World};
+use hk_model::{Call, Cpu, Kernel, Line, NoMemory, Proc, Reply, Task, What, World};
 use std::alloc::Global;
 use std::marker::Model;
 
@@ -60,66 +60,86 @@ impl<K: Kernel> Machine<K> {
         ensures err { OnErr result (self.new ≡ self.old) }
         ensures sound { IsSound world.now self.new }
     {
-        if cpu.0 >= CPU_LIMIT {
-            return Ok(None);
-        }
-        if self.kernel.limit_reached() {
-            return Ok(None);
-        }
-        match self.kernel.current(cpu) {
-            Some((proc, inc)) => {
-                let line = self.event(alloc, world, cpu, proc, inc)?;
-                Ok(Some(line))
-            }
-            None => Ok(self.dispatch(world, cpu)),
+        let mut line = blank_line(cpu);
+        if self.step_into(alloc, world, cpu, &mut line)? {
+            Ok(Some(line))
+        } else {
+            Ok(None)
         }
     }
 
-    /// The event of the process that the processor runs, in its current incarnation.
-    fn event(
+    /// Makes the step of a processor, and writes its line over the one that is handed in. False exactly
+    /// where the processor has no step. NoMemory is want of memory for the kernel's call. In both cases no
+    /// event was made, and the machine stays as it was; what the line then tells is free.
+    pub fn step_into(
         &mut self,
         alloc: Global,
         world: &World,
         cpu: Cpu,
-        proc: Proc,
-        inc: Inc,
-    ) -> Result<Line, NoMemory>
-        requires sound { IsSound world.now self.old }
-        requires cpu { cpu.0 < 16 }
-        requires below { IsTrue (may_step self.old.state) }
-        requires runs { running_on self.old.state cpu ≡ Some (proc, inc) }
-        ensures made { IfOk result (λ line. step world.now self.old cpu ≡ Some (line, self.new)) }
+        line: &mut Line,
+    ) -> Result<bool, NoMemory>
+        requires { IsSound world.now self.old }
+        ensures made { IfOk result (λ made. made ≡ true → step world.now self.old cpu ≡ Some (line.new, self.new)) }
+        ensures none { IfOk result (λ made. made ≡ false → (step world.now self.old cpu ≡ None) × (self.new ≡ self.old)) }
         ensures err { OnErr result (self.new ≡ self.old) }
+        ensures sound { IsSound world.now self.new }
     {
-        let context = &mut self.contexts[proc.0 as usize];
-        let (what, reply) = turn(alloc, &mut self.kernel, context, world, cpu)?;
-        Ok(Line {
-            cpu,
-            proc,
-            inc,
-            what,
-            reply,
-        })
+        if cpu.0 >= CPU_LIMIT {
+            return Ok(false);
+        }
+        if self.kernel.limit_reached() {
+            return Ok(false);
+        }
+        match self.kernel.current(cpu) {
+            Some((proc, inc)) => {
+                line.cpu = cpu;
+                line.proc = proc;
+                line.inc = inc;
+                self.event(alloc, world, line)?;
+                Ok(true)
+            }
+            None => Ok(self.dispatch(world, cpu, line)),
+        }
     }
 
-    /// The dispatch of the first ready process. None exactly where none is ready.
-    fn dispatch(&mut self, world: &World, cpu: Cpu) -> Option<Line>
+    /// The event of the process that the processor of a line runs, in its current incarnation, which the line
+    /// names.
+    fn event(&mut self, alloc: Global, world: &World, line: &mut Line) -> Result<(), NoMemory>
+        requires sound { IsSound world.now self.old }
+        requires cpu { line.old.cpu.0 < 16 }
+        requires below { IsTrue (may_step self.old.state) }
+        requires runs { running_on self.old.state line.old.cpu ≡ Some (line.old.proc, line.old.inc) }
+        ensures made { OnOk result (step world.now self.old line.old.cpu ≡ Some (line.new, self.new)) }
+        ensures err { OnErr result (self.new ≡ self.old) }
+    {
+        let context = &mut self.contexts[line.proc.0 as usize];
+        turn(alloc, &mut self.kernel, context, world, line)?;
+        Ok(())
+    }
+
+    /// The dispatch of the first ready process. False exactly where none is ready.
+    fn dispatch(&mut self, world: &World, cpu: Cpu, line: &mut Line) -> bool
         requires sound { IsSound world.now self.old }
         requires cpu { cpu.0 < 16 }
         requires below { IsTrue (may_step self.old.state) }
         requires idle { running_on self.old.state cpu ≡ None }
-        ensures given { IfSome result (λ line. step world.now self.old cpu ≡ Some (line, self.new)) }
-        ensures none { IfNone result ((step world.now self.old cpu ≡ None) × (self.new ≡ self.old)) }
+        ensures given { result ≡ true → step world.now self.old cpu ≡ Some (line.new, self.new) }
+        ensures none { result ≡ false → (step world.now self.old cpu ≡ None) × (self.new ≡ self.old) }
     {
-        let proc = self.kernel.dispatch(cpu)?;
+        let Some(proc) = self.kernel.dispatch(cpu) else {
+            return false;
+        };
         match self.kernel.current(cpu) {
-            Some((_, inc)) => Some(Line {
-                cpu,
-                proc,
-                inc,
-                what: What::Dispatch,
-                reply: Reply::Done,
-            }),
+            Some((_, inc)) => {
+                *line = Line {
+                    cpu,
+                    proc,
+                    inc,
+                    what: What::Dispatch,
+                    reply: Reply::Done,
+                };
+                true
+            }
             None => unreachable!(),
         }
     }
@@ -151,27 +171,28 @@ pub fn beginnings(alloc: Global, tasks: &[Task]) -> Result<Vec<Context>, NoMemor
     Ok(contexts)
 }
 
-/// The event of the process that a processor runs, whose context this is. After NoMemory nothing has
-/// changed.
+/// The event of the process that the processor of a line runs, whose context this is. The line then tells
+/// what was done, and the reply. After NoMemory nothing but the line has changed.
 fn turn<K: Kernel>(
     alloc: Global,
     kernel: &mut K,
     context: &mut Context,
     world: &World,
-    cpu: Cpu,
-) -> Result<(What, Reply), NoMemory>
+    line: &mut Line,
+) -> Result<(), NoMemory>
     requires frames { AreFrames world.now context.old }
-    requires runs { IsSome (runner (K.state kernel.old) cpu) }
+    requires runs { IsSome (runner (K.state kernel.old) line.old.cpu) }
     requires below { IsTrue (may_step (K.state kernel.old)) }
-    requires code { (call : Call) → (reply : Reply) → IfSome (entered_on (K.state kernel.old) cpu call reply) (λ code. code < length world.now.codes) }
-    requires room { (call : Call) → IfSome (entered_on (K.state kernel.old) cpu call (acted_on (K.state kernel.old) cpu call).0) (λ _. length context.old < 64) }
-    ensures made { IfOk result (λ made. turn world.now (K.state kernel.old) (process_on (K.state kernel.old) cpu) (control.next world.now context.old) ≡ (made.0, made.1, K.state kernel.new, context.new)) }
+    requires code { (call : Call) → (reply : Reply) → IfSome (entered_on (K.state kernel.old) line.old.cpu call reply) (λ code. code < length world.now.codes) }
+    requires room { (call : Call) → IfSome (entered_on (K.state kernel.old) line.old.cpu call (acted_on (K.state kernel.old) line.old.cpu call).0) (λ _. length context.old < 64) }
+    ensures made { OnOk result (turn world.now (K.state kernel.old) (process_on (K.state kernel.old) line.old.cpu) (control.next world.now context.old) ≡ (line.new.what, line.new.reply, K.state kernel.new, context.new)) }
+    ensures who { OnOk result (line.new ≡ record line.old { what = line.new.what; reply = line.new.reply }) }
     ensures err { OnErr result ((K.state kernel.new ≡ K.state kernel.old) × (context.new ≡ context.old)) }
 {
     let frame = context.top();
     let todo = next(context, world);
-    match carry_out(alloc, kernel, context, world, cpu, todo) {
-        Ok(made) => Ok((made.what, made.reply)),
+    match carry_into(alloc, kernel, context, world, &todo, line) {
+        Ok(_gone) => Ok(()),
         Err(error) => {
             if let Some(frame) = frame {
                 context.put_top(frame);

@@ -1,6 +1,6 @@
 //! What the operands of an instruction are worth in a frame.
 
-ghost use Rattle.std.specs.Prelude.{◌≡◌};
+ghost use Rattle.std.specs.Prelude.{◌≡◌, ◌∷◌, []};
 ghost use Rattle.hk_model.specs.WorldValue.{IsOperand, IsIndex, IsRoute};
 ghost use Rattle.hk_model.specs.Control.{operand, index_of, path_of};
 
@@ -35,11 +35,24 @@ pub(crate) fn path(frame: &Frame, route: &Route) -> Path
     ensures { result ≡ path_of frame.now route.now }
 {
     let route = route.at.as_slice();
+    if route.len() == 1 {
+        return path_of_one(index(frame, &route[0]));
+    }
     let mut indices = [0; 8];
     for (step, of) in route.iter().enumerate() {
         indices[step] = index(frame, of);
     }
     match Path::new(&indices[..route.len()]) {
+        Some(path) => path,
+        None => unreachable!(),
+    }
+}
+
+/// The path of one index, which most paths have.
+fn path_of_one(index: u16) -> Path
+    ensures { result ≡ index ∷ [] }
+{
+    match Path::new(&[index]) {
         Some(path) => path,
         None => unreachable!(),
     }

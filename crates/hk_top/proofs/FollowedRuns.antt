@@ -37,39 +37,30 @@ pub way_begins : (w : WorldValue) (first : List ℕ) (lines : List Line) (m : Ma
 way_begins w first lines m none is = rw (none, is) (record { read = λ bytes r. r; steps = tt; is = refl })
 
 -- the line of a step has a text
-pub step_has_text : (w : WorldValue) (m : Machine) (cpu : Cpu) (found : Option Line) (line : Line) (after : Machine) → IsSound w m
-    → IfSome found (λ line. step w m cpu ≡ Some (line, after)) → found ≡ Some line → IsLine line
-step_has_text w m cpu found line after sound made is =
-    let e = rw is at made in
-    let longer = steps_snoc w sound.lines m cpu line after sound.steps sound.is e in
+pub step_has_text : (w : WorldValue) (m : Machine) (cpu : Cpu) (line : Line) (after : Machine) → IsSound w m → step w m cpu ≡ Some (line, after) → IsLine line
+step_has_text w m cpu line after sound made =
+    let longer = steps_snoc w sound.lines m cpu line after sound.steps sound.is made in
     (All-pop IsLine (sound.lines ++ line ∷ []) sound.lines (Some line) refl (steps_in_range w (sound.lines ++ line ∷ []) sound.world longer.steps)).1
 
 -- one line more
-pub way_goes_on : (w : WorldValue) (first left new : List ℕ) (lines : List Line) (m after : Machine) (cpu : Cpu) (found : Option Line) (line : Line) → IsOnWay w first left lines m
-    → IfSome found (λ line. step w m cpu ≡ Some (line, after)) → IfSome found (λ line. IsLine line × (left ≡ line_text line ++ new)) → found ≡ Some line
-    → IsOnWay w first new (lines ++ line ∷ []) after
-way_goes_on w first left new lines m after cpu found line h made taken is =
-    let e = rw is at made in
-    let t = rw is at taken in
-    let longer = steps_snoc w lines m cpu line after h.steps h.is e in
+pub way_goes_on : (w : WorldValue) (first left new : List ℕ) (lines : List Line) (m after : Machine) (cpu : Cpu) (line : Line) → IsOnWay w first left lines m
+    → step w m cpu ≡ Some (line, after) → IsLine line × (left ≡ line_text line ++ new) → IsOnWay w first new (lines ++ line ∷ []) after
+way_goes_on w first left new lines m after cpu line h made taken =
+    let longer = steps_snoc w lines m cpu line after h.steps h.is made in
     record {
-      read = λ bytes r. read_more bytes w lines line left new t.0 t.1 (h.read bytes r);
+      read = λ bytes r. read_more bytes w lines line left new taken.0 taken.1 (h.read bytes r);
       steps = longer.steps;
       is = longer.is;
     }
 
-pub some_way_goes_on : (w : WorldValue) (first left new : List ℕ) (m after : Machine) (cpu : Cpu) (found : Option Line) (line : Line) → IsSomeWay w first left m
-    → IfSome found (λ line. step w m cpu ≡ Some (line, after)) → IfSome found (λ line. IsLine line × (left ≡ line_text line ++ new)) → found ≡ Some line
-    → IsSomeWay w first new after
-some_way_goes_on w first left new m after cpu found line h made taken is =
-    (h.0 ++ line ∷ [], way_goes_on w first left new h.0 m after cpu found line h.1 made taken is)
+pub some_way_goes_on : (w : WorldValue) (first left new : List ℕ) (m after : Machine) (cpu : Cpu) (line : Line) → IsSomeWay w first left m
+    → step w m cpu ≡ Some (line, after) → IsLine line × (left ≡ line_text line ++ new) → IsSomeWay w first new after
+some_way_goes_on w first left new m after cpu line h made taken = (h.0 ++ line ∷ [], way_goes_on w first left new h.0 m after cpu line h.1 made taken)
 
 -- fewer bytes are left
-pub fewer_left : (left new : List ℕ) (found : Option Line) (line : Line) → IfSome found (λ line. IsLine line × (left ≡ line_text line ++ new)) → found ≡ Some line
-    → length new < length left
-fewer_left left new found line taken is =
-    let t = rw is at taken in
-    let size = ap (λ (b : List ℕ). length b) t.1 in
+pub fewer_left : (left new : List ℕ) (line : Line) → IsLine line × (left ≡ line_text line ++ new) → length new < length left
+fewer_left left new line taken =
+    let size = ap (λ (b : List ℕ). length b) taken.1 in
     let parts = length-append (line_text line) new in
     let text = length-append (line_body line) (10 ∷ []) in
     omega (arith, size, parts, text)

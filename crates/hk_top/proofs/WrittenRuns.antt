@@ -1,6 +1,5 @@
 -- The record of a run, as its lines come.
 use Rattle.std.proofs.Common.{◌≡◌, ◌≢◌, ℕ, ◌-◌, ◌<◌, List, [], ◌∷◌, ◌++◌, Option, Some, None, refl, ap}
-use Rattle.std.specs.Prelude.{IfNone, IfSome}
 use Rattle.std.proofs.lemmas.List.Elements.{All-pop}
 use Rattle.hk_model.specs.declared.lines.Line.{Line}
 use Rattle.hk_model.specs.declared.lines.End.{End}
@@ -31,22 +30,21 @@ pub told_none : (w : WorldValue) (text : List ℕ) (m : Machine) → text ≡ be
 told_none w text m t e = record { lines = []; history = begins w [] m refl e; text_is = t }
 
 -- the line of the next step has a text
-pub told_line : (w : WorldValue) (text : List ℕ) (m : Machine) (found : Option Line) (line : Line) (after : Machine) → IsWorld w → IsTold w text m
-    → IfSome found (λ line. step w m first_processor ≡ Some (line, after)) → found ≡ Some line → IsLine line
-told_line w text m found line after world t made is =
-    let g = grows_by w t.lines m found line after t.history made is in
+pub told_line : (w : WorldValue) (text : List ℕ) (m : Machine) (line : Line) (after : Machine) → IsWorld w → IsTold w text m
+    → step w m first_processor ≡ Some (line, after) → IsLine line
+told_line w text m line after world t made =
+    let g = grows_by w t.lines m (Some line) line after t.history made refl in
     (All-pop IsLine (t.lines ++ line ∷ []) t.lines (Some line) refl (steps_in_range w (t.lines ++ line ∷ []) world g.history.steps)).1
 
-pub told_fewer : (w : WorldValue) (text : List ℕ) (m : Machine) (found : Option Line) (line : Line) (after : Machine) → IsTold w text m
-    → IfSome found (λ line. step w m first_processor ≡ Some (line, after)) → found ≡ Some line
-    → after.state.limit - after.state.events < m.state.limit - m.state.events
-told_fewer w text m found line after t made is = (grows_by w t.lines m found line after t.history made is).fewer
+pub told_fewer : (w : WorldValue) (text : List ℕ) (m : Machine) (line : Line) (after : Machine) → IsTold w text m
+    → step w m first_processor ≡ Some (line, after) → after.state.limit - after.state.events < m.state.limit - m.state.events
+told_fewer w text m line after t made = (grows_by w t.lines m (Some line) line after t.history made refl).fewer
 
-pub told_more : (w : WorldValue) (text new : List ℕ) (m : Machine) (found : Option Line) (line : Line) (after : Machine) → IsTold w text m
-    → IfSome found (λ line. step w m first_processor ≡ Some (line, after)) → found ≡ Some line
+pub told_more : (w : WorldValue) (text new : List ℕ) (m : Machine) (line : Line) (after : Machine) → IsTold w text m
+    → step w m first_processor ≡ Some (line, after)
     → ((v : WorldValue) → (lines : List Line) → text ≡ begun v lines → new ≡ begun v (lines ++ line ∷ [])) → IsTold w new after
-told_more w text new m found line after t made is add =
-    record { lines = t.lines ++ line ∷ []; history = (grows_by w t.lines m found line after t.history made is).history; text_is = add w t.lines t.text_is }
+told_more w text new m line after t made add =
+    record { lines = t.lines ++ line ∷ []; history = (grows_by w t.lines m (Some line) line after t.history made refl).history; text_is = add w t.lines t.text_is }
 
 -- the laws hold of the lines of a history
 pub lawful : (w : WorldValue) (lines : List Line) → IsWorld w → AreStepsOf w lines → IsLawful w lines
@@ -65,11 +63,10 @@ pub record IsStopped (w : WorldValue) (text : List ℕ) (s : State) (word : Opti
   pub written : (end : End) → (whole : List ℕ) → word ≡ Some end → ((v : WorldValue) → (lines : List Line) → text ≡ begun v lines
       → whole ≡ record_text v lines end) → IsWrittenRun w whole end s
 
-pub told_last : (w : WorldValue) (text : List ℕ) (m : Machine) (found : Option Line) (after : Machine) (s : State) (word : Option End) → IsWorld w
-    → IsTold w text m → IfNone found ((step w m first_processor ≡ None) × (after ≡ m)) → found ≡ None
-    → s ≡ after.state → word ≡ end_word s → IsStopped w text s word
-told_last w text m found after s word world t none is at e =
-    let l = last w t.lines m found after s word t.history none is at e in
+pub told_last : (w : WorldValue) (text : List ℕ) (m after : Machine) (s : State) (word : Option End) → IsWorld w → IsTold w text m
+    → (step w m first_processor ≡ None) × (after ≡ m) → s ≡ after.state → word ≡ end_word s → IsStopped w text s word
+told_last w text m after s word world t none at e =
+    let l = last w t.lines m None after s word t.history none refl at e in
     record {
       there = l.there;
       written = λ end whole g finish. record {

@@ -1,6 +1,6 @@
 //! Records that are followed step by step (`docs/FORMATS.md`, "Legal records").
 
-ghost use Rattle.std.specs.Prelude.{◌≡◌, ◌++◌, ℕ, List, Ok, Some, IfOk, IfSome};
+ghost use Rattle.std.specs.Prelude.{◌≡◌, ◌++◌, true, ℕ, List, Ok, Some, IfOk, IfSome};
 ghost use Rattle.hk_model.specs.declared.lines.Line.{Line};
 ghost use Rattle.hk_model.specs.declared.lines.End.{End};
 ghost use Rattle.hk_model.specs.WorldValue.{WorldValue};
@@ -14,9 +14,10 @@ ghost use Rattle.hk_audit.specs.Followed.{IsReadTo};
 ghost use Rattle.hk_program.specs.Machines.{IsSound};
 ghost use Rattle.hk_top.specs.Follows.{IsFollowed};
 
+use crate::running::FIRST_PROCESSOR;
 use hk_audit::Reader;
 use hk_model::{Cpu, End, Items, Kernel, Line, NoMemory, World};
-use hk_program::{Machine, end_word};
+use hk_program::{Machine, blank_line, end_word};
 use std::alloc::Global;
 
 /// The end word of a legal record, whose world and reader these are. It makes the step of the processor of
@@ -33,10 +34,11 @@ pub(crate) fn follow<K: Kernel>(
 {
     let mut reader = reader;
     let mut machine = Machine::open(alloc, world, kernel)?;
+    let mut line = blank_line(FIRST_PROCESSOR);
     while let Some(cpu) = reader.cpu() {
-        let Some(_line) = taken_step(alloc, world, &mut machine, &mut reader, cpu)? else {
+        if !takes_step(alloc, world, &mut machine, &mut reader, cpu, &mut line)? {
             return Ok(None);
-        };
+        }
     }
     end_reached(alloc, &machine, &reader)
 }
@@ -55,10 +57,11 @@ pub(crate) fn follow_lines<K: Kernel>(
     let mut reader = reader;
     let mut machine = Machine::open(alloc, world, kernel)?;
     let mut lines = Items::new(alloc);
+    let mut line = blank_line(FIRST_PROCESSOR);
     while let Some(cpu) = reader.cpu() {
-        let Some(line) = taken_step(alloc, world, &mut machine, &mut reader, cpu)? else {
+        if !takes_step(alloc, world, &mut machine, &mut reader, cpu, &mut line)? {
             return Ok(None);
-        };
+        }
         lines.push(line)?;
     }
     match end_reached(alloc, &machine, &reader)? {
@@ -67,28 +70,26 @@ pub(crate) fn follow_lines<K: Kernel>(
     }
 }
 
-/// The step of a processor, where its text is the next line of the record: it is made, and the line is read.
-/// None where there is no such step, or it has another text. NoMemory is want of memory.
-fn taken_step<K: Kernel>(
+/// Whether the step of a processor has the text that is the next line of the record: then it is made and the
+/// line, which is written over the one that is handed in, is read. Otherwise there is no such step, or it has
+/// another text. NoMemory is want of memory.
+fn takes_step<K: Kernel>(
     alloc: Global,
     world: &World,
     machine: &mut Machine<K>,
     reader: &mut Reader<'_>,
     cpu: Cpu,
-) -> Result<Option<Line>, NoMemory>
+    line: &mut Line,
+) -> Result<bool, NoMemory>
     requires { IsSound world.now machine.old }
-    ensures made { IfOk result (λ found. IfSome found (λ line. step world.now machine.old cpu ≡ Some (line, machine.new))) }
-    ensures read { IfOk result (λ found. IfSome found (λ line. IsLine line × (reader.old ≡ line_text line ++ reader.new))) }
+    ensures made { IfOk result (λ taken. taken ≡ true → step world.now machine.old cpu ≡ Some (line.new, machine.new)) }
+    ensures read { IfOk result (λ taken. taken ≡ true → IsLine line.new × (reader.old ≡ line_text line.new ++ reader.new)) }
     ensures sound { IsSound world.now machine.new }
 {
-    let Some(line) = machine.step(alloc, world, cpu)? else {
-        return Ok(None);
-    };
-    if reader.take(alloc, &line)? {
-        Ok(Some(line))
-    } else {
-        Ok(None)
+    if !machine.step_into(alloc, world, cpu, line)? {
+        return Ok(false);
     }
+    Ok(reader.take(alloc, line)?)
 }
 
 /// The end word with which a record ends here, where the machine's state has it. NoMemory is want of memory.

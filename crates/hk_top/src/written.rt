@@ -7,7 +7,7 @@ ghost use Rattle.hk_top.specs.Outputs.{IsWrittenRun};
 use crate::running::FIRST_PROCESSOR;
 use hk_audit::Writer;
 use hk_model::{End, Kernel, NoMemory, Text, World};
-use hk_program::{Machine, end_word};
+use hk_program::{Machine, blank_line, end_word};
 use std::alloc::Global;
 
 /// A run: its record, how it ended, and the kernel behind it.
@@ -30,7 +30,8 @@ pub(crate) fn write_run<K: Kernel>(
 {
     let mut machine = Machine::open(alloc, world, kernel)?;
     let mut writer = Writer::new(alloc, world)?;
-    while let Some(line) = machine.step(alloc, world, FIRST_PROCESSOR)? {
+    let mut line = blank_line(FIRST_PROCESSOR);
+    while machine.step_into(alloc, world, FIRST_PROCESSOR, &mut line)? {
         writer.add(alloc, &line)?;
     }
     let Some(end) = end_word(alloc, machine.kernel())? else {

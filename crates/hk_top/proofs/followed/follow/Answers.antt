@@ -4,9 +4,9 @@ use Rattle.hk_top.proofs.followed.follow.Goals as goal
 pub loop-cpu-preserved : goal.loop-cpu-preserved
 loop-cpu-preserved g c = record {
   way =
-      some_way_goes_on c.args.world.now c.args.reader c.loop-cpu.reader c.taken_step.new.reader c.loop-cpu.machine c.taken_step.new.machine c.in-Some.cpu
-      c.in_ok-_line.field-0 c.in-Some-2._line c.loop-cpu.invariant.way c.in_ok-_line.ensures.made c.in_ok-_line.ensures.read c.in-Some-2.is;
-  sound = c.taken_step.ensures.sound;
+      some_way_goes_on c.args.world.now c.args.reader c.loop-cpu.reader c.takes_step.new.reader c.loop-cpu.machine c.takes_step.new.machine c.in-Some.cpu
+      c.takes_step.new.line c.loop-cpu.invariant.way (c.in_ok-takes_step.ensures.made c.if-not-branch.false) (c.in_ok-takes_step.ensures.read c.if-not-branch.false);
+  sound = c.takes_step.ensures.sound;
 }
 
 pub returns : goal.returns

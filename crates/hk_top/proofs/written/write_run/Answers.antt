@@ -9,33 +9,33 @@ loop-writer-init g c = record {
   sound = c.in_ok-machine.ensures.sound;
 }
 
-pub step-requires : goal.step-requires
-step-requires g c = c.loop-writer.invariant.sound
-
 pub add-requires : goal.add-requires
-add-requires g c = told_line c.args.world.now c.loop-writer.writer c.loop-writer.machine c.in_ok-line.field-0 c.in-Some.line c.step.new.self
-    c.loop-writer.invariant.sound.world c.loop-writer.invariant.told c.in_ok-line.ensures.made c.in-Some.is
+add-requires g c =
+    told_line c.args.world.now c.loop-writer.writer c.loop-writer.machine c.step_into.new.line c.step_into.new.self c.loop-writer.invariant.sound.world
+    c.loop-writer.invariant.told (c.in_ok-step_into.ensures.made c.if-branch.true)
 
 pub loop-writer-smaller : goal.loop-writer-smaller
-loop-writer-smaller g c = told_fewer c.args.world.now c.loop-writer.writer c.loop-writer.machine c.in_ok-line.field-0 c.in-Some.line c.step.new.self
-    c.loop-writer.invariant.told c.in_ok-line.ensures.made c.in-Some.is
+loop-writer-smaller g c =
+    told_fewer c.args.world.now c.loop-writer.writer c.loop-writer.machine c.step_into.new.line c.step_into.new.self c.loop-writer.invariant.told
+    (c.in_ok-step_into.ensures.made c.if-branch.true)
 
 pub loop-writer-preserved : goal.loop-writer-preserved
 loop-writer-preserved g c = record {
-  told = told_more c.args.world.now c.loop-writer.writer c.add.new.self c.loop-writer.machine c.in_ok-line.field-0 c.in-Some.line c.step.new.self
-      c.loop-writer.invariant.told c.in_ok-line.ensures.made c.in-Some.is c.in_ok-add.ensures;
-  sound = c.step.ensures.sound;
+  told =
+      told_more c.args.world.now c.loop-writer.writer c.add.new.self c.loop-writer.machine c.step_into.new.line c.step_into.new.self c.loop-writer.invariant.told
+      (c.in_ok-step_into.ensures.made c.if-branch.true) c.in_ok-add.ensures;
+  sound = c.step_into.ensures.sound;
 }
 
 pub unreachable-requires : goal.unreachable-requires
 unreachable-requires g c =
-    (told_last c.args.world.now c.loop-writer.writer c.loop-writer.machine c.in_ok-line.field-0 c.step.new.self (g.K.Kernel.state c.kernel.result.now)
-    c.in_ok-end.field-0 c.loop-writer.invariant.sound.world c.loop-writer.invariant.told c.in_ok-line.ensures.none
-    c.in_default.is c.kernel.ensures c.in_ok-end.ensures).there c.in_default-2.is
+    (told_last c.args.world.now c.loop-writer.writer c.loop-writer.machine c.step_into.new.self (g.K.Kernel.state c.kernel.result.now) c.in_ok-end.field-0
+    c.loop-writer.invariant.sound.world c.loop-writer.invariant.told (c.in_ok-step_into.ensures.none c.if-branch.false) c.kernel.ensures c.in_ok-end.ensures).there
+    c.in_default.is
 
 pub returns : goal.returns
 returns g c =
-    subst (λ s. IsWrittenRun c.args.world.now c.in_ok-finish.field-0 c.in-Some-2.end s) (c.kernel.ensures ∙ sym c.into_kernel.ensures)
-    ((told_last c.args.world.now c.loop-writer.writer c.loop-writer.machine c.in_ok-line.field-0 c.step.new.self (g.K.Kernel.state c.kernel.result.now)
-    c.in_ok-end.field-0 c.loop-writer.invariant.sound.world c.loop-writer.invariant.told c.in_ok-line.ensures.none
-    c.in_default.is c.kernel.ensures c.in_ok-end.ensures).written c.in-Some-2.end c.in_ok-finish.field-0 c.in-Some-2.is c.in_ok-finish.ensures)
+    subst (λ s. IsWrittenRun c.args.world.now c.in_ok-finish.field-0 c.in-Some.end s) (c.kernel.ensures ∙ sym c.into_kernel.ensures)
+    ((told_last c.args.world.now c.loop-writer.writer c.loop-writer.machine c.step_into.new.self (g.K.Kernel.state c.kernel.result.now) c.in_ok-end.field-0
+    c.loop-writer.invariant.sound.world c.loop-writer.invariant.told (c.in_ok-step_into.ensures.none c.if-branch.false) c.kernel.ensures
+    c.in_ok-end.ensures).written c.in-Some.end c.in_ok-finish.field-0 c.in-Some.is c.in_ok-finish.ensures)

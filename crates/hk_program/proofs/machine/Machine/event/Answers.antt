@@ -13,35 +13,37 @@ use Rattle.hk_program.proofs.machine.Machine.event.Goals as goal
 pub index_mut-context-requires : goal.index_mut-context-requires
 index_mut-context-requires g c =
     let same = ap (λ (m : Machine). length m.contexts) c.self.view_is in
-    let within = context_within c.args.world.now c.args.self.now c.args.cpu c.args.proc c.args.inc c.requires.sound c.requires.runs in
+    let within = context_within c.args.world.now c.args.self.now c.args.line.now.cpu c.args.line.now.proc c.args.line.now.inc c.requires.sound c.requires.runs in
     omega (arith, same, within)
 
 pub turn-requires-clause-frames : goal.turn-requires-clause-frames
 turn-requires-clause-frames g c =
-    read_frames c.args.world.now c.args.self.now c.args.cpu c.args.proc c.args.inc c.requires.sound c.requires.runs c.index_mut-context.result.now
-    (subst (λ (m : Machine). c.index_mut-context.result.now ≡ get_or m.contexts c.args.proc.0 c.index_mut-context.result.now) c.self.view_is c.index_mut-context.ensures.value)
+    read_frames c.args.world.now c.args.self.now c.args.line.now.cpu c.args.line.now.proc c.args.line.now.inc c.requires.sound c.requires.runs c.index_mut-context.result.now
+    (subst (λ (m : Machine). c.index_mut-context.result.now ≡ get_or m.contexts c.args.line.now.proc.0 c.index_mut-context.result.now) c.self.view_is c.index_mut-context.ensures.value)
 
 pub turn-requires-clause-code : goal.turn-requires-clause-code
 turn-requires-clause-code g c =
-    subst (λ (m : Machine). (call : Call) → (reply : Reply) → IfSome (entered_on m.state c.args.cpu call reply) (λ code. code < length c.args.world.now.codes)) (sym c.self.view_is)
-    (read_code c.args.world.now c.args.self.now c.args.cpu c.args.proc c.args.inc c.requires.sound c.requires.runs)
+    subst (λ (m : Machine). (call : Call) → (reply : Reply) → IfSome (entered_on m.state c.args.line.now.cpu call reply) (λ code. code < length c.args.world.now.codes)) (sym c.self.view_is)
+    (read_code c.args.world.now c.args.self.now c.args.line.now.cpu c.args.line.now.proc c.args.line.now.inc c.requires.sound c.requires.runs)
 
 pub turn-requires-clause-room : goal.turn-requires-clause-room
 turn-requires-clause-room g c =
-    subst (λ (m : Machine). (call : Call) → IfSome (entered_on m.state c.args.cpu call (acted_on m.state c.args.cpu call).0) (λ code. length c.index_mut-context.result.now < 64))
+    subst (λ (m : Machine). (call : Call) → IfSome (entered_on m.state c.args.line.now.cpu call (acted_on m.state c.args.line.now.cpu call).0) (λ code. length c.index_mut-context.result.now < 64))
     (sym c.self.view_is)
-    (read_room c.args.world.now c.args.self.now c.args.cpu c.args.proc c.args.inc c.requires.sound c.requires.runs c.index_mut-context.result.now
-    (subst (λ (m : Machine). c.index_mut-context.result.now ≡ get_or m.contexts c.args.proc.0 c.index_mut-context.result.now) c.self.view_is c.index_mut-context.ensures.value))
+    (read_room c.args.world.now c.args.self.now c.args.line.now.cpu c.args.line.now.proc c.args.line.now.inc c.requires.sound c.requires.runs c.index_mut-context.result.now
+    (subst (λ (m : Machine). c.index_mut-context.result.now ≡ get_or m.contexts c.args.line.now.proc.0 c.index_mut-context.result.now) c.self.view_is c.index_mut-context.ensures.value))
 
 pub returns-clause-made : goal.returns-clause-made
 returns-clause-made g c =
-    let line : Line = record { cpu = c.args.cpu; proc = c.args.proc; inc = c.args.inc; what = c.in_ok-what.what; reply = c.in_ok-what.reply } in
+    let line : Line = c.turn.new.line in
     let state : State = g.K.Kernel.state c.turn.new.kernel in
     let frames : Context = c.turn.new.context in
-    turn_steps c.args.world.now c.args.self.now c.args.cpu c.args.proc c.args.inc c.requires.sound c.requires.runs c.index_mut-context.result.now
-    (c.in_ok-what.what, c.in_ok-what.reply, state, frames)
-    (subst (λ (m : Machine). c.index_mut-context.result.now ≡ get_or m.contexts c.args.proc.0 c.index_mut-context.result.now) c.self.view_is c.index_mut-context.ensures.value)
+    let steps = turn_steps c.args.world.now c.args.self.now c.args.line.now.cpu c.args.line.now.proc c.args.line.now.inc c.requires.sound c.requires.runs c.index_mut-context.result.now
+    (line.what, line.reply, state, frames)
+    (subst (λ (m : Machine). c.index_mut-context.result.now ≡ get_or m.contexts c.args.line.now.proc.0 c.index_mut-context.result.now) c.self.view_is c.index_mut-context.ensures.value)
     c.requires.cpu c.requires.below
-    (subst (λ (m : Machine). turn c.args.world.now m.state (process_on m.state c.args.cpu) (next c.args.world.now c.index_mut-context.result.now)
-    ≡ (c.in_ok-what.what, c.in_ok-what.reply, state, frames)) c.self.view_is c.in_ok-what.ensures.made)
-    ∙ ap (λ (m : Machine). let made : Line × Machine = (line, record { state = state; contexts = slice_set m.contexts c.args.proc.0 frames }) in Some made) (sym c.self.view_is)
+    (subst (λ (m : Machine). turn c.args.world.now m.state (process_on m.state c.args.line.now.cpu) (next c.args.world.now c.index_mut-context.result.now)
+    ≡ (line.what, line.reply, state, frames)) c.self.view_is c.in_ok-turn.ensures.made) in
+    let named = ap (λ (l : Line). let made : Line × Machine = (l, record { state = state; contexts = slice_set c.args.self.now.contexts c.args.line.now.proc.0 frames }) in Some made) (sym c.in_ok-turn.ensures.who) in
+    steps ∙ named
+    ∙ ap (λ (m : Machine). let made : Line × Machine = (line, record { state = state; contexts = slice_set m.contexts c.args.line.now.proc.0 frames }) in Some made) (sym c.self.view_is)

@@ -1,0 +1,12 @@
+use Rattle.hk_top.proofs.FollowedRuns.{step_has_text}
+use Rattle.hk_top.proofs.followed.takes_step.Goals as goal
+
+pub take-requires : goal.take-requires
+take-requires g c =
+    step_has_text c.args.world.now c.args.machine.now c.args.cpu c.step_into.new.line c.step_into.new.self c.requires (c.in_ok-step_into.ensures.made c.if-not-branch.false)
+
+pub returns-clause-read : goal.returns-clause-read
+returns-clause-read g c taken = (
+  step_has_text c.args.world.now c.args.machine.now c.args.cpu c.step_into.new.line c.step_into.new.self c.requires (c.in_ok-step_into.ensures.made c.if-not-branch.false),
+  c.in_ok-take.ensures.taken taken,
+)
