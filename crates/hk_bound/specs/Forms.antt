@@ -1,5 +1,5 @@
 -- The Amplify templates of a world that name a type.
-use Rattle.std.specs.Prelude.{◌≡◌, ℕ, ◌<◌, ◌≤◌, List, length, Option, Some, None, IfSome, slice_get, option_map}
+use Rattle.std.specs.Prelude.{◌≡◌, ◌⊎◌, ℕ, ◌<◌, ◌≤◌, List, length, Option, Some, None, IfSome, slice_get, option_map}
 use Rattle.hk_model.specs.declared.names.Name.{Name}
 use Rattle.hk_model.specs.declared.entries.Entry.{Entry}
 use Rattle.hk_model.specs.declared.entries.Entry.TheVariants as entry
@@ -39,9 +39,13 @@ pub record IsFirst (forms : List Form) (form : Form) (place : ℕ) : Type 0 wher
   pub is : slice_get forms place ≡ Some form
   pub first : (k : ℕ) → k < place → slice_get forms k ≡ Some form → ⊥
 
--- the templates stand in the order of the types that they are for
+-- a template stands before another: by the type that it is for, then by what it asks for, then by what it gives
+abbrev pub IsBefore : Form → Form → Type 0
+IsBefore f g = (f.of.0 < g.of.0) ⊎ ((f.of.0 ≡ g.of.0) × ((f.check < g.check) ⊎ ((f.check ≡ g.check) × (f.give < g.give))))
+
+-- each template stands before those behind it, so each stands there once
 abbrev pub AreSorted : List Form → Type 0
-AreSorted forms = (j k : ℕ) (f g : Form) → j < k → slice_get forms j ≡ Some f → slice_get forms k ≡ Some g → f.of.0 ≤ g.of.0
+AreSorted forms = (j k : ℕ) (f g : Form) → j < k → slice_get forms j ≡ Some f → slice_get forms k ≡ Some g → IsBefore f g
 
 -- from this place on stand the templates for a type and for those with later names
 pub record IsStart (forms : List Form) (of start : ℕ) : Type 0 where

@@ -7,6 +7,7 @@ use crate::opening::{entries_of, object_count, params_of, type_of};
 use hk_model::{Entry, Name, NoMemory, Param, Template, World};
 use hk_rights::Rights;
 use std::alloc::Global;
+use std::cmp::Ordering;
 
 /// An Amplify template that names a type.
 #[derive(Clone, Copy, PartialEq, Eq, Debug)]
@@ -14,6 +15,44 @@ pub(crate) struct Form {
     pub of: Name,
     pub check: Rights,
     pub give: Rights,
+}
+
+/// By the type that a template is for, then by what it asks for, then by what it gives.
+impl Ord for Form {
+    ghost use Rattle.std.specs.Ordering.{nat_cmp, on, then_cmp};
+    ghost use Rattle.std.specs.Cmp.Rules.{comparing};
+    ghost use Rattle.std.proofs.Common.{rules};
+
+    ghost cmp = { then_cmp (then_cmp (on (λ form. form.of.0) nat_cmp) (on (λ form. form.check) nat_cmp)) (on (λ form. form.give) nat_cmp) };
+
+    ghost total = { Prim.search (comparing, rules) };
+
+    ghost matches_partial_cmp = { Prim.search (comparing, rules) };
+
+    ghost matches_eq = { Prim.search (comparing, rules) };
+
+    fn cmp(&self, other: &Form) -> Ordering {
+        self.of
+            .0
+            .cmp(&other.of.0)
+            .then(self.check.bits().cmp(&other.check.bits()))
+            .then(self.give.bits().cmp(&other.give.bits()))
+    }
+}
+
+impl PartialOrd for Form {
+    ghost use Rattle.std.specs.Ordering.{nat_cmp, on, then_cmp, as_partial_cmp};
+    ghost use Rattle.std.specs.Cmp.{partial_order_from_own_ties};
+    ghost use Rattle.std.specs.Cmp.Rules.{comparing};
+    ghost use Rattle.std.proofs.Common.{rules};
+
+    ghost partial_cmp = { as_partial_cmp (then_cmp (then_cmp (on (λ form. form.of.0) nat_cmp) (on (λ form. form.check) nat_cmp)) (on (λ form. form.give) nat_cmp)) };
+
+    ghost laws = { partial_order_from_own_ties (Prim.search (comparing, rules)) (Prim.search (comparing, rules)) };
+
+    fn partial_cmp(&self, other: &Form) -> Option<Ordering> {
+        Some(self.cmp(other))
+    }
 }
 
 /// The template for a type that asks for nothing and gives all: what a process can make of a type.
@@ -66,17 +105,15 @@ pub(crate) fn start_of(forms: &[Form], of: Name) -> usize
     requires { AreSorted forms.now }
     ensures { IsStart forms.now of.0 result }
 {
-    let mut low = 0;
-    let mut high = forms.len();
-    'halves: while low < high {
-        let middle = low + (high - low) / 2;
-        if forms[middle].of.0 < of.0 {
-            low = middle + 1;
-        } else {
-            high = middle;
-        }
+    let first = Form {
+        of,
+        check: Rights::none(),
+        give: Rights::none(),
+    };
+    match forms.binary_search(&first) {
+        Ok(place) => place,
+        Err(place) => place,
     }
-    low
 }
 
 /// The place of a template among others.
@@ -85,38 +122,22 @@ pub(crate) fn place_of(forms: &[Form], form: &Form) -> Option<usize>
     ensures found { IfSome result (λ place. IsFirst forms.now form.now place) }
     ensures some { Holds forms.now form.now → IsSome result }
 {
-    for place in start_of(forms, form.of)..forms.len() {
-        let other = &forms[place];
-        if *other == *form {
-            return Some(place);
-        }
-        if other.of != form.of {
-            return None;
-        }
-    }
-    None
+    forms.binary_search(form).ok()
 }
 
-/// Adds a template at its place, if there is one that is not there.
+/// Adds a template, if there is one.
 fn add(forms: &mut Vec<Form>, form: Option<Form>) -> Result<(), NoMemory>
-    requires { AreSorted forms.old.items }
-    ensures sorted { OnOk result (AreSorted forms.new.items) }
     ensures keeps { OnOk result (KeepsForms forms.old.items forms.new.items) }
     ensures holds { OnOk result (IfSome form (λ f. Holds forms.new.items f)) }
 {
     if let Some(form) = form {
-        if place_of(forms, &form).is_none() {
-            let place = start_of(forms, form.of);
-            forms.insert(place, form)?;
-        }
+        forms.push(form)?;
     }
     Ok(())
 }
 
 /// Adds the templates among some entries.
 fn add_entries(forms: &mut Vec<Form>, entries: &[Entry]) -> Result<(), NoMemory>
-    requires { AreSorted forms.old.items }
-    ensures sorted { OnOk result (AreSorted forms.new.items) }
     ensures keeps { OnOk result (KeepsForms forms.old.items forms.new.items) }
     ensures holds { OnOk result (HaveEntryForms forms.new.items entries.now) }
 {
@@ -128,8 +149,6 @@ fn add_entries(forms: &mut Vec<Form>, entries: &[Entry]) -> Result<(), NoMemory>
 
 /// Adds the templates among some parameters.
 fn add_params(forms: &mut Vec<Form>, params: &[Param]) -> Result<(), NoMemory>
-    requires { AreSorted forms.old.items }
-    ensures sorted { OnOk result (AreSorted forms.new.items) }
     ensures keeps { OnOk result (KeepsForms forms.old.items forms.new.items) }
     ensures holds { OnOk result (HaveParamForms forms.new.items params.now) }
 {
@@ -142,8 +161,6 @@ fn add_params(forms: &mut Vec<Form>, params: &[Param]) -> Result<(), NoMemory>
 /// Adds the templates of an object: those of its list and of its parameters, and for a type the one
 /// that a process can make of it.
 fn add_object(forms: &mut Vec<Form>, world: &World, name: usize) -> Result<(), NoMemory>
-    requires { AreSorted forms.old.items }
-    ensures sorted { OnOk result (AreSorted forms.new.items) }
     ensures keeps { OnOk result (KeepsForms forms.old.items forms.new.items) }
     ensures holds { OnOk result (HaveObjectForms world.now forms.new.items name) }
 {
@@ -153,6 +170,15 @@ fn add_object(forms: &mut Vec<Form>, world: &World, name: usize) -> Result<(), N
         add(forms, Some(made_form(Name(name as u64))))?;
     }
     Ok(())
+}
+
+/// Puts templates in their order, each once.
+fn put_in_order(forms: &mut Vec<Form>)
+    ensures sorted { AreSorted forms.new.items }
+    ensures keeps { KeepsForms forms.old.items forms.new.items }
+{
+    forms.sort_unstable();
+    forms.dedup();
 }
 
 /// All Amplify templates of a world that name a type: those in its slots and lists, those of its
@@ -167,5 +193,6 @@ pub(crate) fn all_forms(alloc: Global, world: &World) -> Result<Vec<Form>, NoMem
     for task in world.tasks() {
         add_entries(&mut forms, task.slots.as_slice())?;
     }
+    put_in_order(&mut forms);
     Ok(forms)
 }

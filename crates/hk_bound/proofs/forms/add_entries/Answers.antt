@@ -8,7 +8,6 @@ use Rattle.hk_bound.proofs.forms.add_entries.Goals as goal
 
 pub loop-entry-init : goal.loop-entry-init
 loop-entry-init c = record {
-  sorted = c.requires;
   keeps = keeps_self c.args.forms.now.items;
   holds = each_none (λ (x : Entry). IfSome (entry_form x) (Holds c.args.forms.now.items)) c.args.entries.now;
 }
@@ -18,7 +17,6 @@ loop-entry-preserved c =
     let i = c.loop-entry.invariant in
     let e = c.in_ok-add.ensures {u = tt} in
     record {
-      sorted = e.sorted;
       keeps = keeps_then c.args.forms.now.items c.loop-entry.forms.items c.add.new.forms.items i.keeps e.keeps;
       holds =
           each_read (λ (x : Entry). IfSome (entry_form x) (Holds c.add.new.forms.items)) c.args.entries.now c.loop-entry.entry-index c.entry-item.result

@@ -8,7 +8,6 @@ use Rattle.hk_bound.proofs.forms.add_params.Goals as goal
 
 pub loop-param-init : goal.loop-param-init
 loop-param-init c = record {
-  sorted = c.requires;
   keeps = keeps_self c.args.forms.now.items;
   holds = each_none (λ (x : Param). IfSome (param_form x) (Holds c.args.forms.now.items)) c.args.params.now;
 }
@@ -18,7 +17,6 @@ loop-param-preserved c =
     let i = c.loop-param.invariant in
     let e = c.in_ok-add.ensures {u = tt} in
     record {
-      sorted = e.sorted;
       keeps = keeps_then c.args.forms.now.items c.loop-param.forms.items c.add.new.forms.items i.keeps e.keeps;
       holds =
           each_read (λ (x : Param). IfSome (param_form x) (Holds c.add.new.forms.items)) c.args.params.now c.loop-param.param-index c.param-item.result
