@@ -18,3 +18,4 @@ mod Filling
 mod Ways
 mod Sorted
 mod Exact
+mod Handed

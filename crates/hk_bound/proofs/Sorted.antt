@@ -100,7 +100,7 @@ read_form [] k d h = absurd (omega (arith, h))
 read_form (x ∷ xs) zero d h = refl
 read_form (x ∷ xs) (suc k) d h = read_form xs k d (omega (arith, h))
 
-at_place : {A : Type 0} (xs : List A) (k : ℕ) (x d : A) → slice_get xs k ≡ Some x → get_or xs k d ≡ x
+pub at_place : {A : Type 0} (xs : List A) (k : ℕ) (x d : A) → slice_get xs k ≡ Some x → get_or xs k d ≡ x
 at_place xs k x d e = same_item (sym (read_form xs k d (slice_get_within xs k x e)) ∙ e)
 
 pub holds_contains : (forms : List Form) (f : Form) → Holds forms f → Contains forms f

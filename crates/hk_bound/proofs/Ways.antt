@@ -1,6 +1,6 @@
 -- Gaps that are found of a cell that has grown, and the ways by which processes take.
 use Rattle.std.proofs.Common.{◌≡◌, ℕ, zero, suc, ◌+◌, ◌<◌, ◌≤◌, List, [], ◌∷◌, ◌++◌, length, true, false, Option, Some, None, refl, sym, ◌∙◌, ap, subst, arith, bit_or}
-use Rattle.std.specs.Prelude.{◌⊎◌, slice_get}
+use Rattle.std.specs.Prelude.{◌⊎◌, slice_get, slice_index_or}
 use Rattle.std.proofs.lemmas.Bool.{true≢false}
 use mathlib.Core.Logic.{inl, inr}
 use Rattle.hk_model.specs.WorldValue.{WorldValue}
@@ -45,6 +45,20 @@ module _ (w : WorldValue) (forms : List Form) where
       case i j r at (inl g) =
           subst (λ (n : ℕ). Passes w forms n j r) g.0 (subst (λ (n : ℕ). Passes w forms p n r) g.1 (here (cell ways p q) r refl (sym g.2 ∙ at)))
       case i j r at (inr g) = are.passes i j r (sym g ∙ at)
+
+  -- only a process has a way
+  pub way_runs : (ways : List (List (Option ℕ))) (p q by : ℕ) → AreWays w forms ways → cell ways p q ≡ Some by → p < length w.tasks
+  way_runs ways p q by are at = let low = within ways p at in let count = are.count in omega (arith, low, count)
+    where
+      none_there : (q : ℕ) → slice_index_or [] q None ≡ Some by → ⊥
+      none_there zero e = absurd (cc)
+      none_there (suc q) e = absurd (cc)
+
+      within : (rows : List (List (Option ℕ))) (p : ℕ) → cell rows p q ≡ Some by → p < length rows
+      within [] zero e = absurd (none_there q e)
+      within [] (suc p) e = absurd (none_there q e)
+      within (row ∷ rows) zero e = omega arith
+      within (row ∷ rows) (suc p) e = let low = within rows p e in omega (arith, low)
 
   pub ways_none : (count width : ℕ) → count ≡ length w.tasks → AreWays w forms (empty_rows count width)
   ways_none count width e = record {

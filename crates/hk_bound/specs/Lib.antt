@@ -5,5 +5,6 @@ pub mod Columns
 pub mod Forms
 pub mod Rules
 pub mod Weights
+pub mod Handed
 pub mod Filled
 pub mod Listed

@@ -5,17 +5,18 @@ ghost use Rattle.std.specs.Prelude.{◌≡◌, ◌<◌, ◌≤◌, [], IfOk, OnO
 ghost use Rattle.hk_model.specs.WorldValue.{IsWorld};
 ghost use Rattle.hk_bound.specs.Columns.{AreGaps, Finds};
 ghost use Rattle.hk_bound.specs.Forms.{AreForms};
-ghost use Rattle.hk_bound.specs.Rules.{IsKnown, AreStored, OwnRules, StoredFrom, StoredRules, AllRules};
+ghost use Rattle.hk_bound.specs.Rules.{IsKnown, OwnRules, AllRules};
 ghost use Rattle.hk_bound.specs.Weights.{rows_weight};
 ghost use Rattle.hk_bound.specs.Each.{Each};
-ghost use Rattle.hk_bound.specs.Filled.{IsWithin, AreFilling, AreWays, Fills, FillsAll, AddsStored};
+ghost use Rattle.hk_bound.specs.Filled.{IsWithin, AreFilling, AreWays, Fills, FillsAll};
 ghost use Rattle.hk_bound.specs.Listed.{AreExact};
 
 use crate::forms::Form;
 use crate::gaps::{Gap, Table};
+use crate::handing::all_stored_gaps;
 use crate::opening::{object_count, type_of};
 use crate::rows::{Rows, covers};
-use crate::spreading::Grown;
+use crate::spreading::{Grown, Ways};
 use hk_model::{NoMemory, World};
 use hk_rights::Rights;
 use std::alloc::Global;
@@ -95,16 +96,16 @@ fn take_up(
     kinds: &[Vec<usize>],
     cell: &Grown,
     rows: &mut Rows,
-    ways: &mut Rows,
+    ways: &mut Ways,
     grown: &mut Vec<Grown>,
 ) -> Result<(), NoMemory>
     requires world { IsWorld world.now }
     requires forms { AreForms world.now forms.now }
     requires cell { IsWithin world.now forms.now cell.now }
     requires filling { AreFilling world.now forms.now rows.old grown.old.items }
-    requires ways { AreWays world.now forms.now ways.old }
+    requires ways { AreWays world.now forms.now ways.old.known }
     ensures filled { OnOk result (FillsAll world.now forms.now rows.old rows.new grown.old.items grown.new.items) }
-    ensures ways { OnOk result (AreWays world.now forms.now ways.new) }
+    ensures ways { OnOk result (AreWays world.now forms.now ways.new.known) }
 {
     if !is_latest(rows.get(cell.process, cell.column), cell.rights) {
         return Ok(());
@@ -121,26 +122,29 @@ fn take_up(
     Ok(())
 }
 
-/// Gives another process what it takes of cells that have grown.
+/// Gives another process what it takes of the cells of a process that have grown.
 fn pass_cells(
     alloc: Global,
     world: &World,
     forms: &[Form],
     kinds: &[Vec<usize>],
     other: usize,
+    process: usize,
     cells: &[Grown],
     rows: &mut Rows,
-    ways: &Rows,
+    ways: &Ways,
     grown: &mut Vec<Grown>,
 ) -> Result<(), NoMemory>
     requires world { IsWorld world.now }
     requires forms { AreForms world.now forms.now }
-    requires other { other < length world.now.tasks }
     requires cells { Each (IsWithin world.now forms.now) cells.now }
     requires filling { AreFilling world.now forms.now rows.old grown.old.items }
-    requires ways { AreWays world.now forms.now ways.now }
+    requires ways { AreWays world.now forms.now ways.now.known }
     ensures { OnOk result (FillsAll world.now forms.now rows.old rows.new grown.old.items grown.new.items) }
 {
+    let Some(by) = ways.known.get(other, process) else {
+        return Ok(());
+    };
     let mut gaps = Vec::new(alloc);
     let table = Table {
         world,
@@ -148,33 +152,38 @@ fn pass_cells(
         kinds,
         rows: &*rows,
     };
+    let mine = rows.row(other);
+    let theirs = rows.row(process);
     for cell in cells {
-        table.pass_to(other, cell.process, cell.column, ways, &mut gaps)?;
+        table.take_at(other, process, by, cell.column, mine, theirs, &mut gaps)?;
     }
     fill_all(world, forms, rows, &gaps, grown)?;
     Ok(())
 }
 
-/// Gives all processes what they take of cells that have grown.
+/// Gives those that take from a process what they take of its cells that have grown.
 fn pass_on(
     alloc: Global,
     world: &World,
     forms: &[Form],
     kinds: &[Vec<usize>],
+    process: usize,
     cells: &[Grown],
     rows: &mut Rows,
-    ways: &Rows,
+    ways: &Ways,
     grown: &mut Vec<Grown>,
 ) -> Result<(), NoMemory>
     requires world { IsWorld world.now }
     requires forms { AreForms world.now forms.now }
     requires cells { Each (IsWithin world.now forms.now) cells.now }
     requires filling { AreFilling world.now forms.now rows.old grown.old.items }
-    requires ways { AreWays world.now forms.now ways.now }
+    requires ways { AreWays world.now forms.now ways.now.known }
     ensures { OnOk result (FillsAll world.now forms.now rows.old rows.new grown.old.items grown.new.items) }
 {
-    for other in 0..world.tasks().len() {
-        pass_cells(alloc, world, forms, kinds, other, cells, rows, ways, grown)?;
+    for other in ways.takers_of(process) {
+        pass_cells(
+            alloc, world, forms, kinds, *other, process, cells, rows, ways, grown,
+        )?;
     }
     Ok(())
 }
@@ -187,16 +196,16 @@ fn take_up_cells(
     kinds: &[Vec<usize>],
     cells: &[Grown],
     rows: &mut Rows,
-    ways: &mut Rows,
+    ways: &mut Ways,
     grown: &mut Vec<Grown>,
 ) -> Result<(), NoMemory>
     requires world { IsWorld world.now }
     requires forms { AreForms world.now forms.now }
     requires cells { Each (IsWithin world.now forms.now) cells.now }
     requires filling { AreFilling world.now forms.now rows.old grown.old.items }
-    requires ways { AreWays world.now forms.now ways.old }
+    requires ways { AreWays world.now forms.now ways.old.known }
     ensures filled { OnOk result (FillsAll world.now forms.now rows.old rows.new grown.old.items grown.new.items) }
-    ensures ways { OnOk result (AreWays world.now forms.now ways.new) }
+    ensures ways { OnOk result (AreWays world.now forms.now ways.new.known) }
 {
     for cell in cells {
         take_up(alloc, world, forms, kinds, cell, rows, ways, grown)?;
@@ -228,66 +237,25 @@ fn take_up_all(
     forms: &[Form],
     kinds: &[Vec<usize>],
     rows: &mut Rows,
-    ways: &mut Rows,
+    ways: &mut Ways,
     grown: &mut Vec<Grown>,
 ) -> Result<(), NoMemory>
     requires world { IsWorld world.now }
     requires forms { AreForms world.now forms.now }
     requires filling { AreFilling world.now forms.now rows.old grown.old.items }
-    requires ways { AreWays world.now forms.now ways.old }
+    requires ways { AreWays world.now forms.now ways.old.known }
     ensures filling { OnOk result (AreFilling world.now forms.now rows.new grown.new.items) }
     ensures no_less { OnOk result (rows_weight rows.old ≤ rows_weight rows.new) }
-    ensures ways { OnOk result (AreWays world.now forms.now ways.new) }
+    ensures ways { OnOk result (AreWays world.now forms.now ways.new.known) }
 {
     'cells: while !grown.is_empty() {
+        let process = grown[grown.len() - 1].process;
         let start = before_last(grown);
         let cells = grown.split_off(start)?;
-        pass_on(alloc, world, forms, kinds, &cells, rows, ways, grown)?;
+        pass_on(
+            alloc, world, forms, kinds, process, &cells, rows, ways, grown,
+        )?;
         take_up_cells(alloc, world, forms, kinds, &cells, rows, ways, grown)?;
-    }
-    Ok(())
-}
-
-/// Adds an object to those into which a process stores, if it is one.
-fn add_stored(
-    table: &Table,
-    process: usize,
-    name: usize,
-    names: &mut Vec<usize>,
-) -> Result<(), NoMemory>
-    ensures { OnOk result (AddsStored table.now.world.now table.now.rows.now process name names.old.items names.new.items) }
-{
-    if table.stores(process, name) {
-        names.push(name)?;
-    }
-    Ok(())
-}
-
-/// The objects into which a process stores.
-fn stored_names(alloc: Global, table: &Table, process: usize) -> Result<Vec<usize>, NoMemory>
-    ensures { IfOk result (λ names. AreStored table.now.world.now table.now.rows.now process names.items) }
-{
-    let mut names = Vec::new(alloc);
-    for name in 0..object_count(table.world) {
-        add_stored(table, process, name, &mut names)?;
-    }
-    Ok(names)
-}
-
-/// What processes take of what one stores.
-fn stored_gaps(
-    alloc: Global,
-    table: &Table,
-    other: usize,
-    gaps: &mut Vec<Gap>,
-) -> Result<(), NoMemory>
-    requires known { IsKnown table.now.world.now table.now.forms.now table.now.rows.now }
-    requires other { other < length table.now.world.now.tasks }
-    ensures { OnOk result (Finds table.now.world.now table.now.forms.now table.now.rows.now (StoredFrom table.now.world.now table.now.forms.now table.now.rows.now other) gaps.old.items gaps.new.items) }
-{
-    let names = stored_names(alloc, table, other)?;
-    for process in 0..table.world.tasks().len() {
-        table.take_stored(process, other, &names, gaps)?;
     }
     Ok(())
 }
@@ -299,17 +267,6 @@ fn all_own_gaps(table: &Table, gaps: &mut Vec<Gap>) -> Result<(), NoMemory>
 {
     for (process, task) in table.world.tasks().iter().enumerate() {
         table.own_gaps(process, task, gaps)?;
-    }
-    Ok(())
-}
-
-/// What processes take of what others store.
-fn all_stored_gaps(alloc: Global, table: &Table, gaps: &mut Vec<Gap>) -> Result<(), NoMemory>
-    requires known { IsKnown table.now.world.now table.now.forms.now table.now.rows.now }
-    ensures { OnOk result (Finds table.now.world.now table.now.forms.now table.now.rows.now (StoredRules table.now.world.now table.now.forms.now table.now.rows.now) gaps.old.items gaps.new.items) }
-{
-    for other in 0..table.world.tasks().len() {
-        stored_gaps(alloc, table, other, gaps)?;
     }
     Ok(())
 }
@@ -355,7 +312,7 @@ pub(crate) fn closed_rows(alloc: Global, world: &World, forms: &[Form]) -> Resul
     let count = world.tasks().len();
     let kinds = kinds(alloc, world)?;
     let mut rows = Rows::new(alloc, count, object_count(world) + count + forms.len())?;
-    let mut ways = Rows::new(alloc, count, count)?;
+    let mut ways = Ways::new(alloc, count)?;
     let mut grown = Vec::new(alloc);
     'looks: loop {
         let gaps = look(alloc, world, forms, &kinds, &rows)?;

@@ -10,7 +10,7 @@ ghost use Rattle.hk_bound.specs.Taking.{Slots, Old, MadeBy, Has, Right as RightO
 ghost use Rattle.hk_bound.specs.Each.{Among, Each};
 ghost use Rattle.hk_bound.specs.Columns.{name_at, proc_at, opening_entries, opening_params, object_count, thing_count, width_of, cell, covers, CellFollows, Finds};
 ghost use Rattle.hk_bound.specs.Forms.{entry_form, Holds, IsFirst, AreSorted};
-ghost use Rattle.hk_bound.specs.Rules.{IsKnown, IsHeldAs, env_in, stores_in, taking_of, OpensWithEnv, StoredWithEnv, ListedWithEnv, Offered, EntryRule, EntriesRule, FormRule, ParamRule, ParamsRule, TypeRule, MergeRule, MergesRule, ObjectRule, Passes, share_made, HasTakings, through_in, joined_cells, CellRule, PassedRule, AreStored, passes_all, StoredRule, OpensWith, SlotRule, MadeRule, OwnRule};
+ghost use Rattle.hk_bound.specs.Rules.{IsKnown, IsHeldAs, env_in, stores_in, taking_of, OpensWithEnv, StoredWithEnv, ListedWithEnv, Offered, EntryRule, EntriesRule, FormRule, ParamRule, ParamsRule, TypeRule, MergeRule, MergesRule, ObjectRule, Passes, share_made, HasTakings, through_in, joined_cells, CellRule, PassedRule, AreStored, passes_all, OpensWith, SlotRule, MadeRule, OwnRule};
 
 use crate::forms::{Form, entry_form, made_form, param_form, place_of, start_of};
 use crate::opening::{entries_of, is_general, is_listed, object_count, params_of, type_of};
@@ -81,7 +81,7 @@ fn merged_rights(by: Rights, give: Rights) -> Rights
 }
 
 /// Whether nothing more passes through more rights: what passes asks for no others than these.
-fn passes_all(by: &Option<Rights>) -> bool
+pub(crate) fn passes_all(by: &Option<Rights>) -> bool
     ensures { result ≡ passes_all by.now }
 {
     match by {
@@ -521,7 +521,7 @@ impl<'a> Table<'a> {
 
     /// The rights through which a process takes what another stores: all where one of them has what the
     /// other makes.
-    fn through(&self, process: usize, other: usize, names: &[usize]) -> Option<Rights>
+    pub(crate) fn through(&self, process: usize, other: usize, names: &[usize]) -> Option<Rights>
         requires known { IsKnown self.now.world.now self.now.forms.now self.now.rows.now }
         requires process { process < length self.now.world.now.tasks }
         requires other { other < length self.now.world.now.tasks }
@@ -569,7 +569,7 @@ impl<'a> Table<'a> {
     }
 
     /// The same, where the rows of the two are at hand.
-    fn take_at(
+    pub(crate) fn take_at(
         &self,
         process: usize,
         other: usize,
@@ -612,27 +612,6 @@ impl<'a> Table<'a> {
         for column in 0..self.width() {
             self.take_at(process, other, by, column, mine, theirs, gaps)?;
         }
-        Ok(())
-    }
-
-    /// What a process takes of what another stores, by the objects into which that one stores.
-    pub(crate) fn take_stored(
-        &self,
-        process: usize,
-        other: usize,
-        names: &[usize],
-        gaps: &mut Vec<Gap>,
-    ) -> Result<(), NoMemory>
-        requires known { IsKnown self.now.world.now self.now.forms.now self.now.rows.now }
-        requires process { process < length self.now.world.now.tasks }
-        requires other { other < length self.now.world.now.tasks }
-        requires names { AreStored self.now.world.now self.now.rows.now other names.now }
-        ensures { OnOk result (Finds self.now.world.now self.now.forms.now self.now.rows.now (StoredRule self.now.world.now self.now.forms.now self.now.rows.now process other) gaps.old.items gaps.new.items) }
-    {
-        let Some(by) = self.through(process, other, names) else {
-            return Ok(());
-        };
-        self.take_row(process, other, by, gaps)?;
         Ok(())
     }
 

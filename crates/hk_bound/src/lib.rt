@@ -6,6 +6,7 @@ mod bounding;
 mod closing;
 mod forms;
 mod gaps;
+mod handing;
 mod opening;
 mod rows;
 mod spreading;

@@ -1,6 +1,6 @@
 // What each process is known to have: a cell for each process and column.
 
-ghost use Rattle.std.specs.Prelude.{◌≡◌, ◌<◌, IfOk, IfSome, length, slice_set, slice_index_or, replicate, None, []};
+ghost use Rattle.std.specs.Prelude.{◌≡◌, ◌<◌, IfOk, IfSome, OnOk, length, slice_set, slice_index_or, replicate, None, [], ◌∷◌, ◌++◌};
 ghost use Rattle.hk_rights.specs.Rights.{IsRightsWord};
 ghost use Rattle.hk_bound.specs.Columns.{cell, covers, joined, joined_rows, empty_rows};
 
@@ -66,6 +66,14 @@ impl Rows {
             rows.push(Items::from_vec(vec![in alloc; None; width]?))?;
         }
         Ok(Rows { rows })
+    }
+
+    /// Adds a row behind the others.
+    pub(crate) fn push(&mut self, row: Vec<Option<Rights>>) -> Result<(), NoMemory>
+        ensures { OnOk result (self.new ≡ self.old ++ row.items ∷ []) }
+    {
+        self.rows.push(Items::from_vec(row))?;
+        Ok(())
     }
 
     /// The cell of a process and a column, none outside the rows.

@@ -6,7 +6,7 @@ use Rattle.hk_bound.proofs.closing.closed_rows.Given as goal
 abbrev pub invariant-looks : goal.invariant-looks
 invariant-looks l = record {
   filling : AreFilling l.world l.forms l.rows l.grown.items;
-  ways : AreWays l.world l.forms l.ways;
+  ways : AreWays l.world l.forms l.ways.known;
 }
 
 abbrev pub decreases-looks : goal.decreases-looks

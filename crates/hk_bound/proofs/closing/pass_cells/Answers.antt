@@ -1,7 +1,15 @@
-use Rattle.std.proofs.Common.{[], refl, subst, sym}
+use Rattle.std.proofs.Common.{◌∙◌, [], refl, subst, sym}
 use Rattle.hk_bound.specs.Columns.{AreGaps}
 use Rattle.hk_bound.proofs.Filling.{no_gaps}
+use Rattle.hk_bound.proofs.Ways.{way_runs}
 use Rattle.hk_bound.proofs.closing.pass_cells.Goals as goal
+
+pub take_at-requires-clause-process : goal.take_at-requires-clause-process
+take_at-requires-clause-process c =
+    way_runs c.args.world.now c.args.forms.now c.args.ways.now.known c.args.other c.args.process c.in-Some.by c.requires.ways (sym c.get.ensures ∙ c.in-Some.is)
+
+pub take_at-requires-clause-passes : goal.take_at-requires-clause-passes
+take_at-requires-clause-passes c = c.requires.ways.passes c.args.other c.args.process c.in-Some.by (sym c.get.ensures ∙ c.in-Some.is)
 
 pub fill_all-requires-clause-gaps : goal.fill_all-requires-clause-gaps
 fill_all-requires-clause-gaps c =
@@ -9,3 +17,6 @@ fill_all-requires-clause-gaps c =
     let forms = c.args.forms.now in
     let rows = c.args.rows.now in
     subst (AreGaps w forms rows) (sym c.deref.ensures.value) (c.loop-cell.invariant (no_gaps w forms rows [] refl))
+
+pub loop-cell-preserved : goal.loop-cell-preserved
+loop-cell-preserved c h = (c.in_ok-take_at.ensures {u = tt}).gaps (c.loop-cell.invariant h)

@@ -8,7 +8,7 @@ abbrev pub invariant-cells : goal.invariant-cells
 invariant-cells l = record {
   filling : AreFilling l.world l.forms l.rows l.grown.items;
   no_less : rows_weight l.fn.rows ≤ rows_weight l.rows;
-  ways : AreWays l.world l.forms l.ways;
+  ways : AreWays l.world l.forms l.ways.known;
 }
 
 abbrev pub decreases-cells : goal.decreases-cells

@@ -1,6 +1,6 @@
 use Rattle.std.proofs.Common.{arith}
 use Rattle.hk_bound.proofs.Ways.{storing_none, storing_more, storing_all}
-use Rattle.hk_bound.proofs.closing.stored_names.Goals as goal
+use Rattle.hk_bound.proofs.handing.stored_names.Goals as goal
 
 pub loop-name-init : goal.loop-name-init
 loop-name-init c = storing_none c.args.table.now.world.now c.args.table.now.rows.now c.args.process c.new-names.result.items c.new-names.ensures.items
