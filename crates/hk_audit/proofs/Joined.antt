@@ -1,48 +1,9 @@
--- Texts that are joined by a byte, and the texts of paths and of arguments.
-use Rattle.std.proofs.Common.{◌≡◌, ℕ, suc, ◌+◌, ◌-◌, ◌<◌, ◌≤◌, List, [], ◌∷◌, ◌++◌, length, map, take, drop, sym, ap, ◌∙◌, append_assoc, arith}
-use Rattle.std.specs.Prelude.{slice_index}
+-- Texts that are joined by a byte.
+use Rattle.std.proofs.Common.{◌≡◌, ℕ, List, [], ◌∷◌, ◌++◌, sym, ap}
 use Rattle.std.specs.List.{join_with_byte, flat_map}
-use Rattle.std.specs.Fmt.{decimal}
-use Rattle.std.proofs.lemmas.List.{take_all}
 use mathlib.Core.List.{append-nil}
-use Rattle.hk_model.specs.declared.names.Slot.{Slot}
-use Rattle.hk_model.specs.declared.instructions.Index.TheVariants.{Fixed}
-use Rattle.hk_format.specs.Pieces.{spell, spell_index}
-use Rattle.hk_format.specs.Operands.{argument_pieces, path_piece}
 
 -- the first, and then the byte before each of the others
 pub joined : (c : ℕ) (x : List ℕ) (xs : List (List ℕ)) → join_with_byte c (x ∷ xs) ≡ x ++ flat_map (λ t. c ∷ t) xs
 joined c x [] = sym (append-nil x)
 joined c x (y ∷ ys) = ap (λ rest. x ++ (c ∷ rest)) (joined c y ys)
-
--- the indices of a path, joined by points
-indices_joined : (first : ℕ) (rest : List ℕ) → join_with_byte 46 (map spell_index (map Fixed (first ∷ rest))) ≡ decimal first ++ flat_map (λ index. 46 ∷ decimal index) rest
-indices_joined first [] = sym (append-nil (decimal first))
-indices_joined first (index ∷ rest) = ap (λ (t : List ℕ). decimal first ++ 46 ∷ t) (indices_joined index rest)
-
--- a path by its first index and the others
-pub path_spelled : (first : ℕ) (rest : List ℕ) → spell (path_piece (first ∷ rest)) ≡ decimal first ++ flat_map (λ index. 46 ∷ decimal index) rest
-path_spelled first [] = sym (append-nil (decimal first))
-path_spelled first (index ∷ rest) = indices_joined first (index ∷ rest)
-
--- the slots of the arguments, and the last one behind them
-pub slots_spelled : (front : List ℕ) (args : List ℕ) (into : Slot)
-    → (front ++ flat_map (λ slot. 32 ∷ decimal slot) args) ++ 32 ∷ decimal into.0 ≡ join_with_byte 32 (front ∷ map spell (argument_pieces args into))
-slots_spelled front [] into = ap (λ (t : List ℕ). t ++ 32 ∷ decimal into.0) (append-nil front)
-slots_spelled front (slot ∷ slots) into =
-    append_assoc front (32 ∷ (decimal slot ++ flat_map (λ n. 32 ∷ decimal n) slots)) (32 ∷ decimal into.0)
-    ∙ ap (λ (t : List ℕ). front ++ 32 ∷ t) (slots_spelled (decimal slot) slots into)
-
--- all of the indices behind the first are taken
-behind_first : (rest : List ℕ) (taken : ℕ) → length rest ≤ taken → take taken (take (suc (length rest) - 1) rest) ≡ rest
-behind_first rest taken all =
-    let same : suc (length rest) - 1 ≡ length rest = omega arith in
-    rw (same, take_all (length rest) rest (omega arith)) (take_all taken rest all)
-
--- a path of one index at least, by its first index and the others
-pub path_whole : (path old begun new : List ℕ) (taken : ℕ) → 0 < length path → length path ≤ taken + 1 → begun ≡ old ++ decimal (slice_index path 0)
-    → new ≡ begun ++ flat_map (λ index. 46 ∷ decimal index) (take taken (take (length path - 1) (drop 1 path))) → new ≡ old ++ spell (path_piece path)
-path_whole [] old begun new taken some all b n = absurd (omega arith)
-path_whole (first ∷ rest) old begun new taken some all b n =
-    n ∙ rw (b, behind_first rest taken (omega arith)) (append_assoc old (decimal first) (flat_map (λ index. 46 ∷ decimal index) rest)
-    ∙ ap (λ (t : List ℕ). old ++ t) (sym (path_spelled first rest)))

@@ -1,4 +1,3 @@
-mod CallTexts
 mod CallsInRange
 mod ControlInRange
 mod Every

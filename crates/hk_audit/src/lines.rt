@@ -10,7 +10,7 @@ ghost use Rattle.hk_format.specs.Texts.{spell_line};
 use crate::calls::write_call;
 use crate::replies::write_reply;
 use hk_model::{Line, NoMemory, Text, What};
-use hk_print::{write_next_number, write_number};
+use hk_print::{write_next_number, write_number, write_word};
 use std::alloc::Global;
 
 /// The text of a line, with its line feed. The only error is want of memory.
@@ -19,28 +19,28 @@ pub fn line_text(alloc: Global, line: &Line) -> Result<Text, NoMemory>
     ensures { IfOk result (λ text. text ≡ line_text line.now) }
 {
     let mut out = String::new(alloc);
-    write_line(alloc, &mut out, line)?;
+    write_line(&mut out, line)?;
     Ok(Text::from_string(out))
 }
 
 /// Writes the text of each line.
-pub(crate) fn write_lines(alloc: Global, out: &mut String, lines: &[Line]) -> Result<(), NoMemory>
+pub(crate) fn write_lines(out: &mut String, lines: &[Line]) -> Result<(), NoMemory>
     requires { All IsLine lines.now }
     ensures { OnOk result (string_bytes out.new ≡ string_bytes out.old ++ lines_text lines.now) }
 {
     for line in lines {
-        write_line(alloc, out, line)?;
+        write_line(out, line)?;
     }
     Ok(())
 }
 
 /// Writes the text of a line.
-pub(crate) fn write_line(alloc: Global, out: &mut String, line: &Line) -> Result<(), NoMemory>
+pub(crate) fn write_line(out: &mut String, line: &Line) -> Result<(), NoMemory>
     requires { IsLine line.now }
     ensures { OnOk result (string_bytes out.new ≡ string_bytes out.old ++ line_text line.now) }
 {
     write_actor(out, line)?;
-    write_what(alloc, out, &line.what)?;
+    write_what(out, &line.what)?;
     out.push_str(" -> ")?;
     write_reply(out, &line.reply)?;
     out.push('\n')?;
@@ -59,14 +59,13 @@ fn write_actor(out: &mut String, line: &Line) -> Result<(), NoMemory>
 }
 
 /// Writes what happened.
-fn write_what(alloc: Global, out: &mut String, what: &What) -> Result<(), NoMemory>
+fn write_what(out: &mut String, what: &What) -> Result<(), NoMemory>
     requires { IsWhat what.now }
     ensures { OnOk result (string_bytes out.new ≡ string_bytes out.old ++ spell_line (what_pieces what.now)) }
 {
     match what {
-        What::Dispatch => out.push_str("dispatch")?,
-        What::Call(call) => write_call(alloc, out, call)?,
-        What::Halt => out.push_str("halt")?,
+        What::Dispatch => write_word(out, "dispatch"),
+        What::Call(call) => write_call(out, call),
+        What::Halt => write_word(out, "halt"),
     }
-    Ok(())
 }

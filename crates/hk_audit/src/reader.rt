@@ -82,7 +82,7 @@ impl<'a> Reader<'a> {
     /// Takes this line, if what is left begins with its text: then what stands behind the text is left, and
     /// the line is one more of those that were read. Otherwise it gives false, and nothing changes.
     /// NoMemory is want of memory; nothing changes then either.
-    pub fn take(&mut self, alloc: Global, line: &Line) -> Result<bool, NoMemory>
+    pub fn take(&mut self, line: &Line) -> Result<bool, NoMemory>
         requires { IsLine line.now }
         ensures taken { IfOk result (λ taken. taken ≡ true → self.old ≡ line_text line.now ++ self.new) }
         ensures reads { IfOk result (λ taken. taken ≡ true → (bytes : List ℕ) (w : WorldValue) (lines : List Line) → IsReadTo bytes w lines self.old
@@ -92,7 +92,7 @@ impl<'a> Reader<'a> {
         ensures memory { OnErr result (self.new ≡ self.old) }
     {
         self.text.clear();
-        write_line(alloc, &mut self.text, line)?;
+        write_line(&mut self.text, line)?;
         match behind(self.left, self.text.as_bytes()) {
             Some(left) => {
                 self.left = left;

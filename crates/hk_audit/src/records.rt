@@ -20,7 +20,7 @@ pub fn record_text(alloc: Global, world: &World, lines: &[Line], end: End) -> Re
     let script = script_text(alloc, world)?;
     let mut out = String::from_str(alloc, script.as_str())?;
     out.push_str("record\n")?;
-    write_lines(alloc, &mut out, lines)?;
+    write_lines(&mut out, lines)?;
     out.push_str(end_line(end))?;
     Ok(Text::from_string(out))
 }

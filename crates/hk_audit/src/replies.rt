@@ -1,24 +1,23 @@
 //! How replies are spelled in audit lines (`docs/FORMATS.md`, "Audit lines and records").
 
-ghost use Rattle.std.specs.Prelude.{◌≡◌, ◌++◌, ◌∷◌, [], OnOk, string_bytes};
+ghost use Rattle.std.specs.Prelude.{◌≡◌, ◌++◌, ◌∷◌, [], OnOk, codes, string_bytes};
 ghost use Rattle.hk_format.specs.AuditLines.{full_word, refusal_pieces, reply_pieces};
-ghost use Rattle.hk_format.specs.Pieces.{Word, Number};
+ghost use Rattle.hk_format.specs.Pieces.{Number, Word};
 ghost use Rattle.hk_format.specs.Texts.{spell_line};
 
 use hk_model::{NoMemory, Refusal, Reply, What8};
-use hk_print::write_next_number;
+use hk_print::{write_with_one, write_with_two, write_word};
 
 /// Writes a reply.
 pub(crate) fn write_reply(out: &mut String, reply: &Reply) -> Result<(), NoMemory>
     ensures { OnOk result (string_bytes out.new ≡ string_bytes out.old ++ spell_line (reply_pieces reply.now)) }
 {
     match reply {
-        Reply::Done => out.push_str("done")?,
-        Reply::Word(word) => word_number(out, "word", *word)?,
-        Reply::Waits => out.push_str("waits")?,
-        Reply::No(refusal) => write_refusal(out, refusal)?,
+        Reply::Done => write_word(out, "done"),
+        Reply::Word(word) => write_with_one(out, "word", word),
+        Reply::Waits => write_word(out, "waits"),
+        Reply::No(refusal) => write_refusal(out, refusal),
     }
-    Ok(())
 }
 
 /// Writes a refusal.
@@ -26,32 +25,34 @@ fn write_refusal(out: &mut String, refusal: &Refusal) -> Result<(), NoMemory>
     ensures { OnOk result (string_bytes out.new ≡ string_bytes out.old ++ spell_line (refusal_pieces refusal.now)) }
 {
     match refusal {
-        Refusal::Range { step } => word_number(out, "range", *step as u32)?,
-        Refusal::Empty { step } => word_number(out, "empty", *step as u32)?,
-        Refusal::NotCap { step } => word_number(out, "notcap", *step as u32)?,
+        Refusal::Range { step } => write_at_step(out, "range", *step),
+        Refusal::Empty { step } => write_at_step(out, "empty", *step),
+        Refusal::NotCap { step } => write_at_step(out, "notcap", *step),
         Refusal::Denied { step, right } => {
-            word_number(out, "denied", *step as u32)?;
-            out.push(' ')?;
-            out.push_str(right.name())?
+            write_with_two(out, "denied", &u32::from(*step), right)
         }
-        Refusal::WrongType { step } => word_number(out, "wrongtype", *step as u32)?,
-        Refusal::BadTemplate { step } => word_number(out, "badtemplate", *step as u32)?,
-        Refusal::Count => out.push_str("count")?,
-        Refusal::Full { what } => {
-            out.push_str("full ")?;
-            out.push_str(kind_name(*what))?
-        }
-        Refusal::Deep => out.push_str("deep")?,
+        Refusal::WrongType { step } => write_at_step(out, "wrongtype", *step),
+        Refusal::BadTemplate { step } => write_at_step(out, "badtemplate", *step),
+        Refusal::Count => write_word(out, "count"),
+        Refusal::Full { what } => write_full(out, *what),
+        Refusal::Deep => write_word(out, "deep"),
     }
-    Ok(())
 }
 
-/// Writes a word and a number.
-fn word_number(out: &mut String, word: &str, n: u32) -> Result<(), NoMemory>
-    ensures { OnOk result (string_bytes out.new ≡ string_bytes out.old ++ spell_line (Word word.now ∷ Number n ∷ [])) }
+/// Writes a word and the number of a step.
+fn write_at_step(out: &mut String, word: &str, step: u8) -> Result<(), NoMemory>
+    ensures { OnOk result (string_bytes out.new ≡ string_bytes out.old ++ spell_line (Word word.now ∷ Number step ∷ [])) }
 {
-    out.push_str(word)?;
-    write_next_number(out, n as u64)
+    write_with_one(out, word, &u32::from(step))
+}
+
+/// Writes that there is no room for one more, and of what.
+fn write_full(out: &mut String, what: What8) -> Result<(), NoMemory>
+    ensures { OnOk result (string_bytes out.new ≡ string_bytes out.old ++ spell_line (Word (codes "full") ∷ Word (full_word what) ∷ [])) }
+{
+    out.push_str("full ")?;
+    out.push_str(kind_name(what))?;
+    Ok(())
 }
 
 /// The word for what has no room for one more.

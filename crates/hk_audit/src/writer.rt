@@ -46,11 +46,11 @@ impl Writer {
     /// Writes the next line: where the bytes so far are those of some lines, they are now those of one
     /// line more. NoMemory is want of memory.
     #[tactic(auto, using(crate::proofs::Begun::begun_more))]
-    pub fn add(&mut self, alloc: Global, line: &Line) -> Result<(), NoMemory>
+    pub fn add(&mut self, line: &Line) -> Result<(), NoMemory>
         requires { IsLine line.now }
         ensures { OnOk result ((w : WorldValue) → (lines : List Line) → self.old ≡ begun w lines → self.new ≡ begun w (lines ++ line.now ∷ [])) }
     {
-        write_line(alloc, &mut self.out, line)
+        write_line(&mut self.out, line)
     }
 
     /// The whole record, with its end line behind the lines so far. NoMemory is want of memory.

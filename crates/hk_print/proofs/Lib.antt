@@ -1,5 +1,6 @@
 mod Arguments
 mod FoundLabels
+mod Indices
 pub mod ItemByItem
 pub mod Items
 mod Joined

@@ -8,6 +8,7 @@ use Rattle.hk_model.specs.declared.entries.Making.TheVariants as making
 use Rattle.hk_model.specs.declared.names.Slot.{Slot}
 use Rattle.hk_format.specs.RightsTexts.{rights_text}
 use Rattle.hk_format.specs.Canonical.{making_text}
+use Rattle.hk_format.specs.AuditLines.{making_pieces}
 use mathlib.Core.List.{append_assoc}
 use Rattle.hk_format.specs.declared.syntax.Body.TheVariants.{CapEntry, AmplifyEntry, CreateEntry, ParamIs}
 use Rattle.hk_format.specs.declared.syntax.Head.TheVariants.{ObjectIs, ProcedureIs, ProcessIs}
@@ -33,25 +34,24 @@ spelled_rights t = go (same_text t (codes "-")) refl
     go true e = sym (same_is t (codes "-") e)
     go false e = refl
 
--- a word, a slot and rights
-pub slot_rights_text : (word : List ℕ) (slot : Slot) (rights : ℕ)
-    → spell_line (Word word ∷ slot_piece slot ∷ rights_set_piece rights ∷ []) ≡ word ++ 32 ∷ (decimal slot.0 ++ 32 ∷ rights_text rights)
-slot_rights_text word slot rights = rw (spelled_rights (rights_text rights)) refl
-
 -- what a template is made of
-pub amplify_made : (check give : ℕ) → spell_line (making_text_pieces (making_text (making.Amplify check give))) ≡ codes "amplify" ++ 32 ∷ (rights_text check ++ 32 ∷ rights_text give)
+pub amplify_made : (check give : ℕ) → spell_line (making_pieces (making.Amplify check give)) ≡ codes "amplify" ++ 32 ∷ (rights_text check ++ 32 ∷ rights_text give)
 amplify_made check give = rw (spelled_rights (rights_text check), spelled_rights (rights_text give)) refl
 
-pub create_made : (give : ℕ) → spell_line (making_text_pieces (making_text (making.Create give))) ≡ codes "create " ++ rights_text give
+pub create_made : (give : ℕ) → spell_line (making_pieces (making.Create give)) ≡ codes "create " ++ rights_text give
 create_made give = rw (spelled_rights (rights_text give)) refl
 
 -- what a template is made of, and a slot behind it
 pub template_spelled : (m : Making) (front : List ℕ) (into : Slot)
-    → join_with_byte 32 (front ∷ map spell (making_text_pieces (making_text m) ++ slot_piece into ∷ []))
-    ≡ front ++ 32 ∷ (spell_line (making_text_pieces (making_text m)) ++ 32 ∷ decimal into.0)
+    → join_with_byte 32 (front ∷ map spell (making_pieces m ++ slot_piece into ∷ [])) ≡ front ++ 32 ∷ (spell_line (making_pieces m) ++ 32 ∷ decimal into.0)
 template_spelled (making.Amplify check give) front into =
-    ap (λ (t : List ℕ). front ++ 32 ∷ (codes "amplify " ++ t)) (sym (append_assoc (spell (rights_piece (rights_text check))) (32 ∷ spell (rights_piece (rights_text give))) (32 ∷ decimal into.0)))
+    ap (λ (t : List ℕ). front ++ 32 ∷ (codes "amplify " ++ t)) (sym (append_assoc (spell (rights_set_piece check)) (32 ∷ spell (rights_set_piece give)) (32 ∷ decimal into.0)))
 template_spelled (making.Create give) front into = refl
+
+-- a call and an instruction have the same text of what a template is made of
+pub made_as_written : (m : Making) → making_text_pieces (making_text m) ≡ making_pieces m
+made_as_written (making.Amplify check give) = refl
+made_as_written (making.Create give) = refl
 
 -- the texts of capabilities, templates and parameters
 

@@ -1,18 +1,16 @@
 //! How an instruction is spelled (`docs/FORMATS.md`, "Texts of calls").
 
-ghost use Rattle.std.specs.Prelude.{◌≡◌, ◌++◌, ◌∷◌, IfOk, OnOk, string_bytes};
+ghost use Rattle.std.specs.Prelude.{◌≡◌, ◌++◌, IfOk, OnOk, string_bytes};
 ghost use Rattle.hk_model.specs.WorldValue.{IsInstr, IsRoute};
 ghost use Rattle.hk_format.specs.Texts.{spell_line};
-ghost use Rattle.hk_format.specs.Spelling.{making_text_pieces, written_pieces};
+ghost use Rattle.hk_format.specs.Spelling.{written_pieces};
 ghost use Rattle.hk_format.specs.Canonical.{written_of, making_text};
 ghost use Rattle.hk_format.specs.declared.syntax.Written.TheVariants as written;
 
-use crate::numbers::write_next_number;
-use crate::rights::{write_both, write_rights};
+use crate::operands::{Register, Target};
 use crate::shapes::{
-    jump, jump_if, path_alone, path_arguments, path_operand, path_operand_register,
-    path_operand_slot, path_operands, path_register, path_slot, path_slots, register_operand,
-    slot_alone, slot_rights, word_alone,
+    write_with_arguments, write_with_making, write_with_one, write_with_three, write_with_two,
+    write_word,
 };
 use hk_model::{Instr, Making, NoMemory, Route, Slot};
 use std::alloc::Global;
@@ -34,60 +32,50 @@ pub(crate) fn write_instr(out: &mut String, instr: &Instr, len: usize) -> Result
     ensures { OnOk result (string_bytes out.new ≡ string_bytes out.old ++ spell_line (written_pieces (written_of instr.now))) }
 {
     match instr {
-        Instr::Get { of, at, reg } => path_operand_register(out, "getdata", of, *at, *reg),
-        Instr::Put { of, at, word } => path_operands(out, "putdata", of, *at, *word),
-        Instr::Add { of, word } => path_operand(out, "adddata", of, *word),
-        Instr::Length { of, reg } => path_register(out, "length", of, *reg),
-        Instr::Load { from, into } => path_slot(out, "load", from, *into),
-        Instr::Store { list, at, from } => path_operand_slot(out, "store", list, *at, *from),
-        Instr::Append { list, from } => path_slot(out, "append", list, *from),
-        Instr::Erase { list, at } => path_operand(out, "erase", list, *at),
-        Instr::Drop { slot } => slot_alone(out, "drop", *slot),
-        Instr::Restrict { slot, keep } => slot_rights(out, "restrict", *slot, *keep),
-        Instr::Look { of, reg } => path_register(out, "look", of, *reg),
-        Instr::MakeTemplate { of, making, into } => template(out, of, *making, *into),
-        Instr::Create { by, into } => path_slot(out, "create", by, *into),
-        Instr::Merge { with, cap, into } => path_slots(out, "merge", with, *cap, *into),
-        Instr::Copy { of, into } => path_slot(out, "copy", of, *into),
-        Instr::Enter { proc, args, into } => path_arguments(out, "call", proc, args, *into),
-        Instr::Leave { give: Some(slot) } => slot_alone(out, "return", *slot),
-        Instr::Leave { give: None } => word_alone(out, "return"),
-        Instr::P { of } => path_alone(out, "p", of),
-        Instr::V { of } => path_alone(out, "v", of),
-        Instr::Yield => word_alone(out, "yield"),
-        Instr::SetReg { reg, to } => register_operand(out, "set", *reg, *to),
-        Instr::AddReg { reg, by } => register_operand(out, "add", *reg, *by),
-        Instr::Goto { to } => jump(out, "goto", *to),
-        Instr::IfEq { left, right, to } => jump_if(out, "ifeq", *left, *right, *to),
-        Instr::IfLess { left, right, to } => jump_if(out, "iflt", *left, *right, *to),
-        Instr::IfDenied { to } => jump(out, "ifdenied", *to),
+        Instr::Get { of, at, reg } => write_with_three(out, "getdata", of, at, &Register(*reg)),
+        Instr::Put { of, at, word } => write_with_three(out, "putdata", of, at, word),
+        Instr::Add { of, word } => write_with_two(out, "adddata", of, word),
+        Instr::Length { of, reg } => write_with_two(out, "length", of, &Register(*reg)),
+        Instr::Load { from, into } => write_with_two(out, "load", from, into),
+        Instr::Store { list, at, from } => write_with_three(out, "store", list, at, from),
+        Instr::Append { list, from } => write_with_two(out, "append", list, from),
+        Instr::Erase { list, at } => write_with_two(out, "erase", list, at),
+        Instr::Drop { slot } => write_with_one(out, "drop", slot),
+        Instr::Restrict { slot, keep } => write_with_two(out, "restrict", slot, keep),
+        Instr::Look { of, reg } => write_with_two(out, "look", of, &Register(*reg)),
+        Instr::MakeTemplate { of, making, into } => write_template(out, of, making, into),
+        Instr::Create { by, into } => write_with_two(out, "create", by, into),
+        Instr::Merge { with, cap, into } => write_with_three(out, "merge", with, cap, into),
+        Instr::Copy { of, into } => write_with_two(out, "copy", of, into),
+        Instr::Enter { proc, args, into } => write_with_arguments(out, "call", proc, args, into),
+        Instr::Leave { give: Some(slot) } => write_with_one(out, "return", slot),
+        Instr::Leave { give: None } => write_word(out, "return"),
+        Instr::P { of } => write_with_one(out, "p", of),
+        Instr::V { of } => write_with_one(out, "v", of),
+        Instr::Yield => write_word(out, "yield"),
+        Instr::SetReg { reg, to } => write_with_two(out, "set", &Register(*reg), to),
+        Instr::AddReg { reg, by } => write_with_two(out, "add", &Register(*reg), by),
+        Instr::Goto { to } => write_with_one(out, "goto", &Target(*to)),
+        Instr::IfEq { left, right, to } => {
+            write_with_three(out, "ifeq", left, right, &Target(*to))
+        }
+        Instr::IfLess { left, right, to } => {
+            write_with_three(out, "iflt", left, right, &Target(*to))
+        }
+        Instr::IfDenied { to } => write_with_one(out, "ifdenied", &Target(*to)),
     }
 }
 
 /// The line that makes a template.
-#[tactic(auto, using(crate::proofs::Pieces::template_spelled))]
-fn template(out: &mut String, of: &Route, making: Making, into: Slot) -> Result<(), NoMemory>
+#[tactic(auto, using(crate::proofs::Pieces::made_as_written))]
+fn write_template(
+    out: &mut String,
+    of: &Route,
+    making: &Making,
+    into: &Slot,
+) -> Result<(), NoMemory>
     requires { IsRoute of.now }
-    ensures { OnOk result (string_bytes out.new ≡ string_bytes out.old ++ spell_line (written_pieces (written.MakeTemplate of.now (making_text making) into))) }
+    ensures { OnOk result (string_bytes out.new ≡ string_bytes out.old ++ spell_line (written_pieces (written.MakeTemplate of.now (making_text making.now) into.now))) }
 {
-    path_alone(out, "template", of)?;
-    write_making(out, making)?;
-    write_next_number(out, into.0 as u64)
-}
-
-/// What a template is made of, behind a space.
-fn write_making(out: &mut String, making: Making) -> Result<(), NoMemory>
-    ensures { OnOk result (string_bytes out.new ≡ string_bytes out.old ++ 32 ∷ spell_line (making_text_pieces (making_text making))) }
-{
-    match making {
-        Making::Amplify { check, give } => {
-            out.push_str(" amplify")?;
-            write_both(out, check, give)?;
-        }
-        Making::Create { give } => {
-            out.push_str(" create ")?;
-            write_rights(out, give)?;
-        }
-    }
-    Ok(())
+    write_with_making(out, "template", of, making, into)
 }

@@ -1,238 +1,137 @@
-//! The shapes that lines of instructions have: a word, and then its operands with one space between
-//! (`docs/FORMATS.md`, "Texts of calls").
+//! The shapes that the lines of instructions and the texts of calls have: a word, and then its
+//! operands with one space between (`docs/FORMATS.md`, "Texts of calls").
 
-ghost use Rattle.std.specs.Prelude.{◌≡◌, ◌∷◌, ◌++◌, [], OnOk, string_bytes, map};
+ghost use Rattle.std.specs.Prelude.{◌≡◌, ◌∷◌, ◌++◌, [], OnOk, string_bytes};
 ghost use Rattle.std.specs.List.{flat_map};
 ghost use Rattle.std.specs.Fmt.{decimal};
-ghost use Rattle.hk_model.specs.WorldValue.{IsOperand, IsReg, IsRoute};
-ghost use Rattle.hk_format.specs.Pieces.{Word};
-ghost use Rattle.hk_format.specs.Operands.{operand_piece, register_piece, rights_set_piece, route_piece, slot_piece, argument_pieces};
+ghost use Rattle.hk_format.specs.AuditLines.{making_pieces};
+ghost use Rattle.hk_format.specs.Operands.{argument_pieces, slot_piece};
+ghost use Rattle.hk_format.specs.Pieces.{spell, Word};
 ghost use Rattle.hk_format.specs.Texts.{spell_line};
-ghost use Rattle.hk_format.specs.Canonical.{label_text};
 
-use crate::numbers::{write_next_number, write_number};
-use crate::operands::{write_next_operand, write_next_register, write_route};
-use crate::rights::write_rights;
-use hk_model::{Args, NoMemory, Operand, Route, Slot};
-use hk_rights::Rights;
+use crate::numbers::write_next_number;
+use crate::operands::AsPiece;
+use crate::rights::{write_both, write_rights};
+use hk_model::{Args, Making, NoMemory, Slot};
 
-/// A word alone.
-pub(crate) fn word_alone(out: &mut String, word: &str) -> Result<(), NoMemory>
+/// Writes a word alone. The only error is want of memory.
+pub fn write_word(out: &mut String, word: &str) -> Result<(), NoMemory>
     ensures { OnOk result (string_bytes out.new ≡ string_bytes out.old ++ spell_line (Word word.now ∷ [])) }
 {
     out.push_str(word)?;
     Ok(())
 }
 
-/// A word and a slot.
-pub(crate) fn slot_alone(out: &mut String, word: &str, slot: Slot) -> Result<(), NoMemory>
-    ensures { OnOk result (string_bytes out.new ≡ string_bytes out.old ++ spell_line (Word word.now ∷ slot_piece slot ∷ [])) }
+/// Writes a word and one piece. The only error is want of memory.
+pub fn write_with_one<A: AsPiece>(out: &mut String, word: &str, one: &A) -> Result<(), NoMemory>
+    requires { A.has_piece one.now }
+    ensures { OnOk result (string_bytes out.new ≡ string_bytes out.old ++ spell_line (Word word.now ∷ A.piece one.now ∷ [])) }
 {
     out.push_str(word)?;
-    write_next_number(out, slot.0 as u64)
+    write_next(out, one)
 }
 
-/// A word, a slot and rights.
-pub(crate) fn slot_rights(
+/// Writes a word and two pieces. The only error is want of memory.
+pub fn write_with_two<A: AsPiece, B: AsPiece>(
     out: &mut String,
     word: &str,
-    slot: Slot,
-    rights: Rights,
+    first: &A,
+    second: &B,
 ) -> Result<(), NoMemory>
-    ensures { OnOk result (string_bytes out.new ≡ string_bytes out.old ++ spell_line (Word word.now ∷ slot_piece slot ∷ rights_set_piece rights ∷ [])) }
-{
-    slot_alone(out, word, slot)?;
-    out.push(' ')?;
-    write_rights(out, rights)?;
-    Ok(())
-}
-
-/// A word and a path.
-pub(crate) fn path_alone(out: &mut String, word: &str, path: &Route) -> Result<(), NoMemory>
-    requires { IsRoute path.now }
-    ensures { OnOk result (string_bytes out.new ≡ string_bytes out.old ++ spell_line (Word word.now ∷ route_piece path.now ∷ [])) }
+    requires first { A.has_piece first.now }
+    requires second { B.has_piece second.now }
+    ensures { OnOk result (string_bytes out.new ≡ string_bytes out.old ++ spell_line (Word word.now ∷ A.piece first.now ∷ B.piece second.now ∷ [])) }
 {
     out.push_str(word)?;
-    out.push(' ')?;
-    write_route(out, path)
+    write_next(out, first)?;
+    write_next(out, second)
 }
 
-/// A word, a path and a slot.
-pub(crate) fn path_slot(
+/// Writes a word and three pieces. The only error is want of memory.
+pub fn write_with_three<A: AsPiece, B: AsPiece, C: AsPiece>(
     out: &mut String,
     word: &str,
-    path: &Route,
-    slot: Slot,
+    first: &A,
+    second: &B,
+    third: &C,
 ) -> Result<(), NoMemory>
-    requires { IsRoute path.now }
-    ensures { OnOk result (string_bytes out.new ≡ string_bytes out.old ++ spell_line (Word word.now ∷ route_piece path.now ∷ slot_piece slot ∷ [])) }
+    requires first { A.has_piece first.now }
+    requires second { B.has_piece second.now }
+    requires third { C.has_piece third.now }
+    ensures { OnOk result (string_bytes out.new ≡ string_bytes out.old ++ spell_line (Word word.now ∷ A.piece first.now ∷ B.piece second.now ∷ C.piece third.now ∷ [])) }
 {
-    path_alone(out, word, path)?;
-    write_next_number(out, slot.0 as u64)
+    out.push_str(word)?;
+    write_next(out, first)?;
+    write_next(out, second)?;
+    write_next(out, third)
 }
 
-/// A word, a path and two slots.
-pub(crate) fn path_slots(
+/// Writes a word, a piece, the slots of arguments and a last slot. The only error is want of memory.
+pub fn write_with_arguments<A: AsPiece>(
     out: &mut String,
     word: &str,
-    path: &Route,
-    first: Slot,
-    second: Slot,
-) -> Result<(), NoMemory>
-    requires { IsRoute path.now }
-    ensures { OnOk result (string_bytes out.new ≡ string_bytes out.old ++ spell_line (Word word.now ∷ route_piece path.now ∷ slot_piece first ∷ slot_piece second ∷ [])) }
-{
-    path_slot(out, word, path, first)?;
-    write_next_number(out, second.0 as u64)
-}
-
-/// A word, a path and a register.
-pub(crate) fn path_register(
-    out: &mut String,
-    word: &str,
-    path: &Route,
-    reg: u8,
-) -> Result<(), NoMemory>
-    requires path { IsRoute path.now }
-    requires reg { IsReg reg }
-    ensures { OnOk result (string_bytes out.new ≡ string_bytes out.old ++ spell_line (Word word.now ∷ route_piece path.now ∷ register_piece reg ∷ [])) }
-{
-    path_alone(out, word, path)?;
-    write_next_register(out, reg)
-}
-
-/// A word, a path and an operand.
-pub(crate) fn path_operand(
-    out: &mut String,
-    word: &str,
-    path: &Route,
-    operand: Operand,
-) -> Result<(), NoMemory>
-    requires path { IsRoute path.now }
-    requires operand { IsOperand operand }
-    ensures { OnOk result (string_bytes out.new ≡ string_bytes out.old ++ spell_line (Word word.now ∷ route_piece path.now ∷ operand_piece operand ∷ [])) }
-{
-    path_alone(out, word, path)?;
-    write_next_operand(out, operand)
-}
-
-/// A word, a path, an operand and a register.
-pub(crate) fn path_operand_register(
-    out: &mut String,
-    word: &str,
-    path: &Route,
-    operand: Operand,
-    reg: u8,
-) -> Result<(), NoMemory>
-    requires path { IsRoute path.now }
-    requires operand { IsOperand operand }
-    requires reg { IsReg reg }
-    ensures { OnOk result (string_bytes out.new ≡ string_bytes out.old ++ spell_line (Word word.now ∷ route_piece path.now ∷ operand_piece operand ∷ register_piece reg ∷ [])) }
-{
-    path_operand(out, word, path, operand)?;
-    write_next_register(out, reg)
-}
-
-/// A word, a path and two operands.
-pub(crate) fn path_operands(
-    out: &mut String,
-    word: &str,
-    path: &Route,
-    first: Operand,
-    second: Operand,
-) -> Result<(), NoMemory>
-    requires path { IsRoute path.now }
-    requires first { IsOperand first }
-    requires second { IsOperand second }
-    ensures { OnOk result (string_bytes out.new ≡ string_bytes out.old ++ spell_line (Word word.now ∷ route_piece path.now ∷ operand_piece first ∷ operand_piece second ∷ [])) }
-{
-    path_operand(out, word, path, first)?;
-    write_next_operand(out, second)
-}
-
-/// A word, a path, an operand and a slot.
-pub(crate) fn path_operand_slot(
-    out: &mut String,
-    word: &str,
-    path: &Route,
-    operand: Operand,
-    slot: Slot,
-) -> Result<(), NoMemory>
-    requires path { IsRoute path.now }
-    requires operand { IsOperand operand }
-    ensures { OnOk result (string_bytes out.new ≡ string_bytes out.old ++ spell_line (Word word.now ∷ route_piece path.now ∷ operand_piece operand ∷ slot_piece slot ∷ [])) }
-{
-    path_operand(out, word, path, operand)?;
-    write_next_number(out, slot.0 as u64)
-}
-
-/// A word, a path, the slots of arguments and a last slot.
-pub(crate) fn path_arguments(
-    out: &mut String,
-    word: &str,
-    path: &Route,
+    of: &A,
     args: &Args,
-    into: Slot,
+    into: &Slot,
 ) -> Result<(), NoMemory>
-    requires { IsRoute path.now }
-    ensures { OnOk result (string_bytes out.new ≡ string_bytes out.old ++ spell_line (Word word.now ∷ route_piece path.now ∷ argument_pieces args.now into)) }
+    requires { A.has_piece of.now }
+    ensures { OnOk result (string_bytes out.new ≡ string_bytes out.old ++ spell_line (Word word.now ∷ A.piece of.now ∷ argument_pieces args.now into.now)) }
 {
-    path_alone(out, word, path)?;
+    write_with_one(out, word, of)?;
     write_slots(out, args)?;
-    write_next_number(out, into.0 as u64)?;
-    Ok(())
+    write_next(out, into)
 }
 
-/// The slots of arguments, each behind a space.
+/// Writes a word, a piece, what a template is made of and a last slot. The only error is want of
+/// memory.
+#[tactic(auto, using(crate::proofs::Pieces::template_spelled))]
+pub fn write_with_making<A: AsPiece>(
+    out: &mut String,
+    word: &str,
+    of: &A,
+    making: &Making,
+    into: &Slot,
+) -> Result<(), NoMemory>
+    requires { A.has_piece of.now }
+    ensures { OnOk result (string_bytes out.new ≡ string_bytes out.old ++ spell_line (Word word.now ∷ A.piece of.now ∷ (making_pieces making.now ++ slot_piece into.now ∷ []))) }
+{
+    write_with_one(out, word, of)?;
+    write_making(out, *making)?;
+    write_next(out, into)
+}
+
+/// Writes a space and a piece.
+fn write_next<A: AsPiece>(out: &mut String, piece: &A) -> Result<(), NoMemory>
+    requires { A.has_piece piece.now }
+    ensures { OnOk result (string_bytes out.new ≡ string_bytes out.old ++ 32 ∷ spell (A.piece piece.now)) }
+{
+    out.push(' ')?;
+    piece.write(out)
+}
+
+/// Writes the slots of arguments, each behind a space.
 fn write_slots(out: &mut String, args: &Args) -> Result<(), NoMemory>
     ensures { OnOk result (string_bytes out.new ≡ string_bytes out.old ++ flat_map (λ slot. 32 ∷ decimal slot) args.now) }
 {
     for slot in args.as_slice() {
-        write_next_number(out, *slot as u64)?;
+        write_next_number(out, u64::from(*slot))?;
     }
     Ok(())
 }
 
-/// A word, a register and an operand.
-pub(crate) fn register_operand(
-    out: &mut String,
-    word: &str,
-    reg: u8,
-    operand: Operand,
-) -> Result<(), NoMemory>
-    requires reg { IsReg reg }
-    requires operand { IsOperand operand }
-    ensures { OnOk result (string_bytes out.new ≡ string_bytes out.old ++ spell_line (Word word.now ∷ register_piece reg ∷ operand_piece operand ∷ [])) }
+/// Writes what a template is made of, behind a space.
+fn write_making(out: &mut String, making: Making) -> Result<(), NoMemory>
+    ensures { OnOk result (string_bytes out.new ≡ string_bytes out.old ++ 32 ∷ spell_line (making_pieces making)) }
 {
-    out.push_str(word)?;
-    write_next_register(out, reg)?;
-    write_next_operand(out, operand)
-}
-
-/// A word, and the label of the place that a jump goes to.
-pub(crate) fn jump(out: &mut String, word: &str, to: u16) -> Result<(), NoMemory>
-    ensures { OnOk result (string_bytes out.new ≡ string_bytes out.old ++ spell_line (Word word.now ∷ Word (label_text to) ∷ [])) }
-{
-    out.push_str(word)?;
-    out.push_str(" l")?;
-    write_number(out, to as u64)
-}
-
-/// A word, the operands that it compares, and the label of the place that a jump goes to.
-pub(crate) fn jump_if(
-    out: &mut String,
-    word: &str,
-    left: Operand,
-    right: Operand,
-    to: u16,
-) -> Result<(), NoMemory>
-    requires left { IsOperand left }
-    requires right { IsOperand right }
-    ensures { OnOk result (string_bytes out.new ≡ string_bytes out.old ++ spell_line (Word word.now ∷ operand_piece left ∷ operand_piece right ∷ Word (label_text to) ∷ [])) }
-{
-    out.push_str(word)?;
-    write_next_operand(out, left)?;
-    write_next_operand(out, right)?;
-    out.push_str(" l")?;
-    write_number(out, to as u64)
+    match making {
+        Making::Amplify { check, give } => {
+            out.push_str(" amplify")?;
+            write_both(out, check, give)?;
+        }
+        Making::Create { give } => {
+            out.push_str(" create ")?;
+            write_rights(out, give)?;
+        }
+    }
+    Ok(())
 }

@@ -89,7 +89,7 @@ fn takes_step<K: Kernel>(
     if !machine.step_into(alloc, world, cpu, line)? {
         return Ok(false);
     }
-    Ok(reader.take(alloc, line)?)
+    Ok(reader.take(line)?)
 }
 
 /// The end word with which a record ends here, where the machine's state has it. NoMemory is want of memory.

@@ -32,7 +32,7 @@ pub(crate) fn write_run<K: Kernel>(
     let mut writer = Writer::new(alloc, world)?;
     let mut line = blank_line(FIRST_PROCESSOR);
     while machine.step_into(alloc, world, FIRST_PROCESSOR, &mut line)? {
-        writer.add(alloc, &line)?;
+        writer.add(&line)?;
     }
     let Some(end) = end_word(alloc, machine.kernel())? else {
         unreachable!()

@@ -88,7 +88,7 @@ fn written(alloc: Global, audit: &Audit) -> Result<Text, Fail> {
         let Some(line) = line_of(text) else {
             return Err("a line".into());
         };
-        writer.add(alloc, &line).ok().ok_or("memory")?;
+        writer.add(&line).ok().ok_or("memory")?;
     }
     match writer.finish(End::Done) {
         Ok(text) => Ok(text),

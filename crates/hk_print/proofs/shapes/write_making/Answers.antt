@@ -3,7 +3,7 @@ use Rattle.std.proofs.Common.{◌≡◌, ◌++◌, ◌∷◌, ◌∙◌, sym, ap
 use Rattle.std.specs.Prelude.{codes}
 use Rattle.hk_format.specs.RightsTexts.{rights_text}
 use Rattle.hk_print.proofs.Pieces.{amplify_made, create_made}
-use Rattle.hk_print.proofs.instructions.write_making.Goals as goal
+use Rattle.hk_print.proofs.shapes.write_making.Goals as goal
 
 pub returns-in_ok-write_both-in-Amplify : goal.returns-in_ok-write_both-in-Amplify
 returns-in_ok-write_both-in-Amplify c =

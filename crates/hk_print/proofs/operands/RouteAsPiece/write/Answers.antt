@@ -2,7 +2,7 @@ use Rattle.std.proofs.Common.{rules, string_bytes}
 use Rattle.hk_model.specs.declared.instructions.Index.TheVariants.{Fixed}
 use Rattle.hk_format.specs.Pieces.{spell_index}
 use Rattle.hk_print.proofs.Joined.{joined_next, separated_next}
-use Rattle.hk_print.proofs.operands.write_route.Goals as goal
+use Rattle.hk_print.proofs.operands.RouteAsPiece.write.Goals as goal
 
 pub loop-index-preserved : goal.loop-index-preserved
 loop-index-preserved c = record {
