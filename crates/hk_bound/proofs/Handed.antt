@@ -88,7 +88,7 @@ reduced_keeps_env by r e h = outer (has by env_right) e
 
 -- ---- by way of a third
 
-below_more : (P : ℕ → Type 0) (n : ℕ) → ((k : ℕ) → k < n → P k) → P n → (k : ℕ) → k < n + 1 → P k
+pub below_more : (P : ℕ → Type 0) (n : ℕ) → ((k : ℕ) → k < n → P k) → P n → (k : ℕ) → k < n + 1 → P k
 below_more P n below here k h = by (or_last k n h)
   where
     or_last : (k n : ℕ) → k < n + 1 → (k < n) ⊎ (k ≡ n)

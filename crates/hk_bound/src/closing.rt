@@ -12,7 +12,7 @@ ghost use Rattle.hk_bound.specs.Filled.{IsWithin, AreFilling, AreWays, Fills, Fi
 ghost use Rattle.hk_bound.specs.Listed.{AreExact};
 
 use crate::forms::Form;
-use crate::gaps::{Gap, Table};
+use crate::gaps::{Gap, Settled, Table};
 use crate::handing::all_stored_gaps;
 use crate::opening::{object_count, type_of};
 use crate::rows::{Rows, covers};
@@ -95,10 +95,11 @@ fn take_up(
     forms: &[Form],
     kinds: &[Vec<usize>],
     cell: &Grown,
+    settled: Option<Settled>,
     rows: &mut Rows,
     ways: &mut Ways,
     grown: &mut Vec<Grown>,
-) -> Result<(), NoMemory>
+) -> Result<Option<Settled>, NoMemory>
     requires world { IsWorld world.now }
     requires forms { AreForms world.now forms.now }
     requires cell { IsWithin world.now forms.now cell.now }
@@ -108,7 +109,7 @@ fn take_up(
     ensures ways { OnOk result (AreWays world.now forms.now ways.new.known) }
 {
     if !is_latest(rows.get(cell.process, cell.column), cell.rights) {
-        return Ok(());
+        return Ok(settled);
     }
     let mut gaps = Vec::new(alloc);
     let table = Table {
@@ -117,9 +118,9 @@ fn take_up(
         kinds,
         rows: &*rows,
     };
-    table.take_up(cell, ways, &mut gaps)?;
+    let next = table.take_up(cell, settled, ways, &mut gaps)?;
     fill_all(world, forms, rows, &gaps, grown)?;
-    Ok(())
+    Ok(next)
 }
 
 /// Gives another process what it takes of the cells of a process that have grown.
@@ -207,8 +208,10 @@ fn take_up_cells(
     ensures filled { OnOk result (FillsAll world.now forms.now rows.old rows.new grown.old.items grown.new.items) }
     ensures ways { OnOk result (AreWays world.now forms.now ways.new.known) }
 {
+    let mut settled = None;
     for cell in cells {
-        take_up(alloc, world, forms, kinds, cell, rows, ways, grown)?;
+        let next = take_up(alloc, world, forms, kinds, cell, settled, rows, ways, grown)?;
+        settled = next;
     }
     Ok(())
 }

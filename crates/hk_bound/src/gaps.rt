@@ -1,6 +1,6 @@
 // What the rules give to processes, and the rows do not have.
 
-ghost use Rattle.std.specs.Prelude.{◌≡◌, ◌⊎◌, false, ◌↔◌, IsTrue, ◌<◌, ◌+◌, ◌^◌, ℕ, true, Some, IfSome, IsSome, OnOk, is_some, length, slice_get, slice_index_or, []};
+ghost use Rattle.std.specs.Prelude.{◌≡◌, ◌⊎◌, false, ◌↔◌, IsTrue, ◌<◌, ◌+◌, ◌^◌, ℕ, true, Some, IfSome, IsSome, IfOk, OnOk, is_some, length, slice_get, slice_index_or, []};
 ghost use Rattle.hk_rights.specs.Rights.{HasAll, IsRightsWord, all_rights, has, env_right, a0_right};
 ghost use Rattle.hk_model.specs.Walking.{reduced_rights};
 ghost use Rattle.hk_model.specs.Merging.{merged_rights};
@@ -10,6 +10,7 @@ ghost use Rattle.hk_bound.specs.Taking.{Slots, Old, MadeBy, Has, Right as RightO
 ghost use Rattle.hk_bound.specs.Each.{Among, Each};
 ghost use Rattle.hk_bound.specs.Columns.{name_at, proc_at, opening_entries, opening_params, object_count, thing_count, width_of, cell, covers, CellFollows, Finds};
 ghost use Rattle.hk_bound.specs.Forms.{entry_form, Holds, IsFirst, AreSorted};
+ghost use Rattle.hk_bound.specs.Settled.{settled_at, SettledRule};
 ghost use Rattle.hk_bound.specs.Rules.{IsKnown, IsHeldAs, env_in, stores_in, taking_of, OpensWithEnv, StoredWithEnv, ListedWithEnv, Offered, EntryRule, EntriesRule, FormRule, ParamRule, ParamsRule, TypeRule, MergeRule, MergesRule, ObjectRule, Passes, share_made, HasTakings, through_in, joined_cells, CellRule, PassedRule, AreStored, passes_all, OpensWith, SlotRule, MadeRule, OwnRule};
 
 use crate::forms::{Form, entry_form, made_form, param_form, place_of, start_of};
@@ -37,6 +38,13 @@ pub(crate) struct Table<'a> {
     /// The objects of each type of the opening, by the type's name.
     pub kinds: &'a [Vec<usize>],
     pub rows: &'a Rows,
+}
+
+/// A type, and rights of a process for objects of it for which merges give it nothing that it lacks.
+#[derive(Clone, Copy, PartialEq, Eq, Debug)]
+pub(crate) struct Settled {
+    pub of: Name,
+    pub rights: Rights,
 }
 
 /// How a process takes from the list of an object.
@@ -97,6 +105,16 @@ fn is_passed(mine: Option<Rights>, theirs: Option<Rights>, by: Rights) -> bool
     match theirs {
         None => true,
         Some(rights) => !rights.has(Right::ENV) || covers(mine, reduced_rights(by, rights)),
+    }
+}
+
+/// Whether these rights for objects of a type are those that are settled.
+fn is_settled(settled: &Option<Settled>, of: Name, rights: Rights) -> bool
+    ensures { result ≡ true → settled.now ≡ Some (settled_at of rights) }
+{
+    match settled {
+        None => false,
+        Some(old) => old.of.0 == of.0 && old.rights.bits() == rights.bits(),
     }
 }
 
@@ -454,26 +472,56 @@ impl<'a> Table<'a> {
         Ok(())
     }
 
-    /// All that a process gets by what it has for one object of the opening.
+    /// What merges give to a process for an object, unless they are known to give nothing where it has these
+    /// rights for an object of this type. Gives what is known then.
+    fn merge_unsettled(
+        &self,
+        process: usize,
+        name: usize,
+        by: Rights,
+        settled: Option<Settled>,
+        gaps: &mut Vec<Gap>,
+    ) -> Result<Option<Settled>, NoMemory>
+        requires known { IsKnown self.now.world.now self.now.forms.now self.now.rows.now }
+        requires process { process < length self.now.world.now.tasks }
+        requires name { name < object_count self.now.world.now }
+        requires cell { cell self.now.rows.now process name ≡ Some by }
+        ensures { IfOk result (λ next. Finds self.now.world.now self.now.forms.now self.now.rows.now (SettledRule self.now.world.now self.now.forms.now self.now.rows.now process settled next (MergesRule self.now.world.now self.now.forms.now self.now.rows.now process name by)) gaps.old.items gaps.new.items) }
+    {
+        let of = type_of(self.world, name);
+        if is_settled(&settled, of, by) {
+            return Ok(settled);
+        }
+        let before = gaps.len();
+        self.merge_all(process, name, by, gaps)?;
+        if gaps.len() != before {
+            return Ok(settled);
+        }
+        Ok(Some(Settled { of, rights: by }))
+    }
+
+    /// All that a process gets by what it has for one object of the opening. Takes and gives for which rights
+    /// merges are known to give nothing.
     pub(crate) fn object_gaps(
         &self,
         process: usize,
         name: usize,
+        settled: Option<Settled>,
         gaps: &mut Vec<Gap>,
-    ) -> Result<(), NoMemory>
+    ) -> Result<Option<Settled>, NoMemory>
         requires known { IsKnown self.now.world.now self.now.forms.now self.now.rows.now }
         requires process { process < length self.now.world.now.tasks }
         requires name { name < object_count self.now.world.now }
-        ensures { OnOk result (Finds self.now.world.now self.now.forms.now self.now.rows.now (ObjectRule self.now.world.now self.now.forms.now self.now.rows.now process name) gaps.old.items gaps.new.items) }
+        ensures { IfOk result (λ next. Finds self.now.world.now self.now.forms.now self.now.rows.now (SettledRule self.now.world.now self.now.forms.now self.now.rows.now process settled next (ObjectRule self.now.world.now self.now.forms.now self.now.rows.now process name)) gaps.old.items gaps.new.items) }
     {
         self.take_entries(process, name, gaps)?;
         let Some(by) = self.rows.get(process, name) else {
-            return Ok(());
+            return Ok(settled);
         };
         self.take_params(process, name, by, gaps)?;
         self.make_form(process, name, by, gaps)?;
-        self.merge_all(process, name, by, gaps)?;
-        Ok(())
+        let next = self.merge_unsettled(process, name, by, settled, gaps)?;
+        Ok(next)
     }
 
     /// Whether one of two processes has what the other makes.
@@ -710,8 +758,10 @@ impl<'a> Table<'a> {
         requires process { process < length self.now.world.now.tasks }
         ensures { OnOk result (Finds self.now.world.now self.now.forms.now self.now.rows.now ((name : ℕ) → name < object_count self.now.world.now → ObjectRule self.now.world.now self.now.forms.now self.now.rows.now process name) gaps.old.items gaps.new.items) }
     {
+        let mut settled = None;
         for name in 0..object_count(self.world) {
-            self.object_gaps(process, name, gaps)?;
+            let next = self.object_gaps(process, name, settled, gaps)?;
+            settled = next;
         }
         Ok(())
     }

@@ -5,7 +5,7 @@ ghost use Rattle.hk_bound.specs.Columns.{object_count, width_of, empty_rows};
 ghost use Rattle.hk_bound.specs.Rules.{IsKnown, Passes};
 ghost use Rattle.hk_bound.specs.Filled.{IsWithin, AreWays, Gains};
 
-use crate::gaps::{Gap, Table, passes_all};
+use crate::gaps::{Gap, Settled, Table, passes_all};
 use crate::handing::passing_rights;
 use crate::opening::{is_listed, object_count, type_of};
 use crate::rows::{Rows, covers};
@@ -244,9 +244,10 @@ impl<'a> Table<'a> {
         &self,
         process: usize,
         name: usize,
+        settled: Option<Settled>,
         ways: &mut Ways,
         gaps: &mut Vec<Gap>,
-    ) -> Result<(), NoMemory>
+    ) -> Result<Option<Settled>, NoMemory>
         requires known { IsKnown self.now.world.now self.now.forms.now self.now.rows.now }
         requires process { process < length self.now.world.now.tasks }
         requires name { name < object_count self.now.world.now }
@@ -254,16 +255,18 @@ impl<'a> Table<'a> {
         ensures ways { OnOk result (AreWays self.now.world.now self.now.forms.now ways.new.known) }
         ensures gaps { OnOk result (Gains self.now.world.now self.now.forms.now self.now.rows.now gaps.old.items gaps.new.items) }
     {
-        self.object_gaps(process, name, gaps)?;
+        let next = self.object_gaps(process, name, settled, gaps)?;
         self.meet(process, name, ways, gaps)?;
-        Ok(())
+        Ok(next)
     }
 
-    /// What a merge with a template gives to a process for an object, if it has that.
+    /// What a merge with a template that gives these rights, but for the special ones, gives to a process for
+    /// an object, if it has that without them.
     fn merge_had(
         &self,
         process: usize,
         place: usize,
+        gives: Rights,
         name: usize,
         gaps: &mut Vec<Gap>,
     ) -> Result<(), NoMemory>
@@ -275,9 +278,13 @@ impl<'a> Table<'a> {
         if name >= object_count(self.world) {
             return Ok(());
         }
-        if let Some(by) = self.rows.get(process, name) {
-            self.merge(process, name, by, place, gaps)?;
+        let Some(by) = self.rows.get(process, name) else {
+            return Ok(());
+        };
+        if by.contains(gives) {
+            return Ok(());
         }
+        self.merge(process, name, by, place, gaps)?;
         Ok(())
     }
 
@@ -298,19 +305,22 @@ impl<'a> Table<'a> {
         let Some(names) = self.kinds.get(form.of.0 as usize) else {
             return Ok(());
         };
+        let gives = form.give.without(Rights::SPECIAL);
         for name in names {
-            self.merge_had(process, place, *name, gaps)?;
+            self.merge_had(process, place, gives, *name, gaps)?;
         }
         Ok(())
     }
 
-    /// What comes of a cell that has grown for its process, and through new ways for others.
+    /// What comes of a cell that has grown for its process, and through new ways for others. Takes and gives
+    /// for which rights merges are known to give its process nothing.
     pub(crate) fn take_up(
         &self,
         grown: &Grown,
+        settled: Option<Settled>,
         ways: &mut Ways,
         gaps: &mut Vec<Gap>,
-    ) -> Result<(), NoMemory>
+    ) -> Result<Option<Settled>, NoMemory>
         requires known { IsKnown self.now.world.now self.now.forms.now self.now.rows.now }
         requires grown { IsWithin self.now.world.now self.now.forms.now grown.now }
         requires ways { AreWays self.now.world.now self.now.forms.now ways.old.known }
@@ -322,12 +332,14 @@ impl<'a> Table<'a> {
         let objects = object_count(self.world);
         let things = self.thing_count();
         if column < objects {
-            self.take_up_object(process, column, ways, gaps)?;
-        } else if column < things {
-            self.take_up_made(process, column - objects, ways, gaps)?;
-        } else {
-            self.take_up_form(process, column - things, gaps)?;
+            let next = self.take_up_object(process, column, settled, ways, gaps)?;
+            return Ok(next);
         }
-        Ok(())
+        if column < things {
+            self.take_up_made(process, column - objects, ways, gaps)?;
+            return Ok(settled);
+        }
+        self.take_up_form(process, column - things, gaps)?;
+        Ok(settled)
     }
 }
