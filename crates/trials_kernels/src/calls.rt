@@ -28,17 +28,12 @@ fn table(alloc: Global, world: &World) -> Result<Table, Fail> {
     }
 }
 
-/// The state of a kernel as plain data.
-fn state_of<K: Kernel>(alloc: Global, kernel: &K) -> Result<Snapshot, Fail> {
+/// How many objects stand, where there is memory to show them.
+fn objects<K: Kernel>(alloc: Global, kernel: &K) -> Option<usize> {
     match kernel.snapshot(alloc) {
-        Ok(shown) => Ok(shown),
-        Err(_) => Err("a snapshot".into()),
+        Ok(shown) => Some(shown.objects.len()),
+        Err(_) => None,
     }
-}
-
-/// How many objects stand.
-fn objects<K: Kernel>(alloc: Global, kernel: &K) -> Result<usize, Fail> {
-    Ok(state_of(alloc, kernel)?.objects.len())
 }
 
 /// The process that processor 0 is given, if it runs none.
@@ -77,45 +72,60 @@ fn halt<K: Kernel>(kernel: &mut K) {
     }
 }
 
-/// The path of a slot alone.
-fn path(slot: u16) -> Result<Path, Fail> {
-    match Path::new(&[slot]) {
-        Some(path) => Ok(path),
-        None => Err("a path".into()),
-    }
-}
-
-/// What an opening shows: how many objects, the last of them with its type and first word, how many slots the first base has, the
-/// first ready process, and the next name.
+/// What an opening shows: how many objects, whether the last of them is the script's, how many slots the first base has, and whether
+/// the process is the first that is ready and the next name is the one behind the object's.
 #[derive(Clone, Copy)]
 struct Shown {
     objects: usize,
-    last: Option<(Name, Name, u32)>,
-    slots: Option<usize>,
-    ready: Option<Proc>,
-    next_name: Name,
+    is_last: bool,
+    slots: usize,
+    is_ready: bool,
+    is_next: bool,
 }
 
-/// The last object with its type and first word.
-fn last_object(shown: &Snapshot) -> Option<(Name, Name, u32)> {
-    let last = shown.objects.as_slice().last()?;
-    Some((last.name, last.of, *last.words.as_slice().get(0)?))
+/// Whether the last object is the script's, by its name, its type and its word.
+fn is_last(shown: &Snapshot) -> bool {
+    match shown.objects.as_slice().last() {
+        Some(last) => {
+            last.name == Name(7) && last.of == Name(1) && last.words.as_slice() == [7].as_slice()
+        }
+        None => false,
+    }
+}
+
+/// How many slots the first base has.
+fn first_slots(shown: &Snapshot) -> usize {
+    match shown.incarnations.as_slice().first() {
+        Some(base) => base.slots.len(),
+        None => 0,
+    }
+}
+
+/// Whether the process is the first that is ready.
+fn is_ready(shown: &Snapshot) -> bool {
+    match shown.ready.as_slice().first() {
+        Some(first) => *first == Proc(0),
+        None => false,
+    }
+}
+
+/// What a state shows.
+fn told(shown: &Snapshot) -> Shown {
+    Shown {
+        objects: shown.objects.len(),
+        is_last: is_last(shown),
+        slots: first_slots(shown),
+        is_ready: is_ready(shown),
+        is_next: shown.next_name == Name(8),
+    }
 }
 
 /// What the state in which a kernel opened shows.
 fn opening<K: Kernel>(alloc: Global, kernel: &K) -> Result<Shown, Fail> {
-    let shown = state_of(alloc, kernel)?;
-    Ok(Shown {
-        objects: shown.objects.len(),
-        last: last_object(&shown),
-        slots: shown
-            .incarnations
-            .as_slice()
-            .first()
-            .map(|base| base.slots.len()),
-        ready: shown.ready.as_slice().first().copied(),
-        next_name: shown.next_name,
-    })
+    match kernel.snapshot(alloc) {
+        Ok(shown) => Ok(told(&shown)),
+        Err(_) => Err("a snapshot".into()),
+    }
 }
 
 /// What the opening shows, by each kernel.
@@ -130,10 +140,10 @@ fn openings(alloc: Global) -> Result<[Shown; 2], Fail> {
 fn the_opening_shows_the_object(rt: HostRuntime) -> Result<(), Fail> {
     for opening in openings(rt.alloc())? {
         assert_eq!(rt; opening.objects, 8);
-        assert!(rt; opening.last == Some((Name(7), Name(1), 7)));
-        assert_eq!(rt; opening.slots, Some(64));
-        assert!(rt; opening.ready == Some(Proc(0)));
-        assert!(rt; opening.next_name == Name(8));
+        assert!(rt; opening.is_last);
+        assert_eq!(rt; opening.slots, 64);
+        assert!(rt; opening.is_ready);
+        assert!(rt; opening.is_next);
     }
     Ok(())
 }
@@ -210,46 +220,76 @@ fn a_process_reads_and_is_halted(rt: HostRuntime) -> Result<(), Fail> {
     Ok(())
 }
 
-/// How many objects stand with a new list, which may name itself, and after its last name outside is gone.
-fn with_and_without<K: Kernel>(
-    alloc: Global,
-    kernel: &mut K,
-    naming_itself: bool,
-) -> Result<[usize; 2], Fail> {
+/// Makes a list in slot 2.
+fn make_list<K: Kernel>(alloc: Global, kernel: &mut K) {
     let _given = dispatched(kernel);
-    let (by, slot) = (path(1)?, Slot(2));
-    let _made = reply_to(alloc, kernel, Call::Create { by, into: slot });
-    if naming_itself {
-        let (list, from) = (path(2)?, slot);
+    if let Some(by) = Path::new(&[1]) {
+        let into = Slot(2);
+        let _made = reply_to(alloc, kernel, Call::Create { by, into });
+    }
+}
+
+/// The list names itself.
+fn name_itself<K: Kernel>(alloc: Global, kernel: &mut K) {
+    if let Some(list) = Path::new(&[2]) {
+        let from = Slot(2);
         let _named = reply_to(alloc, kernel, Call::Append { list, from });
     }
-    let with = objects(alloc, kernel)?;
+}
+
+/// How many objects stand with a new list, which may name itself.
+fn with_list<K: Kernel>(alloc: Global, kernel: &mut K, naming_itself: bool) -> Option<usize> {
+    make_list(alloc, kernel);
+    if naming_itself {
+        name_itself(alloc, kernel);
+    }
+    objects(alloc, kernel)
+}
+
+/// How many objects stand once the slot with the list is empty.
+fn without_slot<K: Kernel>(alloc: Global, kernel: &mut K) -> Option<usize> {
+    let slot = Slot(2);
     let _dropped = reply_to(alloc, kernel, Call::Drop { slot });
-    Ok([with, objects(alloc, kernel)?])
+    objects(alloc, kernel)
+}
+
+/// How many objects stand before and after the last name of a list outside it is gone.
+#[derive(Clone, Copy)]
+struct ListCounts {
+    with: Option<usize>,
+    without: Option<usize>,
+}
+
+/// How many stand before and after.
+fn list_counts<K: Kernel>(alloc: Global, kernel: &mut K, naming_itself: bool) -> ListCounts {
+    ListCounts {
+        with: with_list(alloc, kernel, naming_itself),
+        without: without_slot(alloc, kernel),
+    }
 }
 
 /// The same, by each kernel.
-fn by_each(alloc: Global, naming_itself: bool) -> Result<[[usize; 2]; 2], Fail> {
+fn by_each(alloc: Global, naming_itself: bool) -> Result<[ListCounts; 2], Fail> {
     let world = world(alloc, SCRIPT)?;
-    let by_plain = with_and_without(alloc, &mut plain(alloc, &world)?, naming_itself)?;
-    let by_table = with_and_without(alloc, &mut table(alloc, &world)?, naming_itself)?;
+    let by_plain = list_counts(alloc, &mut plain(alloc, &world)?, naming_itself);
+    let by_table = list_counts(alloc, &mut table(alloc, &world)?, naming_itself);
     Ok([by_plain, by_table])
 }
 
 #[test]
 fn an_object_vanishes_with_its_last_name(rt: HostRuntime) -> Result<(), Fail> {
-    for [with, without] in by_each(rt.alloc(), false)? {
-        assert_eq!(rt; with, 9);
-        assert_eq!(rt; without, 8);
+    for counts in by_each(rt.alloc(), false)? {
+        assert!(rt; counts.with == Some(9));
+        assert!(rt; counts.without == Some(8));
     }
     Ok(())
 }
 
 #[test]
 fn an_object_that_names_itself_stays(rt: HostRuntime) -> Result<(), Fail> {
-    for [with, without] in by_each(rt.alloc(), true)? {
-        assert_eq!(rt; with, 9);
-        assert_eq!(rt; without, 9);
+    for counts in by_each(rt.alloc(), true)? {
+        assert!(rt; counts.with == Some(9));
+        assert!(rt; counts.without == Some(9));
     }
     Ok(())
 }
