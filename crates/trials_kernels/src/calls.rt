@@ -120,30 +120,31 @@ fn told(shown: &Snapshot) -> Shown {
     }
 }
 
-/// What the state in which a kernel opened shows.
-fn opening<K: Kernel>(alloc: Global, kernel: &K) -> Result<Shown, Fail> {
+/// What the state in which a kernel opened shows, where there is memory to show it.
+fn opening<K: Kernel>(alloc: Global, kernel: &K) -> Option<Shown> {
     match kernel.snapshot(alloc) {
-        Ok(shown) => Ok(told(&shown)),
-        Err(_) => Err("a snapshot".into()),
+        Ok(shown) => Some(told(&shown)),
+        Err(_) => None,
     }
 }
 
 /// What the opening shows, by each kernel.
-fn openings(alloc: Global) -> Result<[Shown; 2], Fail> {
+fn openings(alloc: Global) -> Result<[Option<Shown>; 2], Fail> {
     let world = world(alloc, SCRIPT)?;
-    let by_plain = opening(alloc, &plain(alloc, &world)?)?;
-    let by_table = opening(alloc, &table(alloc, &world)?)?;
+    let by_plain = opening(alloc, &plain(alloc, &world)?);
+    let by_table = opening(alloc, &table(alloc, &world)?);
     Ok([by_plain, by_table])
 }
 
 #[test]
 fn the_opening_shows_the_object(rt: HostRuntime) -> Result<(), Fail> {
     for opening in openings(rt.alloc())? {
-        assert_eq!(rt; opening.objects, 8);
-        assert!(rt; opening.is_last);
-        assert_eq!(rt; opening.slots, 64);
-        assert!(rt; opening.is_ready);
-        assert!(rt; opening.is_next);
+        let shown = opening.ok_or("a snapshot")?;
+        assert_eq!(rt; shown.objects, 8);
+        assert!(rt; shown.is_last);
+        assert_eq!(rt; shown.slots, 64);
+        assert!(rt; shown.is_ready);
+        assert!(rt; shown.is_next);
     }
     Ok(())
 }
