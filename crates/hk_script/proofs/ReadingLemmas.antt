@@ -1,14 +1,16 @@
 -- What was read of a script, line by line.
-use Rattle.std.proofs.Common.{◌≡◌, ℕ, true, cond, List, [], ◌∷◌, map, not, Ok, Err}
+use Rattle.std.proofs.Common.{◌≡◌, ℕ, ◌+◌, ◌<◌, true, cond, List, [], ◌∷◌, length, map, drop, get_or, not, sym, ap, ◌∙◌, Result, Ok, Err}
+use Rattle.std.proofs.lemmas.List.{at_drop_more}
 use Rattle.hk_format.specs.declared.causes.ParseCause.{ParseCause}
 use Rattle.hk_format.specs.declared.causes.ParseCause.TheVariants.{Repeated}
 use Rattle.hk_format.specs.declared.syntax.Body.{Body}
+use Rattle.hk_format.specs.declared.syntax.Item.{Item}
 use Rattle.std.specs.List.{list_all}
 use Rattle.std.proofs.lemmas.Bool.{and_parts}
 use Rattle.hk_format.specs.Pieces as piece
 use Rattle.hk_format.specs.Pieces.{is_piece}
 use Rattle.hk_format.specs.Texts.{text}
-use Rattle.hk_format.specs.Grammar.{Read, is_new_label, header, items_from, script, between_items, nothing_seen}
+use Rattle.hk_format.specs.Grammar.{Read, Refused, after_line, is_new_label, header, items_from, script, between_items, nothing_seen}
 use Rattle.hk_text.specs.declared.pieces.Piece.{Piece}
 use Rattle.hk_text.specs.declared.text.TextLine.{TextLine}
 use Rattle.hk_text.specs.Views.{seen, line_seen}
@@ -38,3 +40,16 @@ pub begins : (source : List ℕ) (lines : List TextLine) (first : TextLine) (oth
 begins source lines first others left after bare r h k e f g =
     let read : header (map (seen source) first.pieces) ≡ Ok (tt, after) = rw (e, f) at k in
     rw (h, g, read)
+
+-- the next line was read, and the others follow
+pub line_turn : (source : List ℕ) (others : List TextLine) (i : ℕ) (line : TextLine) (read new : Read) (whole : Result (List Item) Refused)
+    → i < length others → line ≡ get_or others i line → list_all is_good (map (line_seen source) (drop i others)) ≡ true
+    → items_from (map (line_seen source) (drop i others)) read ≡ whole → after_line read line.number (map (seen source) line.pieces) ≡ Ok new
+    → (list_all is_good (map (line_seen source) (drop (i + 1) others)) ≡ true) × (items_from (map (line_seen source) (drop (i + 1) others)) new ≡ whole)
+line_turn source others i line read new whole more e good k after =
+    let rest = map (line_seen source) (drop (i + 1) others) in
+    let all : list_all is_good (line_seen source line ∷ rest) ≡ true = ap (λ (l : TextLine). list_all is_good (line_seen source l ∷ rest)) e
+    ∙ sym (at_drop_more (λ ls. list_all is_good (map (line_seen source) ls)) others i line more) ∙ good in
+    let gone : items_from (line_seen source line ∷ rest) read ≡ whole = ap (λ (l : TextLine). items_from (line_seen source l ∷ rest) read) e
+    ∙ sym (at_drop_more (λ ls. items_from (map (line_seen source) ls) read) others i line more) ∙ k in
+    ((and_parts (is_good (line_seen source line)) (list_all is_good rest) all).1, rw after at gone)

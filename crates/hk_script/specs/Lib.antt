@@ -2,3 +2,4 @@ pub mod Lines
 pub mod Outcomes
 pub mod Readings
 pub mod Paths
+pub mod Numbered

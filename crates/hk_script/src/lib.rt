@@ -8,7 +8,7 @@ mod forms;
 mod heads;
 mod instructions;
 mod line;
-mod names;
+pub mod names;
 mod parts;
 mod reading;
 mod script;
@@ -16,6 +16,7 @@ mod spelled;
 mod verbs;
 
 pub use crate::errors::ParseError;
+pub use crate::names::Names;
 pub use crate::script::{Syntax, parse};
 pub use crate::spelled::lines_spell_their_items;
 pub use crate::verbs::verb_of;

@@ -1,24 +1,30 @@
 //! Names that were given, in the order of their lines.
 
-ghost use Rattle.std.specs.Prelude.{◌≡◌, ◌++◌, ◌∷◌, [], not, IfOk, if◌then◌else◌};
+ghost use Rattle.std.specs.Prelude.{◌≡◌, ◌++◌, ◌∷◌, [], false, not, IfOk, OnErr, OnOk, if◌then◌else◌};
 ghost use Rattle.hk_format.specs.Grammar.{is_among};
+ghost use Rattle.hk_format.specs.Loading.{place};
 
-use indexmap::IndexSet;
 use std::alloc::{AllocError, Global};
+use std::collections::BTreeMap;
 use std::marker::Model;
 
-/// Names, each once. Contracts see the list of their texts.
+/// Names, each once, in the order in which they came. They stand in an ordered map, so that no choice of
+/// names makes a look-up slow. Contracts see the list of their texts.
 #[derive(Drop)]
 pub struct Names {
-    set: IndexSet<String>,
+    /// The number of each: how many came before it.
+    numbers: BTreeMap<String, usize>,
 }
 
 impl Model for Names {
-    ghost use Rattle.std.specs.Prelude.{List, ℕ, map, string_bytes};
+    ghost use Rattle.std.specs.Prelude.{List, ℕ};
+    ghost use Rattle.hk_script.specs.Numbered.{names_numbered, IsNumbered};
 
     ghost Value = { List (List ℕ) };
 
-    ghost view = { λ names. map string_bytes names.set.keys };
+    ghost view = { λ names. names_numbered names.numbers.entries };
+
+    ghost invariant = { λ names. IsNumbered names.numbers };
 }
 
 impl Names {
@@ -27,17 +33,39 @@ impl Names {
         ensures { result ≡ [] }
     {
         Names {
-            set: IndexSet::new(alloc),
+            numbers: BTreeMap::new(alloc),
         }
     }
 
-    /// Puts a name at the end unless it is there already, and tells whether it is new.
+    /// Puts a name at the end unless it is there already, and tells whether it is new. The only error is
+    /// want of memory.
     pub fn add(&mut self, alloc: Global, name: &str) -> Result<bool, AllocError>
         ensures found { IfOk result (λ new. new ≡ not (is_among self.old name.now)) }
         ensures names { IfOk result (λ new. self.new ≡ (if new then self.old ++ name.now ∷ [] else self.old)) }
     {
+        if self.numbers.contains_key(name) {
+            return Ok(false);
+        }
+        self.push(alloc, name)?;
+        Ok(true)
+    }
+
+    /// Puts a new name at the end. The only error is want of memory.
+    pub fn push(&mut self, alloc: Global, name: &str) -> Result<(), AllocError>
+        requires { is_among self.old name.now ≡ false }
+        ensures names { OnOk result (self.new ≡ self.old ++ name.now ∷ []) }
+        ensures memory { OnErr result (self.new ≡ self.old) }
+    {
+        let number = self.numbers.len();
         let name = String::from_str(alloc, name)?;
-        let (_, new) = self.set.insert_full(name)?;
-        Ok(new)
+        self.numbers.insert(name, number)?;
+        Ok(())
+    }
+
+    /// The place of a name, from 0, if it is there.
+    pub fn place(&self, name: &str) -> Option<usize>
+        ensures { result ≡ place self.now name.now }
+    {
+        self.numbers.get(name).copied()
     }
 }
