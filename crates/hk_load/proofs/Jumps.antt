@@ -1,15 +1,14 @@
 -- The labels and the instructions of a code, one line after another.
 use Rattle.std.proofs.Common.{◌≡◌, ℕ, ◌+◌, ◌<◌, ◌≤◌, inl, inr, not, Bool, true, false, cond, ltb, List, [], ◌∷◌, ◌++◌, length, map, drop, get_or, refl, sym, ap, ◌∙◌, subst, arith}
-use Rattle.std.proofs.Common.{Ok, Err, Result, Some, None, String, string_bytes, Global}
+use Rattle.std.proofs.Common.{suc, Option, Ok, Err, Result, Some, None, String, string_bytes, Global}
 use Rattle.std.specs.Prelude.{◌⊎◌, IsTrue, slice_get, option_map}
-use Rattle.std.specs.List.{find, position, position_or_len}
-use Rattle.std.specs.String.{string_eq}
+use Rattle.std.specs.List.{find, position_from}
+use Rattle.std.proofs.lemmas.Iterator.Adapters.{position_from-zero}
 use Rattle.std.proofs.lemmas.Bool.{ltb-false}
 use Rattle.std.proofs.lemmas.List.{at_drop_more, length-append, length-map, map-append, get_or-map}
 use Rattle.std.proofs.lemmas.List.Folds.{find_at}
 use Rattle.std.proofs.lemmas.Option.{slice_get_cases}
 use mathlib.Core.List.{append_assoc}
-use Rattle.indexmap.specs.IndexMap.{insert_entry}
 use Rattle.hk_format.specs.declared.causes.LoadCause.{LoadCause}
 use Rattle.hk_format.specs.declared.causes.LoadCause.TheVariants.{UnknownName}
 use Rattle.hk_model.specs.declared.instructions.Instr.{Instr}
@@ -18,29 +17,37 @@ use Rattle.hk_format.specs.declared.syntax.Body.TheVariants.{WordsAre, EmptyEntr
 use Rattle.hk_format.specs.declared.syntax.Part.{Part}
 use Rattle.hk_model.specs.Labels.{same_text}
 use Rattle.hk_format.specs.Grammar.{is_among, is_new_label, noted_label}
-use Rattle.hk_format.specs.Loading.{Refused, Label, labels_from, label_onto, target, found, to_limit, limited, front, onto, instr_of, instr_onto, instrs_of, at_line}
+use Rattle.hk_format.specs.Loading.{Refused, Label, place, labels_from, label_onto, target, found, to_limit, limited, front, onto, instr_of, instr_onto, instrs_of, at_line}
 use Rattle.hk_model.specs.Refusing.{◌>>=◌}
 use Rattle.hk_load.specs.Jumping.{label_at, labels_seen, label_texts, HasNewLabels, step_added, after_steps}
-use Rattle.hk_load.proofs.NameLists.{insert_new, position_map}
 
 -- labels
 
 label_front : (labels : List Label) (l : Label) (rest : List Label) → labels ++ l ∷ rest ≡ (labels ++ l ∷ []) ++ rest
 label_front labels l rest = sym (append_assoc labels (l ∷ []) rest)
 
+-- their texts
+texts_seen : (ts : List (List ℕ)) (places : List ℕ) → length ts ≡ length places → label_texts (labels_seen ts places) ≡ ts
+texts_seen [] places e = refl
+texts_seen (t ∷ ts) [] e = absurd (omega arith)
+texts_seen (t ∷ ts) (p ∷ ps) e = ap (λ (l : List (List ℕ)). t ∷ l) (texts_seen ts ps (omega arith))
+
+-- a new label is none of the others
+pub label_apart : (ts : List (List ℕ)) (places : List ℕ) (labels : List Label) (t : List ℕ) → length ts ≡ length places → labels_seen ts places ≡ labels
+    → is_among (label_texts labels) t ≡ false → is_among ts t ≡ false
+label_apart ts places labels t same v h = rw (← v, texts_seen ts places same) at h
+
 -- a label at the end
-pub labels_more : (es new : List (String Global × ℕ)) (k : String Global) (t : List ℕ) (place : ℕ) (labels : List Label) → labels_seen es ≡ labels
-    → is_among (label_texts labels) t ≡ false → string_bytes k ≡ t → new ≡ insert_entry string_eq es k place → labels_seen new ≡ labels ++ label_at t place ∷ []
-labels_more es new k t place labels v h e f =
-    let texts : label_texts (labels_seen es) ≡ map (λ (x : String Global × ℕ). string_bytes x.0) es = texts_of es in
-    let last : new ≡ es ++ (k, place) ∷ [] = f ∙ insert_new es k place (ap (λ x. is_among x (string_bytes k)) (sym texts) ∙ ap (λ x. is_among (label_texts (labels_seen es)) x) e
-    ∙ ap (λ (x : List Label). is_among (label_texts x) t) v ∙ h) in
-    ap labels_seen last ∙ map-append (λ (x : String Global × ℕ). label_at (string_bytes x.0) x.1) es ((k, place) ∷ [])
-    ∙ ap (λ (x : List Label). x ++ label_at (string_bytes k) place ∷ []) v ∙ ap (λ x. labels ++ label_at x place ∷ []) e
-  where
-    texts_of : (es : List (String Global × ℕ)) → label_texts (labels_seen es) ≡ map (λ (x : String Global × ℕ). string_bytes x.0) es
-    texts_of [] = refl
-    texts_of (x ∷ xs) = ap (λ l. string_bytes x.0 ∷ l) (texts_of xs)
+labels_more : (ts : List (List ℕ)) (places : List ℕ) (t : List ℕ) (place : ℕ) → length ts ≡ length places
+    → labels_seen (ts ++ t ∷ []) (places ++ place ∷ []) ≡ labels_seen ts places ++ label_at t place ∷ []
+labels_more [] [] t place e = refl
+labels_more [] (p ∷ ps) t place e = absurd (omega arith)
+labels_more (u ∷ us) [] t place e = absurd (omega arith)
+labels_more (u ∷ us) (p ∷ ps) t place e = ap (λ (l : List Label). label_at u p ∷ l) (labels_more us ps t place (omega arith))
+
+pub label_added : (ts new : List (List ℕ)) (places later : List ℕ) (labels : List Label) (t : List ℕ) (place : ℕ) → length ts ≡ length places → labels_seen ts places ≡ labels
+    → new ≡ ts ++ t ∷ [] → later ≡ places ++ place ∷ [] → labels_seen new later ≡ labels ++ label_at t place ∷ []
+label_added ts new places later labels t place same v e f = rw (e, f, labels_more ts places t place same, v) refl
 
 at_part : {A : Type 0} (f : List Part → A) (parts : List Part) (at : ℕ) (p : Part) → at < length parts → p ≡ get_or parts at p → f (drop at parts) ≡ f (p ∷ drop (at + 1) parts)
 at_part f parts at p more e = at_drop_more f parts at p more ∙ ap (λ (x : Part). f (x ∷ drop (at + 1) parts)) (sym e)
@@ -102,68 +109,26 @@ other_new labels parts at p more e b h = rw (same_noted labels p.body b) at (new
 
 -- where a jump goes
 
-place_some : {X : Type 0} (p : X → Bool) (xs : List X) (n : ℕ) → position p xs ≡ Some n → position_or_len p xs ≡ n
-place_some p xs n h = go (ltb (position_or_len p xs) (length xs)) h
+found_from : (d : ℕ) (t : List ℕ) (i : ℕ) (ts : List (List ℕ)) (places all : List ℕ) → length ts ≡ length places → ((k : ℕ) → k < length places → get_or places k d ≡ get_or all (i + k) d)
+    → option_map (λ (l : Label). to_limit l.place) (find (λ (l : Label). same_text t l.text) (labels_seen ts places)) ≡ option_map (λ n. to_limit (get_or all n d)) (position_from (same_text t) i ts)
+found_from d t i [] places all same at = refl
+found_from d t i (u ∷ us) [] all same at = absurd (omega arith)
+found_from d t i (u ∷ us) (p ∷ ps) all same at = by (same_text t u) (found_from d t (i + 1) us ps all (omega arith)
+    (λ k low. at (suc k) (omega arith) ∙ ap (λ n. get_or all n d) (let one : i + suc k ≡ i + 1 + k = omega arith in one)))
   where
-    go : (b : Bool) → cond b (Some (position_or_len p xs)) None ≡ Some n → position_or_len p xs ≡ n
-    go true k = cc
-    go false k = absurd (let none : None ≡ Some n = k in cc)
+    by : (b : Bool) → option_map (λ (l : Label). to_limit l.place) (find (λ (l : Label). same_text t l.text) (labels_seen us ps))
+        ≡ option_map (λ n. to_limit (get_or all n d)) (position_from (same_text t) (i + 1) us)
+        → option_map (λ (l : Label). to_limit l.place) (cond b (Some (label_at u p)) (find (λ (l : Label). same_text t l.text) (labels_seen us ps)))
+        ≡ option_map (λ n. to_limit (get_or all n d)) (cond b (Some i) (position_from (same_text t) (i + 1) us))
+    by true later = ap (λ n. Some (to_limit n)) (at 0 (omega arith) ∙ ap (λ n. get_or all n d) (let one : i + 0 ≡ i = omega arith in one))
+    by false later = later
 
-place_none : {X : Type 0} (p : X → Bool) (xs : List X) → position p xs ≡ None → length xs ≤ position_or_len p xs
-place_none p xs h = go (ltb (position_or_len p xs) (length xs)) refl h
-  where
-    go : (b : Bool) → ltb (position_or_len p xs) (length xs) ≡ b → cond b (Some (position_or_len p xs)) None ≡ None → length xs ≤ position_or_len p xs
-    go true e k = absurd (let some : Some (position_or_len p xs) ≡ None = k in cc)
-    go false e k = ltb-false _ _ e
-
-get_map : {X Y : Type 0} (f : X → Y) (xs : List X) (n : ℕ) (x : X) → slice_get xs n ≡ Some x → slice_get (map f xs) n ≡ Some (f x)
-get_map {X} {Y} f xs n x h = go (slice_get_cases xs n).1 (slice_get_cases (map f xs) n).1
-  where
-    go : (((y : X) × (n < length xs) × (slice_get xs n ≡ Some y) × (get_or xs n y ≡ y)) ⊎ ((length xs ≤ n) × (slice_get xs n ≡ None)))
-        → (((y : Y) × (n < length (map f xs)) × (slice_get (map f xs) n ≡ Some y) × (get_or (map f xs) n y ≡ y)) ⊎ ((length (map f xs) ≤ n) × (slice_get (map f xs) n ≡ None)))
-        → slice_get (map f xs) n ≡ Some (f x)
-    go (inl at) (inl bt) =
-        let k : Some at.0 ≡ Some x = sym at.2 ∙ h in
-        let same : at.0 ≡ x = cc in
-        bt.2 ∙ ap (λ y. Some y) (sym bt.3 ∙ get_or-map f xs n at.0 bt.0 at.1 ∙ ap f (at.3 ∙ same))
-    go (inl at) (inr past) = absurd (let size : length (map f xs) ≡ length xs = length-map xs f in let low = at.1 in let high = past.0 in omega arith)
-    go (inr past) other = absurd (let k : None ≡ Some x = sym past.1 ∙ h in cc)
-
-get_past : {X : Type 0} (xs : List X) (n : ℕ) → length xs ≤ n → slice_get xs n ≡ None
-get_past {X} xs n h = go (slice_get_cases xs n).1
-  where
-    go : (((y : X) × (n < length xs) × (slice_get xs n ≡ Some y) × (get_or xs n y ≡ y)) ⊎ ((length xs ≤ n) × (slice_get xs n ≡ None))) → slice_get xs n ≡ None
-    go (inl at) = absurd (let low = at.1 in omega arith)
-    go (inr past) = past.1
-
-same_place : (es : List (String Global × ℕ)) (t : List ℕ)
-    → position_or_len (λ (l : Label). same_text t l.text) (labels_seen es) ≡ position_or_len (λ (k : String Global). same_text t (string_bytes k)) (map (λ e. e.0) es)
-same_place es t =
-    position_map (λ (e : String Global × ℕ). label_at (string_bytes e.0) e.1) (λ (l : Label). same_text t l.text) es
-    ∙ sym (position_map (λ (e : String Global × ℕ). e.0) (λ (k : String Global). same_text t (string_bytes k)) es)
-
--- to a label that was found
-pub target_gives : (es : List (String Global × ℕ)) (labels : List Label) (t key : List ℕ) (n : ℕ) (k : String Global) (place : ℕ) → labels_seen es ≡ labels → key ≡ t
-    → Some n ≡ position (λ (k : String Global). same_text key (string_bytes k)) (map (λ e. e.0) es) → slice_get es n ≡ Some (k, place) → target labels t ≡ Ok (to_limit place)
-target_gives es labels t key n k place v e h at =
-    let there = place_some (λ (k : String Global). same_text t (string_bytes k)) (map (λ y. y.0) es) n
-    (ap (λ x. position (λ (k : String Global). same_text x (string_bytes k)) (map (λ y. y.0) es)) (sym e) ∙ sym h) in
-    let f : find (λ (l : Label). same_text t l.text) (labels_seen es) ≡ Some (label_at (string_bytes k) place) = find_at (λ (l : Label). same_text t l.text) (labels_seen es)
-    ∙ ap (λ m. slice_get (labels_seen es) m) (same_place es t ∙ there) ∙ get_map (λ (y : String Global × ℕ). label_at (string_bytes y.0) y.1) es n (k, place) at in
-    ap (λ (x : List Label). target x t) (sym v) ∙ ap (λ o. found (option_map (λ (l : Label). to_limit l.place) o) UnknownName) f
-
--- to none
-pub no_target : (es : List (String Global × ℕ)) (labels : List Label) (t key : List ℕ) → labels_seen es ≡ labels → key ≡ t
-    → None ≡ position (λ (k : String Global). same_text key (string_bytes k)) (map (λ e. e.0) es) → target labels t ≡ Err UnknownName
-no_target es labels t key v e h =
-    let past = place_none (λ (k : String Global). same_text t (string_bytes k)) (map (λ y. y.0) es)
-    (ap (λ x. position (λ (k : String Global). same_text x (string_bytes k)) (map (λ y. y.0) es)) (sym e) ∙ sym h) in
-    let same = same_place es t in
-    let size : length (map (λ (y : String Global × ℕ). y.0) es) ≡ length es = length-map es (λ (y : String Global × ℕ). y.0) in
-    let size-1 : length (labels_seen es) ≡ length es = length-map es (λ (y : String Global × ℕ). label_at (string_bytes y.0) y.1) in
-    let f : find (λ (l : Label). same_text t l.text) (labels_seen es) ≡ None = find_at (λ (l : Label). same_text t l.text) (labels_seen es)
-    ∙ get_past (labels_seen es) (position_or_len (λ (l : Label). same_text t l.text) (labels_seen es)) (omega arith) in
-    ap (λ (x : List Label). target x t) (sym v) ∙ ap (λ o. found (option_map (λ (l : Label). to_limit l.place) o) UnknownName) f
+-- to the label that was found, if one was
+pub target_gives : (d : ℕ) (ts : List (List ℕ)) (places : List ℕ) (labels : List Label) (t key : List ℕ) (r : Option ℕ) → length ts ≡ length places → labels_seen ts places ≡ labels
+    → key ≡ t → r ≡ place ts key → target labels t ≡ found (option_map (λ n. to_limit (get_or places n d)) r) UnknownName
+target_gives d ts places labels t key r same v e h =
+    rw (← v, ← e, h) (ap (λ o. found o UnknownName) (found_from d key 0 ts places places same (λ k low. ap (λ n. get_or places n d) (let one : k ≡ 0 + k = omega arith in one))
+    ∙ ap (option_map (λ n. to_limit (get_or places n d))) (sym (position_from-zero (same_text key) ts))))
 
 -- instructions
 

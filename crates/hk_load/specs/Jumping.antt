@@ -1,6 +1,5 @@
 -- The labels and the instructions of a code, one line after another. docs/FORMATS.md, "Loading".
-use Rattle.std.specs.Prelude.{ℕ, List, [], ◌∷◌, ◌++◌, length, IsTrue, Result, Ok, Err, nat_lt, map, string_bytes, String}
-use Rattle.std.specs.Global.{Global}
+use Rattle.std.specs.Prelude.{ℕ, List, [], ◌∷◌, ◌++◌, length, IsTrue, Result, Ok, Err, nat_lt, map}
 use Rattle.hk_format.specs.declared.causes.LoadCause.{LoadCause}
 use Rattle.hk_model.specs.declared.instructions.Instr.{Instr}
 use Rattle.hk_format.specs.declared.syntax.Body.{Body}
@@ -15,9 +14,11 @@ use Rattle.hk_model.specs.Refusing.{◌>>=◌}
 abbrev pub label_at : List ℕ → ℕ → Label
 label_at text place = record { text = text; place = place }
 
--- labels by what is kept of them
-abbrev pub labels_seen : List (String Global × ℕ) → List Label
-labels_seen entries = map (λ e. label_at (string_bytes e.0) e.1) entries
+-- labels by their texts and their numbers
+abbrev pub labels_seen : List (List ℕ) → List ℕ → List Label
+labels_seen [] places = []
+labels_seen (t ∷ ts) [] = []
+labels_seen (t ∷ ts) (place ∷ places) = label_at t place ∷ labels_seen ts places
 
 -- the texts of labels
 abbrev pub label_texts : List Label → List (List ℕ)

@@ -1,6 +1,5 @@
 -- The names that heads declare, one head after another. docs/FORMATS.md, "Loading".
-use Rattle.std.specs.Prelude.{◌≡◌, ℕ, Bool, true, false, List, [], ◌∷◌, ◌++◌, map, string_bytes, String}
-use Rattle.std.specs.Global.{Global}
+use Rattle.std.specs.Prelude.{◌≡◌, ℕ, Bool, true, false, List, [], ◌∷◌, ◌++◌}
 use Rattle.std.specs.List.{filter_map}
 use Rattle.hk_format.specs.declared.syntax.Head.{Head}
 use Rattle.hk_format.specs.declared.syntax.Head.TheVariants.{LimitIs, TypeIs, ObjectIs, SemaphoreIs, ProcedureIs, CodeIs, ProcessIs}
@@ -11,10 +10,6 @@ use Rattle.hk_format.specs.Loading.{object_label, is_type_head, code_label}
 -- so many names
 abbrev pub names : List (List ℕ) → List Bool → List (List ℕ) → Names
 names objects types codes = record { objects = objects; types = types; codes = codes }
-
--- names by what is kept of them
-abbrev pub names_seen : List (String Global × Bool) → List (String Global) → Names
-names_seen objects codes = names (map (λ e. string_bytes e.0) objects) (map (λ e. e.1) objects) (map string_bytes codes)
 
 -- the kernel types alone
 abbrev pub kernel_declared : Names

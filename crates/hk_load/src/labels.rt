@@ -10,24 +10,28 @@ use crate::errors::LineError;
 use hk_format::{Body, LoadCause, Part};
 use hk_model::Text;
 use hk_model::limits::CODE_LIMIT;
-use indexmap::IndexMap;
+use hk_script::Names;
 use std::alloc::{AllocError, Global};
 use std::marker::Model;
 
 /// The labels of a code, each with the number of the instruction behind it. Contracts see the list.
 #[derive(Drop)]
 pub struct Labels {
-    places: IndexMap<String, usize>,
+    names: Names,
+    /// Of each, the number of the instruction behind it.
+    places: Vec<usize>,
 }
 
 impl Model for Labels {
-    ghost use Rattle.std.specs.Prelude.{List};
+    ghost use Rattle.std.specs.Prelude.{◌≡◌, List, length};
     ghost use Rattle.hk_format.specs.Loading.{Label};
     ghost use Rattle.hk_load.specs.Jumping.{labels_seen};
 
     ghost Value = { List Label };
 
-    ghost view = { λ labels. labels_seen labels.places.entries };
+    ghost view = { λ labels. labels_seen labels.names labels.places.items };
+
+    ghost invariant = { λ labels. length labels.names ≡ length labels.places.items };
 }
 
 impl Labels {
@@ -37,7 +41,8 @@ impl Labels {
         ensures { IfOk result (λ labels. labels ≡ labels_from 0 parts.now) }
     {
         let mut labels = Labels {
-            places: IndexMap::new(alloc),
+            names: Names::new(alloc),
+            places: Vec::new(alloc),
         };
         let mut place = 0;
         for part in parts {
@@ -54,8 +59,11 @@ impl Labels {
         requires { is_among (label_texts self.old) label.now ≡ false }
         ensures { OnOk result (self.new ≡ self.old ++ label_at label.now place ∷ []) }
     {
-        let label = String::from_str(alloc, label)?;
-        self.places.insert(label, place)?;
+        self.places.push(place)?;
+        if let Err(error) = self.names.push(alloc, label) {
+            self.places.pop();
+            return Err(error);
+        }
         Ok(())
     }
 
@@ -65,8 +73,8 @@ impl Labels {
     pub fn target(&self, label: &Text) -> Result<u16, LineError>
         ensures { Gives (λ x. x) result (target self.now label.now) }
     {
-        match self.places.get_full(label.as_str()) {
-            Some((_, _, place)) => Ok((*place).min(CODE_LIMIT) as u16),
+        match self.names.place(label.as_str()) {
+            Some(number) => Ok(self.places[number].min(CODE_LIMIT) as u16),
             None => Err(LineError::Bad(LoadCause::UnknownName)),
         }
     }

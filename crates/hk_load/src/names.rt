@@ -1,6 +1,6 @@
 //! The names that the heads of a script declare (`docs/FORMATS.md`, "Loading").
 
-ghost use Rattle.std.specs.Prelude.{◌≡◌, IfOk, OnOk, false, map};
+ghost use Rattle.std.specs.Prelude.{◌≡◌, IfOk, OnOk, false, map, slice_index_or};
 ghost use Rattle.hk_format.specs.declared.syntax.Item.{Item};
 ghost use Rattle.hk_format.specs.Syntax.{IsSyntax};
 ghost use Rattle.hk_format.specs.Loading.{names_of, object_named, type_named, kind_named, code_named};
@@ -12,7 +12,7 @@ use crate::errors::LineError;
 use hk_format::{Head, Item, LoadCause};
 use hk_model::limits::CODE_LIMIT;
 use hk_model::{Name, Text};
-use indexmap::{IndexMap, IndexSet};
+use hk_script::Names;
 use std::alloc::{AllocError, Global};
 use std::marker::Model;
 
@@ -20,18 +20,20 @@ use std::marker::Model;
 /// see the lists of the names.
 #[derive(Drop)]
 pub struct Declared {
-    /// The kernel types, and then the objects of the script; with each, whether it is a type.
-    objects: IndexMap<String, bool>,
-    codes: IndexSet<String>,
+    /// The kernel types, and then the objects of the script.
+    objects: Names,
+    /// Of each object, whether it is a type.
+    types: Vec<bool>,
+    codes: Names,
 }
 
 impl Model for Declared {
     ghost use Rattle.hk_format.specs.Names.{Names};
-    ghost use Rattle.hk_load.specs.Naming.{names_seen};
+    ghost use Rattle.hk_load.specs.Naming.{names};
 
     ghost Value = { Names };
 
-    ghost view = { λ d. names_seen d.objects.entries d.codes.keys };
+    ghost view = { λ d. names d.objects d.types.items d.codes };
 }
 
 impl Declared {
@@ -40,20 +42,21 @@ impl Declared {
         requires { IsSyntax items.now }
         ensures { IfOk result (λ d. d ≡ names_of (map (λ (i : Item). i.head) items.now)) }
     {
-        let mut declared = Declared::kernel(alloc, items.len())?;
+        let mut declared = Declared::kernel(alloc)?;
         for item in items {
             declared.add(alloc, &item.head)?;
         }
         Ok(declared)
     }
 
-    /// The kernel types alone, with room for so many names more.
-    fn kernel(alloc: Global, more: usize) -> Result<Declared, AllocError>
+    /// The kernel types alone.
+    fn kernel(alloc: Global) -> Result<Declared, AllocError>
         ensures { IfOk result (λ d. d ≡ kernel_declared) }
     {
         let mut declared = Declared {
-            objects: IndexMap::with_capacity(alloc, more)?,
-            codes: IndexSet::new(alloc),
+            objects: Names::new(alloc),
+            types: Vec::new(alloc),
+            codes: Names::new(alloc),
         };
         declared.add_object(alloc, "TYPE", true)?;
         declared.add_object(alloc, "DATA", true)?;
@@ -86,8 +89,8 @@ impl Declared {
         requires { is_among self.old.objects name.now ≡ false }
         ensures { OnOk result (self.new ≡ with_object self.old name.now is_type) }
     {
-        let name = String::from_str(alloc, name)?;
-        self.objects.insert(name, is_type)?;
+        self.objects.push(alloc, name)?;
+        self.types.push(is_type)?;
         Ok(())
     }
 
@@ -96,16 +99,14 @@ impl Declared {
         requires { is_among self.old.codes name.now ≡ false }
         ensures { OnOk result (self.new ≡ with_code self.old name.now) }
     {
-        let name = String::from_str(alloc, name)?;
-        self.codes.insert(name)?;
-        Ok(())
+        self.codes.push(alloc, name)
     }
 
     /// The object of this name, of any kind. UnknownName where none is declared.
     pub fn object(&self, name: &Text) -> Result<Name, LineError>
         ensures { Gives (λ n. n.0) result (object_named self.now name.now) }
     {
-        match self.objects.get_index_of(name.as_str()) {
+        match self.objects.place(name.as_str()) {
             Some(number) => Ok(Name(number as u64)),
             None => Err(LineError::Bad(LoadCause::UnknownName)),
         }
@@ -115,16 +116,19 @@ impl Declared {
     pub fn type_named(&self, name: &Text) -> Result<Name, LineError>
         ensures { Gives (λ n. n.0) result (type_named self.now name.now) }
     {
-        match self.objects.get_full(name.as_str()) {
-            Some((number, _, is_type)) => {
-                if *is_type {
-                    Ok(Name(number as u64))
-                } else {
-                    Err(LineError::Bad(LoadCause::UnknownName))
-                }
-            }
-            None => Err(LineError::Bad(LoadCause::UnknownName)),
+        let of = self.object(name)?;
+        if self.is_type(of) {
+            Ok(of)
+        } else {
+            Err(LineError::Bad(LoadCause::UnknownName))
         }
+    }
+
+    /// Whether the object of this number is a type.
+    fn is_type(&self, of: Name) -> bool
+        ensures { result ≡ slice_index_or self.now.types of.0 false }
+    {
+        self.types.get(of.0 as usize).copied().unwrap_or(false)
     }
 
     /// The type of this name, or None for `any`.
@@ -143,7 +147,7 @@ impl Declared {
     pub fn code(&self, name: &Text) -> Result<u16, LineError>
         ensures { Gives (λ x. x) result (code_named self.now name.now) }
     {
-        match self.codes.get_index_of(name.as_str()) {
+        match self.codes.place(name.as_str()) {
             Some(number) => Ok(number.min(CODE_LIMIT) as u16),
             None => Err(LineError::Bad(LoadCause::UnknownName)),
         }

@@ -1,7 +1,10 @@
-use Rattle.hk_load.proofs.Jumps.{labels_more}
+use Rattle.hk_load.proofs.Jumps.{label_apart, label_added}
 use Rattle.hk_load.proofs.labels.Labels.add.Goals as goal
+
+pub push-requires-2 : goal.push-requires-2
+push-requires-2 c = label_apart c.self.inside.names c.self.inside.places.items c.args.self.now c.args.label.now c.self.invariant c.self.view_is c.requires
 
 pub returns : goal.returns
 returns c =
-    labels_more c.self.inside.places.entries c.insert.new.self.entries c.in_ok-label.label c.args.label.now c.args.place c.args.self.now c.self.view_is c.requires
-    c.in_ok-label.ensures.ok c.in_ok-insert.ensures.entries
+    label_added c.self.inside.names c.push-2.new.self c.self.inside.places.items c.push.new.self.items c.args.self.now c.args.label.now c.args.place c.self.invariant c.self.view_is
+    c.in_default.ensures.names c.in_ok-push.ensures.items
