@@ -1,13 +1,10 @@
 -- The labels and the instructions of a code, one line after another.
-use Rattle.std.proofs.Common.{◌≡◌, ℕ, ◌+◌, ◌<◌, ◌≤◌, inl, inr, not, Bool, true, false, cond, ltb, List, [], ◌∷◌, ◌++◌, length, map, drop, get_or, refl, sym, ap, ◌∙◌, subst, arith}
-use Rattle.std.proofs.Common.{suc, Option, Ok, Err, Result, Some, None, String, string_bytes, Global}
-use Rattle.std.specs.Prelude.{◌⊎◌, IsTrue, slice_get, option_map}
+use Rattle.std.proofs.Common.{◌≡◌, ℕ, ◌+◌, ◌<◌, not, Bool, true, false, cond, ltb, List, [], ◌∷◌, ◌++◌, length, drop, get_or, refl, sym, ap, ◌∙◌, subst, arith}
+use Rattle.std.proofs.Common.{suc, Option, Ok, Err, Result, Some}
+use Rattle.std.specs.Prelude.{IsTrue, option_map}
 use Rattle.std.specs.List.{find, position_from}
 use Rattle.std.proofs.lemmas.Iterator.Adapters.{position_from-zero}
-use Rattle.std.proofs.lemmas.Bool.{ltb-false}
-use Rattle.std.proofs.lemmas.List.{at_drop_more, length-append, length-map, map-append, get_or-map}
-use Rattle.std.proofs.lemmas.List.Folds.{find_at}
-use Rattle.std.proofs.lemmas.Option.{slice_get_cases}
+use Rattle.std.proofs.lemmas.List.{at_drop_more, length-append, map-append}
 use mathlib.Core.List.{append_assoc}
 use Rattle.hk_format.specs.declared.causes.LoadCause.{LoadCause}
 use Rattle.hk_format.specs.declared.causes.LoadCause.TheVariants.{UnknownName}
