@@ -22,12 +22,10 @@ use Rattle.hk_model.specs.declared.frames.Todo.{Todo}
 use Rattle.hk_model.specs.declared.frames.Todo.TheVariants as todo
 use Rattle.hk_model.specs.WorldValue.{WorldValue}
 use Rattle.hk_model.specs.State.{State, process}
-use Rattle.hk_model.specs.Control.{Context, next, after}
-use Rattle.hk_model.specs.Rule.{rule}
+use Rattle.hk_model.specs.Control.{Context, next}
 use Rattle.hk_model.specs.Processors.{is_ready, is_running, is_over, process_on, runner, running_on, may_step, acted_on, entered_on, has_left, dispatched, dispatched_from}
 use Rattle.hk_model.specs.Running.{context_of, turn, AreStepsOf, state_after}
 use Rattle.hk_program.specs.Contexts.{AreFrames}
-use Rattle.hk_program.proofs.Queues.{run_at}
 use Rattle.hk_program.proofs.Frames.{next_frames, next_length}
 use Rattle.hk_program.proofs.Machines.{sound_after, sound_frames, sound_code, sound_room, lines_few}
 use Rattle.hk_procs.specs.declared.notes.Noted.TheVariants.{Event, Stop}

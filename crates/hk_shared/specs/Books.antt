@@ -9,6 +9,7 @@ use Rattle.hk_procs.specs.declared.notes.Noted.{Noted}
 use Rattle.hk_procs.specs.declared.notes.Noted.TheVariants.{Stop}
 use Rattle.hk_procs.specs.Notes.{events, owner_of}
 use Rattle.hk_shared.specs.declared.book.Book.{Book}
+use Rattle.hk_shared.specs.declared.boxed.BoxedBook.{BoxedBook}
 use Rattle.hk_shared.specs.Contexts.{machine_after, KeepsContexts}
 
 -- the note of a stop, if there is one
@@ -44,6 +45,10 @@ module _ {K J : Type 0} where
   -- the book stands for the notes
   abbrev pub IsBookOf : (K → State) → WorldValue → Book K J → List Noted → Type 0
   IsBookOf state w b notes = (notes_of_book b ≡ notes) × IsSound state w b
+
+  -- and so does one that stays in its place
+  abbrev pub IsBoxedBookOf : (K → State) → WorldValue → BoxedBook K J → List Noted → Type 0
+  IsBoxedBookOf state w b notes = IsBookOf state w b.book.value notes
 
   -- the book after a turn of the processor, which may add a note of its own
   pub record IsNext (state : K → State) (w : WorldValue) (cpu : Cpu) (b next : Book K J) (note : Option Noted) : Type 0 where

@@ -7,12 +7,11 @@ use crate::naming::Naming;
 use hk_model::{Cpu, Kernel, Line, World};
 use hk_procs::Noted;
 use hk_program::Context;
-use hk_turn::Story;
 use std::marker::PhantomData;
 
 /// A kernel with its lines, and with the contexts of the processes that no processor runs.
 ///
-/// It stands for the list of its lines, and its stop after them if there is one.
+/// It stands for the list of its lines, and its stop after them if there is one (`BoxedBook`).
 /// `docs/TURNS.md`, "The shared kernel".
 #[derive(Drop)]
 pub struct Book<K: Kernel, J: Naming> {
@@ -23,17 +22,6 @@ pub struct Book<K: Kernel, J: Naming> {
     pub(crate) contexts: Vec<Option<Context>>,
     pub(crate) stop: Option<Cpu>,
     pub(crate) of: PhantomData<J>,
-}
-
-impl<K: Kernel, J: Naming> Story for Book<K, J> {
-    ghost use Rattle.hk_shared.specs.Books.{IsBookOf};
-    ghost use Rattle.hk_procs.specs.Notes.{owner_of};
-
-    type Entry = Noted;
-
-    ghost stands = { IsBookOf K.state J.world };
-
-    ghost owner = { owner_of };
 }
 
 impl<K: Kernel, J: Naming> Book<K, J> {

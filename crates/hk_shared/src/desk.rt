@@ -3,9 +3,9 @@
 ghost use Rattle.std.specs.Prelude.{◌≡◌, ◌<◌, ◌^◌, ◌++◌, length};
 ghost use Rattle.hk_turn.specs.Passes.{seen_list};
 ghost use Rattle.hk_turn.specs.Turns.{IsPassAfter, found_list, turn_number, turn_value};
-ghost use Rattle.hk_shared.specs.Books.{IsBookOf, IsOwnedBy, added};
+ghost use Rattle.hk_shared.specs.Books.{IsBoxedBookOf, IsOwnedBy, added};
 
-use crate::book::Book;
+use crate::boxed::BoxedBook;
 use crate::naming::Naming;
 use crate::shared::Shared;
 use hk_model::{Cpu, Kernel, Proc, Todo};
@@ -50,8 +50,11 @@ impl<K: Kernel, J: Naming> Desk for Shared<K, J> {
 }
 
 /// Gives a turn back with a note of its pass, if there is one.
-fn give_back<K: Kernel, J: Naming>(turn: Turn<'_, Book<K, J>>, note: Option<Noted>) -> Pass<Noted>
-    requires stands { IsBookOf K.state J.world (turn_value turn) (found_list turn ++ added note) }
+fn give_back<K: Kernel, J: Naming>(
+    turn: Turn<'_, BoxedBook<K, J>>,
+    note: Option<Noted>,
+) -> Pass<Noted>
+    requires stands { IsBoxedBookOf K.state J.world (turn_value turn) (found_list turn ++ added note) }
     requires own { IsOwnedBy (turn_number turn) note }
     requires room { length (found_list turn) < 2 ^ 62 }
     ensures pass { IsPassAfter turn.entry result }

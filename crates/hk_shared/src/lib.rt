@@ -5,11 +5,13 @@
 
 mod asking;
 mod book;
+mod boxed;
 mod calling;
 mod desk;
 mod naming;
 mod shared;
 
 pub use book::Book;
+pub use boxed::BoxedBook;
 pub use naming::Naming;
 pub use shared::Shared;

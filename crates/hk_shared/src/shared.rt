@@ -10,6 +10,7 @@ ghost use Rattle.hk_procs.specs.Notes.{owner_of};
 ghost use Rattle.hk_shared.specs.Books.{IsBookOf};
 
 use crate::book::Book;
+use crate::boxed::BoxedBook;
 use crate::naming::Naming;
 use hk_model::{Kernel, NoMemory, Task, World};
 use hk_procs::Noted;
@@ -23,7 +24,7 @@ use std::marker::PhantomData;
 /// It implements `Desk` of `hk_procs`. `docs/TURNS.md`, "The shared kernel".
 #[derive(Drop)]
 pub struct Shared<K: Kernel, J: Naming> {
-    pub(crate) turns: Turns<Book<K, J>>,
+    pub(crate) turns: Turns<BoxedBook<K, J>>,
 }
 
 impl<K: Kernel, J: Naming> Shared<K, J> {
@@ -45,7 +46,8 @@ impl<K: Kernel, J: Naming> Shared<K, J> {
         ensures count { IfOk result (λ made. length made.1.items ≡ cpus) }
         ensures passes { IfOk result (λ made. AreNewPasses made.0.turns 0 made.1.items) }
     {
-        let book = opened(alloc, kernel, world)?;
+        let book = Box::new(alloc, opened(alloc, kernel, world)?)?;
+        let book = BoxedBook { book };
         let Ok((turns, passes)) = Turns::new(alloc, book, u16::from(cpus)) else {
             return Err(NoMemory);
         };
@@ -62,7 +64,7 @@ impl<K: Kernel, J: Naming> Shared<K, J> {
         ensures { StandsForAll (IsBookOf K.state J.world) owner_of (seat_count self.turns) passes.items result }
     {
         let Shared { turns } = self;
-        turns.close(passes)
+        Box::into_inner(turns.close(passes).book)
     }
 }
 

@@ -1,4 +1,4 @@
-use Rattle.std.proofs.Common.{rules, ◌≡◌, ◌∷◌, [], map, Some}
+use Rattle.std.proofs.Common.{rules, ◌≡◌, ◌∷◌, [], Some}
 use Rattle.std.proofs.lemmas.Simd.{map-map}
 use Rattle.hk_model.specs.declared.world.Task.{Task}
 use Rattle.hk_model.specs.Control.{new_frame}
