@@ -38,13 +38,13 @@ impl FreeSlots {
         Ok(FreeSlots { slots })
     }
 
-    /// All slots. No other call takes memory.
+    /// All slots, by rising number. No other call takes memory.
     pub(crate) fn all(alloc: Global) -> Result<FreeSlots, NoMemory>
         ensures { IfOk result (λ free. (k : ℕ) → has free k ≡ nat_lt k 65536) }
     {
         let mut free = FreeSlots::none(alloc)?;
-        for slot in 0..SLOTS {
-            free.give(slot);
+        for behind in 0..SLOTS {
+            free.give(SLOTS - 1 - behind);
         }
         Ok(free)
     }

@@ -66,7 +66,21 @@ impl NameIndex {
     }
 
     /// The slot of a name. None exactly where no slot has it.
+    ///
+    /// Opening objects stand in the slots of their names, so these are looked at first.
     pub(crate) fn find(&self, name: Name) -> Option<u32>
+        ensures found { IfSome result (λ slot. named_at self.now slot ≡ Some name) }
+        ensures none { IfNone result ((k : ℕ) → named_at self.now k ≡ Some name → ⊥) }
+    {
+        let home = (name.0 % SLOTS as u64) as u32;
+        if is_named(&self.names, home, name) {
+            return Some(home);
+        }
+        self.find_listed(name)
+    }
+
+    /// The same, by the list of the name's remainder.
+    fn find_listed(&self, name: Name) -> Option<u32>
         ensures found { IfSome result (λ slot. named_at self.now slot ≡ Some name) }
         ensures none { IfNone result ((k : ℕ) → named_at self.now k ≡ Some name → ⊥) }
     {

@@ -2,7 +2,7 @@ use Rattle.std.proofs.Common.{◌≡◌, ◌<◌, ◌≤◌, ℕ, Some, ◌%◌,
 use Rattle.std.specs.Prelude.{slice_get}
 use Rattle.hk_links.specs.Chained.{listed}
 use Rattle.hk_objects.specs.Indexed.{named_at}
-use Rattle.hk_objects.proofs.name_index.NameIndex.find.Given as goal
+use Rattle.hk_objects.proofs.name_index.NameIndex.find_listed.Given as goal
 
 abbrev pub invariant-loop-k : goal.invariant-loop-k
 invariant-loop-k l = record {

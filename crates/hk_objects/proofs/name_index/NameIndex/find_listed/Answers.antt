@@ -3,7 +3,7 @@ use Rattle.hk_model.specs.declared.names.Name.{Name}
 use Rattle.hk_links.specs.Chained.{listed}
 use Rattle.hk_objects.specs.Indexed.{named_at}
 use Rattle.hk_objects.proofs.Indexing.{none_below, past_end}
-use Rattle.hk_objects.proofs.name_index.NameIndex.find.Goals as goal
+use Rattle.hk_objects.proofs.name_index.NameIndex.find_listed.Goals as goal
 
 pub returns-in-None-clause-none : goal.returns-in-None-clause-none
 returns-in-None-clause-none c =
