@@ -10,3 +10,4 @@ pub mod WordLemmas
 pub mod WrittenRuns
 pub mod FollowedRuns
 pub mod OneRun
+pub mod NoFaults

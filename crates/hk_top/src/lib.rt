@@ -13,6 +13,7 @@ mod processors;
 mod running;
 mod served;
 pub mod status;
+mod sure;
 mod words;
 mod written;
 
@@ -22,3 +23,4 @@ pub use printed::{
     one_processor_runs_alone, printed_record_is_legal, printed_record_is_read_whole,
     whole_run_is_one,
 };
+pub use sure::hydra_surely;

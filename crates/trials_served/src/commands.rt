@@ -5,7 +5,7 @@ ghost use Rattle.std.specs.Prelude.{◌≡◌, [], ◌∷◌, IfOk, codes, map, 
 use hk_io::{Bytes, Out, Sink, Source, SureBytes, SureOut};
 use hk_model::{Cpu, Kernel};
 use hk_procs::Gate;
-use hk_top::{Maker, Maps, Slots, answer, hydra, status};
+use hk_top::{Maker, Maps, Slots, answer, hydra, hydra_surely, status};
 use std::alloc::{AllocError, Global};
 use std::sync::Wait;
 use std::test::Fail;
@@ -86,6 +86,17 @@ fn hands_back_the_kernel_that_was_run(rt: HostRuntime) -> Result<(), Fail> {
     let kernel = kernel.ok_or("a kernel")?;
     let snapshot = kernel.snapshot(alloc).ok().ok_or("a snapshot")?;
     assert_eq!(rt; snapshot.events, 3);
+    Ok(())
+}
+
+#[test]
+fn sure_streams_have_no_fault(rt: HostRuntime) -> Result<(), Fail> {
+    let alloc = rt.alloc();
+    let run = words(alloc, &["run"])?;
+    let mut input = SureBytes::new(SCRIPT.to_vec(alloc)?);
+    let (status, kernel) = hydra_surely(&rt, alloc, &run, &mut input, &Open, &Maps);
+    assert_eq!(rt; status, status::DONE);
+    assert!(rt; kernel.is_some());
     Ok(())
 }
 
