@@ -10,3 +10,4 @@ mod Places
 pub mod StepByStep
 mod WordByWord
 pub mod Spelled
+mod Digits
