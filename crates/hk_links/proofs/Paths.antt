@@ -3,7 +3,7 @@ use Rattle.std.proofs.Common.{◌≡◌, ◌≢◌, ℕ, zero, suc, ◌+◌, ◌
 use Rattle.std.proofs.Common.{⊎_elim, get_or-set_same, get_or-set_other, length-set, Option, Some, None, not, slice_get, nat_lt, drop, IfSome, IfNone}
 use Rattle.std.proofs.lemmas.Bool.Decides.{nat_tests}
 use Rattle.std.proofs.lemmas.Bool.{cases_eq}
-use Rattle.std.proofs.lemmas.List.{length-map, ext_get_or, get_or_read}
+use Rattle.std.proofs.lemmas.List.{length-map, ext_get_or}
 use Rattle.std.proofs.lemmas.Map.Steps.{length-le_from_distinct_below}
 use Rattle.std.proofs.lemmas.Map.Keys.{IsDistinct-push}
 use Rattle.std.proofs.lemmas.List.Folds.{list_any-append}
@@ -365,40 +365,37 @@ module _ (f g : List ℕ) (o : List (Option ℕ)) (n : ℕ) (ls : List (List ℕ
       (cases_eq m l))
 
 -- what the calls do, at what they read
-pub unlinked : (f g : List ℕ) (o : List (Option ℕ)) (n k c p m : ℕ) → IsLinked f g o n (chains f n n k) → c < n → p ≡ get_or g c p → m ≡ get_or f c m
+pub unlinked : (f g : List ℕ) (o : List (Option ℕ)) (n k c p m : ℕ) → IsLinked f g o n (chains f n n k) → c < n → p ≡ at g c → m ≡ at f c
     → IsLinked (set (set f p m) c c) (set (set g m p) c c) (set o c None) n (chains (set (set f p m) c c) n n k)
     × (chains (set (set f p m) c c) n n k ≡ map (without c) (chains f n n k))
 unlinked f g o n k c p m h low readp readm =
     let ls : List (List ℕ) = chains f n n k in
     let e : length ls ≡ k = length-chains f n n k in
-    let p' : at g c ≡ p = sym (get_or_read g c p (omega (arith, h.prevs)) readp 0) in
-    let m' : at f c ≡ m = sym (get_or_read f c m (omega (arith, h.nexts)) readm 0) in
     let new : IsLinked (set (set f p m) c c) (set (set g m p) c c) (set o c None) n (map (without c) ls) =
-    subst (λ (q : ℕ). IsLinked (set (set f q m) c c) (set (set g m q) c c) (set o c None) n (map (without c) ls)) p'
-    (subst (λ (r : ℕ). IsLinked (set (set f (at g c) r) c c) (set (set g r (at g c)) c c) (set o c None) n (map (without c) ls)) m' (out f g o n ls h c low)) in
+    subst (λ (q : ℕ). IsLinked (set (set f q m) c c) (set (set g m q) c c) (set o c None) n (map (without c) ls)) (sym readp)
+    (subst (λ (r : ℕ). IsLinked (set (set f (at g c) r) c c) (set (set g r (at g c)) c c) (set o c None) n (map (without c) ls)) (sym readm) (out f g o n ls h c low)) in
     let size : k ≡ length (map (without c) ls) = sym (length-map ls (without c) ∙ e) in
     (shown _ _ _ _ _ new k size, chains-linked _ _ _ _ _ new k size)
 
-pub pushed : (f g : List ℕ) (o : List (Option ℕ)) (n k l c t : ℕ) → IsLinked f g o n (chains f n n k) → l < k → c < n → t ≡ get_or g (n + l) t
+pub pushed : (f g : List ℕ) (o : List (Option ℕ)) (n k l c t : ℕ) → IsLinked f g o n (chains f n n k) → l < k → c < n → t ≡ at g (n + l)
     → ((m : ℕ) → m < length (chains f n n k) → in_list (chains f n n k) m c ≡ false)
     → IsLinked (set (set f t c) c (n + l)) (set (set g (n + l) c) c t) (set o c (Some l)) n (chains (set (set f t c) c (n + l)) n n k)
     × (chains (set (set f t c) c (n + l)) n n k ≡ set (chains f n n k) l (listed (chains f n n k) l ++ c ∷ []))
 pushed f g o n k l c t h inside low read lone =
     let ls : List (List ℕ) = chains f n n k in
     let e : length ls ≡ k = length-chains f n n k in
-    let t' : at g (n + l) ≡ t = sym (get_or_read g (n + l) t (omega (arith, h.prevs, e)) read 0) in
     let new : IsLinked (set (set f t c) c (n + l)) (set (set g (n + l) c) c t) (set o c (Some l)) n (set ls l (listed ls l ++ c ∷ [])) =
-    subst (λ (q : ℕ). IsLinked (set (set f q c) c (n + l)) (set (set g (n + l) c) c q) (set o c (Some l)) n (set ls l (listed ls l ++ c ∷ []))) t'
+    subst (λ (q : ℕ). IsLinked (set (set f q c) c (n + l)) (set (set g (n + l) c) c q) (set o c (Some l)) n (set ls l (listed ls l ++ c ∷ []))) (sym read)
     (put_in f g o n ls h l c (omega (arith, e)) low (lone_owner f g o n ls h c low lone)) in
     let size : k ≡ length (set ls l (listed ls l ++ c ∷ [])) = sym (length-set ls l _ ∙ e) in
     (shown _ _ _ _ _ new k size, chains-linked _ _ _ _ _ new k size)
 
 -- what a node leads to, at what was read
-pub leads_in : (f : List ℕ) (n i b : ℕ) (r : Option ℕ) → i < length f → b ≡ get_or f i b → b < n → cond (nat_lt (at f i) n) (Some (at f i)) None ≡ r → Some b ≡ r
-leads_in f n i b r low read in' e = let k : at f i ≡ b = sym (get_or_read f i b low read 0) in sym (rw k (grind (arith, nat_tests))) ∙ e
+pub leads_in : (f : List ℕ) (n i b : ℕ) (r : Option ℕ) → b ≡ at f i → b < n → cond (nat_lt (at f i) n) (Some (at f i)) None ≡ r → Some b ≡ r
+leads_in f n i b r read in' e = let k : at f i ≡ b = sym read in sym (rw k (grind (arith, nat_tests))) ∙ e
 
-pub leads_out : (f : List ℕ) (n i b : ℕ) (r : Option ℕ) → i < length f → b ≡ get_or f i b → n ≤ b → cond (nat_lt (at f i) n) (Some (at f i)) None ≡ r → None ≡ r
-leads_out f n i b r low read out' e = let k : at f i ≡ b = sym (get_or_read f i b low read 0) in sym (rw k (grind (arith, nat_tests))) ∙ e
+pub leads_out : (f : List ℕ) (n i b : ℕ) (r : Option ℕ) → b ≡ at f i → n ≤ b → cond (nat_lt (at f i) n) (Some (at f i)) None ≡ r → None ≡ r
+leads_out f n i b r read out' e = let k : at f i ≡ b = sym read in sym (rw k (grind (arith, nat_tests))) ∙ e
 
 pub first_of : (xs : List ℕ) (c : ℕ) → Some c ≡ slice_get xs 0 → xs ≡ c ∷ drop 1 xs
 first_of [] c e = absurd (cc)

@@ -4,8 +4,9 @@
 ghost use Rattle.std.specs.Prelude.{◌≡◌, ◌<◌, ◌≤◌, ◌+◌, ◌++◌, ◌∷◌, ◌↔◌, [], ℕ, List, true, false, Some, length, map, drop, replicate, slice_get, slice_set, IfNone, IfOk, IfSome};
 ghost use Rattle.hk_links.specs.Chained.{Chained, listed, in_list, without};
 
-use crate::arrays::{no_owners, rising};
+use crate::links::Links;
 use crate::memory::NoMemory;
+use crate::owners::Owners;
 use std::alloc::Global;
 use std::marker::Model;
 
@@ -13,9 +14,9 @@ use std::marker::Model;
 /// the number of cells and the lists.
 #[derive(Drop)]
 pub struct Chains {
-    next: Vec<usize>,
-    previous: Vec<usize>,
-    owners: Vec<Option<u32>>,
+    next: Links,
+    previous: Links,
+    owners: Owners,
     cells: u32,
     lists: u32,
 }
@@ -26,9 +27,9 @@ impl Model for Chains {
 
     ghost Value = { Chained };
 
-    ghost view = { λ a. record { cells = a.cells; lists = chains a.next.items a.cells a.cells a.lists } };
+    ghost view = { λ a. record { cells = a.cells; lists = chains a.next a.cells a.cells a.lists } };
 
-    ghost invariant = { λ a. IsLinked a.next.items a.previous.items a.owners.items a.cells (chains a.next.items a.cells a.cells a.lists) };
+    ghost invariant = { λ a. IsLinked a.next a.previous a.owners a.cells (chains a.next a.cells a.cells a.lists) };
 }
 
 impl Chains {
@@ -36,11 +37,10 @@ impl Chains {
     pub fn with(alloc: Global, lists: u32, cells: u32) -> Result<Chains, NoMemory>
         ensures { IfOk result (λ chains. chains ≡ record { cells = cells; lists = replicate lists [] }) }
     {
-        let size = cells as usize + lists as usize;
         Ok(Chains {
-            next: rising(alloc, size)?,
-            previous: rising(alloc, size)?,
-            owners: no_owners(alloc, cells as usize)?,
+            next: Links::with(alloc, cells, lists)?,
+            previous: Links::with(alloc, cells, lists)?,
+            owners: Owners::with(alloc, cells)?,
             cells,
             lists,
         })
@@ -55,12 +55,12 @@ impl Chains {
     {
         let c = cell as usize;
         let end = self.cells as usize + list as usize;
-        let last = self.previous[end];
-        self.next[last] = c;
-        self.next[c] = end;
-        self.previous[end] = c;
-        self.previous[c] = last;
-        self.owners[c] = Some(list);
+        let last = self.previous.get(end);
+        self.next.set(last, c);
+        self.next.set(c, end);
+        self.previous.set(end, c);
+        self.previous.set(c, last);
+        self.owners.set(c, Some(list));
     }
 
     /// Takes the first cell of a list out. None exactly where the list is empty.
@@ -86,7 +86,7 @@ impl Chains {
         ensures cell { IfSome result (λ cell. cell < self.now.cells) }
         ensures few { length (listed self.now.lists list) ≤ self.now.cells }
     {
-        let first = self.next[self.cells as usize + list as usize];
+        let first = self.next.get(self.cells as usize + list as usize);
         if first < self.cells as usize {
             Some(first as u32)
         } else {
@@ -101,13 +101,13 @@ impl Chains {
         ensures first { (l : ℕ) (rest : List ℕ) → l < length self.old.lists → listed self.old.lists l ≡ cell ∷ rest → self.new.lists ≡ slice_set self.old.lists l rest }
     {
         let c = cell as usize;
-        let before = self.previous[c];
-        let behind = self.next[c];
-        self.next[before] = behind;
-        self.next[c] = c;
-        self.previous[behind] = before;
-        self.previous[c] = c;
-        self.owners[c] = None;
+        let before = self.previous.get(c);
+        let behind = self.next.get(c);
+        self.next.set(before, behind);
+        self.next.set(c, c);
+        self.previous.set(behind, before);
+        self.previous.set(c, c);
+        self.owners.set(c, None);
     }
 
     /// The cell behind a cell of a list. None exactly for the last.
@@ -116,7 +116,7 @@ impl Chains {
         ensures next { (l k : ℕ) → l < length self.now.lists → slice_get (listed self.now.lists l) k ≡ Some cell → result ≡ slice_get (listed self.now.lists l) (k + 1) }
         ensures cell { IfSome result (λ behind. behind < self.now.cells) }
     {
-        let behind = self.next[cell as usize];
+        let behind = self.next.get(cell as usize);
         if behind < self.cells as usize {
             Some(behind as u32)
         } else {
@@ -131,6 +131,6 @@ impl Chains {
         ensures in_range { IfSome result (λ list. list < length self.now.lists) }
         ensures none { IfNone result ((l : ℕ) → l < length self.now.lists → in_list self.now.lists l cell ≡ false) }
     {
-        self.owners[cell as usize]
+        self.owners.get(cell as usize)
     }
 }
