@@ -1,9 +1,9 @@
 -- What a mark does to the flags and to the order.
-use Rattle.std.proofs.Common.{◌≡◌, ◌≢◌, ℕ, zero, suc, ◌+◌, ◌<◌, ◌≤◌, Bool, true, false, cond, List, [], ◌∷◌, length, get_or, set, take, refl, ap, ◌∙◌, sym, arith}
+use Rattle.std.proofs.Common.{◌≡◌, ◌≢◌, ℕ, zero, suc, ◌+◌, ◌<◌, ◌≤◌, Bool, true, false, cond, List, [], ◌∷◌, ◌++◌, length, get_or, set, take, refl, ap, ◌∙◌, sym, arith}
 use Rattle.std.proofs.Common.{⊎_elim, get_or-set_same, get_or-set_other, length-set, Some, None, ◌||◌, ◌&&◌, not, slice_get}
 use Rattle.std.proofs.lemmas.Bool.Decides.{nat_tests}
 use Rattle.std.proofs.lemmas.Bool.{cases_eq, cases_lt}
-use Rattle.std.proofs.lemmas.List.{get_or_past, get_or_read, take_more_set}
+use Rattle.std.proofs.lemmas.List.{get_or_past, get_or_read, length_push}
 use Rattle.std.proofs.lemmas.List.Folds.{list_any-append}
 use Rattle.std.proofs.lemmas.List.Sums.{count_by-le-length, sum_by-set, sum_by-cons}
 use Rattle.std.specs.Bool.{◌==◌}
@@ -20,17 +20,15 @@ get_has (x ∷ xs) (suc i) s e = let h : has xs s ≡ true = get_has xs i s e in
   either true b h = refl
   either false b h = h
 
-pub get_taken : (xs : List ℕ) (n i d : ℕ) → i < n → n ≤ length xs → slice_get (take n xs) i ≡ Some (get_or xs i d)
-get_taken [] n i d low few = absurd (omega arith)
-get_taken (x ∷ xs) zero i d low few = absurd (omega arith)
-get_taken (x ∷ xs) (suc n) zero d low few = refl
-get_taken (x ∷ xs) (suc n) (suc i) d low few = get_taken xs n i d (omega arith) (omega arith)
+pub get_at : (xs : List ℕ) (i d : ℕ) → i < length xs → slice_get xs i ≡ Some (get_or xs i d)
+get_at [] i d low = absurd (omega arith)
+get_at (x ∷ xs) zero d low = refl
+get_at (x ∷ xs) (suc i) d low = get_at xs i d (omega arith)
 
-pub none_taken : (xs : List ℕ) (n i : ℕ) → n ≤ i → slice_get (take n xs) i ≡ None
-none_taken xs zero i high = refl
-none_taken [] (suc n) i high = refl
-none_taken (x ∷ xs) (suc n) zero high = absurd (omega arith)
-none_taken (x ∷ xs) (suc n) (suc i) high = none_taken xs n i (omega arith)
+pub none_behind : (xs : List ℕ) (i : ℕ) → length xs ≤ i → slice_get xs i ≡ None
+none_behind [] i high = refl
+none_behind (x ∷ xs) zero high = absurd (omega arith)
+none_behind (x ∷ xs) (suc i) high = none_behind xs i (omega arith)
 
 -- no flag is up
 all_down : (fs : List Bool) → ((k : ℕ) → get_or fs k false ≡ false) → count_by (λ b. b) fs ≡ 0
@@ -40,12 +38,12 @@ all_down (f ∷ fs) h =
     let r : count_by (λ b. b) fs ≡ 0 = all_down fs (λ k. h (suc k)) in
     sum_by-cons (λ b. cond b 1 0) f fs ∙ (rw (e, r) refl)
 
-no_marks : (marked : List Bool) (order : List ℕ) → length order ≡ length marked → ((k : ℕ) → get_or marked k false ≡ false) → AreMarks marked order 0
-no_marks marked order sizes down = record { sizes = sizes; flags = down; many = all_down marked down }
+pub no_marks : (marked : List Bool) → ((k : ℕ) → get_or marked k false ≡ false) → AreMarks marked []
+no_marks marked down = record { flags = down; many = all_down marked down }
 
 -- a flag that is down leaves room
-pub few_marks : (marked : List Bool) (order : List ℕ) (number : ℕ) → AreMarks marked order number → number ≤ length marked
-few_marks marked order number h = let l : count_by (λ b. b) marked ≤ length marked = count_by-le-length (λ b. b) marked in omega (arith, h.many)
+pub few_marks : (marked : List Bool) (order : List ℕ) → AreMarks marked order → length order ≤ length marked
+few_marks marked order h = let l : count_by (λ b. b) marked ≤ length marked = count_by-le-length (λ b. b) marked in omega (arith, h.many)
 
 one_more : (marked : List Bool) (s : ℕ) → s < length marked → get_or marked s false ≡ false → count_by (λ b. b) (set marked s true) ≡ count_by (λ b. b) marked + 1
 one_more marked s low down =
@@ -53,28 +51,26 @@ one_more marked s low down =
     let z : cond {A = ℕ} (get_or marked s false) 1 0 ≡ 0 = rw down refl in
     omega arith
 
-pub room_left : (marked : List Bool) (order : List ℕ) (number s : ℕ) → AreMarks marked order number → s < length marked → get_or marked s false ≡ false → number < length marked
-room_left marked order number s h low down =
+pub room_left : (marked : List Bool) (order : List ℕ) (s : ℕ) → AreMarks marked order → s < length marked → get_or marked s false ≡ false → length order < length marked
+room_left marked order s h low down =
     let l : count_by (λ b. b) (set marked s true) ≤ length (set marked s true) = count_by-le-length (λ b. b) (set marked s true) in
     let c : count_by (λ b. b) (set marked s true) ≡ count_by (λ b. b) marked + 1 = one_more marked s low down in
     omega (arith, length-set marked s true, h.many)
 
-pub more_marks : (marked : List Bool) (order : List ℕ) (number s : ℕ) → AreMarks marked order number → s < length marked → get_or marked s false ≡ false
-    → AreMarks (set marked s true) (set order number s) (number + 1)
-more_marks marked order number s h low down =
-    let room : number < length order = (let r = room_left marked order number s h low down in omega (arith, h.sizes)) in
+pub more_marks : (marked : List Bool) (order : List ℕ) (s : ℕ) → AreMarks marked order → s < length marked → get_or marked s false ≡ false
+    → AreMarks (set marked s true) (order ++ s ∷ [])
+more_marks marked order s h low down =
     let c : count_by (λ b. b) (set marked s true) ≡ count_by (λ b. b) marked + 1 = one_more marked s low down in
     record {
-      sizes = length-set order number s ∙ h.sizes ∙ sym (length-set marked s true);
-      flags = λ k. rw (take_more_set order number s room, list_any-append (λ x. k == x) (take number order) (s ∷ [])) (⊎_elim
+      flags = λ k. rw (list_any-append (λ x. k == x) order (s ∷ [])) (⊎_elim
           (λ (same : k ≡ s).
           let f : (k == s) ≡ true = grind (arith, nat_tests) in
-          rw (f, same) (get_or-set_same marked s true false low ∙ sym (or_true (has (take number order) s))))
+          rw (f, same) (get_or-set_same marked s true false low ∙ sym (or_true (has order s))))
           (λ (ne : k ≢ s).
           let f : (k == s) ≡ false = grind (arith, nat_tests) in
-          rw f (get_or-set_other marked s k true false ne ∙ h.flags k ∙ sym (or_false (has (take number order) k))))
+          rw f (get_or-set_other marked s k true false ne ∙ h.flags k ∙ sym (or_false (has order k))))
           (cases_eq k s));
-      many = c ∙ (let e = h.many in omega arith);
+      many = c ∙ (let e = h.many in let n : length (order ++ s ∷ []) ≡ length order + 1 = length_push order s in omega arith);
     } where
       or_true : (b : Bool) → (b || true) ≡ true
       or_true true = refl
@@ -84,25 +80,18 @@ more_marks marked order number s h low down =
       or_false true = refl
       or_false false = refl
 
-pub more_slots : (marked : List Bool) (order : List ℕ) (number s : ℕ) → AreMarks marked order number → s < length marked → get_or marked s false ≡ false
-    → take (number + 1) (set order number s) ≡ marked_with (take number order) s
-more_slots marked order number s h low down =
-    let room : number < length order = (let r = room_left marked order number s h low down in omega (arith, h.sizes)) in
-    let f : has (take number order) s ≡ false = sym (h.flags s) ∙ down in
-    take_more_set order number s room ∙ (rw f refl)
-
-pub view_more : (marked : List Bool) (order : List ℕ) (number s : ℕ) (old : Marked) → record { size = length marked; slots = take number order } ≡ old
-    → AreMarks marked order number → s < length marked → get_or marked s false ≡ false
-    → record { size = length (set marked s true); slots = take (number + 1) (set order number s) } ≡ record old { slots = marked_with old.slots s }
-view_more marked order number s old view h low down =
+pub view_more : (marked : List Bool) (order : List ℕ) (s : ℕ) (old : Marked) → record { size = length marked; slots = order } ≡ old
+    → AreMarks marked order → s < length marked → get_or marked s false ≡ false
+    → record { size = length (set marked s true); slots = order ++ s ∷ [] } ≡ record old { slots = marked_with old.slots s }
+view_more marked order s old view h low down =
     rw (← view) (
     let a : length (set marked s true) ≡ length marked = length-set marked s true in
-    let b : take (number + 1) (set order number s) ≡ marked_with (take number order) s = more_slots marked order number s h low down in
+    let b : has order s ≡ false = sym (h.flags s) ∙ down in
     rw (a, b) refl)
 
 -- what is marked is within
-pub mark_within : (marked : List Bool) (order : List ℕ) (number k : ℕ) → AreMarks marked order number → has (take number order) k ≡ true → k < length marked
-mark_within marked order number k h m = ⊎_elim
+pub mark_within : (marked : List Bool) (order : List ℕ) (k : ℕ) → AreMarks marked order → has order k ≡ true → k < length marked
+mark_within marked order k h m = ⊎_elim
     (λ (l : k < length marked). l)
     (λ (g : length marked ≤ k). absurd (let f : false ≡ true = sym (get_or_past marked k false g) ∙ h.flags k ∙ m in cc))
     (cases_lt k (length marked))
@@ -144,11 +133,9 @@ unmark_step old now new slots i s low read within e h k =
       other false b = refl
 
 -- all taken down
-pub marks_cleared : (marked cleared : List Bool) (order : List ℕ) (number : ℕ) → AreMarks marked order number → length cleared ≡ length marked
-    → ((k : ℕ) → get_or cleared k false ≡ (get_or marked k false && not (has (take number order) k))) → AreMarks cleared order 0
-marks_cleared marked cleared order number h size down = no_marks cleared order (h.sizes ∙ sym size)
-    (λ k. down k ∙ ap (λ (b : Bool). b && not (has (take number order) k)) (h.flags k)
-    ∙ neither (has (take number order) k)) where
-      neither : (b : Bool) → (b && not b) ≡ false
-      neither true = refl
-      neither false = refl
+pub marks_cleared : (marked cleared : List Bool) (order : List ℕ) → AreMarks marked order
+    → ((k : ℕ) → get_or cleared k false ≡ (get_or marked k false && not (has order k))) → AreMarks cleared []
+marks_cleared marked cleared order h down = no_marks cleared (λ k. down k ∙ ap (λ (b : Bool). b && not (has order k)) (h.flags k) ∙ neither (has order k)) where
+  neither : (b : Bool) → (b && not b) ≡ false
+  neither true = refl
+  neither false = refl

@@ -3,8 +3,8 @@ use Rattle.std.proofs.lemmas.Option.{slice_get-get_or}
 use Rattle.hk_reclaim.proofs.Marking.{get_has}
 use Rattle.hk_reclaim.proofs.marks.unmark.Goals as goal
 
-pub index_mut-requires : goal.index_mut-requires
-index_mut-requires c =
-    let low : get_or c.args.slots.now c.loop-i.i 0 < length c.args.marked.now.items =
+pub set-requires : goal.set-requires
+set-requires c =
+    let low : get_or c.args.slots.now c.loop-i.i 0 < length c.args.marked.now =
     c.requires (get_or c.args.slots.now c.loop-i.i 0) (get_has c.args.slots.now c.loop-i.i _ (slice_get-get_or c.args.slots.now c.loop-i.i 0 c.loop-i-test.true)) in
-    omega (arith, c.loop-i.invariant.size, c.loop-i.marked.ok.0)
+    omega (arith, c.loop-i.invariant.size)

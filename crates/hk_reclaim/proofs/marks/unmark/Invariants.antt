@@ -4,6 +4,6 @@ use Rattle.hk_reclaim.proofs.marks.unmark.Given as goal
 
 abbrev pub invariant-loop-i : goal.invariant-loop-i
 invariant-loop-i l = record {
-  size : length l.marked.items ≡ length l.fn.marked.items;
-  down : (k : ℕ) → get_or l.marked.items k false ≡ (get_or l.fn.marked.items k false && not (has (take l.i l.slots) k));
+  size : length l.marked ≡ length l.fn.marked;
+  down : (k : ℕ) → get_or l.marked k false ≡ (get_or l.fn.marked k false && not (has (take l.i l.slots) k));
 }
