@@ -56,18 +56,11 @@ fn read_stands(stands: &mut PerSlot<bool>, size: u32, first_new: Name, objects: 
     ensures size { length stands.new ≡ size }
     ensures stands { AreMade first_new objects.now.slots stands.new }
 {
+    stands.fill(false);
     for i in 0..size {
-        stands.set(i, is_made(objects, SlotNo(i), first_new));
-    }
-}
-
-/// Writes numbers over as many others.
-fn copy(left: &mut PerSlot<u32>, total: &PerSlot<u32>)
-    requires { length left.old ≡ length total.now }
-    ensures { left.new ≡ total.now }
-{
-    for i in 0..left.size() {
-        left.set(i, total.get(i));
+        if is_made(objects, SlotNo(i), first_new) {
+            stands.set(i, true);
+        }
     }
 }
 
@@ -150,12 +143,13 @@ impl Made {
         requires room { IsInRoom objects.now.slots size }
         requires counted { (outside : List ℕ) × AreLeft first_new objects.now.slots outside (namings objects.now.slots) total.now }
         ensures stands { AreMade first_new objects.now.slots self.new.stands }
-        ensures left { (outside : List ℕ) → AreLeft first_new objects.now.slots outside (namings objects.now.slots) total.now → IsHalfLeft first_new objects.now.slots outside size self.new.left }
+        ensures left { (outside : List ℕ) → AreLeft first_new objects.now.slots outside (namings objects.now.slots) total.now
+            → IsHalfLeft first_new objects.now.slots outside size self.new.left }
         ensures stands_size { length self.new.stands ≡ size }
         ensures left_size { length self.new.left ≡ size }
     {
         read_stands(&mut self.stands, size, first_new, objects);
-        copy(&mut self.left, total);
+        self.left.copy(total);
         for i in 0..size {
             take_off_if(&mut self.left, objects, i, first_new, self.stands.get(i));
         }

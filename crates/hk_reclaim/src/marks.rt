@@ -27,17 +27,6 @@ impl Model for Marks {
     ghost invariant = { λ a. AreMarks a.marked a.order.items × (length a.marked ≤ vec_capacity a.order) };
 }
 
-/// Takes the marks of these slots away.
-fn unmark(marked: &mut PerSlot<bool>, slots: &[u32])
-    requires { (k : ℕ) → has slots.now k ≡ true → k < length marked.old }
-    ensures size { length marked.new ≡ length marked.old }
-    ensures others { (k : ℕ) → slice_index_or marked.new k false ≡ (slice_index_or marked.old k false && not (has slots.now k)) }
-{
-    for i in 0..slots.len() {
-        marked.set(slots[i], false);
-    }
-}
-
 impl Marks {
     /// No marks, with room for so many slots. No other call takes memory.
     pub(crate) fn with(alloc: Global, slots: u32) -> Result<Marks, NoMemory>
@@ -85,7 +74,7 @@ impl Marks {
     pub(crate) fn clear(&mut self)
         ensures { self.new ≡ record self.old { slots = [] } }
     {
-        unmark(&mut self.marked, self.order.as_slice());
+        self.marked.fill(false);
         self.order.clear();
     }
 }

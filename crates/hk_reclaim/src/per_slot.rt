@@ -38,6 +38,18 @@ fn lengthen<T: Copy>(front: &mut Vec<T>, to: usize, rest: T)
     }
 }
 
+/// Writes values over a list in which there is room for them.
+fn refill<T: Copy>(front: &mut Vec<T>, from: &[T])
+    requires { length from.now ≤ vec_capacity front.old }
+    ensures items { front.new.items ≡ from.now }
+    ensures capacity { vec_capacity front.new ≡ vec_capacity front.old }
+{
+    front.clear();
+    for i in 0..from.len() {
+        front.push_reserved(from[i]);
+    }
+}
+
 impl<T: Copy> PerSlot<T> {
     /// This value for each of so many slots. No other call takes memory.
     pub(crate) fn with(alloc: Global, size: u32, rest: T) -> Result<PerSlot<T>, NoMemory>
@@ -74,6 +86,23 @@ impl<T: Copy> PerSlot<T> {
         let at = slot as usize;
         lengthen(&mut self.front, at + 1, self.rest);
         self.front[at] = value;
+    }
+
+    /// Writes one value to all slots.
+    pub(crate) fn fill(&mut self, value: T)
+        ensures { self.new ≡ replicate (length self.old) value }
+    {
+        self.front.clear();
+        self.rest = value;
+    }
+
+    /// Writes the values of as many other slots.
+    pub(crate) fn copy(&mut self, other: &PerSlot<T>)
+        requires { length self.old ≡ length other.now }
+        ensures { self.new ≡ other.now }
+    {
+        refill(&mut self.front, other.front.as_slice());
+        self.rest = other.rest;
     }
 }
 
