@@ -8,3 +8,4 @@ pub mod Reaching
 pub mod Rooting
 pub mod Sweeping
 pub mod Keeping
+pub mod Unrolling

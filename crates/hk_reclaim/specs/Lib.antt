@@ -4,3 +4,4 @@ pub mod Tally
 pub mod Marks
 pub mod Made
 pub mod Reach
+pub mod PerSlot

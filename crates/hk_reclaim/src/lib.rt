@@ -2,12 +2,12 @@
 //! (`docs/RULES.md`, "Objects that vanish"). Neither goes by recursion, and neither takes memory.
 #![tactic(auto)]
 
-mod arrays;
 mod counts;
 mod finding;
 mod made;
 mod marks;
 mod numbers;
+mod per_slot;
 mod reach;
 mod sweep;
 

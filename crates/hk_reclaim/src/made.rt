@@ -8,9 +8,9 @@ ghost use Rattle.hk_reclaim.specs.Naming.{names_in, namings};
 ghost use Rattle.hk_reclaim.specs.Reach.{IsInRoom};
 ghost use Rattle.hk_reclaim.specs.Tally.{owing};
 
-use crate::arrays::{falses, zeros};
 use crate::finding::slot_of;
 use crate::numbers::entry_name;
+use crate::per_slot::PerSlot;
 use hk_model::{Name, NoMemory};
 use hk_objects::{Objects, SlotNo};
 use std::alloc::Global;
@@ -18,8 +18,8 @@ use std::alloc::Global;
 /// The slots in which made objects stand, and how often each slot's object is named, less the namings taken off.
 #[derive(Drop)]
 pub(crate) struct Made {
-    stands: Vec<bool>,
-    left: Vec<u32>,
+    stands: PerSlot<bool>,
+    left: PerSlot<u32>,
 }
 
 /// A made object stands in a slot.
@@ -50,42 +50,37 @@ pub(crate) fn made_slot(objects: &Objects, name: Option<Name>, first_new: Name) 
 }
 
 /// Writes for each slot whether a made object stands there.
-fn read_stands(stands: &mut Vec<bool>, size: u32, first_new: Name, objects: &Objects)
-    requires size { length stands.old.items ≡ size }
+fn read_stands(stands: &mut PerSlot<bool>, size: u32, first_new: Name, objects: &Objects)
+    requires size { length stands.old ≡ size }
     requires room { IsInRoom objects.now.slots size }
-    ensures size { length stands.new.items ≡ size }
-    ensures stands { AreMade first_new objects.now.slots stands.new.items }
+    ensures size { length stands.new ≡ size }
+    ensures stands { AreMade first_new objects.now.slots stands.new }
 {
+    stands.fill(false);
     for i in 0..size {
-        stands[i as usize] = is_made(objects, SlotNo(i), first_new);
+        if is_made(objects, SlotNo(i), first_new) {
+            stands.set(i, true);
+        }
     }
 }
 
-/// Writes numbers over as many others.
-fn copy(left: &mut Vec<u32>, total: &[u32])
-    requires { length left.old.items ≡ length total.now }
-    ensures { left.new.items ≡ total.now }
-{
-    left.as_mut_slice().copy_from_slice(total);
-}
-
 /// Takes off one naming of the made object of a name, if there is one.
-fn take_off(left: &mut Vec<u32>, objects: &Objects, name: Option<Name>, first_new: Name)
-    requires { IsTakeable first_new objects.now.slots name left.old.items }
-    ensures { IsTakenOff first_new objects.now.slots name left.old.items left.new.items }
+fn take_off(left: &mut PerSlot<u32>, objects: &Objects, name: Option<Name>, first_new: Name)
+    requires { IsTakeable first_new objects.now.slots name left.old }
+    ensures { IsTakenOff first_new objects.now.slots name left.old left.new }
 {
     if let Some(slot) = made_slot(objects, name, first_new) {
-        left[slot.0 as usize] -= 1;
+        left.lower(slot.0);
     }
 }
 
 /// Takes off all namings by an object.
-fn take_off_names(left: &mut Vec<u32>, objects: &Objects, slot: SlotNo, first_new: Name)
+fn take_off_names(left: &mut PerSlot<u32>, objects: &Objects, slot: SlotNo, first_new: Name)
     requires stands { IsSome (place objects.now.slots slot.0) }
-    requires left { (outside : List ℕ) × (owed : Name → ℕ) × AreLeft first_new objects.now.slots outside (owing owed (names_in (place objects.now.slots slot.0))) left.old.items }
-    ensures left { (outside : List ℕ) (owed : Name → ℕ) → AreLeft first_new objects.now.slots outside (owing owed (names_in (place objects.now.slots slot.0))) left.old.items
-        → AreLeft first_new objects.now.slots outside owed left.new.items }
-    ensures size { length left.new.items ≡ length left.old.items }
+    requires left { (outside : List ℕ) × (owed : Name → ℕ) × AreLeft first_new objects.now.slots outside (owing owed (names_in (place objects.now.slots slot.0))) left.old }
+    ensures left { (outside : List ℕ) (owed : Name → ℕ) → AreLeft first_new objects.now.slots outside (owing owed (names_in (place objects.now.slots slot.0))) left.old
+        → AreLeft first_new objects.now.slots outside owed left.new }
+    ensures size { length left.new ≡ length left.old }
 {
     take_off(left, objects, Some(objects.of(slot)), first_new);
     for entry in objects.entries(slot) {
@@ -94,11 +89,11 @@ fn take_off_names(left: &mut Vec<u32>, objects: &Objects, slot: SlotNo, first_ne
 }
 
 /// Takes off all namings by the object in a slot, if asked to.
-fn take_off_if(left: &mut Vec<u32>, objects: &Objects, slot: u32, first_new: Name, so: bool)
+fn take_off_if(left: &mut PerSlot<u32>, objects: &Objects, slot: u32, first_new: Name, so: bool)
     requires so { so ≡ is_made first_new (name_at objects.now.slots slot) }
-    requires left { (outside : List ℕ) × IsHalfLeft first_new objects.now.slots outside slot left.old.items }
-    ensures left { (outside : List ℕ) → IsHalfLeft first_new objects.now.slots outside slot left.old.items → IsHalfLeft first_new objects.now.slots outside (slot + 1) left.new.items }
-    ensures size { length left.new.items ≡ length left.old.items }
+    requires left { (outside : List ℕ) × IsHalfLeft first_new objects.now.slots outside slot left.old }
+    ensures left { (outside : List ℕ) → IsHalfLeft first_new objects.now.slots outside slot left.old → IsHalfLeft first_new objects.now.slots outside (slot + 1) left.new }
+    ensures size { length left.new ≡ length left.old }
 {
     if so {
         take_off_names(left, objects, SlotNo(slot), first_new);
@@ -108,54 +103,55 @@ fn take_off_if(left: &mut Vec<u32>, objects: &Objects, slot: u32, first_new: Nam
 impl Made {
     /// Room for so many slots. No other call takes memory.
     pub(crate) fn with(alloc: Global, slots: u32) -> Result<Made, NoMemory>
-        ensures stands { IfOk result (λ made. length made.stands.items ≡ slots) }
-        ensures left { IfOk result (λ made. length made.left.items ≡ slots) }
+        ensures stands { IfOk result (λ made. length made.stands ≡ slots) }
+        ensures left { IfOk result (λ made. length made.left ≡ slots) }
     {
         Ok(Made {
-            stands: falses(alloc, slots as usize)?,
-            left: zeros(alloc, slots as usize)?,
+            stands: PerSlot::with(alloc, slots, false)?,
+            left: PerSlot::with(alloc, slots, 0)?,
         })
     }
 
     /// A made object stands in a slot.
     pub(crate) fn is_made(&self, slot: u32) -> bool
-        requires { slot < length self.now.stands.items }
-        ensures { result ≡ slice_index_or self.now.stands.items slot false }
+        requires { slot < length self.now.stands }
+        ensures { result ≡ slice_index_or self.now.stands slot false }
     {
-        self.stands[slot as usize]
+        self.stands.get(slot)
     }
 
     /// A made object stands in a slot, and a naming of it is left.
     pub(crate) fn is_root(&self, slot: u32) -> bool
-        requires stands { slot < length self.now.stands.items }
-        requires left { slot < length self.now.left.items }
-        ensures { result ≡ (slice_index_or self.now.stands.items slot false && nat_lt 0 (slice_index self.now.left.items slot)) }
+        requires stands { slot < length self.now.stands }
+        requires left { slot < length self.now.left }
+        ensures { result ≡ (slice_index_or self.now.stands slot false && nat_lt 0 (slice_index self.now.left slot)) }
     {
-        self.stands[slot as usize] && 0 < self.left[slot as usize]
+        self.stands.get(slot) && 0 < self.left.get(slot)
     }
 
     /// Reads which objects are made ones, and how often each is named. What the made ones name is taken off.
-    pub(crate) fn read(&mut self, size: u32, total: &[u32], first_new: Name, objects: &Objects)
-        requires stands { length self.old.stands.items ≡ size }
-        requires left { length self.old.left.items ≡ size }
+    pub(crate) fn read(
+        &mut self,
+        size: u32,
+        total: &PerSlot<u32>,
+        first_new: Name,
+        objects: &Objects,
+    )
+        requires stands { length self.old.stands ≡ size }
+        requires left { length self.old.left ≡ size }
         requires total { length total.now ≡ size }
         requires room { IsInRoom objects.now.slots size }
         requires counted { (outside : List ℕ) × AreLeft first_new objects.now.slots outside (namings objects.now.slots) total.now }
-        ensures stands { AreMade first_new objects.now.slots self.new.stands.items }
-        ensures left { (outside : List ℕ) → AreLeft first_new objects.now.slots outside (namings objects.now.slots) total.now → IsHalfLeft first_new objects.now.slots outside size self.new.left.items }
-        ensures stands_size { length self.new.stands.items ≡ size }
-        ensures left_size { length self.new.left.items ≡ size }
+        ensures stands { AreMade first_new objects.now.slots self.new.stands }
+        ensures left { (outside : List ℕ) → AreLeft first_new objects.now.slots outside (namings objects.now.slots) total.now
+            → IsHalfLeft first_new objects.now.slots outside size self.new.left }
+        ensures stands_size { length self.new.stands ≡ size }
+        ensures left_size { length self.new.left ≡ size }
     {
         read_stands(&mut self.stands, size, first_new, objects);
-        copy(&mut self.left, total);
+        self.left.copy(total);
         for i in 0..size {
-            take_off_if(
-                &mut self.left,
-                objects,
-                i,
-                first_new,
-                self.stands[i as usize],
-            );
+            take_off_if(&mut self.left, objects, i, first_new, self.stands.get(i));
         }
     }
 }

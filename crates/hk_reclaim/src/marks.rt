@@ -4,39 +4,27 @@ ghost use Rattle.std.specs.Prelude.{◌≡◌, ◌<◌, ◌≤◌, ◌&&◌, ℕ
 ghost use Rattle.hk_reclaim.specs.Marks.{marked_with};
 ghost use Rattle.hk_reclaim.specs.Tally.{has};
 
-use crate::arrays::{falses, zeros};
+use crate::per_slot::PerSlot;
 use hk_model::NoMemory;
 use std::alloc::Global;
 use std::marker::Model;
 
-/// Marked slots: for each slot whether it is marked, and the first so many of `order` are the marked ones.
+/// Marked slots: for each slot whether it is marked, and the marked ones in order, for each of which there is room.
 #[derive(Drop)]
 pub(crate) struct Marks {
-    marked: Vec<bool>,
+    marked: PerSlot<bool>,
     order: Vec<u32>,
-    number: usize,
 }
 
 impl Model for Marks {
-    ghost use Rattle.std.specs.Prelude.{length, take};
+    ghost use Rattle.std.specs.Prelude.{length, ◌≤◌, vec_capacity};
     ghost use Rattle.hk_reclaim.specs.Marks.{Marked, AreMarks};
 
     ghost Value = { Marked };
 
-    ghost view = { λ a. record { size = length a.marked.items; slots = take a.number a.order.items } };
+    ghost view = { λ a. record { size = length a.marked; slots = a.order.items } };
 
-    ghost invariant = { λ a. AreMarks a.marked.items a.order.items a.number };
-}
-
-/// Takes the marks of these slots away.
-fn unmark(marked: &mut Vec<bool>, slots: &[u32])
-    requires { (k : ℕ) → has slots.now k ≡ true → k < length marked.old.items }
-    ensures size { length marked.new.items ≡ length marked.old.items }
-    ensures others { (k : ℕ) → slice_index_or marked.new.items k false ≡ (slice_index_or marked.old.items k false && not (has slots.now k)) }
-{
-    for i in 0..slots.len() {
-        marked[slots[i] as usize] = false;
-    }
+    ghost invariant = { λ a. AreMarks a.marked a.order.items × (length a.marked ≤ vec_capacity a.order) };
 }
 
 impl Marks {
@@ -45,9 +33,8 @@ impl Marks {
         ensures { IfOk result (λ m. m ≡ record { size = slots; slots = [] }) }
     {
         Ok(Marks {
-            marked: falses(alloc, slots as usize)?,
-            order: zeros(alloc, slots as usize)?,
-            number: 0,
+            marked: PerSlot::with(alloc, slots, false)?,
+            order: Vec::with_capacity(alloc, slots as usize)?,
         })
     }
 
@@ -56,7 +43,7 @@ impl Marks {
         requires { slot < self.now.size }
         ensures { result ≡ has self.now.slots slot }
     {
-        self.marked[slot as usize]
+        self.marked.get(slot)
     }
 
     /// Marks a slot.
@@ -64,10 +51,9 @@ impl Marks {
         requires { slot < self.old.size }
         ensures { self.new ≡ record self.old { slots = marked_with self.old.slots slot } }
     {
-        if !self.marked[slot as usize] {
-            self.marked[slot as usize] = true;
-            self.order[self.number] = slot;
-            self.number += 1;
+        if !self.marked.get(slot) {
+            self.marked.set(slot, true);
+            self.order.push_reserved(slot);
         }
     }
 
@@ -77,7 +63,7 @@ impl Marks {
         ensures slot { IfSome result (λ s. s < self.now.size) }
         ensures few { length self.now.slots ≤ self.now.size }
     {
-        if (place as usize) < self.number {
+        if (place as usize) < self.order.len() {
             Some(self.order[place as usize])
         } else {
             None
@@ -88,7 +74,7 @@ impl Marks {
     pub(crate) fn clear(&mut self)
         ensures { self.new ≡ record self.old { slots = [] } }
     {
-        unmark(&mut self.marked, &self.order.as_slice()[..self.number]);
-        self.number = 0;
+        self.marked.fill(false);
+        self.order.clear();
     }
 }

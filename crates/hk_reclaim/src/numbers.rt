@@ -8,8 +8,8 @@ ghost use Rattle.hk_reclaim.specs.Kept.{IsKept, IsPartOf, HasLost};
 ghost use Rattle.hk_reclaim.specs.Naming.{named, names_in, stands};
 ghost use Rattle.hk_reclaim.specs.Tally.{has, raised, lowered, released, is_due, owing, AreCounted, IsCounted, IsReleasable, IsReleased, SameOutside};
 
-use crate::arrays::zeros;
 use crate::finding::{one_list, read_apart, slot_of};
+use crate::per_slot::PerSlot;
 use hk_links::Chains;
 use hk_model::{Entry, Name, NoMemory, Template};
 use hk_objects::{Objects, SlotNo};
@@ -20,8 +20,8 @@ use std::marker::Model;
 #[derive(Drop)]
 pub(crate) struct Numbers {
     first_new: Name,
-    outside: Vec<u32>,
-    total: Vec<u32>,
+    outside: PerSlot<u32>,
+    total: PerSlot<u32>,
     pending: Chains,
 }
 
@@ -31,9 +31,9 @@ impl Model for Numbers {
 
     ghost Value = { Tally };
 
-    ghost view = { λ a. record { first_new = a.first_new; outside = a.outside.items; total = a.total.items; pending = listed a.pending.lists 0 } };
+    ghost view = { λ a. record { first_new = a.first_new; outside = a.outside; total = a.total; pending = listed a.pending.lists 0 } };
 
-    ghost invariant = { λ a. IsTally a.outside.items a.total.items a.pending };
+    ghost invariant = { λ a. IsTally a.outside a.total a.pending };
 }
 
 /// Nothing counts an object any longer, and it is no opening object.
@@ -62,8 +62,8 @@ impl Numbers {
     {
         Ok(Numbers {
             first_new,
-            outside: zeros(alloc, slots as usize)?,
-            total: zeros(alloc, slots as usize)?,
+            outside: PerSlot::with(alloc, slots, 0)?,
+            total: PerSlot::with(alloc, slots, 0)?,
             pending: one_list(alloc, slots)?,
         })
     }
@@ -72,14 +72,14 @@ impl Numbers {
     pub(crate) fn size(&self) -> u32
         ensures { result ≡ length self.now.total }
     {
-        self.total.len() as u32
+        self.total.size()
     }
 
     /// The numbers of all namings.
-    pub(crate) fn total(&self) -> &[u32]
+    pub(crate) fn total(&self) -> &PerSlot<u32>
         ensures { result.now ≡ self.now.total }
     {
-        self.total.as_slice()
+        &self.total
     }
 
     /// The first name of an object that is no opening object.
@@ -95,9 +95,8 @@ impl Numbers {
         requires few { slice_index self.old.total slot.0 < 2 ^ 32 - 1 }
         ensures { self.new ≡ record self.old { outside = raised self.old.outside slot.0; total = raised self.old.total slot.0; pending = without slot.0 self.old.pending } }
     {
-        let s = slot.0 as usize;
-        self.outside[s] += 1;
-        self.total[s] += 1;
+        self.outside.raise(slot.0);
+        self.total.raise(slot.0);
         self.pending.unlink(slot.0);
     }
 
@@ -107,8 +106,7 @@ impl Numbers {
         requires few { slice_index self.old.total slot.0 < 2 ^ 32 - 1 }
         ensures { self.new ≡ record self.old { total = raised self.old.total slot.0; pending = without slot.0 self.old.pending } }
     {
-        let s = slot.0 as usize;
-        self.total[s] += 1;
+        self.total.raise(slot.0);
         self.pending.unlink(slot.0);
     }
 
@@ -118,10 +116,9 @@ impl Numbers {
         requires held { 0 < slice_index self.old.outside slot.0 }
         ensures { self.new ≡ record (released self.old slot.0 name) { outside = lowered self.old.outside slot.0 } }
     {
-        let s = slot.0 as usize;
-        self.outside[s] -= 1;
-        self.total[s] -= 1;
-        if is_due(self.total[s], name, self.first_new) {
+        self.outside.lower(slot.0);
+        self.total.lower(slot.0);
+        if is_due(self.total.get(slot.0), name, self.first_new) {
             self.pending.push_back(0, slot.0);
         }
     }
@@ -132,9 +129,8 @@ impl Numbers {
         requires held { slice_index self.old.outside slot.0 < slice_index self.old.total slot.0 }
         ensures { self.new ≡ released self.old slot.0 name }
     {
-        let s = slot.0 as usize;
-        self.total[s] -= 1;
-        if is_due(self.total[s], name, self.first_new) {
+        self.total.lower(slot.0);
+        if is_due(self.total.get(slot.0), name, self.first_new) {
             self.pending.push_back(0, slot.0);
         }
     }

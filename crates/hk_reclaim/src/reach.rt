@@ -48,11 +48,11 @@ fn mark_if(marks: &mut Marks, slot: u32, so: bool)
 
 /// Marks the made objects of which a naming is left.
 fn mark_roots(marks: &mut Marks, size: u32, made: &Made)
-    requires stands { length made.now.stands.items ≡ size }
-    requires left { length made.now.left.items ≡ size }
+    requires stands { length made.now.stands ≡ size }
+    requires left { length made.now.left ≡ size }
     requires empty { marks.old ≡ record { size = size; slots = [] } }
     ensures size { marks.new.size ≡ size }
-    ensures roots { (k : ℕ) → has marks.new.slots k ≡ (nat_lt k size && (slice_index_or made.now.stands.items k false && nat_lt 0 (slice_index made.now.left.items k))) }
+    ensures roots { (k : ℕ) → has marks.new.slots k ≡ (nat_lt k size && (slice_index_or made.now.stands k false && nat_lt 0 (slice_index made.now.left k))) }
 {
     for i in 0..size {
         mark_if(marks, i, made.is_root(i));
@@ -83,13 +83,13 @@ pub(crate) fn mark_reached(
     first_new: Name,
     objects: &Objects,
 )
-    requires stands_size { length made.now.stands.items ≡ size }
-    requires left_size { length made.now.left.items ≡ size }
+    requires stands_size { length made.now.stands ≡ size }
+    requires left_size { length made.now.left ≡ size }
     requires empty { marks.old ≡ record { size = size; slots = [] } }
     requires room { IsInRoom objects.now.slots size }
-    requires stands { AreMade first_new objects.now.slots made.now.stands.items }
+    requires stands { AreMade first_new objects.now.slots made.now.stands }
     ensures size { marks.new.size ≡ size }
-    ensures marks { (outside : List ℕ) → IsHalfLeft first_new objects.now.slots outside size made.now.left.items
+    ensures marks { (outside : List ℕ) → IsHalfLeft first_new objects.now.slots outside size made.now.left
         → IsMarking first_new outside objects.now.slots (stays first_new objects.now.slots marks.new.slots) }
 {
     mark_roots(marks, size, made);

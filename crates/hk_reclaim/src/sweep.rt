@@ -27,9 +27,9 @@ fn release_if(numbers: &mut Numbers, objects: &Objects, slot: u32, so: bool)
 
 /// A made object stands in a slot without a mark.
 fn is_lost(made: &Made, marks: &Marks, slot: u32) -> bool
-    requires made { slot < length made.now.stands.items }
+    requires made { slot < length made.now.stands }
     requires marks { slot < marks.now.size }
-    ensures { result ≡ (slice_index_or made.now.stands.items slot false && not (has marks.now.slots slot)) }
+    ensures { result ≡ (slice_index_or made.now.stands slot false && not (has marks.now.slots slot)) }
 {
     made.is_made(slot) && !marks.is_marked(slot)
 }
@@ -43,10 +43,10 @@ pub(crate) fn release_lost(
     objects: &Objects,
 )
     requires size { size ≡ marks.now.size }
-    requires made_size { length made.now.stands.items ≡ size }
-    requires made { (first : Name) × AreMade first objects.now.slots made.now.stands.items }
+    requires made_size { length made.now.stands ≡ size }
+    requires made { (first : Name) × AreMade first objects.now.slots made.now.stands }
     requires counted { IsCounted objects.now.slots numbers.old }
-    ensures counted { (first : Name) → AreMade first objects.now.slots made.now.stands.items
+    ensures counted { (first : Name) → AreMade first objects.now.slots made.now.stands
         → IsHalfSwept objects.now.slots (is_lost first objects.now.slots marks.now.slots) size numbers.new }
     ensures outside { SameOutside numbers.old numbers.new }
 {

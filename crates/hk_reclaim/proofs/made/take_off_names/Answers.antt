@@ -11,9 +11,9 @@ take_off-requires c = type_takeable _ _ c.args.slot.0 _ _ c.requires.stands c.of
 pub loop-entry-init : goal.loop-entry-init
 loop-entry-init c = record {
   left =
-      type_off c.args.first_new c.args.objects.now.slots c.args.slot.0 c.of.result c.entries-entry-items.result.now c.args.left.now.items c.take_off.new.left.items
+      type_off c.args.first_new c.args.objects.now.slots c.args.slot.0 c.of.result c.entries-entry-items.result.now c.args.left.now c.take_off.new.left
       c.of.ensures.apart c.requires.stands c.of.ensures.of c.entries-entry-items.ensures.entries c.take_off.ensures;
-  size = off_size c.args.first_new c.args.objects.now.slots (Some c.of.result) c.args.left.now.items c.take_off.new.left.items c.take_off.ensures;
+  size = off_size c.args.first_new c.args.objects.now.slots (Some c.of.result) c.args.left.now c.take_off.new.left c.take_off.ensures;
 }
 
 pub take_off-requires-in-loop-entry : goal.take_off-requires-in-loop-entry
@@ -27,13 +27,13 @@ loop-entry-preserved c =
     let i = c.loop-entry.invariant in
     record {
       left =
-          entry_off c.args.first_new c.args.objects.now.slots _ c.entries-entry-items.result.now c.loop-entry.entry-index c.entry_name.result c.args.left.now.items
-          c.loop-entry.left.items c.take_off-in-loop-entry.new.left.items c.of.ensures.apart c.loop-entry-test.true
+          entry_off c.args.first_new c.args.objects.now.slots _ c.entries-entry-items.result.now c.loop-entry.entry-index c.entry_name.result c.args.left.now
+          c.loop-entry.left c.take_off-in-loop-entry.new.left c.of.ensures.apart c.loop-entry-test.true
           (c.entry_name.ensures
           ∙ ap named (get_or_read c.entries-entry-items.result.now c.loop-entry.entry-index c.entry-item.result c.loop-entry-test.true c.entry-item.is Empty))
           c.take_off-in-loop-entry.ensures i.left;
       size =
-          off_size c.args.first_new c.args.objects.now.slots c.entry_name.result c.loop-entry.left.items c.take_off-in-loop-entry.new.left.items
+          off_size c.args.first_new c.args.objects.now.slots c.entry_name.result c.loop-entry.left c.take_off-in-loop-entry.new.left
           c.take_off-in-loop-entry.ensures
           ∙ i.size;
     }

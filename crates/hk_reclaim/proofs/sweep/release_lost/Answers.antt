@@ -13,12 +13,12 @@ loop-i-init c = record {
 pub release_if-requires-clause-stands : goal.release_if-requires-clause-stands
 release_if-requires-clause-stands c =
     lost_stands c.requires.made.0 c.args.objects.now.slots c.args.marks.now.slots c.loop-i.i c.is_lost.result
-    (lost_at c.requires.made.0 c.args.objects.now.slots c.args.made.now.stands.items c.args.marks.now.slots c.loop-i.i c.is_lost.result c.requires.made.1 c.is_lost.ensures)
+    (lost_at c.requires.made.0 c.args.objects.now.slots c.args.made.now.stands c.args.marks.now.slots c.loop-i.i c.is_lost.result c.requires.made.1 c.is_lost.ensures)
 
 pub release_if-requires-clause-counted : goal.release_if-requires-clause-counted
 release_if-requires-clause-counted c = (
   is_lost c.requires.made.0 c.args.objects.now.slots c.args.marks.now.slots,
-  lost_at c.requires.made.0 c.args.objects.now.slots c.args.made.now.stands.items c.args.marks.now.slots c.loop-i.i c.is_lost.result c.requires.made.1 c.is_lost.ensures,
+  lost_at c.requires.made.0 c.args.objects.now.slots c.args.made.now.stands c.args.marks.now.slots c.loop-i.i c.is_lost.result c.requires.made.1 c.is_lost.ensures,
   c.loop-i.invariant.counted c.requires.made.0 c.requires.made.1,
 )
 
@@ -28,7 +28,7 @@ loop-i-preserved c =
     record {
       counted = λ first made.
           c.release_if.ensures.counted (is_lost first c.args.objects.now.slots c.args.marks.now.slots)
-          (lost_at first c.args.objects.now.slots c.args.made.now.stands.items c.args.marks.now.slots c.loop-i.i c.is_lost.result made c.is_lost.ensures)
+          (lost_at first c.args.objects.now.slots c.args.made.now.stands c.args.marks.now.slots c.loop-i.i c.is_lost.result made c.is_lost.ensures)
           (i.counted first made);
       outside = same_more _ _ _ i.outside c.release_if.ensures.outside;
     }

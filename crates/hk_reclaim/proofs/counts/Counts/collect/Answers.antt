@@ -25,7 +25,7 @@ all c =
     let marks = c.mark_reached.new.marks.slots in
     let room : IsInRoom ps c.size-size.result = λ k some. rw (c.size-size.ensures, c.self.view_is) (c.requires.room k some) in
     let first : c.first_new-first_new.result ≡ t.first_new = c.first_new-first_new.ensures ∙ ap (λ (v : Tally). v.first_new) c.self.view_is in
-    let left : IsHalfLeft c.first_new-first_new.result ps t.outside c.size-size.result c.read.new.self.left.items =
+    let left : IsHalfLeft c.first_new-first_new.result ps t.outside c.size-size.result c.read.new.self.left =
     c.read.ensures.left t.outside (rw (c.total.ensures, c.self.view_is) (left_of_counted c.first_new-first_new.result ps (namings ps) t c.requires)) in
     let marking : IsMarking t.first_new t.outside ps (stays t.first_new ps marks) =
     subst (λ (f : Name). IsMarking f t.outside ps (stays f ps marks)) first (c.mark_reached.ensures.marks t.outside left) in

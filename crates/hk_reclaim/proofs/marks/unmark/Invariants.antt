@@ -1,9 +1,0 @@
-use Rattle.std.proofs.Common.{◌≡◌, ℕ, ◌&&◌, not, false, length, take, get_or}
-use Rattle.hk_reclaim.specs.Tally.{has}
-use Rattle.hk_reclaim.proofs.marks.unmark.Given as goal
-
-abbrev pub invariant-loop-i : goal.invariant-loop-i
-invariant-loop-i l = record {
-  size : length l.marked.items ≡ length l.fn.marked.items;
-  down : (k : ℕ) → get_or l.marked.items k false ≡ (get_or l.fn.marked.items k false && not (has (take l.i l.slots) k));
-}
