@@ -1,3 +1,4 @@
 pub mod Slots
 pub mod Shelf
 pub mod Indexed
+pub mod Idle
