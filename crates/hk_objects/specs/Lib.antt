@@ -2,3 +2,4 @@ pub mod Slots
 pub mod Shelf
 pub mod Indexed
 pub mod Idle
+pub mod Padded
