@@ -3,3 +3,4 @@ pub mod Shelves
 mod Indexing
 mod Tables
 mod Frees
+mod Padding

@@ -14,39 +14,31 @@ use std::marker::Model;
 /// where few objects stand at a time. Contracts see the list of them in this order.
 #[derive(Drop)]
 pub(crate) struct FreeSlots {
-    // The first to be taken stands last.
-    slots: Vec<u32>,
+    // Those that were given back: the first to be taken stands last.
+    given: Vec<u32>,
+    // From this one on no slot was ever taken.
+    fresh: u32,
 }
 
 impl Model for FreeSlots {
-    ghost use Rattle.std.specs.Prelude.{ℕ, List, ◌≤◌, reverse, vec_capacity};
-    ghost use Rattle.hk_objects.specs.Indexed.{AreSlots};
+    ghost use Rattle.std.specs.Prelude.{ℕ, List};
+    ghost use Rattle.hk_objects.specs.Idle.{idle, IsIdle};
 
     ghost Value = { List ℕ };
 
-    ghost view = { λ a. reverse a.slots.items };
+    ghost view = { λ a. idle a.given.items a.fresh };
 
-    ghost invariant = { λ a. AreSlots (reverse a.slots.items) × (65536 ≤ vec_capacity a.slots) };
+    ghost invariant = { λ a. IsIdle a.given a.fresh };
 }
 
 impl FreeSlots {
-    /// No slot, and room for all.
-    fn none(alloc: Global) -> Result<FreeSlots, NoMemory>
-        ensures { IfOk result (λ free. free ≡ []) }
-    {
-        let slots = Vec::with_capacity(alloc, OBJECT_LIMIT)?;
-        Ok(FreeSlots { slots })
-    }
-
-    /// All slots, by rising number. No other call takes memory.
+    /// All slots, by rising number, and room for all. No other call takes memory.
+    #[tactic(auto, using(crate::proofs::Frees::all_idle))]
     pub(crate) fn all(alloc: Global) -> Result<FreeSlots, NoMemory>
         ensures { IfOk result (λ free. (k : ℕ) → has free k ≡ nat_lt k 65536) }
     {
-        let mut free = FreeSlots::none(alloc)?;
-        for behind in 0..SLOTS {
-            free.give(SLOTS - 1 - behind);
-        }
-        Ok(free)
+        let given = Vec::with_capacity(alloc, OBJECT_LIMIT)?;
+        Ok(FreeSlots { given, fresh: 0 })
     }
 
     /// Takes the first one out. None exactly where there is none.
@@ -57,7 +49,15 @@ impl FreeSlots {
         ensures none { IfNone result (self.old ≡ []) }
         ensures same { IfNone result (self.new ≡ self.old) }
     {
-        self.slots.pop()
+        if let Some(slot) = self.given.pop() {
+            return Some(slot);
+        }
+        if self.fresh == SLOTS {
+            return None;
+        }
+        let slot = self.fresh;
+        self.fresh = slot + 1;
+        Some(slot)
     }
 
     /// Puts a slot that is not among them before them.
@@ -66,7 +66,7 @@ impl FreeSlots {
         requires taken { has self.old slot ≡ false }
         ensures { self.new ≡ slot ∷ self.old }
     {
-        self.slots.push_reserved(slot);
+        self.given.push_reserved(slot);
     }
 
     /// Whether there is none.
@@ -74,6 +74,6 @@ impl FreeSlots {
         ensures yes { result ≡ true → self.now ≡ [] }
         ensures no { result ≡ false → (slot : ℕ) × (slot < 65536) × (has self.now slot ≡ true) }
     {
-        self.slots.is_empty()
+        self.given.is_empty() && self.fresh == SLOTS
     }
 }

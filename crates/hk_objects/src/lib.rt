@@ -4,6 +4,7 @@
 
 mod body;
 mod free_slots;
+mod front;
 mod name_index;
 mod objects;
 mod parts;

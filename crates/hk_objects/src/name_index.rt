@@ -3,20 +3,19 @@
 ghost use Rattle.std.specs.Prelude.{◌≡◌, ◌<◌, ◌↔◌, ℕ, true, false, Some, None, length, IfSome, IfOk, IfNone, IsTrue, slice_set};
 ghost use Rattle.hk_objects.specs.Indexed.{named_at};
 
+use crate::front::Front;
 use crate::objects::SLOTS;
 use hk_links::Chains;
-use hk_model::limits::OBJECT_LIMIT;
 use hk_model::{Name, NoMemory};
 use std::alloc::Global;
 use std::marker::Model;
 
 /// Whether a slot has a name.
-fn is_named(names: &Vec<Option<Name>>, slot: u32, name: Name) -> bool
-    requires { slot < length names.now.items }
-    ensures yes { result ≡ true → named_at names.now.items slot ≡ Some name }
-    ensures no { result ≡ false → named_at names.now.items slot ≡ Some name → ⊥ }
+fn is_named(names: &Front<Name>, slot: u32, name: Name) -> bool
+    ensures yes { result ≡ true → named_at names.now slot ≡ Some name }
+    ensures no { result ≡ false → named_at names.now slot ≡ Some name → ⊥ }
 {
-    match names[slot as usize] {
+    match names.get(slot) {
         Some(here) => here.0 == name.0,
         None => false,
     }
@@ -25,7 +24,7 @@ fn is_named(names: &Vec<Option<Name>>, slot: u32, name: Name) -> bool
 /// The names of 65,536 slots, each found in the list of its remainder. Contracts see the name of each slot.
 #[derive(Drop)]
 pub(crate) struct NameIndex {
-    names: Vec<Option<Name>>,
+    names: Front<Name>,
     chains: Chains,
 }
 
@@ -36,20 +35,9 @@ impl Model for NameIndex {
 
     ghost Value = { List (Option Name) };
 
-    ghost view = { λ a. a.names.items };
+    ghost view = { λ a. a.names };
 
-    ghost invariant = { λ a. IsIndexed a.names.items a.chains };
-}
-
-/// 65,536 slots without a name.
-fn no_names(alloc: Global) -> Result<Vec<Option<Name>>, NoMemory>
-    ensures { IfOk result (λ names. (length names.items ≡ 65536) × ((k : ℕ) → named_at names.items k ≡ None)) }
-{
-    let mut names = Vec::with_capacity(alloc, OBJECT_LIMIT)?;
-    for _slot in 0..OBJECT_LIMIT {
-        names.push(None)?;
-    }
-    Ok(names)
+    ghost invariant = { λ a. IsIndexed a.names a.chains };
 }
 
 impl NameIndex {
@@ -58,7 +46,7 @@ impl NameIndex {
         ensures size { IfOk result (λ index. length index ≡ 65536) }
         ensures empty { IfOk result (λ index. (k : ℕ) → named_at index k ≡ None) }
     {
-        let names = no_names(alloc)?;
+        let names = Front::with_room(alloc)?;
         match Chains::with(alloc, SLOTS, SLOTS) {
             Ok(chains) => Ok(NameIndex { names, chains }),
             Err(_refused) => Err(NoMemory),
@@ -106,7 +94,7 @@ impl NameIndex {
         requires free { named_at self.old slot ≡ None }
         ensures { self.new ≡ slice_set self.old slot (Some name) }
     {
-        self.names[slot as usize] = Some(name);
+        self.names.put(slot, name);
         self.chains.push_back((name.0 % SLOTS as u64) as u32, slot);
     }
 
@@ -115,7 +103,7 @@ impl NameIndex {
         requires { slot < 65536 }
         ensures { self.new ≡ slice_set self.old slot None }
     {
-        self.names[slot as usize] = None;
+        self.names.clear(slot);
         self.chains.unlink(slot);
     }
 }

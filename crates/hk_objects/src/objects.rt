@@ -7,6 +7,7 @@ ghost use Rattle.hk_objects.specs.Shelf.{new_body, code_of, params_of};
 
 use crate::body::{Body, Procedure};
 use crate::free_slots::FreeSlots;
+use crate::front::Front;
 use crate::name_index::NameIndex;
 use crate::parts::{add_entry, add_word, put_count, put_entry, put_procedure, put_word};
 use crate::steps::Steps;
@@ -26,7 +27,7 @@ pub struct SlotNo(pub u32);
 /// Objects in 65,536 slots. Contracts see what stands in each slot, and the name that the next object takes.
 #[derive(Drop)]
 pub struct Objects {
-    slots: Vec<Option<(Name, Body)>>,
+    slots: Front<(Name, Body)>,
     index: NameIndex,
     free: FreeSlots,
     next: Name,
@@ -38,20 +39,9 @@ impl Model for Objects {
 
     ghost Value = { Shelf };
 
-    ghost view = { λ a. record { slots = a.slots.items; next = a.next } };
+    ghost view = { λ a. record { slots = a.slots; next = a.next } };
 
-    ghost invariant = { λ a. IsTable a.slots.items a.index a.free a.next };
-}
-
-/// 65,536 slots in which nothing stands.
-fn no_objects(alloc: Global) -> Result<Vec<Option<(Name, Body)>>, NoMemory>
-    ensures { IfOk result (λ slots. (length slots.items ≡ 65536) × ((k : ℕ) → place slots.items k ≡ None)) }
-{
-    let mut slots = Vec::with_capacity(alloc, OBJECT_LIMIT)?;
-    for _slot in 0..OBJECT_LIMIT {
-        slots.push(None)?;
-    }
-    Ok(slots)
+    ghost invariant = { λ a. IsTable a.slots a.index a.free a.next };
 }
 
 impl Objects {
@@ -62,7 +52,7 @@ impl Objects {
         ensures next { IfOk result (λ objects. objects.next.0 ≡ 0) }
         ensures room { IfOk result (λ objects. length objects.slots ≡ 65536) }
     {
-        let slots = no_objects(alloc)?;
+        let slots = Front::with_room(alloc)?;
         let index = NameIndex::with_room(alloc)?;
         let free = FreeSlots::all(alloc)?;
         let next = Name(0);
@@ -110,9 +100,9 @@ impl Objects {
         ensures name { result ≡ name_at self.now.slots slot.0 }
         ensures apart { AreApart self.now.slots }
     {
-        match self.slots.get(slot.0 as usize) {
-            Some(Some((name, _))) => Some(*name),
-            _ => None,
+        match self.slots.get(slot.0) {
+            Some((name, _)) => Some(*name),
+            None => None,
         }
     }
 
@@ -122,7 +112,7 @@ impl Objects {
         ensures of { IfSome (place self.now.slots slot.0) (λ e. result ≡ e.1.of) }
         ensures apart { AreApart self.now.slots }
     {
-        match &self.slots[slot.0 as usize] {
+        match self.slots.get(slot.0) {
             Some((_, body)) => body.of,
             None => Name(0),
         }
@@ -134,7 +124,7 @@ impl Objects {
         ensures words { IfSome (place self.now.slots slot.0) (λ e. result.now ≡ e.1.words) }
         ensures few { length result.now ≤ 4096 }
     {
-        match &self.slots[slot.0 as usize] {
+        match self.slots.get(slot.0) {
             Some((_, body)) => body.words.as_slice(),
             None => &[],
         }
@@ -146,7 +136,7 @@ impl Objects {
         ensures entries { IfSome (place self.now.slots slot.0) (λ e. result.now ≡ e.1.entries) }
         ensures few { length result.now ≤ 256 }
     {
-        match &self.slots[slot.0 as usize] {
+        match self.slots.get(slot.0) {
             Some((_, body)) => body.entries.as_slice(),
             None => &[],
         }
@@ -157,7 +147,7 @@ impl Objects {
         requires { IsSome (place self.now.slots slot.0) }
         ensures { IfSome (place self.now.slots slot.0) (λ e. result ≡ e.1.count) }
     {
-        match &self.slots[slot.0 as usize] {
+        match self.slots.get(slot.0) {
             Some((_, body)) => body.count,
             None => 0,
         }
@@ -168,7 +158,7 @@ impl Objects {
         requires { IsSome (place self.now.slots slot.0) }
         ensures { IfSome (place self.now.slots slot.0) (λ e. result ≡ code_of e.1.procedure) }
     {
-        match &self.slots[slot.0 as usize] {
+        match self.slots.get(slot.0) {
             Some((_, body)) => match &body.procedure {
                 Some(procedure) => Some(procedure.code),
                 None => None,
@@ -183,7 +173,7 @@ impl Objects {
         ensures params { IfSome (place self.now.slots slot.0) (λ e. result.now ≡ params_of e.1.procedure) }
         ensures few { length result.now ≤ 8 }
     {
-        match &self.slots[slot.0 as usize] {
+        match self.slots.get(slot.0) {
             Some((_, body)) => match &body.procedure {
                 Some(procedure) => procedure.params.as_slice(),
                 None => &[],
@@ -198,7 +188,7 @@ impl Objects {
         requires at { IfSome (place self.old.slots slot.0) (λ e. at < length e.1.words) }
         ensures { self.new ≡ record self.old { slots = change self.old.slots slot.0 (λ body. record body { words = slice_set body.words at word }) } }
     {
-        put_word(&mut self.slots, slot.0 as usize, at as usize, word);
+        put_word(&mut self.slots, slot.0, at as usize, word);
     }
 
     /// Writes an entry of the object in a slot over another.
@@ -207,7 +197,7 @@ impl Objects {
         requires at { IfSome (place self.old.slots slot.0) (λ e. at < length e.1.entries) }
         ensures { self.new ≡ record self.old { slots = change self.old.slots slot.0 (λ body. record body { entries = slice_set body.entries at entry }) } }
     {
-        put_entry(&mut self.slots, slot.0 as usize, at as usize, entry);
+        put_entry(&mut self.slots, slot.0, at as usize, entry);
     }
 
     /// Writes the tokens of the object in a slot.
@@ -215,7 +205,7 @@ impl Objects {
         requires { IsSome (place self.old.slots slot.0) }
         ensures { self.new ≡ record self.old { slots = change self.old.slots slot.0 (λ body. record body { count = count }) } }
     {
-        put_count(&mut self.slots, slot.0 as usize, count);
+        put_count(&mut self.slots, slot.0, count);
     }
 
     /// Gives the object in a slot a code and parameter templates.
@@ -223,7 +213,7 @@ impl Objects {
         requires { IsSome (place self.old.slots slot.0) }
         ensures { self.new ≡ record self.old { slots = change self.old.slots slot.0 (λ body. record body { procedure = Some (record { code = code; params = params }) }) } }
     {
-        put_procedure(&mut self.slots, slot.0 as usize, Procedure { code, params });
+        put_procedure(&mut self.slots, slot.0, Procedure { code, params });
     }
 
     /// One more word at the end of the words of the object in a slot, of which there can be 4,096. NoMemory is want of
@@ -234,7 +224,7 @@ impl Objects {
         ensures ok { OnOk result (self.new ≡ record self.old { slots = change self.old.slots slot.0 (λ body. record body { words = body.words ++ word ∷ [] }) }) }
         ensures err { OnErr result (self.new ≡ self.old) }
     {
-        add_word(&mut self.slots, slot.0 as usize, word)?;
+        add_word(&mut self.slots, slot.0, word)?;
         Ok(())
     }
 
@@ -246,7 +236,7 @@ impl Objects {
         ensures ok { OnOk result (self.new ≡ record self.old { slots = change self.old.slots slot.0 (λ body. record body { entries = body.entries ++ entry ∷ [] }) }) }
         ensures err { OnErr result (self.new ≡ self.old) }
     {
-        add_entry(&mut self.slots, slot.0 as usize, entry)?;
+        add_entry(&mut self.slots, slot.0, entry)?;
         Ok(())
     }
 
@@ -264,7 +254,7 @@ impl Objects {
             Some(slot) => {
                 let name = self.next;
                 self.index.put(slot, name);
-                self.slots[slot as usize] = Some((name, Body::new(of, words, entries)));
+                self.slots.put(slot, (name, Body::new(of, words, entries)));
                 self.next = Name(name.0 + 1);
                 Some(SlotNo(slot))
             }
@@ -277,7 +267,7 @@ impl Objects {
         requires { IsSome (place self.old.slots slot.0) }
         ensures { self.new ≡ record self.old { slots = slice_set self.old.slots slot.0 None } }
     {
-        self.slots[slot.0 as usize] = None;
+        self.slots.clear(slot.0);
         self.index.clear(slot.0);
         self.free.give(slot.0);
     }

@@ -9,5 +9,5 @@ invariant-loop-k l = record {
   at : l.cell ≡ slice_get (listed l.self-inside.chains.lists (l.name.0 % 65536)) l._k;
   cell : IfSome l.cell (λ c. c < 65536);
   few : length (listed l.self-inside.chains.lists (l.name.0 % 65536)) ≤ 65536;
-  none : (k s : ℕ) → k < l._k → slice_get (listed l.self-inside.chains.lists (l.name.0 % 65536)) k ≡ Some s → named_at l.self-inside.names.items s ≡ Some l.name → ⊥;
+  none : (k s : ℕ) → k < l._k → slice_get (listed l.self-inside.chains.lists (l.name.0 % 65536)) k ≡ Some s → named_at l.self-inside.names s ≡ Some l.name → ⊥;
 }

@@ -6,5 +6,6 @@ use Rattle.hk_objects.proofs.name_index.NameIndex.put.Goals as goal
 
 pub invariant_of-self : goal.invariant_of-self
 invariant_of-self c =
-    index_put _ _ _ _ _ c.self.invariant c.requires.slot
-    (subst (λ (v : List (Option Name)). named_at v c.args.slot ≡ None) (sym c.self.view_is) c.requires.free) c.push_back.ensures
+    rw c.put.ensures
+    (index_put _ _ _ _ _ c.self.invariant c.requires.slot
+    (subst (λ (v : List (Option Name)). named_at v c.args.slot ≡ None) (sym c.self.view_is) c.requires.free) c.push_back.ensures)

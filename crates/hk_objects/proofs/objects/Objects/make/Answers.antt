@@ -3,7 +3,7 @@ use Rattle.hk_objects.proofs.objects.Objects.make.Goals as goal
 
 pub invariant_of-self : goal.invariant_of-self
 invariant_of-self c =
-    rw (c.put.ensures, c.in-Some.ensures.rest)
+    rw (c.put.ensures, c.put-in-Some.ensures, c.in-Some.ensures.rest)
     (table_make _ _ _ _ c.self.invariant c.in-Some.slot c.new.result c.in-Some.ensures.slot c.in-Some.ensures.among)
 
 pub returns-in-Some-clause-room : goal.returns-in-Some-clause-room

@@ -7,6 +7,6 @@ use Rattle.hk_objects.proofs.objects.Objects.remove.Goals as goal
 
 pub invariant_of-self : goal.invariant_of-self
 invariant_of-self c =
-    let inside = within_some c.self.inside.slots.items c.args.slot.0 (subst (λ (v : Shelf). IsSome (place v.slots c.args.slot.0)) (sym c.self.view_is) c.requires) in
+    let inside = within_some c.self.inside.slots c.args.slot.0 (subst (λ (v : Shelf). IsSome (place v.slots c.args.slot.0)) (sym c.self.view_is) c.requires) in
     let low : c.args.slot.0 < 65536 = omega (arith, inside, c.self.invariant.shelf.room) in
-    rw (c.give.ensures, c.clear.ensures) (table_gone _ _ _ _ c.self.invariant c.args.slot.0 low)
+    rw (c.give.ensures, c.clear.ensures, c.clear-2.ensures) (table_gone _ _ _ _ c.self.invariant c.args.slot.0 low)
