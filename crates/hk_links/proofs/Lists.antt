@@ -1,5 +1,5 @@
 -- What is in the lists after a call, for those who keep facts of their own on each cell.
-use Rattle.std.proofs.Common.{◌≡◌, ◌≢◌, ℕ, ◌<◌, true, false, cond, List, [], ◌∷◌, ◌++◌, length, map, set, refl, ap, ◌∙◌, arith, ⊎_elim, ◌||◌}
+use Rattle.std.proofs.Common.{◌≡◌, ◌≢◌, Bool, ℕ, suc, ◌<◌, true, false, cond, List, [], ◌∷◌, ◌++◌, length, map, set, refl, ap, ◌∙◌, arith, ⊎_elim, ◌||◌}
 use Rattle.std.proofs.lemmas.Bool.Decides.{nat_tests}
 use Rattle.std.proofs.lemmas.Bool.{cases_eq}
 use Rattle.std.proofs.lemmas.List.Folds.{list_any-append}
@@ -23,3 +23,19 @@ in_list-push ls l c m d inside =
     let t : (m == l) ≡ false = grind (arith, nat_tests) in
     rw t refl)
     (cases_eq m l)
+
+-- a cell of no list taken out
+without_absent : (c : ℕ) (xs : List ℕ) → list_any (λ x. c == x) xs ≡ false → without c xs ≡ xs
+without_absent c [] h = refl
+without_absent c (x ∷ xs) h = by (c == x) refl h (without_absent c xs)
+  where
+    by : (b : Bool) → (c == x) ≡ b → b || list_any (λ y. c == y) xs ≡ false → (list_any (λ y. c == y) xs ≡ false → without c xs ≡ xs)
+        → without c (x ∷ xs) ≡ x ∷ xs
+    by true e g rest = absurd (cc)
+    by false e g rest = rw e (ap (λ (more : List ℕ). x ∷ more) (rest g))
+
+pub none_without : (ls : List (List ℕ)) (c : ℕ) → ((l : ℕ) → l < length ls → in_list ls l c ≡ false) → map (without c) ls ≡ ls
+none_without [] c h = refl
+none_without (xs ∷ ls) c h =
+    ap (λ (front : List ℕ). front ∷ map (without c) ls) (without_absent c xs (h 0 (omega arith)))
+    ∙ ap (λ (rest : List (List ℕ)). xs ∷ rest) (none_without ls c (λ l inside. h (suc l) (omega (arith, inside))))

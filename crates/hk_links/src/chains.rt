@@ -100,6 +100,18 @@ impl Chains {
         ensures lists { self.new ≡ record self.old { lists = map (without cell) self.old.lists } }
         ensures first { (l : ℕ) (rest : List ℕ) → l < length self.old.lists → listed self.old.lists l ≡ cell ∷ rest → self.new.lists ≡ slice_set self.old.lists l rest }
     {
+        match self.list_of(cell) {
+            Some(_list) => self.take_out(cell),
+            None => (),
+        }
+    }
+
+    /// The same, whether it is in a list or not.
+    fn take_out(&mut self, cell: u32)
+        requires { cell < self.old.cells }
+        ensures lists { self.new ≡ record self.old { lists = map (without cell) self.old.lists } }
+        ensures first { (l : ℕ) (rest : List ℕ) → l < length self.old.lists → listed self.old.lists l ≡ cell ∷ rest → self.new.lists ≡ slice_set self.old.lists l rest }
+    {
         let c = cell as usize;
         let before = self.previous.get(c);
         let behind = self.next.get(c);
