@@ -9,10 +9,11 @@ ghost use Rattle.hk_table.specs.Returns.{returned_with};
 
 use crate::parts::Parts;
 use hk_calls::{Stop, Wanted, slot_at};
-use hk_merge::{Arg, allowed, build_space, held};
+use hk_merge::{Arg, allowed, fill_space, held};
 use hk_model::limits::{DEPTH_LIMIT, SLOT_LIMIT};
 use hk_model::{Answer, Args, Cap, Entry, Name, Path, Proc, Refusal, Slot, Template};
 use hk_rights::{Right, Rights};
+use hk_spaces::Space;
 use std::marker::PhantomData;
 
 /// The slots are to be below 64; they have the steps from `first` on.
@@ -87,7 +88,9 @@ impl Parts {
             of: Name(0),
         }; 8];
         self.args(proc, args.as_slice(), &mut held);
-        let space = build_space(
+        let mut space = Space::empty();
+        fill_space(
+            &mut space,
             &held[..args.len()],
             self.params(cap.name),
             self.entries(cap.name),
