@@ -1,16 +1,12 @@
 -- Merging with a template, and how a name space is written. docs/RULES.md, "Merging" and "Calls of procedures".
-use Rattle.std.specs.Prelude.{ℕ, ◌+◌, ◌==◌, Bool, List, [], ◌∷◌, length, Result, Ok, Err, nat_le, slice_set, map}
+use Rattle.std.specs.Prelude.{ℕ, ◌+◌, List, [], ◌∷◌, Result, Ok, Err, slice_set, map}
 use Rattle.hk_model.specs.declared.names.Name.{Name}
 use Rattle.hk_model.specs.declared.entries.Cap.{Cap}
-use Rattle.hk_model.specs.declared.entries.Param.{Param}
 use Rattle.hk_model.specs.declared.entries.Template.{Template}
 use Rattle.hk_model.specs.declared.entries.Entry.{Entry}
 use Rattle.hk_model.specs.declared.entries.Entry.TheVariants.{Held, Form}
 use Rattle.hk_model.specs.declared.calls.Refusal.{Refusal}
-use Rattle.hk_model.specs.declared.calls.Refusal.TheVariants as refused
-use Rattle.hk_model.specs.declared.calls.What8.TheVariants as full
-use Rattle.hk_model.specs.Limits.{slot_limit}
-use Rattle.hk_model.specs.Refusing.{◌>>=◌, ◌>>◌, unless}
+use Rattle.hk_model.specs.Refusing.{◌>>=◌}
 use Rattle.hk_model.specs.Merging.{merged}
 pub use Rattle.hk_model.specs.Merging.{merged_arg, merged_all, name_space}
 use Rattle.hk_model.specs.Targets.{amplify_form}

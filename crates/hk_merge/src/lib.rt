@@ -8,7 +8,7 @@ mod refusing;
 
 pub use hk_model::Arg;
 pub use merging::{amplify_form, merge};
-pub use name_space::build_space;
+pub use name_space::{build_space, fill_space};
 pub use refusing::{allowed, confined_rights, held};
 
 #[cfg(test)]

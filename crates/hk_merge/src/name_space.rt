@@ -1,7 +1,8 @@
 //! The name space of a call.
 
-ghost use Rattle.std.specs.Prelude.{◌≡◌, ◌≤◌, ◌<◌, ◌+◌, length, map, IfOk, IfErr, Ok, Err};
+ghost use Rattle.std.specs.Prelude.{◌≡◌, ◌≤◌, ◌<◌, ◌+◌, length, map, IfOk, IfErr, OnOk, Ok, Err};
 ghost use Rattle.hk_model.specs.Merging.{inherited, merged_arg, merged_all, name_space};
+ghost use Rattle.hk_spaces.specs.Slots.{empty_slots};
 ghost use Rattle.hk_merge.specs.NameSpaces.{overwritten, with_caps};
 
 use crate::merging::merged;
@@ -17,7 +18,6 @@ use hk_spaces::Space;
 /// Argument i has the step `first_step + i`. `Count` where the arguments are not as many as the
 /// parameters. Then, for each argument in order, `Empty`, `NotCap`, `WrongType` and `Denied` where
 /// it does not merge with its parameter. Then `Full` for slots where they are more than 64.
-#[tactic(auto, using(crate::proofs::Filling::name_space_built, crate::proofs::Filling::name_space_full))]
 pub fn build_space(
     args: &[Arg],
     params: &[Param],
@@ -30,16 +30,38 @@ pub fn build_space(
     requires first_step { first_step ≤ 8 }
     ensures { result ≡ name_space args.now params.now inherited.now confined first_step }
 {
+    let mut space = Space::empty();
+    fill_space(&mut space, args, params, inherited, confined, first_step)?;
+    Ok(space)
+}
+
+/// Writes the name space that a call gives into one in which nothing stands. Refused as
+/// `build_space` is; some slots may be written then.
+#[tactic(auto, using(crate::proofs::Filling::name_space_built, crate::proofs::Filling::name_space_full))]
+pub fn fill_space(
+    space: &mut Space,
+    args: &[Arg],
+    params: &[Param],
+    inherited: &[Entry],
+    confined: bool,
+    first_step: u8,
+) -> Result<(), Refusal>
+    requires space { space.old ≡ empty_slots }
+    requires args { length args.now ≤ 8 }
+    requires params { length params.now ≤ 8 }
+    requires first_step { first_step ≤ 8 }
+    ensures ok { OnOk result (name_space args.now params.now inherited.now confined first_step ≡ Ok space.new) }
+    ensures refused { IfErr result (λ refusal. name_space args.now params.now inherited.now confined first_step ≡ Err refusal) }
+{
     if args.len() != params.len() {
         return Err(Refusal::Count);
     }
-    let mut space = Space::empty();
-    set_params(&mut space, args, params, first_step)?;
+    set_params(space, args, params, first_step)?;
     if args.len() + inherited.len() > SLOT_LIMIT {
         return Err(Refusal::Full { what: What8::Slots });
     }
-    set_inherited(&mut space, args.len() as u8, inherited, confined);
-    Ok(space)
+    set_inherited(space, args.len() as u8, inherited, confined);
+    Ok(())
 }
 
 /// Writes the merged arguments into the first slots.

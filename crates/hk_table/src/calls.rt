@@ -61,7 +61,7 @@ impl Parts {
                 proc: path,
                 args,
                 into,
-            } => self.enter(alloc, proc, path, args, *into),
+            } => self.enter(proc, path, args, *into),
             Call::Leave { give } => Ok(self.leave(proc, *give)?),
             Call::P { of } => Ok(self.take_token(proc, of)?),
             Call::V { of } => Ok(self.give_token(proc, of)?),

@@ -1,6 +1,6 @@
 //! The calls of procedures: Enter and Leave.
 
-ghost use Rattle.std.specs.Prelude.{◌≡◌, ◌<◌, ◌+◌, ◌^◌, true, length, map, IfOk};
+ghost use Rattle.std.specs.Prelude.{◌≡◌, ◌<◌, ◌≤◌, ◌+◌, ◌^◌, true, length, map, take};
 ghost use Rattle.hk_model.specs.State.{incarnation, process};
 ghost use Rattle.hk_model.specs.Processors.{is_running};
 ghost use Rattle.hk_model.specs.Rule.{slots_at, type_held, argument, enter_procedure, leave, returned_cap};
@@ -9,11 +9,11 @@ ghost use Rattle.hk_table.specs.Returns.{returned_with};
 
 use crate::parts::Parts;
 use hk_calls::{Stop, Wanted, slot_at};
-use hk_merge::{Arg, allowed, build_space, held};
+use hk_merge::{Arg, allowed, fill_space, held};
 use hk_model::limits::{DEPTH_LIMIT, SLOT_LIMIT};
 use hk_model::{Answer, Args, Cap, Entry, Name, Path, Proc, Refusal, Slot, Template};
 use hk_rights::{Right, Rights};
-use std::alloc::{AllocError, Global};
+use hk_spaces::Space;
 use std::marker::PhantomData;
 
 /// The slots are to be below 64; they have the steps from `first` on.
@@ -52,24 +52,22 @@ impl Parts {
         Arg { entry, of }
     }
 
-    /// The arguments in these slots.
-    fn args(&self, alloc: Global, proc: Proc, slots: &[u8]) -> Result<Vec<Arg>, AllocError>
-        requires { proc.0 < length self.now.processes }
-        ensures { IfOk result (λ args. args.items ≡ map (argument self.now (process self.now proc).current) slots.now) }
+    /// Writes the arguments in these slots into the first places.
+    fn args(&self, proc: Proc, slots: &[u8], places: &mut [Arg; 8])
+        requires known { proc.0 < length self.now.processes }
+        requires few { length slots.now ≤ 8 }
+        ensures { take (length slots.now) places.new ≡ map (argument self.now (process self.now proc).current) slots.now }
     {
         let _ = PhantomData::<(Entry, Template)>; // so that the check knows what an Arg holds
-        let mut args = Vec::new(alloc);
-        for slot in slots {
-            args.push(self.arg(proc, *slot))?;
+        for (i, slot) in slots.iter().enumerate() {
+            places[i] = self.arg(proc, *slot);
         }
-        Ok(args)
     }
 
     /// Enter: a new incarnation, with the merged parameters and what the procedure holds.
     #[tactic(auto, using(crate::proofs::TargetLemmas::target_lives), unfolding(hk_model::specs::Rule::enter_procedure))]
     pub(crate) fn enter(
         &mut self,
-        alloc: Global,
         proc: Proc,
         path: &Path,
         args: &Args,
@@ -85,9 +83,15 @@ impl Parts {
         slot_at(into, into_step)?;
         let cap = self.target(proc, path, Wanted::Procedures, Rights::A0)?;
         let confined = !cap.rights.has(Right::UNCONF);
-        let held = self.args(alloc, proc, args.as_slice())?;
-        let space = build_space(
-            held.as_slice(),
+        let mut held = [Arg {
+            entry: Entry::Empty,
+            of: Name(0),
+        }; 8];
+        self.args(proc, args.as_slice(), &mut held);
+        let mut space = Space::empty();
+        fill_space(
+            &mut space,
+            &held[..args.len()],
             self.params(cap.name),
             self.entries(cap.name),
             confined,
