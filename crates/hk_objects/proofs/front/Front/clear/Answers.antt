@@ -1,7 +1,7 @@
 use Rattle.std.proofs.Common.{◌<◌, length, None, arith, sym}
+use Rattle.std.proofs.lemmas.Grind.{common_steps}
 use Rattle.hk_objects.proofs.Padding.{set-padded, clear_behind}
 use Rattle.hk_objects.proofs.front.Front.clear.Goals as goal
-use Rattle.hk_objects.proofs.front.Front.clear.Goals.{in-Some-1, in-None-1}
 
 pub returns-else-slot-len : goal.returns-else-slot-len
 returns-else-slot-len g c =
@@ -14,4 +14,4 @@ returns-then-slot-len g c =
     let ok = c.self.inside.items.ok in
     let low : c.args.slot < length c.self.inside.items.items = omega (arith, c.len.ensures, c.if-slot-len.true, ok) in
     rw (← c.self.view_is, set-padded c.self.inside.items.items c.args.slot None low)
-    (elim c.match-index_mut.branch [ in-Some-1 w ↦ w.self-is | in-None-1 w ↦ w.self-is ])
+    (grind (arith, common_steps))
