@@ -17,5 +17,6 @@ push-requires c = (
 
 pub returns-clause-ok : goal.returns-clause-ok
 returns-clause-ok c =
-    change_in c.slots.inside.items c.match-index_mut.slots-inside.items.items c.args.slots.now c.args.slot (λ (body : Body). record body { words = body.words ++ c.args.word ∷ [] })
+    change_in c.slots.inside.items c.match-index_mut.slots-inside.items.items c.args.slots.now c.args.slot
+    (λ (body : Body). record body { words = body.words ++ c.args.word ∷ [] })
     c.slots.view_is c.requires.slot (grind (arith, common_steps))

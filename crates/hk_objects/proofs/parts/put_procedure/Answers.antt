@@ -9,5 +9,6 @@ index_mut-requires c = in_front c.slots.inside.items c.args.slots.now c.args.slo
 
 pub returns : goal.returns
 returns c =
-    change_in c.slots.inside.items c.match-index_mut.slots-inside.items.items c.args.slots.now c.args.slot (λ (body : Body). record body { procedure = Some c.args.procedure })
+    change_in c.slots.inside.items c.match-index_mut.slots-inside.items.items c.args.slots.now c.args.slot
+    (λ (body : Body). record body { procedure = Some c.args.procedure })
     c.slots.view_is c.requires (grind (arith, common_steps))
