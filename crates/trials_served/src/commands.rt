@@ -100,25 +100,43 @@ fn sure_streams_have_no_fault(rt: HostRuntime) -> Result<(), Fail> {
     Ok(())
 }
 
-#[test]
-fn tells_faults_of_reading_and_writing(rt: HostRuntime) -> Result<(), Fail> {
-    let alloc = rt.alloc();
+/// What the top call comes to where the read or the write of this number fails, and the other does not.
+fn failing<R: Threads + Wait + Sync>(
+    rt: &R,
+    alloc: Global,
+    reads: Vec<u32>,
+    writes: Vec<u32>,
+) -> Result<(u8, Out), Fail> {
     let run = words(alloc, &["run"])?;
-    let mut input = source(alloc, vec![in alloc; 2]?)?;
-    let mut output = sink(alloc, Vec::new(alloc))?;
-    assert_eq!(rt;
-        status_of(&rt, alloc, &run, &mut input, &mut output),
-        status::READ_FAULT
-    );
-    assert_eq!(rt; output.taken().len(), 0);
+    let mut input = source(alloc, reads)?;
+    let mut output = sink(alloc, writes)?;
+    let status = status_of(rt, alloc, &run, &mut input, &mut output);
+    Ok((status, output))
+}
 
-    let mut input = source(alloc, Vec::new(alloc))?;
-    let mut output = sink(alloc, vec![in alloc; 2]?)?;
-    assert_eq!(rt;
-        status_of(&rt, alloc, &run, &mut input, &mut output),
-        status::WRITE_FAULT
-    );
-    assert_eq!(rt; output.taken(), b"hydra 1\nob".as_slice());
+#[test]
+fn tells_the_fault_of_each_of_six_reads(rt: HostRuntime) -> Result<(), Fail> {
+    let alloc = rt.alloc();
+    for read in 1..7 {
+        let (status, output) = failing(&rt, alloc, vec![in alloc; read]?, Vec::new(alloc))?;
+        assert_eq!(rt; status, status::READ_FAULT);
+        assert_eq!(rt; output.taken().len(), 0);
+    }
+    let (status, _output) = failing(&rt, alloc, vec![in alloc; 7]?, Vec::new(alloc))?;
+    assert_eq!(rt; status, status::DONE);
+    Ok(())
+}
+
+#[test]
+fn tells_the_fault_of_each_of_nineteen_writes(rt: HostRuntime) -> Result<(), Fail> {
+    let alloc = rt.alloc();
+    for before in 0..19u32 {
+        let (status, output) = failing(&rt, alloc, Vec::new(alloc), vec![in alloc; before + 1]?)?;
+        assert_eq!(rt; status, status::WRITE_FAULT);
+        assert_eq!(rt; output.taken(), &RECORD[..before as usize * 10]);
+    }
+    let (status, _output) = failing(&rt, alloc, Vec::new(alloc), vec![in alloc; 20]?)?;
+    assert_eq!(rt; status, status::DONE);
     Ok(())
 }
 
