@@ -81,44 +81,116 @@ fn given_more(alloc: Global, objects: &mut Objects, slot: SlotNo) -> Result<(), 
     Ok(())
 }
 
-#[test]
-fn an_object_has_its_parts(rt: HostRuntime) -> Result<(), Fail> {
-    let Ok(mut objects) = Objects::with_room(rt.alloc()) else {
-        return Err(AllocError.into());
-    };
-    assert_eq!(rt; objects.next_name(), Name(0));
-    let slot = made(rt.alloc(), &mut objects)?;
+/// What an object has.
+#[derive(Clone, Copy)]
+struct Parts {
+    of: Name,
+    words: bool,
+    entries: usize,
+    count: u32,
+    code: Option<u16>,
+    params: usize,
+}
+
+/// What an object has, and whether its words are 8 and 9.
+fn parts_of(objects: &Objects, slot: SlotNo) -> Result<Parts, AllocError> {
+    let slot = standing(objects, slot)?;
+    Ok(Parts {
+        of: objects.of(slot),
+        words: objects.words(slot) == [8, 9].as_slice(),
+        entries: objects.entries(slot).len(),
+        count: objects.count(slot),
+        code: objects.code(slot),
+        params: objects.params(slot).len(),
+    })
+}
+
+/// A table without objects.
+fn empty(alloc: Global) -> Result<Objects, AllocError>
+    ensures { IfOk result (λ objects. objects.next.0 ≡ 0) }
+{
+    match Objects::with_room(alloc) {
+        Ok(objects) => Ok(objects),
+        Err(_) => Err(AllocError),
+    }
+}
+
+/// What an object has that was changed in each of its parts.
+fn changed(alloc: Global) -> Result<Parts, AllocError> {
+    let mut objects = empty(alloc)?;
+    let slot = made(alloc, &mut objects)?;
     written_over(&mut objects, slot)?;
     made_longer(&mut objects, slot)?;
-    given_more(rt.alloc(), &mut objects, slot)?;
-    let slot = standing(&objects, slot)?;
-    assert_eq!(rt; objects.of(slot), Name(1));
-    assert!(rt; objects.words(slot) == [8, 9].as_slice());
-    assert_eq!(rt; objects.entries(slot).len(), 2);
-    assert_eq!(rt; objects.count(slot), 3);
-    assert_eq!(rt; objects.code(slot), Some(5));
-    assert!(rt; objects.params(slot).is_empty());
+    given_more(alloc, &mut objects, slot)?;
+    parts_of(&objects, slot)
+}
+
+#[test]
+fn an_object_has_its_parts(rt: HostRuntime) -> Result<(), Fail> {
+    let parts = changed(rt.alloc())?;
+    assert_eq!(rt; parts.of, Name(1));
+    assert!(rt; parts.words);
+    assert_eq!(rt; parts.entries, 2);
+    assert_eq!(rt; parts.count, 3);
+    assert_eq!(rt; parts.code, Some(5));
+    assert_eq!(rt; parts.params, 0);
     Ok(())
+}
+
+/// What is told of a slot and of the name 0 or 1 that was given with it.
+#[derive(Clone, Copy)]
+struct Told {
+    name: Option<Name>,
+    slot: Option<SlotNo>,
+}
+
+/// What is told of a slot and a name.
+fn told_of(objects: &Objects, slot: SlotNo, name: Name) -> Told {
+    Told {
+        name: objects.name_of(slot),
+        slot: slot_of::<Brand>(objects, name, Blank::new(1)),
+    }
+}
+
+/// Removes the object in a slot.
+fn take_away(objects: &mut Objects, slot: SlotNo) -> Result<(), AllocError> {
+    let slot = standing(objects, slot)?;
+    objects.remove(slot);
+    Ok(())
+}
+
+/// Two objects of a table of which the first has gone.
+#[derive(Drop)]
+struct Two {
+    objects: Objects,
+    first: SlotNo,
+    second: SlotNo,
+}
+
+/// Two objects, of which the first has gone.
+fn first_gone(alloc: Global) -> Result<Two, AllocError> {
+    let mut objects = empty(alloc)?;
+    let first = made(alloc, &mut objects)?;
+    let second = made(alloc, &mut objects)?;
+    take_away(&mut objects, first)?;
+    Ok(Two {
+        objects,
+        first,
+        second,
+    })
 }
 
 #[test]
 fn an_object_is_found_until_it_goes(rt: HostRuntime) -> Result<(), Fail> {
-    let Ok(mut objects) = Objects::with_room(rt.alloc()) else {
-        return Err(AllocError.into());
-    };
-    let first = made(rt.alloc(), &mut objects)?;
-    let second = made(rt.alloc(), &mut objects)?;
-    assert!(rt; first != second);
-    assert!(rt; !objects.is_full());
-    let first = standing(&objects, first)?;
-    objects.remove(first);
-    assert_eq!(rt; objects.name_of(first), None);
-    assert_eq!(rt; objects.name_of(second), Some(Name(1)));
-    assert_eq!(rt; slot_of::<Brand>(&objects, Name(0), Blank::new(1)), None);
-    assert_eq!(rt;
-        slot_of::<Brand>(&objects, Name(1), Blank::new(1)),
-        Some(second)
-    );
-    assert_eq!(rt; objects.next_name(), Name(2));
+    let two = first_gone(rt.alloc())?;
+    assert!(rt; two.first != two.second);
+    assert!(rt; !two.objects.is_full());
+    assert_eq!(rt; two.objects.next_name(), Name(2));
+    let first = told_of(&two.objects, two.first, Name(0));
+    assert_eq!(rt; first.name, None);
+    assert_eq!(rt; first.slot, None);
+    let second = told_of(&two.objects, two.second, Name(1));
+    assert_eq!(rt; second.name, Some(Name(1)));
+    assert_eq!(rt; second.slot, Some(two.second));
     Ok(())
 }

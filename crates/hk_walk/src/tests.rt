@@ -1,4 +1,4 @@
-ghost use Rattle.std.specs.Prelude.{◌≡◌, ◌<◌, ◌≤◌, ◌^◌, length};
+ghost use Rattle.std.specs.Prelude.{◌≡◌, ◌<◌, ◌≤◌, ◌^◌, [], length, IfOk};
 ghost use Rattle.hk_walk.specs.Walks.{seen, AreRight};
 
 use crate::Walker;
@@ -114,76 +114,118 @@ fn walked_again(
     found_on::<Brand>(walker, objects, from, rest, Blank::new(1))
 }
 
+/// Objects, a walker over them, and a capability to begin with.
+#[derive(Drop)]
+struct Begun {
+    objects: Objects,
+    walker: Walker,
+    from: Cap,
+}
+
+/// A table with one object, and a walker that remembers up to so many walks.
+#[tactic(auto, using(crate::proofs::Kept::right_none))]
+fn begun_with(alloc: Global, capacity: usize) -> Result<Begun, AllocError>
+    requires { 1 ≤ capacity }
+    ensures { IfOk result (λ begun. AreRight (seen begun.objects.slots) begun.walker.pairs) }
+{
+    let Ok(mut objects) = Objects::with_room(alloc) else {
+        return Err(AllocError);
+    };
+    let from = own(alloc, &mut objects)?;
+    let Ok(walker) = Walker::with(alloc, capacity) else {
+        return Err(AllocError);
+    };
+    Ok(Begun {
+        objects,
+        walker,
+        from,
+    })
+}
+
+/// Whether a walk leads to the capability that it began with, and is remembered from then on and not before.
+fn leads_back(walker: &mut Walker, objects: &Objects, from: &Cap, rest: &[u16]) -> bool
+    requires short { length rest.now ≤ 7 }
+    requires right { AreRight (seen objects.now.slots) walker.old.pairs }
+    ensures right { AreRight (seen objects.now.slots) walker.new.pairs }
+{
+    let before = walker.remembers(*from, rest);
+    let is_right = walked(walker, objects, from, rest) == Ok(Entry::Held(*from));
+    !before && is_right && walker.remembers(*from, rest)
+}
+
+/// Whether a walk is refused in this way, and is not remembered.
+fn is_refused(
+    walker: &mut Walker,
+    objects: &Objects,
+    from: &Cap,
+    rest: &[u16],
+    refusal: Refusal,
+) -> bool
+    requires short { length rest.now ≤ 7 }
+    requires right { AreRight (seen objects.now.slots) walker.old.pairs }
+    ensures right { AreRight (seen objects.now.slots) walker.new.pairs }
+{
+    walked(walker, objects, from, rest) == Err(refusal) && !walker.remembers(*from, rest)
+}
+
+/// Whether a walk is remembered, and leads to the capability that it began with.
+fn leads_back_again(walker: &mut Walker, objects: &Objects, from: &Cap, rest: &[u16]) -> bool
+    requires short { length rest.now ≤ 7 }
+    requires right { AreRight (seen objects.now.slots) walker.old.pairs }
+    ensures right { AreRight (seen objects.now.slots) walker.new.pairs }
+{
+    walked_again(walker, objects, from, rest) == Some(Ok(Entry::Held(*from)))
+}
+
+/// Whether a walk was remembered until nothing is.
+fn is_forgotten(walker: &mut Walker, from: &Cap, rest: &[u16]) -> bool
+    requires { length rest.now ≤ 7 }
+    ensures { walker.new.pairs ≡ [] }
+{
+    let before = walker.remembers(*from, rest);
+    walker.forget();
+    before && !walker.remembers(*from, rest)
+}
+
 #[tactic(auto, using(crate::proofs::Kept::right_none))]
 #[test]
 fn a_walk_is_remembered_until_it_is_forgotten(rt: HostRuntime) -> Result<(), Fail> {
-    let Ok(mut objects) = Objects::with_room(rt.alloc()) else {
-        return Err(AllocError.into());
-    };
-    let Ok(mut walker) = Walker::with(rt.alloc(), 256) else {
-        return Err(AllocError.into());
-    };
-    let from = own(rt.alloc(), &mut objects)?;
+    let mut on = begun_with(rt.alloc(), 256)?;
     let path = [0; 7];
-    assert!(rt; !walker.remembers(from, &path));
-    let first = walked(&mut walker, &objects, &from, &path);
-    assert_eq!(rt; first, Ok(Entry::Held(from)));
-    assert!(rt; walker.remembers(from, &path));
-    assert!(rt; !walker.remembers(from, &path[..1]));
-    let again = walked_again(&mut walker, &objects, &from, &path);
-    assert_eq!(rt; again, Some(first));
-    walker.forget();
-    assert!(rt; !walker.remembers(from, &path));
-    let last = walked(&mut walker, &objects, &from, &path[..1]);
-    assert_eq!(rt; last, first);
-    assert!(rt; walker.remembers(from, &path[..1]));
+    assert!(rt; leads_back(&mut on.walker, &on.objects, &on.from, &path));
+    assert!(rt; leads_back_again(&mut on.walker, &on.objects, &on.from, &path));
+    assert!(rt; is_forgotten(&mut on.walker, &on.from, &path));
+    assert!(rt; leads_back(&mut on.walker, &on.objects, &on.from, &path[..1]));
     Ok(())
 }
 
-#[tactic(auto, using(crate::proofs::Kept::right_none))]
 #[test]
 fn a_refused_walk_is_not_remembered(rt: HostRuntime) -> Result<(), Fail> {
-    let Ok(mut objects) = Objects::with_room(rt.alloc()) else {
-        return Err(AllocError.into());
-    };
-    let Ok(mut walker) = Walker::with(rt.alloc(), 256) else {
-        return Err(AllocError.into());
-    };
-    let from = own(rt.alloc(), &mut objects)?;
+    let mut on = begun_with(rt.alloc(), 256)?;
     let right = Right::LOAD;
     let shut = Cap {
-        name: from.name,
+        name: on.from.name,
         rights: Rights::ENV,
     };
-    assert!(rt; !walker.remembers(shut, &[0; 7]));
-    let first = walked(&mut walker, &objects, &shut, &[0; 7]);
-    assert_eq!(rt; first, Err(Refusal::Denied { step: 0, right }));
-    assert!(rt; !walker.remembers(shut, &[0; 7]));
+    let first = Refusal::Denied { step: 0, right };
+    assert!(rt; is_refused(&mut on.walker, &on.objects, &shut, &[0; 7], first));
     let path = [0, 0, 0, 1, 0, 0, 0];
-    let later = walked(&mut walker, &objects, &from, &path);
-    assert_eq!(rt; later, Err(Refusal::Denied { step: 4, right }));
-    assert!(rt; !walker.remembers(from, &path));
-    let past = walked(&mut walker, &objects, &from, &[2]);
-    assert_eq!(rt; past, Err(Refusal::Range { step: 1 }));
+    let later = Refusal::Denied { step: 4, right };
+    assert!(rt; is_refused(&mut on.walker, &on.objects, &on.from, &path, later));
+    let past = Refusal::Range { step: 1 };
+    assert!(rt; is_refused(&mut on.walker, &on.objects, &on.from, &[2], past));
     Ok(())
 }
 
-#[tactic(auto, using(crate::proofs::Kept::right_none))]
 #[test]
 fn the_latest_walks_stay(rt: HostRuntime) -> Result<(), Fail> {
-    let Ok(mut objects) = Objects::with_room(rt.alloc()) else {
-        return Err(AllocError.into());
-    };
-    let Ok(mut walker) = Walker::with(rt.alloc(), 1) else {
-        return Err(AllocError.into());
-    };
-    let from = own(rt.alloc(), &mut objects)?;
-    let alone = walked(&mut walker, &objects, &from, &[]);
+    let mut on = begun_with(rt.alloc(), 1)?;
+    let from = on.from;
+    let alone = walked(&mut on.walker, &on.objects, &from, &[]);
     assert_eq!(rt; alone, Ok(Entry::Held(from)));
-    assert!(rt; walked(&mut walker, &objects, &from, &[0]).is_ok());
-    assert!(rt; walked(&mut walker, &objects, &from, &[0, 0]).is_ok());
-    assert!(rt; !walker.remembers(from, &[0]));
-    assert!(rt; walker.remembers(from, &[0, 0]));
-    assert!(rt; !walker.remembers(from, &[]));
+    assert!(rt; leads_back(&mut on.walker, &on.objects, &from, &[0]));
+    assert!(rt; leads_back(&mut on.walker, &on.objects, &from, &[0, 0]));
+    assert!(rt; !on.walker.remembers(from, &[0]));
+    assert!(rt; !on.walker.remembers(from, &[]));
     Ok(())
 }

@@ -68,6 +68,27 @@ fn enter(context: &mut Context, world: &World, call: &Call)
     }
 }
 
+/// Whether a process with a frame makes this call next; then it is answered, and no procedure is entered.
+fn goes(context: &mut Context, world: &World, call: &Call, reply: Reply) -> bool
+    requires { AreFrames world.now context.old }
+    ensures { AreFrames world.now context.new }
+{
+    let is_next = makes(context, world, call);
+    answer(context, world, call, reply);
+    is_next
+}
+
+/// Whether a process with a frame makes this call next; then it enters a procedure of the second code.
+fn goes_in(context: &mut Context, world: &World, call: &Call) -> bool
+    requires frames { AreFrames world.now context.old }
+    requires room { length context.old < 64 }
+    ensures { AreFrames world.now context.new }
+{
+    let is_next = makes(context, world, call);
+    enter(context, world, call);
+    is_next
+}
+
 /// A code that counts to 3 before its call, and then asks whether this was refused.
 const COUNTS: &[u8] =
     b"hydra 1\ncode first\nlabel again\nadd r0 1\niflt r0 3 again\nputdata 0 9 r0\nifdenied refused\nyield\nlabel refused\ndrop 1\nend\n";
@@ -75,11 +96,10 @@ const COUNTS: &[u8] =
 #[test]
 fn a_loop_counts_up_to_its_call_and_a_refusal_is_told(rt: HostRuntime) -> Result<(), Fail> {
     let world = world(rt.alloc(), COUNTS)?;
+    let mut context = begun(rt.alloc(), &world)?;
     let of = Path::new(&[0]).ok_or("a path")?;
     let put = Call::Put { of, at: 9, word: 3 };
-    let mut context = begun(rt.alloc(), &world)?;
-    assert!(rt; makes(&mut context, &world, &put));
-    answer(&mut context, &world, &put, Reply::No(Refusal::Count));
+    assert!(rt; goes(&mut context, &world, &put, Reply::No(Refusal::Count)));
     let drop = Call::Drop { slot: Slot(1) };
     assert!(rt; makes(&mut context, &world, &drop));
     let frame = Frame {
@@ -95,34 +115,39 @@ fn a_loop_counts_up_to_its_call_and_a_refusal_is_told(rt: HostRuntime) -> Result
 /// A code that calls a procedure of the second.
 const CALLS: &[u8] = b"hydra 1\ncode first\ncall 0 1\nend\ncode second\nlook 0 r2\nend\n";
 
+/// The frame of a code behind its first instruction, with this word in the register r2.
+fn behind_the_first(code: u16, word: u32) -> Frame {
+    Frame {
+        code,
+        at: 1,
+        registers: [0, 0, word, 0, 0, 0, 0, 0],
+        refused: false,
+    }
+}
+
+/// Whether the procedure of the second code is entered, looks, and has the word that it is told.
+fn looks(context: &mut Context, world: &World, proc: Path, args: Args) -> bool
+    requires frames { AreFrames world.now context.old }
+    requires room { length context.old < 64 }
+    ensures { AreFrames world.now context.new }
+{
+    let into = Slot(1);
+    let is_in = goes_in(context, world, &Call::Enter { proc, args, into });
+    let looks = goes(context, world, &Call::Look { of: proc }, Reply::Word(7));
+    is_in && looks && is_on_top(context, &behind_the_first(1, 7))
+}
+
 #[test]
 fn an_enter_puts_a_frame_on_top_and_a_return_takes_it(rt: HostRuntime) -> Result<(), Fail> {
     let world = world(rt.alloc(), CALLS)?;
-    let args = Args::new(&[]).ok_or("arguments")?;
-    let proc = Path::new(&[0]).ok_or("a path")?;
-    let into = Slot(1);
-    let call = Call::Enter { proc, args, into };
     let mut context = begun(rt.alloc(), &world)?;
-    assert!(rt; makes(&mut context, &world, &call));
-    enter(&mut context, &world, &call);
-    let look = Call::Look { of: proc };
-    assert!(rt; makes(&mut context, &world, &look));
-    answer(&mut context, &world, &look, Reply::Word(7));
-    let mut frame = Frame {
-        code: 1,
-        at: 1,
-        registers: [0, 0, 7, 0, 0, 0, 0, 0],
-        refused: false,
-    };
-    assert!(rt; is_on_top(&context, &frame));
+    let proc = Path::new(&[0]).ok_or("a path")?;
+    let args = Args::new(&[]).ok_or("arguments")?;
+    assert!(rt; looks(&mut context, &world, proc, args));
     let leave = Call::Leave { give: None };
-    assert!(rt; makes(&mut context, &world, &leave));
-    answer(&mut context, &world, &leave, Reply::Done);
-    frame.code = 0;
-    frame.registers = [0; 8];
-    assert!(rt; is_on_top(&context, &frame));
-    assert!(rt; makes(&mut context, &world, &leave));
-    answer(&mut context, &world, &leave, Reply::Done);
+    assert!(rt; goes(&mut context, &world, &leave, Reply::Done));
+    assert!(rt; is_on_top(&context, &behind_the_first(0, 0)));
+    assert!(rt; goes(&mut context, &world, &leave, Reply::Done));
     assert!(rt; context.top().is_none());
     Ok(())
 }
