@@ -1,0 +1,140 @@
+//! A history by two machines, each over a kernel of its own.
+
+ghost use Rattle.hk_program.specs.Machines.{IsSound};
+
+use hk_model::{Call, Cpu, Kernel, Line, Making, NoMemory, Refusal, Reply, What, What8, World};
+use hk_plain::Plain;
+use hk_program::Machine;
+use hk_rights::Right;
+use hk_table::Table;
+use hk_undo::state_text;
+use std::alloc::Global;
+use std::marker::PhantomData;
+
+/// How many processors make steps.
+const PROCESSORS: u8 = 3;
+
+/// How many lines are made at most, and asked for: each processor that has no step is asked for nothing.
+const LINES: u32 = 200_000;
+
+/// What is found: how many lines both kernels made, or the number of the first that differs, from 1. The last states
+/// count as one line more.
+#[derive(Clone, Copy)]
+pub(crate) enum Told {
+    Same(u32),
+    Differs(u32),
+}
+
+/// What the two machines made of the step of a processor.
+#[derive(Clone, Copy, PartialEq, Eq)]
+enum Step {
+    /// Neither has one.
+    Missing,
+    /// Both have the same line.
+    Same,
+    /// The lines differ, or one alone has a step.
+    Differs,
+}
+
+/// Whether two lines are the same.
+fn compared(one: Option<Line>, other: Option<Line>) -> Step {
+    let _ = PhantomData::<(Making, Call, What, Reply, Refusal, What8, Right)>; // Rattle is to know what a Line holds
+    match (one, other) {
+        (None, None) => Step::Missing,
+        (Some(line), Some(same)) if line == same => Step::Same,
+        _ => Step::Differs,
+    }
+}
+
+/// The step of a processor by both machines.
+fn step_of(
+    alloc: Global,
+    world: &World,
+    plain: &mut Machine<Plain>,
+    table: &mut Machine<Table>,
+    cpu: Cpu,
+) -> Result<Step, NoMemory>
+    requires plain { IsSound world.now plain.old }
+    requires table { IsSound world.now table.old }
+    ensures plain { IsSound world.now plain.new }
+    ensures table { IsSound world.now table.new }
+{
+    let one = plain.step(alloc, world, cpu)?;
+    let other = table.step(alloc, world, cpu)?;
+    Ok(compared(one, other))
+}
+
+/// The step of the first processor that has one, from some processor on.
+fn some_step(
+    alloc: Global,
+    world: &World,
+    plain: &mut Machine<Plain>,
+    table: &mut Machine<Table>,
+    first: u8,
+) -> Result<Step, NoMemory>
+    requires plain { IsSound world.now plain.old }
+    requires table { IsSound world.now table.old }
+    ensures plain { IsSound world.now plain.new }
+    ensures table { IsSound world.now table.new }
+{
+    for k in 0..PROCESSORS {
+        let cpu = Cpu((first % PROCESSORS + k) % PROCESSORS);
+        let made = step_of(alloc, world, plain, table, cpu)?;
+        if made != Step::Missing {
+            return Ok(made);
+        }
+    }
+    Ok(Step::Missing)
+}
+
+/// A number that looks like chance, and the one that the next is made of.
+fn next_number(seed: u32) -> u32 {
+    seed.wrapping_mul(1_103_515_245).wrapping_add(12_345)
+}
+
+/// The processor that a number chooses.
+fn first_of(seed: u32) -> u8 {
+    ((seed >> 16) % u32::from(PROCESSORS)) as u8
+}
+
+/// Makes lines while some processor has a step and both machines have the same: how many, and whether one differed.
+fn make_lines(
+    alloc: Global,
+    world: &World,
+    plain: &mut Machine<Plain>,
+    table: &mut Machine<Table>,
+) -> Result<Told, NoMemory>
+    requires plain { IsSound world.now plain.old }
+    requires table { IsSound world.now table.old }
+{
+    let mut seed = 1;
+    for count in 0..LINES {
+        seed = next_number(seed);
+        match some_step(alloc, world, plain, table, first_of(seed))? {
+            Step::Missing => return Ok(Told::Same(count)),
+            Step::Same => {}
+            Step::Differs => return Ok(Told::Differs(count + 1)),
+        }
+    }
+    Ok(Told::Same(LINES))
+}
+
+/// Whether the states of two kernels have the same text.
+fn same_state(alloc: Global, plain: &Plain, table: &Table) -> Result<bool, NoMemory> {
+    let one = state_text(alloc, &plain.snapshot(alloc)?, 0)?;
+    let other = state_text(alloc, &table.snapshot(alloc)?, 0)?;
+    Ok(one.as_bytes() == other.as_bytes())
+}
+
+/// Makes lines of a world by both kernels, and compares.
+pub(crate) fn compare(alloc: Global, world: &World) -> Result<Told, NoMemory> {
+    let mut plain = Machine::open(alloc, world, Plain::new(alloc, world)?)?;
+    let mut table = Machine::open(alloc, world, Table::new(alloc, world)?)?;
+    let told = make_lines(alloc, world, &mut plain, &mut table)?;
+    match told {
+        Told::Same(count) if !same_state(alloc, plain.kernel(), table.kernel())? => {
+            Ok(Told::Differs(count + 1))
+        }
+        _ => Ok(told),
+    }
+}
