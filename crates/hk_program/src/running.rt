@@ -6,9 +6,9 @@ ghost use Rattle.hk_model.specs.WorldValue.{IsCode};
 ghost use Rattle.hk_model.specs.Control as control;
 ghost use Rattle.hk_model.specs.Control.{here, next_from, steps_of};
 ghost use Rattle.hk_program.specs.Contexts.{AreFrames, IsFrame};
-ghost use Rattle.hk_program.specs.Meanings.{call_in, is_local, left_by, todo_in};
+ghost use Rattle.hk_program.specs.Meanings.{is_local, left_by, todo_in};
 
-use crate::calling::call_of;
+use crate::calling::todo_of;
 use crate::codes::code_of;
 use crate::context::Context;
 use crate::stepping::step_local;
@@ -80,26 +80,14 @@ fn step_here(code: &Code, frame: &mut Frame) -> bool
     }
 }
 
-/// What is next where no more local instructions may be run: the call that stands next, or a halt.
-#[tactic(auto, using(crate::proofs::Todos::call_is_next, crate::proofs::Todos::halt_is_next))]
+/// What is next where no more local instructions may be run: the call that stands next, at the code's end a
+/// return, or a halt exactly where a local instruction stands next.
 fn todo_here(code: &Code, frame: &Frame) -> Todo
     requires { IsCode code.now }
     ensures { result ≡ todo_in (here code.now.steps frame.now) }
 {
-    match call_here(code, frame) {
-        Some(call) => Todo::Do(call),
-        None => Todo::Halt,
-    }
-}
-
-/// The call that stands next, at the code's end a return. None exactly where a local instruction
-/// stands next.
-fn call_here(code: &Code, frame: &Frame) -> Option<Call>
-    requires { IsCode code.now }
-    ensures { result ≡ call_in (here code.now.steps frame.now) }
-{
     match code.steps.as_slice().get(frame.at as usize) {
-        Some(instr) => call_of(frame, instr),
-        None => Some(Call::Leave { give: None }),
+        Some(instr) => todo_of(frame, instr),
+        None => Todo::Do(Call::Leave { give: None }),
     }
 }
