@@ -10,76 +10,79 @@ ghost use Rattle.hk_program.specs.Meanings.{todo_in, is_word_call, is_list_call,
 use crate::operands::{path, worth};
 use hk_model::{Args, Call, Frame, Instr, Making, Operand, Route, Slot, Todo};
 
-// Each call is made by a function of its own, so that none of the others is laid out in memory.
+// Each call is made by a function of its own, so that none of the others is laid out in memory, and written where it is
+// to stand.
 
-/// The call that an instruction makes in a frame, a halt exactly where the instruction is local.
-pub(crate) fn todo_of(frame: &Frame, instr: &Instr) -> Todo
+/// Writes what an instruction makes a frame do: a call, or a halt exactly where the instruction is local.
+pub(crate) fn write_todo(frame: &Frame, instr: &Instr, todo: &mut Todo)
     requires { IsInstr code_limit instr.now }
-    ensures { result ≡ todo_in (meaning frame.now instr.now) }
+    ensures { todo.new ≡ todo_in (meaning frame.now instr.now) }
 {
     match instr {
-        Instr::Get { of, at, .. } => Todo::Do(get(frame, of, at)),
-        Instr::Put { of, at, word } => Todo::Do(put(frame, of, at, word)),
-        Instr::Add { of, word } => Todo::Do(add(frame, of, word)),
-        Instr::Length { of, .. } => Todo::Do(length(frame, of)),
-        Instr::Look { of, .. } => Todo::Do(look(frame, of)),
-        _ => list_todo(frame, instr),
+        Instr::Get { of, at, .. } => *todo = Todo::Do(get(frame, of, at)),
+        Instr::Put { of, at, word } => *todo = Todo::Do(put(frame, of, at, word)),
+        Instr::Add { of, word } => *todo = Todo::Do(add(frame, of, word)),
+        Instr::Length { of, .. } => *todo = Todo::Do(length(frame, of)),
+        Instr::Look { of, .. } => *todo = Todo::Do(look(frame, of)),
+        _ => write_list_call(frame, instr, todo),
     }
 }
 
 /// The call of an instruction that moves entries, or of one of the functions below.
-fn list_todo(frame: &Frame, instr: &Instr) -> Todo
+fn write_list_call(frame: &Frame, instr: &Instr, todo: &mut Todo)
     requires valid { IsInstr code_limit instr.now }
     requires no_word { is_word_call instr.now ≡ false }
-    ensures { result ≡ todo_in (meaning frame.now instr.now) }
+    ensures { todo.new ≡ todo_in (meaning frame.now instr.now) }
 {
     match instr {
-        Instr::Load { from, into } => Todo::Do(load(frame, from, *into)),
-        Instr::Store { list, at, from } => Todo::Do(store(frame, list, at, *from)),
-        Instr::Append { list, from } => Todo::Do(append(frame, list, *from)),
-        Instr::Erase { list, at } => Todo::Do(erase(frame, list, at)),
-        Instr::Drop { slot } => Todo::Do(Call::Drop { slot: *slot }),
-        Instr::Restrict { slot, keep } => Todo::Do(Call::Restrict {
-            slot: *slot,
-            keep: *keep,
-        }),
-        _ => object_todo(frame, instr),
+        Instr::Load { from, into } => *todo = Todo::Do(load(frame, from, *into)),
+        Instr::Store { list, at, from } => *todo = Todo::Do(store(frame, list, at, *from)),
+        Instr::Append { list, from } => *todo = Todo::Do(append(frame, list, *from)),
+        Instr::Erase { list, at } => *todo = Todo::Do(erase(frame, list, at)),
+        Instr::Drop { slot } => *todo = Todo::Do(Call::Drop { slot: *slot }),
+        Instr::Restrict { slot, keep } => {
+            *todo = Todo::Do(Call::Restrict {
+                slot: *slot,
+                keep: *keep,
+            });
+        }
+        _ => write_object_call(frame, instr, todo),
     }
 }
 
 /// The call of an instruction that makes a template, an object or a capability, or of one below.
-fn object_todo(frame: &Frame, instr: &Instr) -> Todo
+fn write_object_call(frame: &Frame, instr: &Instr, todo: &mut Todo)
     requires valid { IsInstr code_limit instr.now }
     requires no_word { is_word_call instr.now ≡ false }
     requires no_list { is_list_call instr.now ≡ false }
-    ensures { result ≡ todo_in (meaning frame.now instr.now) }
+    ensures { todo.new ≡ todo_in (meaning frame.now instr.now) }
 {
     match instr {
         Instr::MakeTemplate { of, making, into } => {
-            Todo::Do(make_template(frame, of, *making, *into))
+            *todo = Todo::Do(make_template(frame, of, *making, *into));
         }
-        Instr::Create { by, into } => Todo::Do(create(frame, by, *into)),
-        Instr::Merge { with, cap, into } => Todo::Do(merge(frame, with, *cap, *into)),
-        Instr::Copy { of, into } => Todo::Do(copy(frame, of, *into)),
-        _ => process_todo(frame, instr),
+        Instr::Create { by, into } => *todo = Todo::Do(create(frame, by, *into)),
+        Instr::Merge { with, cap, into } => *todo = Todo::Do(merge(frame, with, *cap, *into)),
+        Instr::Copy { of, into } => *todo = Todo::Do(copy(frame, of, *into)),
+        _ => write_process_call(frame, instr, todo),
     }
 }
 
 /// The call of an instruction by which a process enters, returns, waits, wakes or yields.
-fn process_todo(frame: &Frame, instr: &Instr) -> Todo
+fn write_process_call(frame: &Frame, instr: &Instr, todo: &mut Todo)
     requires valid { IsInstr code_limit instr.now }
     requires no_word { is_word_call instr.now ≡ false }
     requires no_list { is_list_call instr.now ≡ false }
     requires no_object { is_object_call instr.now ≡ false }
-    ensures { result ≡ todo_in (meaning frame.now instr.now) }
+    ensures { todo.new ≡ todo_in (meaning frame.now instr.now) }
 {
     match instr {
-        Instr::Enter { proc, args, into } => Todo::Do(enter(frame, proc, args, *into)),
-        Instr::Leave { give } => Todo::Do(Call::Leave { give: *give }),
-        Instr::P { of } => Todo::Do(take(frame, of)),
-        Instr::V { of } => Todo::Do(give(frame, of)),
-        Instr::Yield => Todo::Do(Call::Yield),
-        _ => Todo::Halt,
+        Instr::Enter { proc, args, into } => *todo = Todo::Do(enter(frame, proc, args, *into)),
+        Instr::Leave { give } => *todo = Todo::Do(Call::Leave { give: *give }),
+        Instr::P { of } => *todo = Todo::Do(take(frame, of)),
+        Instr::V { of } => *todo = Todo::Do(give(frame, of)),
+        Instr::Yield => *todo = Todo::Do(Call::Yield),
+        _ => *todo = Todo::Halt,
     }
 }
 
