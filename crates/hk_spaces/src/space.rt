@@ -34,6 +34,7 @@ impl Space {
     }
 
     /// What stands in a slot.
+    #[inline(always)]
     pub fn at(&self, slot: Slot) -> Entry
         requires { slot.0 < 64 }
         ensures { slice_get self.now slot.0 ≡ Some result }
@@ -42,6 +43,7 @@ impl Space {
     }
 
     /// Writes an entry into a slot, over what stood there.
+    #[inline(always)]
     pub fn set(&mut self, slot: Slot, entry: Entry)
         requires { slot.0 < 64 }
         ensures { self.new ≡ slice_set self.old slot.0 entry }
@@ -50,6 +52,7 @@ impl Space {
     }
 
     /// The 64 entries.
+    #[inline(always)]
     pub fn as_slice(&self) -> &[Entry]
         ensures value { result.now ≡ self.now }
         ensures all { length result.now ≡ 64 }
