@@ -1,6 +1,6 @@
 //! A local name space.
 
-ghost use Rattle.std.specs.Prelude.{◌≡◌, ◌<◌, length, slice_get, slice_set, Some};
+ghost use Rattle.std.specs.Prelude.{◌≡◌, ◌<◌, ◌≤◌, ◌+◌, ◌++◌, drop, length, slice_get, slice_set, take, Some};
 ghost use Rattle.hk_spaces.specs.Slots.{empty_slots};
 
 use hk_model::{Entry, Slot};
@@ -49,6 +49,17 @@ impl Space {
         ensures { self.new ≡ slice_set self.old slot.0 entry }
     {
         self.slots[slot.0 as usize] = entry;
+    }
+
+    /// Writes entries into the slots from `start` on, over what stood there.
+    pub fn write(&mut self, start: Slot, entries: &[Entry])
+        requires { start.0 + length entries.now ≤ 64 }
+        ensures value { self.new ≡ take start.0 self.old ++ (entries.now ++ drop (start.0 + length entries.now) self.old) }
+        ensures all { length self.old ≡ 64 }
+    {
+        let from = start.0 as usize;
+        let slots = &mut self.slots[..];
+        slots[from..from + entries.len()].copy_from_slice(entries);
     }
 
     /// The 64 entries.
