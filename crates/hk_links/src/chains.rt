@@ -80,6 +80,7 @@ impl Chains {
     }
 
     /// The first cell of a list. None exactly where the list is empty.
+    #[inline(always)]
     pub fn front(&self, list: u32) -> Option<u32>
         requires { list < length self.now.lists }
         ensures first { result ≡ slice_get (listed self.now.lists list) 0 }
@@ -95,6 +96,7 @@ impl Chains {
     }
 
     /// Takes a cell out of its list; the order of the others stays. Where it is in no list nothing changes.
+    #[inline(always)]
     pub fn unlink(&mut self, cell: u32)
         requires { cell < self.old.cells }
         ensures lists { self.new ≡ record self.old { lists = map (without cell) self.old.lists } }
@@ -123,6 +125,7 @@ impl Chains {
     }
 
     /// The cell behind a cell of a list. None exactly for the last.
+    #[inline(always)]
     pub fn next(&self, cell: u32) -> Option<u32>
         requires { cell < self.now.cells }
         ensures next { (l k : ℕ) → l < length self.now.lists → slice_get (listed self.now.lists l) k ≡ Some cell → result ≡ slice_get (listed self.now.lists l) (k + 1) }
@@ -137,6 +140,7 @@ impl Chains {
     }
 
     /// The list that a cell is in. None exactly where it is in no list.
+    #[inline(always)]
     pub fn list_of(&self, cell: u32) -> Option<u32>
         requires { cell < self.now.cells }
         ensures some { (l : ℕ) → l < length self.now.lists → in_list self.now.lists l cell ≡ true ↔ result ≡ Some l }

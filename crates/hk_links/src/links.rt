@@ -35,6 +35,7 @@ impl Links {
     }
 
     /// Where a node leads.
+    #[inline(always)]
     pub(crate) fn get(&self, node: usize) -> usize
         requires { node < length self.now }
         ensures { result ≡ slice_index self.now node }
@@ -48,6 +49,7 @@ impl Links {
     }
 
     /// Lets a node lead to another.
+    #[inline(always)]
     pub(crate) fn set(&mut self, node: usize, to: usize)
         requires { node < length self.old }
         ensures { self.new ≡ slice_set self.old node to }

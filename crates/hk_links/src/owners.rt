@@ -36,6 +36,7 @@ impl Owners {
     }
 
     /// The list that a cell is in.
+    #[inline(always)]
     pub(crate) fn get(&self, cell: usize) -> Option<u32>
         requires { cell < length self.now }
         ensures { result ≡ slice_index_or self.now cell None }
@@ -48,6 +49,7 @@ impl Owners {
     }
 
     /// Notes the list that a cell is in.
+    #[inline(always)]
     pub(crate) fn set(&mut self, cell: usize, owner: Option<u32>)
         requires { cell < length self.old }
         ensures { self.new ≡ slice_set self.old cell owner }

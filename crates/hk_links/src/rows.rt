@@ -41,6 +41,7 @@ impl Row {
     }
 
     /// The number of nodes.
+    #[inline(always)]
     pub(crate) fn len(&self) -> usize
         ensures { result ≡ length self.now }
     {
@@ -48,6 +49,7 @@ impl Row {
     }
 
     /// Where the node at a place leads.
+    #[inline(always)]
     pub(crate) fn get(&self, place: usize) -> usize
         requires { place < length self.now }
         ensures { result ≡ slice_index self.now place }
@@ -60,6 +62,7 @@ impl Row {
     }
 
     /// Lets the node at a place lead to another.
+    #[inline(always)]
     pub(crate) fn set(&mut self, place: usize, to: usize)
         requires { place < length self.old }
         ensures { self.new ≡ slice_set self.old place to }

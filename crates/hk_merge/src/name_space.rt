@@ -1,6 +1,6 @@
 //! The name space of a call.
 
-ghost use Rattle.std.specs.Prelude.{◌≡◌, ◌≤◌, ◌<◌, ◌+◌, length, map, IfOk, IfErr, OnOk, Ok, Err};
+ghost use Rattle.std.specs.Prelude.{◌≡◌, ◌≤◌, ◌<◌, ◌+◌, true, length, map, IfOk, IfErr, OnOk, Ok, Err};
 ghost use Rattle.hk_model.specs.Merging.{inherited, merged_arg, merged_all, name_space};
 ghost use Rattle.hk_spaces.specs.Slots.{empty_slots};
 ghost use Rattle.hk_merge.specs.NameSpaces.{overwritten, with_caps};
@@ -85,6 +85,7 @@ fn set_params(
 }
 
 /// An argument merged with its parameter.
+#[inline(always)]
 fn merged_arg(arg: &Arg, param: &Param, step: u8) -> Result<Cap, Refusal>
     ensures { result ≡ merged_arg arg.now param.now step }
 {
@@ -93,31 +94,38 @@ fn merged_arg(arg: &Arg, param: &Param, step: u8) -> Result<Cap, Refusal>
 }
 
 /// Writes what the procedure holds into the slots from `start` on.
+#[tactic(auto, using(crate::proofs::Inheriting::all_inherited))]
 fn set_inherited(space: &mut Space, start: u8, entries: &[Entry], confined: bool)
     requires { start + length entries.now ≤ 64 }
     ensures { space.new ≡ overwritten space.old start (map (inherited confined) entries.now) }
 {
-    for (i, entry) in entries.iter().enumerate() {
-        space.set(Slot(start + i as u8), inherited(confined, *entry));
+    if confined {
+        set_confined(space, start, entries);
+    } else {
+        space.write(Slot(start), entries);
     }
 }
 
-/// What a call inherits of an entry.
-fn inherited(confined: bool, entry: Entry) -> Entry
-    ensures { result ≡ inherited confined entry }
+/// Writes what a confined call inherits of these entries into the slots from `start` on.
+fn set_confined(space: &mut Space, start: u8, entries: &[Entry])
+    requires { start + length entries.now ≤ 64 }
+    ensures { space.new ≡ overwritten space.old start (map (inherited true) entries.now) }
+{
+    for (i, entry) in entries.iter().enumerate() {
+        space.set(Slot(start + i as u8), confined(entry));
+    }
+}
+
+/// What a confined call inherits of an entry.
+#[inline(always)]
+fn confined(entry: &Entry) -> Entry
+    ensures { result ≡ inherited true entry.now }
 {
     match entry {
-        Entry::Empty => Entry::Empty,
-        Entry::Form(form) => Entry::Form(form),
-        Entry::Held(cap) => {
-            if confined {
-                Entry::Held(Cap {
-                    name: cap.name,
-                    rights: confined_rights(cap.rights),
-                })
-            } else {
-                Entry::Held(cap)
-            }
-        }
+        Entry::Held(cap) => Entry::Held(Cap {
+            name: cap.name,
+            rights: confined_rights(cap.rights),
+        }),
+        other => *other,
     }
 }

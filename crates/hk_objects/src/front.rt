@@ -50,6 +50,7 @@ impl<T: Drop> Front<T> {
     }
 
     /// What stands in a slot. None exactly where nothing does.
+    #[inline(always)]
     pub(crate) fn get(&self, slot: u32) -> Option<&T>
         ensures { option_copied result ≡ slice_index_or self.now slot None }
     {

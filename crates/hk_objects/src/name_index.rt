@@ -11,6 +11,7 @@ use std::alloc::Global;
 use std::marker::Model;
 
 /// Whether a slot has a name.
+#[inline(always)]
 fn is_named(names: &Front<Name>, slot: u32, name: Name) -> bool
     ensures yes { result ≡ true → named_at names.now slot ≡ Some name }
     ensures no { result ≡ false → named_at names.now slot ≡ Some name → ⊥ }
@@ -56,6 +57,7 @@ impl NameIndex {
     /// The slot of a name. None exactly where no slot has it.
     ///
     /// Opening objects stand in the slots of their names, so these are looked at first.
+    #[inline(always)]
     pub(crate) fn find(&self, name: Name) -> Option<u32>
         ensures found { IfSome result (λ slot. named_at self.now slot ≡ Some name) }
         ensures none { IfNone result ((k : ℕ) → named_at self.now k ≡ Some name → ⊥) }
@@ -68,6 +70,7 @@ impl NameIndex {
     }
 
     /// The same, by the list of the name's remainder.
+    #[inline(never)]
     fn find_listed(&self, name: Name) -> Option<u32>
         ensures found { IfSome result (λ slot. named_at self.now slot ≡ Some name) }
         ensures none { IfNone result ((k : ℕ) → named_at self.now k ≡ Some name → ⊥) }

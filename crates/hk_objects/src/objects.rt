@@ -65,6 +65,7 @@ impl Objects {
     }
 
     /// The slot of the object of a name; it counts one find. None exactly where no object has the name.
+    #[inline(always)]
     pub fn find<L: Ledger>(&self, name: Name, steps: &mut Steps<L>) -> Option<SlotNo>
         ensures found { IfSome result (λ slot. name_at self.now.slots slot.0 ≡ Some name) }
         ensures none { IfNone result ((k : ℕ) → name_at self.now.slots k ≡ Some name → ⊥) }
@@ -96,6 +97,7 @@ impl Objects {
     }
 
     /// The name of the object in a slot. None exactly where no object stands there.
+    #[inline(always)]
     pub fn name_of(&self, slot: SlotNo) -> Option<Name>
         ensures name { result ≡ name_at self.now.slots slot.0 }
         ensures apart { AreApart self.now.slots }
@@ -107,6 +109,7 @@ impl Objects {
     }
 
     /// The type of the object in a slot.
+    #[inline(always)]
     pub fn of(&self, slot: SlotNo) -> Name
         requires { IsSome (place self.now.slots slot.0) }
         ensures of { IfSome (place self.now.slots slot.0) (λ e. result ≡ e.1.of) }
@@ -119,6 +122,7 @@ impl Objects {
     }
 
     /// The words of the object in a slot.
+    #[inline(always)]
     pub fn words(&self, slot: SlotNo) -> &[u32]
         requires { IsSome (place self.now.slots slot.0) }
         ensures words { IfSome (place self.now.slots slot.0) (λ e. result.now ≡ e.1.words) }
@@ -131,6 +135,7 @@ impl Objects {
     }
 
     /// The entries of the object in a slot.
+    #[inline(always)]
     pub fn entries(&self, slot: SlotNo) -> &[Entry]
         requires { IsSome (place self.now.slots slot.0) }
         ensures entries { IfSome (place self.now.slots slot.0) (λ e. result.now ≡ e.1.entries) }
@@ -143,6 +148,7 @@ impl Objects {
     }
 
     /// The tokens of the object in a slot.
+    #[inline(always)]
     pub fn count(&self, slot: SlotNo) -> u32
         requires { IsSome (place self.now.slots slot.0) }
         ensures { IfSome (place self.now.slots slot.0) (λ e. result ≡ e.1.count) }
@@ -154,6 +160,7 @@ impl Objects {
     }
 
     /// The code of the object in a slot. None exactly where the object has no code.
+    #[inline(always)]
     pub fn code(&self, slot: SlotNo) -> Option<u16>
         requires { IsSome (place self.now.slots slot.0) }
         ensures { IfSome (place self.now.slots slot.0) (λ e. result ≡ code_of e.1.procedure) }
@@ -168,6 +175,7 @@ impl Objects {
     }
 
     /// The parameter templates of the object in a slot: none where it has no code.
+    #[inline(always)]
     pub fn params(&self, slot: SlotNo) -> &[Param]
         requires { IsSome (place self.now.slots slot.0) }
         ensures params { IfSome (place self.now.slots slot.0) (λ e. result.now ≡ params_of e.1.procedure) }

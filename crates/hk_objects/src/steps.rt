@@ -25,6 +25,7 @@ impl<L: Ledger> Model for Steps<L> {
 
 impl<L: Ledger> Steps<L> {
     /// No step yet, on a new ledger.
+    #[inline(always)]
     pub fn new(blank: Blank) -> Steps<L>
         requires name { blank.name ≡ L.name }
         requires parts { blank.parts ≡ L.parts }
@@ -36,6 +37,7 @@ impl<L: Ledger> Steps<L> {
     }
 
     /// One step more.
+    #[inline(always)]
     pub fn tick(&mut self)
         ensures { self.new ≡ self.old + 1 }
     {

@@ -50,19 +50,19 @@ impl Context {
         self.frames.last().copied()
     }
 
-    /// What is next in the current frame, which keeps what its local instructions changed
+    /// Writes what is next in the current frame, which keeps what its local instructions changed
     /// (`docs/RULES.md`, "Control of a process"). A context without a frame is halted.
     #[tactic(auto, unfolding(hk_model::specs::Control::next))]
-    pub(crate) fn run_top(&mut self, world: &World) -> Todo
+    pub(crate) fn run_top(&mut self, world: &World, todo: &mut Todo)
         requires { AreFrames world.now self.old }
-        ensures value { (result, self.new) ≡ control.next world.now self.old }
+        ensures value { (todo.new, self.new) ≡ control.next world.now self.old }
         ensures fits { AreFrames world.now self.new }
         ensures depth { length self.new ≡ length self.old }
         ensures others { drop 1 self.new ≡ drop 1 self.old }
     {
         match self.frames.last_mut() {
-            Some(frame) => run(world, frame),
-            None => Todo::Halt,
+            Some(frame) => run(world, frame, todo),
+            None => *todo = Todo::Halt,
         }
     }
 

@@ -14,9 +14,8 @@ ghost use Rattle.hk_program.specs.Machines.{IsSound};
 
 use crate::carrying::{blank_line, carry_into};
 use crate::context::Context;
-use crate::running::next;
 use hk_model::limits::CPU_LIMIT;
-use hk_model::{Call, Cpu, Kernel, Line, NoMemory, Proc, Reply, Task, What, World};
+use hk_model::{Call, Cpu, Kernel, Line, NoMemory, Proc, Reply, Task, Todo, What, World};
 use std::alloc::Global;
 use std::marker::Model;
 
@@ -190,7 +189,8 @@ fn turn<K: Kernel>(
     ensures err { OnErr result ((K.state kernel.new ≡ K.state kernel.old) × (context.new ≡ context.old)) }
 {
     let frame = context.top();
-    let todo = next(context, world);
+    let mut todo = Todo::Halt;
+    context.run_top(world, &mut todo);
     match carry_into(alloc, kernel, context, world, &todo, line) {
         Ok(_gone) => Ok(()),
         Err(error) => {

@@ -30,14 +30,25 @@ pub(crate) fn index(frame: &Frame, of: &Index) -> u16
 }
 
 /// The path of a route's indices.
+#[inline(always)]
 pub(crate) fn path(frame: &Frame, route: &Route) -> Path
     requires { IsRoute route.now }
     ensures { result ≡ path_of frame.now route.now }
 {
-    let route = route.at.as_slice();
-    if route.len() == 1 {
-        return path_of_one(index(frame, &route[0]));
+    let at = route.at.as_slice();
+    if at.len() == 1 {
+        path_of_one(index(frame, &at[0]))
+    } else {
+        path_of_all(frame, route)
     }
+}
+
+/// The same, index by index.
+fn path_of_all(frame: &Frame, route: &Route) -> Path
+    requires { IsRoute route.now }
+    ensures { result ≡ path_of frame.now route.now }
+{
+    let route = route.at.as_slice();
     let mut indices = [0; 8];
     for (step, of) in route.iter().enumerate() {
         indices[step] = index(frame, of);
@@ -49,6 +60,7 @@ pub(crate) fn path(frame: &Frame, route: &Route) -> Path
 }
 
 /// The path of one index, which most paths have.
+#[inline(always)]
 fn path_of_one(index: u16) -> Path
     ensures { result ≡ index ∷ [] }
 {

@@ -6,9 +6,9 @@ ghost use Rattle.hk_model.specs.WorldValue.{IsCode};
 ghost use Rattle.hk_model.specs.Control as control;
 ghost use Rattle.hk_model.specs.Control.{here, next_from, steps_of};
 ghost use Rattle.hk_program.specs.Contexts.{AreFrames, IsFrame};
-ghost use Rattle.hk_program.specs.Meanings.{call_in, is_local, left_by, todo_in};
+ghost use Rattle.hk_program.specs.Meanings.{is_local, left_by, todo_in};
 
-use crate::calling::call_of;
+use crate::calling::write_todo;
 use crate::codes::code_of;
 use crate::context::Context;
 use crate::stepping::step_local;
@@ -30,21 +30,23 @@ pub fn next(context: &mut Context, world: &World) -> Todo
     ensures depth { length context.new ≡ length context.old }
     ensures others { drop 1 context.new ≡ drop 1 context.old }
 {
-    context.run_top(world)
+    let mut todo = Todo::Halt;
+    context.run_top(world, &mut todo);
+    todo
 }
 
-/// What is next in a frame of the world, which keeps what its local instructions changed
+/// Writes what is next in a frame of the world, which keeps what its local instructions changed
 /// (`docs/RULES.md`, "Control of a process").
 #[tactic(auto, using(crate::proofs::Locals::no_more_turns))]
-pub(crate) fn run(world: &World, frame: &mut Frame) -> Todo
+pub(crate) fn run(world: &World, frame: &mut Frame, todo: &mut Todo)
     requires { IsFrame world.now frame.old }
     ensures value { let steps = steps_of world.now frame.old.code in
-        (result, frame.new) ≡ next_from local_limit steps frame.old (here steps frame.old) }
+        (todo.new, frame.new) ≡ next_from local_limit steps frame.old (here steps frame.old) }
     ensures fits { IsFrame world.now frame.new }
 {
     let code = code_of(world, frame);
     run_locals(code, frame);
-    todo_here(code, frame)
+    write_here(code, frame, todo);
 }
 
 /// Runs local instructions until none stands next, at most 10,000.
@@ -80,26 +82,14 @@ fn step_here(code: &Code, frame: &mut Frame) -> bool
     }
 }
 
-/// What is next where no more local instructions may be run: the call that stands next, or a halt.
-#[tactic(auto, using(crate::proofs::Todos::call_is_next, crate::proofs::Todos::halt_is_next))]
-fn todo_here(code: &Code, frame: &Frame) -> Todo
+/// Writes what is next where no more local instructions may be run: the call that stands next, at the code's end a
+/// return, or a halt exactly where a local instruction stands next.
+fn write_here(code: &Code, frame: &Frame, todo: &mut Todo)
     requires { IsCode code.now }
-    ensures { result ≡ todo_in (here code.now.steps frame.now) }
-{
-    match call_here(code, frame) {
-        Some(call) => Todo::Do(call),
-        None => Todo::Halt,
-    }
-}
-
-/// The call that stands next, at the code's end a return. None exactly where a local instruction
-/// stands next.
-fn call_here(code: &Code, frame: &Frame) -> Option<Call>
-    requires { IsCode code.now }
-    ensures { result ≡ call_in (here code.now.steps frame.now) }
+    ensures { todo.new ≡ todo_in (here code.now.steps frame.now) }
 {
     match code.steps.as_slice().get(frame.at as usize) {
-        Some(instr) => call_of(frame, instr),
-        None => Some(Call::Leave { give: None }),
+        Some(instr) => write_todo(frame, instr, todo),
+        None => *todo = Todo::Do(Call::Leave { give: None }),
     }
 }

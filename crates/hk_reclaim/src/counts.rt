@@ -52,6 +52,7 @@ impl Counts {
     }
 
     /// One more naming from outside; a pending slot is pending no longer.
+    #[inline(always)]
     pub fn hold_outside(&mut self, slot: SlotNo)
         requires in_range { slot.0 < length self.old.total }
         requires few { slice_index self.old.total slot.0 < 2 ^ 32 - 1 }
@@ -61,6 +62,7 @@ impl Counts {
     }
 
     /// One more naming by an object; a pending slot is pending no longer.
+    #[inline(always)]
     pub fn hold_inside(&mut self, slot: SlotNo)
         requires in_range { slot.0 < length self.old.total }
         requires few { slice_index self.old.total slot.0 < 2 ^ 32 - 1 }
@@ -71,6 +73,7 @@ impl Counts {
 
     /// One naming from outside fewer. The slot goes to the end of the pending ones where nothing names its object any
     /// longer, which has this name and is no opening object.
+    #[inline(always)]
     pub fn release_outside(&mut self, slot: SlotNo, name: Name)
         requires in_range { slot.0 < length self.old.total }
         requires held { 0 < slice_index self.old.outside slot.0 }
@@ -81,6 +84,7 @@ impl Counts {
 
     /// One naming by an object fewer. The slot goes to the end of the pending ones where nothing names its object any
     /// longer, which has this name and is no opening object.
+    #[inline(always)]
     pub fn release_inside(&mut self, slot: SlotNo, name: Name)
         requires in_range { slot.0 < length self.old.total }
         requires held { slice_index self.old.outside slot.0 < slice_index self.old.total slot.0 }

@@ -37,6 +37,7 @@ impl Model for Numbers {
 }
 
 /// Nothing counts an object any longer, and it is no opening object.
+#[inline(always)]
 fn is_due(total: u32, name: Name, first_new: Name) -> bool
     ensures { result ≡ is_due first_new total name }
 {
@@ -44,6 +45,7 @@ fn is_due(total: u32, name: Name, first_new: Name) -> bool
 }
 
 /// The name in an entry, if there is one: that of a capability's object, or of the type that a template is for.
+#[inline(always)]
 pub fn entry_name(entry: &Entry) -> Option<Name>
     ensures { result ≡ named entry.now }
 {
@@ -90,6 +92,7 @@ impl Numbers {
     }
 
     /// One more naming from outside.
+    #[inline(always)]
     pub(crate) fn hold_outside(&mut self, slot: SlotNo)
         requires in_range { slot.0 < length self.old.total }
         requires few { slice_index self.old.total slot.0 < 2 ^ 32 - 1 }
@@ -101,6 +104,7 @@ impl Numbers {
     }
 
     /// One more naming by an object.
+    #[inline(always)]
     pub(crate) fn hold_inside(&mut self, slot: SlotNo)
         requires in_range { slot.0 < length self.old.total }
         requires few { slice_index self.old.total slot.0 < 2 ^ 32 - 1 }
@@ -111,6 +115,7 @@ impl Numbers {
     }
 
     /// One naming from outside fewer.
+    #[inline(always)]
     pub(crate) fn release_outside(&mut self, slot: SlotNo, name: Name)
         requires in_range { slot.0 < length self.old.total }
         requires held { 0 < slice_index self.old.outside slot.0 }
@@ -124,6 +129,7 @@ impl Numbers {
     }
 
     /// One naming by an object fewer.
+    #[inline(always)]
     pub(crate) fn release_inside(&mut self, slot: SlotNo, name: Name)
         requires in_range { slot.0 < length self.old.total }
         requires held { slice_index self.old.outside slot.0 < slice_index self.old.total slot.0 }
@@ -136,6 +142,7 @@ impl Numbers {
     }
 
     /// The first slot that is pending.
+    #[inline(always)]
     pub(crate) fn first_pending(&self) -> Option<SlotNo>
         ensures some { IfSome result (λ s. has self.now.pending s.0 ≡ true) }
         ensures none { IsNone result → self.now.pending ≡ [] }

@@ -28,6 +28,7 @@ impl<T: Copy> Model for PerSlot<T> {
 }
 
 /// Lengthens a list by one value to a length for which there is room, if it is shorter.
+#[inline(always)]
 fn lengthen<T: Copy>(front: &mut Vec<T>, to: usize, rest: T)
     requires { to ≤ vec_capacity front.old }
     ensures items { front.new.items ≡ front.old.items ++ replicate (to - length front.old.items) rest }
@@ -60,6 +61,7 @@ impl<T: Copy> PerSlot<T> {
     }
 
     /// The number of slots.
+    #[inline(always)]
     pub(crate) fn size(&self) -> u32
         ensures { result ≡ length self.now }
     {
@@ -67,6 +69,7 @@ impl<T: Copy> PerSlot<T> {
     }
 
     /// A slot's value.
+    #[inline(always)]
     pub(crate) fn get(&self, slot: u32) -> T
         requires { slot < length self.now }
         ensures { result ≡ slice_index_or self.now slot result }
@@ -79,6 +82,7 @@ impl<T: Copy> PerSlot<T> {
     }
 
     /// Writes a slot's value.
+    #[inline(always)]
     pub(crate) fn set(&mut self, slot: u32, value: T)
         requires { slot < length self.old }
         ensures { self.new ≡ slice_set self.old slot value }
@@ -108,6 +112,7 @@ impl<T: Copy> PerSlot<T> {
 
 impl PerSlot<u32> {
     /// One more in a slot.
+    #[inline(always)]
     pub(crate) fn raise(&mut self, slot: u32)
         requires in_range { slot < length self.old }
         requires few { slice_index self.old slot < 2 ^ 32 - 1 }
@@ -118,6 +123,7 @@ impl PerSlot<u32> {
     }
 
     /// One fewer in a slot.
+    #[inline(always)]
     pub(crate) fn lower(&mut self, slot: u32)
         requires in_range { slot < length self.old }
         requires some { 0 < slice_index self.old slot }

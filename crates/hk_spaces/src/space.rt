@@ -1,6 +1,6 @@
 //! A local name space.
 
-ghost use Rattle.std.specs.Prelude.{◌≡◌, ◌<◌, length, slice_get, slice_set, Some};
+ghost use Rattle.std.specs.Prelude.{◌≡◌, ◌<◌, ◌≤◌, ◌+◌, ◌++◌, drop, length, slice_get, slice_set, take, Some};
 ghost use Rattle.hk_spaces.specs.Slots.{empty_slots};
 
 use hk_model::{Entry, Slot};
@@ -34,6 +34,7 @@ impl Space {
     }
 
     /// What stands in a slot.
+    #[inline(always)]
     pub fn at(&self, slot: Slot) -> Entry
         requires { slot.0 < 64 }
         ensures { slice_get self.now slot.0 ≡ Some result }
@@ -42,6 +43,7 @@ impl Space {
     }
 
     /// Writes an entry into a slot, over what stood there.
+    #[inline(always)]
     pub fn set(&mut self, slot: Slot, entry: Entry)
         requires { slot.0 < 64 }
         ensures { self.new ≡ slice_set self.old slot.0 entry }
@@ -49,7 +51,19 @@ impl Space {
         self.slots[slot.0 as usize] = entry;
     }
 
+    /// Writes entries into the slots from `start` on, over what stood there.
+    pub fn write(&mut self, start: Slot, entries: &[Entry])
+        requires { start.0 + length entries.now ≤ 64 }
+        ensures value { self.new ≡ take start.0 self.old ++ (entries.now ++ drop (start.0 + length entries.now) self.old) }
+        ensures all { length self.old ≡ 64 }
+    {
+        let from = start.0 as usize;
+        let slots = &mut self.slots[..];
+        slots[from..from + entries.len()].copy_from_slice(entries);
+    }
+
     /// The 64 entries.
+    #[inline(always)]
     pub fn as_slice(&self) -> &[Entry]
         ensures value { result.now ≡ self.now }
         ensures all { length result.now ≡ 64 }

@@ -68,6 +68,7 @@ impl Stack {
     }
 
     /// The number of frames, at most 64.
+    #[inline(always)]
     pub fn depth(&self) -> usize
         ensures value { result ≡ length self.now }
         ensures few { result ≤ 64 }
@@ -76,6 +77,7 @@ impl Stack {
     }
 
     /// The frame at a depth, from 0 for the base.
+    #[inline(always)]
     pub fn frame(&self, at: usize) -> &StackFrame
         requires { at < length self.now }
         ensures { slice_get self.now at ≡ Some result.now }
@@ -84,6 +86,7 @@ impl Stack {
     }
 
     /// Writes an entry into a slot of the top frame.
+    #[inline(always)]
     pub fn set_top(&mut self, slot: Slot, entry: Entry)
         requires some { 0 < length self.old }
         requires slot { slot.0 < 64 }

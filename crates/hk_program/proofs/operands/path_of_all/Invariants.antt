@@ -1,6 +1,6 @@
 use Rattle.std.proofs.Common.{◌≡◌, length, map, take}
 use Rattle.hk_model.specs.Control.{index_of}
-use Rattle.hk_program.proofs.operands.path.Given as goal
+use Rattle.hk_program.proofs.operands.path_of_all.Given as goal
 
 -- the indices so far are worth what the route's are
 abbrev pub invariant-loop-step : goal.invariant-loop-step

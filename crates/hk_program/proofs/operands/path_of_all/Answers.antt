@@ -3,7 +3,7 @@ use Rattle.std.proofs.Common.{arith, rules}
 use Rattle.std.proofs.lemmas.Option.{slice_get-get_or}
 use Rattle.hk_model.specs.Control.{index_of}
 use Rattle.hk_program.proofs.Paths.{take_set_more}
-use Rattle.hk_program.proofs.operands.path.Goals as goal
+use Rattle.hk_program.proofs.operands.path_of_all.Goals as goal
 
 pub loop-step-preserved : goal.loop-step-preserved
 loop-step-preserved c =
@@ -12,6 +12,6 @@ loop-step-preserved c =
     let within : c.loop-step.step < length c.loop-step.indices = omega (arith, c.loop-step.invariant.room, c.loop-step-test.true) in
     record {
       room = search rules;
-      worth = take_set_more (index_of c.args.frame.now) c.loop-step.indices c.as_slice-route.result.now c.loop-step.step c.index-in-loop-step.result _
-          within (slice_get-get_or _ _ _ c.loop-step-test.true) c.index-in-loop-step.ensures c.loop-step.invariant.worth;
+      worth = take_set_more (index_of c.args.frame.now) c.loop-step.indices c.as_slice-route.result.now c.loop-step.step c.index.result _
+          within (slice_get-get_or _ _ _ c.loop-step-test.true) c.index.ensures c.loop-step.invariant.worth;
     }

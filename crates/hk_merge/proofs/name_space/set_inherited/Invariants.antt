@@ -1,9 +1,0 @@
-use Rattle.std.proofs.Common.{◌≡◌, ◌+◌, drop, map}
-use Rattle.hk_model.specs.Merging.{inherited}
-use Rattle.hk_merge.specs.NameSpaces.{overwritten}
-use Rattle.hk_merge.proofs.name_space.set_inherited.Given as goal
-
--- writing the entries that are left gives what writing all of them gives
-abbrev pub invariant-loop-i : goal.invariant-loop-i
-invariant-loop-i l =
-    overwritten l.space (l.start + l.i) (map (inherited l.confined) (drop l.i l.entries)) ≡ overwritten l.initial.space l.start (map (inherited l.confined) l.entries)
