@@ -25,7 +25,9 @@ pub fn read_world(alloc: Global, script: &[u8]) -> Result<World, WorldError>
     ensures ok { IfOk result (λ w. world script.now ≡ Ok w) }
     ensures refused { (line : ℕ) (cause : Cause) → IsRefused result line cause → world script.now ≡ Err (line, cause) }
 {
-    let lines = lines(alloc, script)?;
-    let syntax = parse(alloc, &lines, script)?;
+    let syntax = {
+        let lines = lines(alloc, script)?;
+        parse(alloc, &lines, script)?
+    };
     Ok(load(alloc, &syntax)?)
 }

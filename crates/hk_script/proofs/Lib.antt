@@ -1,3 +1,4 @@
+pub mod ShortKeys
 pub mod NameLists
 pub mod TextBytes
 pub mod Routes

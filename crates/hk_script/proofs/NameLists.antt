@@ -1,15 +1,17 @@
 -- Names by their numbers.
 use Rattle.std.proofs.Common.{◌≡◌, ℕ, suc, zero, ◌+◌, ◌<◌, Bool, true, false, cond, ◌||◌, eqb, List, [], ◌∷◌, ◌++◌, length, map, refl, sym, ap, ◌∙◌, Some, None, Option, String, Global, string_bytes, arith}
 use Rattle.std.specs.Prelude.{is_some, if◌then◌else◌}
-use Rattle.std.specs.List.{list_any, position_from, range_with_len, AllByRecursion}
+use Rattle.std.specs.List.{list_any, position_from, range_with_len}
 use Rattle.std.specs.declared.cmp.Ordering.{Ordering}
 use Rattle.std.specs.declared.cmp.Ordering.TheVariants.{Less, Equal, Greater}
-use Rattle.std.specs.Ordering.{match_ordering, is_eq}
+use Rattle.std.specs.Ordering.{match_ordering, is_eq, nat_cmp}
 use Rattle.std.specs.String.{string_cmp}
 use Rattle.std.specs.Map.{lookup}
-use Rattle.std.specs.BTreeMap.{BTreeMap, insert_entry, is_at, get_by_text, Updates}
+use Rattle.std.specs.Cmp.Lexicographic.{slice_cmp}
+use Rattle.std.specs.BTreeMap.{insert_entry, is_at, get, get_by_text, Updates}
 use Rattle.std.specs.Str.{bytes_eq}
 use Rattle.std.proofs.lemmas.Bool.Decides.{nat_tests}
+use Rattle.std.proofs.lemmas.List.{append-nil}
 use Rattle.std.proofs.lemmas.List.FromFn.{map-range_with_len_more, length-map-range_with_len}
 use Rattle.std.proofs.lemmas.Iterator.Adapters.{position_from-zero}
 use Rattle.std.proofs.lemmas.Map.Text.{btree_map_updates_text}
@@ -17,7 +19,9 @@ use Rattle.std.proofs.lemmas.Slice.Eq.{bytes_eq-Decides}
 use Rattle.hk_model.specs.Labels.{same_text}
 use Rattle.hk_format.specs.Grammar.{is_among}
 use Rattle.hk_format.specs.Loading.{place}
-use Rattle.hk_script.specs.Numbered.{Numbers, name_numbered, names_numbered, IsNumbered}
+use Rattle.hk_script.specs.Keys.{short_key, key_text}
+use Rattle.hk_script.specs.Numbered.{Short, Long, text_numbered, name_count, name_numbered, names_numbered, number_by, AreBelow, IsNumbered}
+use Rattle.hk_script.proofs.ShortKeys.{key_text_is, keys_apart}
 
 -- where a text stands, and whether it does
 
@@ -52,61 +56,60 @@ place_pushed ts t q =
 
 -- names by their numbers, and one more
 
--- the other names keep their numbers
-kept : (cmp : String Global → String Global → Ordering) (es : Numbers) (k : String Global) (n j : ℕ) → lookup (is_at (cmp k)) es ≡ None → eqb n j ≡ false
-    → name_numbered (insert_entry cmp es k n) j ≡ name_numbered es j
-kept cmp [] k n j none other = rw other refl
-kept cmp (e ∷ es) k n j none other = by (cmp k e.0) none (λ h. kept cmp es k n j h other)
-  where
-    by : (o : Ordering) → cond (is_eq o) (Some e.1) (lookup (is_at (cmp k)) es) ≡ None
-        → (lookup (is_at (cmp k)) es ≡ None → name_numbered (insert_entry cmp es k n) j ≡ name_numbered es j)
-        → name_numbered (match_ordering o ((k, n) ∷ e ∷ es) ((e.0, n) ∷ es) (e ∷ insert_entry cmp es k n)) j ≡ name_numbered (e ∷ es) j
-    by Less h later = rw other refl
-    by Equal h later = absurd (let some : Some e.1 ≡ None = h in cc)
-    by Greater h later = ap (λ (t : List ℕ). cond (eqb e.1 j) (string_bytes e.0) t) (later h)
-
--- all numbers are below this one
-abbrev AreBelow : ℕ → Numbers → Type 0
-AreBelow n es = AllByRecursion (λ (e : String Global × ℕ). e.1 < n) es
-
-rising : (n : ℕ) (es : Numbers) → AreBelow n es → AreBelow (n + 1) es
+-- numbers that are below one are below the next
+rising : {K : Type 0} (n : ℕ) (es : List (K × ℕ)) → AreBelow n es → AreBelow (n + 1) es
 rising n [] h = h
 rising n (e ∷ es) h = (let low : e.1 < n = h.0 in omega arith, rising n es h.1)
 
--- the new name has the next number
-next : (cmp : String Global → String Global → Ordering) (es : Numbers) (k : String Global) (n : ℕ) → lookup (is_at (cmp k)) es ≡ None → AreBelow n es
-    → (name_numbered (insert_entry cmp es k n) n ≡ string_bytes k) × AreBelow (n + 1) (insert_entry cmp es k n)
-next cmp [] k n none below = (let same : eqb n n ≡ true = grind (arith, nat_tests) in rw same refl, (omega arith, tt))
-next cmp (e ∷ es) k n none below = by (cmp k e.0) none (λ h. next cmp es k n h below.1)
-  where
-    by : (o : Ordering) → cond (is_eq o) (Some e.1) (lookup (is_at (cmp k)) es) ≡ None
-        → (lookup (is_at (cmp k)) es ≡ None → (name_numbered (insert_entry cmp es k n) n ≡ string_bytes k) × AreBelow (n + 1) (insert_entry cmp es k n))
-        → (name_numbered (match_ordering o ((k, n) ∷ e ∷ es) ((e.0, n) ∷ es) (e ∷ insert_entry cmp es k n)) n ≡ string_bytes k)
-        × AreBelow (n + 1) (match_ordering o ((k, n) ∷ e ∷ es) ((e.0, n) ∷ es) (e ∷ insert_entry cmp es k n))
-    by Less h later = (let same : eqb n n ≡ true = grind (arith, nat_tests) in rw same refl, (omega arith, rising n (e ∷ es) below))
-    by Equal h later = absurd (let some : Some e.1 ≡ None = h in cc)
-    by Greater h later =
-        let low : e.1 < n = below.0 in
-        let other : eqb e.1 n ≡ false = grind (arith, nat_tests) in
-        (rw other (later h).0, (omega arith, (later h).1))
+module _ {K : Type 0} (text : K → List ℕ) (cmp : K → K → Ordering) (k : K) where
+  -- the other names keep their numbers
+  kept : (es : List (K × ℕ)) (n j : ℕ) → lookup (is_at (cmp k)) es ≡ None → eqb n j ≡ false → text_numbered text (insert_entry cmp es k n) j ≡ text_numbered text es j
+  kept [] n j none other = rw other refl
+  kept (e ∷ es) n j none other = by (cmp k e.0) none (λ h. kept es n j h other)
+    where
+      by : (o : Ordering) → cond (is_eq o) (Some e.1) (lookup (is_at (cmp k)) es) ≡ None
+          → (lookup (is_at (cmp k)) es ≡ None → text_numbered text (insert_entry cmp es k n) j ≡ text_numbered text es j)
+          → text_numbered text (match_ordering o ((k, n) ∷ e ∷ es) ((e.0, n) ∷ es) (e ∷ insert_entry cmp es k n)) j ≡ text_numbered text (e ∷ es) j
+      by Less h later = rw other refl
+      by Equal h later = absurd (let some : Some e.1 ≡ None = h in cc)
+      by Greater h later = ap (λ (t : List ℕ). cond (eqb e.1 j) (text e.0) t) (later h)
+
+  -- the new name has the next number
+  next : (es : List (K × ℕ)) (n : ℕ) → lookup (is_at (cmp k)) es ≡ None → AreBelow n es
+      → (text_numbered text (insert_entry cmp es k n) n ≡ text k) × AreBelow (n + 1) (insert_entry cmp es k n)
+  next [] n none below = let same : eqb n n ≡ true = grind (arith, nat_tests) in (rw same refl, (omega arith, tt))
+  next (e ∷ es) n none below = by (cmp k e.0) none (λ h. next es n h below.1)
+    where
+      by : (o : Ordering) → cond (is_eq o) (Some e.1) (lookup (is_at (cmp k)) es) ≡ None
+          → (lookup (is_at (cmp k)) es ≡ None → (text_numbered text (insert_entry cmp es k n) n ≡ text k) × AreBelow (n + 1) (insert_entry cmp es k n))
+          → (text_numbered text (match_ordering o ((k, n) ∷ e ∷ es) ((e.0, n) ∷ es) (e ∷ insert_entry cmp es k n)) n ≡ text k)
+          × AreBelow (n + 1) (match_ordering o ((k, n) ∷ e ∷ es) ((e.0, n) ∷ es) (e ∷ insert_entry cmp es k n))
+      by Less h later = (let same : eqb n n ≡ true = grind (arith, nat_tests) in rw same refl, (omega arith, rising n (e ∷ es) below))
+      by Equal h later = absurd (let some : Some e.1 ≡ None = h in cc)
+      by Greater h later =
+          let low : e.1 < n = below.0 in
+          let other : eqb e.1 n ≡ false = grind (arith, nat_tests) in
+          (rw other (later h).0, (omega arith, (later h).1))
+
+-- no name has a number that all are below
+not_yet : {K : Type 0} (text : K → List ℕ) (n : ℕ) (es : List (K × ℕ)) → AreBelow n es → text_numbered text es n ≡ []
+not_yet text n [] below = refl
+not_yet text n (e ∷ es) below =
+    let low : e.1 < n = below.0 in
+    let other : eqb e.1 n ≡ false = grind (arith, nat_tests) in
+    rw other (not_yet text n es below.1)
 
 same_below : (f g : ℕ → List ℕ) (a n : ℕ) → ((j : ℕ) → j < a + n → f j ≡ g j) → map f (range_with_len a n) ≡ map g (range_with_len a n)
 same_below f g a zero same = refl
 same_below f g a (suc n) same =
     ap (λ (t : List ℕ). t ∷ map f (range_with_len (a + 1) n)) (same a (omega arith)) ∙ ap (λ (ts : List (List ℕ)). g a ∷ ts) (same_below f g (a + 1) n (λ j low. same j (omega arith)))
 
--- the names, with the new one at the end
-pub names_more : (cmp : String Global → String Global → Ordering) (es new : Numbers) (k : String Global) → lookup (is_at (cmp k)) es ≡ None → AreBelow (length es) es
-    → new ≡ insert_entry cmp es k (length es) → length new ≡ length es + 1 → names_numbered new ≡ names_numbered es ++ string_bytes k ∷ []
-names_more cmp es new k none below e len =
-    let n : ℕ = length es in
-    rw (len, e) (map-range_with_len_more (name_numbered (insert_entry cmp es k n)) 0 n n (omega arith)
-    ∙ ap (λ (ts : List (List ℕ)). ts ++ name_numbered (insert_entry cmp es k n) n ∷ []) (same_below (name_numbered (insert_entry cmp es k n)) (name_numbered es) 0 n
-    (λ j low. kept cmp es k n j none (let h : j < n = omega arith in grind (arith, nat_tests))))
-    ∙ ap (λ (t : List ℕ). map (name_numbered es) (range_with_len 0 n) ++ t ∷ []) (next cmp es k n none below).0)
+none_of : {X : Type 0} (o : Option X) → is_some o ≡ false → o ≡ None
+none_of None h = refl
+none_of (Some x) h = absurd (let clash : true ≡ false = h in cc)
 
-length-names_numbered : (es : Numbers) → length (names_numbered es) ≡ length es
-length-names_numbered es = length-map-range_with_len (name_numbered es) 0 (length es)
+length-names_numbered : (short : Short) (long : Long) → length (names_numbered short long) ≡ name_count short long
+length-names_numbered short long = length-map-range_with_len (name_numbered short long) 0 (name_count short long)
 
 same_either_way : (t q : List ℕ) → bytes_eq t q ≡ same_text q t
 same_either_way t q = by (bytes_eq t q) (same_text q t) refl refl
@@ -117,59 +120,174 @@ same_either_way t q = by (bytes_eq t q) (same_text q t) refl refl
     by true false e f = absurd (let same : t ≡ q = (bytes_eq-Decides t q).0 e in let no : true ≡ false = sym ((bytes_eq-Decides q t).1 (sym same)) ∙ f in cc)
     by false true e f = absurd (let same : q ≡ t = (bytes_eq-Decides q t).0 f in let no : true ≡ false = sym ((bytes_eq-Decides t q).1 (sym same)) ∙ e in cc)
 
--- each name has the number of its place, once more
-pub numbered_more : (m new : BTreeMap (String Global) ℕ) (k : String Global) → IsNumbered m → lookup (is_at (string_cmp k)) m.entries ≡ None
-    → new.entries ≡ insert_entry string_cmp m.entries k (length m.entries) → length new.entries ≡ length m.entries + 1
-    → Updates string_cmp m new k (Some (length m.entries)) → IsNumbered new
-numbered_more m new k numbered none e len updates =
-    (rw (len, e) (next string_cmp m.entries k (length m.entries) none numbered.0).1, λ q. place_of q)
+-- a name that is not there has no number
+missing : (short : Short) (long : Long) (t : List ℕ) → IsNumbered short long → is_among (names_numbered short long) t ≡ false → number_by (short_key t) short long t ≡ None
+missing short long t numbered absent = none_of (number_by (short_key t) short long t) (ap is_some (numbered.2 t) ∙ place_among (names_numbered short long) t ∙ absent)
+
+-- the maps after a name was put at the end of those before
+record Grown (short new_short : Short) (long new_long : Long) (t : List ℕ) : Type 0 where
+  count : name_count new_short new_long ≡ name_count short long + 1
+  below : AreBelow (name_count short long + 1) new_short.entries × AreBelow (name_count short long + 1) new_long.entries
+  others : (j : ℕ) → j < name_count short long → name_numbered new_short new_long j ≡ name_numbered short long j
+  last : name_numbered new_short new_long (name_count short long) ≡ t
+  found : (q : List ℕ) → number_by (short_key q) new_short new_long q ≡ cond (same_text q t) (Some (name_count short long)) (number_by (short_key q) short long q)
+
+module _ (short new_short : Short) (long new_long : Long) (t : List ℕ) (grown : Grown short new_short long new_long t) where
+  -- the names, with the new one at the end
+  names_more : names_numbered new_short new_long ≡ names_numbered short long ++ t ∷ []
+  names_more =
+      let n : ℕ = name_count short long in
+      rw grown.count (map-range_with_len_more (name_numbered new_short new_long) 0 n n (omega arith)
+      ∙ ap (λ (ts : List (List ℕ)). ts ++ name_numbered new_short new_long n ∷ []) (same_below (name_numbered new_short new_long) (name_numbered short long) 0 n
+      (λ j low. grown.others j (omega (arith, low))))
+      ∙ ap (λ (u : List ℕ). map (name_numbered short long) (range_with_len 0 n) ++ u ∷ []) grown.last)
+
+  -- each name has the number of its place, once more
+  numbered_more : IsNumbered short long → is_among (names_numbered short long) t ≡ false → IsNumbered new_short new_long
+  numbered_more numbered absent = (rw grown.count grown.below.0, rw grown.count grown.below.1, λ q. place_of q)
+    where
+      n : ℕ
+      n = name_count short long
+
+      ts : List (List ℕ)
+      ts = names_numbered short long
+
+      by : (q : List ℕ) (same among : Bool) → is_some (place ts q) ≡ among → (same ≡ true → place ts q ≡ None)
+          → cond same (Some n) (place ts q) ≡ cond among (place ts q) (cond same (Some (length ts)) None)
+      by q true true some none = absurd (let no : is_some (place ts q) ≡ false = ap is_some (none refl) in let clash = sym some ∙ no in cc)
+      by q true false some none = ap Some (sym (length-names_numbered short long))
+      by q false true some none = refl
+      by q false false some none = none_of (place ts q) some
+
+      place_of : (q : List ℕ) → number_by (short_key q) new_short new_long q ≡ place (names_numbered new_short new_long) q
+      place_of q =
+          grown.found q
+          ∙ ap (λ (o : Option ℕ). cond (same_text q t) (Some n) o) (numbered.2 q)
+          ∙ by q (same_text q t) (is_among ts q) (place_among ts q)
+          (λ h. let same : q ≡ t = (bytes_eq-Decides q t).0 h in rw same (none_of (place ts t) (place_among ts t ∙ absent)))
+          ∙ sym (place_pushed ts t q)
+          ∙ ap (λ (x : List (List ℕ)). place x q) (sym names_more)
+
+-- a name that is no short one is another than those that are
+other_text : (t q : List ℕ) (key : ℕ) → short_key t ≡ Some key → short_key q ≡ None → same_text q t ≡ false
+other_text t q key e f = by (same_text q t) refl
   where
-    n : ℕ
-    n = length m.entries
+    by : (b : Bool) → same_text q t ≡ b → b ≡ false
+    by false h = refl
+    by true h = absurd (let same : q ≡ t = (bytes_eq-Decides q t).0 h in let clash = sym f ∙ ap short_key same ∙ e in cc)
 
-    ts : List (List ℕ)
-    ts = names_numbered m.entries
+short_apart : (t q : List ℕ) (key : ℕ) → short_key t ≡ None → short_key q ≡ Some key → same_text q t ≡ false
+short_apart t q key e f = by (same_text q t) refl
+  where
+    by : (b : Bool) → same_text q t ≡ b → b ≡ false
+    by false h = refl
+    by true h = absurd (let same : q ≡ t = (bytes_eq-Decides q t).0 h in let clash = sym f ∙ ap short_key same ∙ e in cc)
 
-    by : (q : List ℕ) (same among : Bool) → is_some (place ts q) ≡ among → (same ≡ true → place ts q ≡ None)
-        → cond same (Some n) (place ts q) ≡ cond among (place ts q) (cond same (Some (length ts)) None)
-    by q true true some absent = absurd (let no : is_some (place ts q) ≡ false = ap is_some (absent refl) in let clash = sym some ∙ no in cc)
-    by q true false some absent = ap Some (sym (length-names_numbered m.entries))
-    by q false true some absent = refl
-    by q false false some absent = none_of (place ts q) some
-      where
-        none_of : (o : Option ℕ) → is_some o ≡ false → o ≡ None
-        none_of None h = refl
-        none_of (Some x) h = absurd (let clash : true ≡ false = h in cc)
+-- a short name at the end
+module _ (short new : Short) (long : Long) (t : List ℕ) (key : ℕ) where
+  -- how many come before it
+  abbrev n : ℕ
+  n = name_count short long
 
-    place_of : (q : List ℕ) → get_by_text new q ≡ place (names_numbered new.entries) q
-    place_of q =
-        btree_map_updates_text (string_bytes k) m new (Some n) updates q
-        ∙ ap (λ (o : Option ℕ). cond (bytes_eq (string_bytes k) q) (Some n) o) (numbered.1 q)
-        ∙ ap (λ (b : Bool). cond b (Some n) (place ts q)) (same_either_way (string_bytes k) q)
-        ∙ by q (same_text q (string_bytes k)) (is_among ts q) (place_among ts q)
-        (λ h. let same : q ≡ string_bytes k = (bytes_eq-Decides q (string_bytes k)).0 h in rw same (sym (numbered.1 (string_bytes k)) ∙ none))
-        ∙ sym (place_pushed ts (string_bytes k) q)
-        ∙ ap (λ (x : List (List ℕ)). place x q) (sym (names_more string_cmp m.entries new.entries k none numbered.0 e len))
+  short_grown : short_key t ≡ Some key → IsNumbered short long → get nat_cmp short key ≡ None → new.entries ≡ insert_entry nat_cmp short.entries key n
+      → length new.entries ≡ length short.entries + 1 → Updates nat_cmp short new key (Some n) → Grown short new long long t
+  short_grown is numbered none e len updates = record {
+    count = omega (arith, len);
+    below = (rw e put.1, rising n long.entries numbered.1);
+    others =
+        λ j low. rw e (ap (λ (u : List ℕ). u ++ text_numbered string_bytes long.entries j)
+        (kept key_text nat_cmp key short.entries n j none (let h : j < n = low in grind (arith, nat_tests))));
+    last =
+        rw e (ap (λ (u : List ℕ). u ++ text_numbered string_bytes long.entries n) put.0 ∙ ap (λ (u : List ℕ). key_text key ++ u) (not_yet string_bytes n long.entries numbered.1)
+        ∙ append-nil (key_text key) ∙ key_text_is t key is);
+    found = λ q. by q (short_key q) refl;
+  }
+    where
+      put : (text_numbered key_text (insert_entry nat_cmp short.entries key n) n ≡ key_text key) × AreBelow (n + 1) (insert_entry nat_cmp short.entries key n)
+      put = next key_text nat_cmp key short.entries n none numbered.0
+
+      by : (q : List ℕ) (o : Option ℕ) → short_key q ≡ o → number_by o new long q ≡ cond (same_text q t) (Some n) (number_by o short long q)
+      by q (Some other) f = updates.0 other ∙ ap (λ (b : Bool). cond b (Some n) (get nat_cmp short other)) (keys_apart t q key other is f)
+      by q None f = sym (ap (λ (b : Bool). cond b (Some n) (get_by_text long q)) (other_text t q key is f))
+
+-- another name at the end
+module _ (short : Short) (long new : Long) (k : String Global) where
+  -- how many come before it
+  abbrev m : ℕ
+  m = name_count short long
+
+  long_grown : short_key (string_bytes k) ≡ None → IsNumbered short long → lookup (is_at (string_cmp k)) long.entries ≡ None
+      → new.entries ≡ insert_entry string_cmp long.entries k m → length new.entries ≡ length long.entries + 1 → Updates string_cmp long new k (Some m)
+      → Grown short short long new (string_bytes k)
+  long_grown is numbered none e len updates = record {
+    count = omega (arith, len);
+    below = (rising m short.entries numbered.0, rw e put.1);
+    others =
+        λ j low. rw e (ap (λ (u : List ℕ). text_numbered key_text short.entries j ++ u)
+        (kept string_bytes string_cmp k long.entries m j none (let h : j < m = low in grind (arith, nat_tests))));
+    last = rw e (ap (λ (u : List ℕ). u ++ text_numbered string_bytes (insert_entry string_cmp long.entries k m) m) (not_yet key_text m short.entries numbered.0) ∙ put.0);
+    found = λ q. by q (short_key q) refl;
+  }
+    where
+      put : (text_numbered string_bytes (insert_entry string_cmp long.entries k m) m ≡ string_bytes k) × AreBelow (m + 1) (insert_entry string_cmp long.entries k m)
+      put = next string_bytes string_cmp k long.entries m none numbered.1
+
+      by : (q : List ℕ) (o : Option ℕ) → short_key q ≡ o → number_by o short new q ≡ cond (same_text q (string_bytes k)) (Some m) (number_by o short long q)
+      by q (Some other) f = sym (ap (λ (b : Bool). cond b (Some m) (get nat_cmp short other)) (short_apart (string_bytes k) q other is f))
+      by q None f =
+          btree_map_updates_text (string_bytes k) long new (Some m) updates q
+          ∙ ap (λ (b : Bool). cond b (Some m) (get_by_text long q)) (same_either_way (string_bytes k) q)
 
 -- whether a name is there, by a look-up
-pub known : (m : BTreeMap (String Global) ℕ) (names : List (List ℕ)) (t : List ℕ) (found : Bool) → IsNumbered m → names_numbered m.entries ≡ names → found ≡ is_some (get_by_text m t)
-    → is_among names t ≡ found
-known m names t found numbered v e = rw (← v) (sym (place_among (names_numbered m.entries) t) ∙ ap is_some (sym (numbered.1 t)) ∙ sym e)
+pub known : (names : List (List ℕ)) (t : List ℕ) (found : Option ℕ) (is : Bool) → found ≡ place names t → is ≡ is_some found → is_among names t ≡ is
+known names t found is e f = sym (place_among names t) ∙ ap is_some (sym e) ∙ sym f
 
-none_of : {X : Type 0} (o : Option X) → is_some o ≡ false → o ≡ None
-none_of None h = refl
-none_of (Some x) h = absurd (let clash : true ≡ false = h in cc)
+-- a short name that is not there is put at the end
+pub short_added : (short new : Short) (long : Long) (names : List (List ℕ)) (t : List ℕ) (key n : ℕ) (old : Option ℕ)
+    → IsNumbered short long → names_numbered short long ≡ names → is_among names t ≡ false → n ≡ name_count short long → Some key ≡ short_key t
+    → old ≡ lookup (is_at (nat_cmp key)) short.entries → length new.entries ≡ length short.entries + (if is_some old then 0 else 1)
+    → new.entries ≡ insert_entry nat_cmp short.entries key n → Updates nat_cmp short new key (Some n)
+    → IsNumbered new long × (names_numbered new long ≡ names ++ t ∷ [])
+short_added short new long names t key n old numbered v absent count is o len e updates =
+    let gone : is_among (names_numbered short long) t ≡ false = rw v absent in
+    let none : get nat_cmp short key ≡ None = rw (← is) at (missing short long t numbered gone) in
+    let longer : length new.entries ≡ length short.entries + 1 = rw (o, none) at len in
+    let grown = short_grown short new long t key (sym is) numbered none (rw count at e) longer (rw count at updates) in
+    (numbered_more short new long long t grown numbered gone, names_more short new long long t grown ∙ ap (λ (ts : List (List ℕ)). ts ++ t ∷ []) v)
 
--- a name that is not there is put at the end
-pub name_added : (m new : BTreeMap (String Global) ℕ) (k : String Global) (names : List (List ℕ)) (t : List ℕ) (n : ℕ) (old : Option ℕ)
-    → IsNumbered m → names_numbered m.entries ≡ names → is_among names t ≡ false → n ≡ length m.entries → string_bytes k ≡ t
-    → old ≡ lookup (is_at (string_cmp k)) m.entries → length new.entries ≡ length m.entries + (if is_some old then 0 else 1)
-    → new.entries ≡ insert_entry string_cmp m.entries k n → Updates string_cmp m new k (Some n) → IsNumbered new × (names_numbered new.entries ≡ names ++ t ∷ [])
-name_added m new k names t n old numbered v not_found count same o len e updates =
-    let missing : is_some (get_by_text m (string_bytes k)) ≡ false = ap (λ (x : List ℕ). is_some (get_by_text m x)) same ∙ sym (known m names t (is_some (get_by_text m t)) numbered v refl) ∙ not_found in
-    let none : lookup (is_at (string_cmp k)) m.entries ≡ None = none_of (get_by_text m (string_bytes k)) missing in
-    let longer : length new.entries ≡ length m.entries + 1 = rw (o, none) at len in
-    let inserted : new.entries ≡ insert_entry string_cmp m.entries k (length m.entries) = rw count at e in (
-      numbered_more m new k numbered none inserted longer (rw count at updates),
-      names_more string_cmp m.entries new.entries k none numbered.0 inserted longer ∙ rw (v, same) refl,
+-- another name that is not there is put at the end
+pub long_added : (short : Short) (long new : Long) (names : List (List ℕ)) (k : String Global) (t : List ℕ) (n : ℕ) (old : Option ℕ)
+    → IsNumbered short long → names_numbered short long ≡ names → is_among names t ≡ false → n ≡ name_count short long → None ≡ short_key t → string_bytes k ≡ t
+    → old ≡ lookup (is_at (string_cmp k)) long.entries → length new.entries ≡ length long.entries + (if is_some old then 0 else 1)
+    → new.entries ≡ insert_entry string_cmp long.entries k n → Updates string_cmp long new k (Some n)
+    → IsNumbered short new × (names_numbered short new ≡ names ++ t ∷ [])
+long_added short long new names k t n old numbered v absent count is same o len e updates =
+    let gone : is_among (names_numbered short long) (string_bytes k) ≡ false = rw (v, same) absent in
+    let other : short_key (string_bytes k) ≡ None = rw same (sym is) in
+    let none : lookup (is_at (string_cmp k)) long.entries ≡ None = rw other at (missing short long (string_bytes k) numbered gone) in
+    let longer : length new.entries ≡ length long.entries + 1 = rw (o, none) at len in
+    let grown = long_grown short long new k other numbered none (rw count at e) longer (rw count at updates) in (
+      numbered_more short short long new (string_bytes k) grown numbered gone,
+      names_more short short long new (string_bytes k) grown ∙ ap (λ (ts : List (List ℕ)). ts ++ string_bytes k ∷ []) v ∙ ap (λ (u : List ℕ). names ++ u ∷ []) same,
     )
+
+-- nothing is put where the map stays
+pub short_stays : (short new : Short) (long : Long) → new.entries ≡ short.entries → IsNumbered short long → IsNumbered new long
+short_stays short new long e numbered = (rw e numbered.0, rw e numbered.1, λ t. same t (short_key t) ∙ numbered.2 t ∙ ap (named t) (sym e))
+  where
+    named : List ℕ → List (ℕ × ℕ) → Option ℕ
+    named t es = place (map (λ n. text_numbered key_text es n ++ text_numbered string_bytes long.entries n) (range_with_len 0 (length es + length long.entries))) t
+
+    same : (t : List ℕ) (o : Option ℕ) → number_by o new long t ≡ number_by o short long t
+    same t (Some key) = ap (lookup (is_at (nat_cmp key))) e
+    same t None = refl
+
+pub long_stays : (short : Short) (long new : Long) → new.entries ≡ long.entries → IsNumbered short long → IsNumbered short new
+long_stays short long new e numbered = (rw e numbered.0, rw e numbered.1, λ t. same t (short_key t) ∙ numbered.2 t ∙ ap (named t) (sym e))
+  where
+    named : List ℕ → List (String Global × ℕ) → Option ℕ
+    named t es = place (map (λ n. text_numbered key_text short.entries n ++ text_numbered string_bytes es n) (range_with_len 0 (length short.entries + length es))) t
+
+    same : (t : List ℕ) (o : Option ℕ) → number_by o short new t ≡ number_by o short long t
+    same t (Some key) = refl
+    same t None = ap (lookup (is_at (λ k. slice_cmp nat_cmp t (string_bytes k)))) e

@@ -2,4 +2,5 @@ pub mod Lines
 pub mod Outcomes
 pub mod Readings
 pub mod Paths
+pub mod Keys
 pub mod Numbered

@@ -7,6 +7,7 @@ mod errors;
 mod forms;
 mod heads;
 mod instructions;
+mod keys;
 mod line;
 pub mod names;
 mod parts;

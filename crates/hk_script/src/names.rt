@@ -4,16 +4,19 @@ ghost use Rattle.std.specs.Prelude.{◌≡◌, ◌++◌, ◌∷◌, [], false, n
 ghost use Rattle.hk_format.specs.Grammar.{is_among};
 ghost use Rattle.hk_format.specs.Loading.{place};
 
+use crate::keys::short_key;
 use std::alloc::{AllocError, Global};
 use std::collections::BTreeMap;
 use std::marker::Model;
 
-/// Names, each once, in the order in which they came. They stand in an ordered map, so that no choice of
-/// names makes a look-up slow. Contracts see the list of their texts.
+/// Names, each once, in the order in which they came. They stand in ordered maps, so that no choice of
+/// names makes a look-up slow, and short ones stand there as numbers. Contracts see the list of their texts.
 #[derive(Drop)]
 pub struct Names {
-    /// The number of each: how many came before it.
-    numbers: BTreeMap<String, usize>,
+    /// The number of each name that has a key, by its key: how many came before it.
+    short: BTreeMap<u64, usize>,
+    /// The number of each other name.
+    long: BTreeMap<String, usize>,
 }
 
 impl Model for Names {
@@ -22,9 +25,9 @@ impl Model for Names {
 
     ghost Value = { List (List ℕ) };
 
-    ghost view = { λ names. names_numbered names.numbers.entries };
+    ghost view = { λ names. names_numbered names.short names.long };
 
-    ghost invariant = { λ names. IsNumbered names.numbers };
+    ghost invariant = { λ names. IsNumbered names.short names.long };
 }
 
 impl Names {
@@ -33,7 +36,8 @@ impl Names {
         ensures { result ≡ [] }
     {
         Names {
-            numbers: BTreeMap::new(alloc),
+            short: BTreeMap::new(alloc),
+            long: BTreeMap::new(alloc),
         }
     }
 
@@ -43,7 +47,7 @@ impl Names {
         ensures found { IfOk result (λ new. new ≡ not (is_among self.old name.now)) }
         ensures names { IfOk result (λ new. self.new ≡ (if new then self.old ++ name.now ∷ [] else self.old)) }
     {
-        if self.numbers.contains_key(name) {
+        if self.place(name).is_some() {
             return Ok(false);
         }
         self.push(alloc, name)?;
@@ -56,9 +60,16 @@ impl Names {
         ensures names { OnOk result (self.new ≡ self.old ++ name.now ∷ []) }
         ensures memory { OnErr result (self.new ≡ self.old) }
     {
-        let number = self.numbers.len();
-        let name = String::from_str(alloc, name)?;
-        self.numbers.insert(name, number)?;
+        let number = self.short.len() + self.long.len();
+        match short_key(name.as_bytes()) {
+            Some(key) => {
+                self.short.insert(key, number)?;
+            }
+            None => {
+                let name = String::from_str(alloc, name)?;
+                self.long.insert(name, number)?;
+            }
+        }
         Ok(())
     }
 
@@ -66,6 +77,9 @@ impl Names {
     pub fn place(&self, name: &str) -> Option<usize>
         ensures { result ≡ place self.now name.now }
     {
-        self.numbers.get(name).copied()
+        match short_key(name.as_bytes()) {
+            Some(key) => self.short.get(&key).copied(),
+            None => self.long.get(name).copied(),
+        }
     }
 }

@@ -34,11 +34,12 @@ pub fn lines(alloc: Global, bytes: &[u8]) -> Result<Vec<TextLine>, TextError>
     ensures refused { (line : ℕ) (cause : TextCause) → IsRefused result line cause → text bytes.now ≡ Err (line, cause) }
 {
     let mut lines = Items::new(alloc);
+    let mut scratch = Vec::new(alloc);
     let mut number = 1;
     let mut start = 0;
     while start < bytes.len() {
         let len = first_of(&bytes[start..], b'\n');
-        match pieces_of_line(alloc, bytes, start, start + len) {
+        match pieces_of_line(alloc, &mut scratch, bytes, start, start + len) {
             Ok(pieces) => {
                 if !pieces.as_slice().is_empty() {
                     lines.push(TextLine { number, pieces })?;
@@ -52,9 +53,11 @@ pub fn lines(alloc: Global, bytes: &[u8]) -> Result<Vec<TextLine>, TextError>
     Ok(lines.into_vec())
 }
 
-/// The pieces of the line that begins and ends at these places.
+/// The pieces of the line that begins and ends at these places. They are put together in `scratch`, so
+/// that a line takes no more memory than its pieces need.
 fn pieces_of_line(
     alloc: Global,
+    scratch: &mut Vec<Piece>,
     source: &[u8],
     start: usize,
     end: usize,
@@ -71,12 +74,13 @@ fn pieces_of_line(
     if line.len() > LINE_BYTES {
         return Err(LineError::Bad(TextCause::LongLine));
     }
-    pieces_between(alloc, source, start, start + first_of(line, b'#'))
+    pieces_between(alloc, scratch, source, start, start + first_of(line, b'#'))
 }
 
-/// The pieces between these places.
+/// The pieces between these places, put together in `scratch`.
 fn pieces_between(
     alloc: Global,
+    scratch: &mut Vec<Piece>,
     source: &[u8],
     start: usize,
     end: usize,
@@ -86,20 +90,23 @@ fn pieces_between(
     ensures value { Gives (λ v. map (seen source.now) v) result (pieces_of (texts_of (slice_range source.now start end))) }
     ensures spans { IfOk result (λ v. LieBetween start end v) }
 {
-    let mut pieces = Items::new(alloc);
+    scratch.clear();
     let mut at = start;
     while at < end {
         let rest = &source[at..end];
         let len = first_blank(rest);
         if len > 0 {
             let kind = kind_of(&rest[..len])?;
-            pieces.push(Piece {
+            let piece = Piece {
                 start: at,
                 end: at + len,
                 kind,
-            })?;
+            };
+            if let Err(_) = scratch.push(piece) {
+                return Err(LineError::NoMemory);
+            }
         }
         at += len + 1;
     }
-    Ok(pieces)
+    Ok(Items::from_vec(Vec::from_slice(alloc, scratch.as_slice())?))
 }

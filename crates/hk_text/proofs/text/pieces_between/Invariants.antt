@@ -9,8 +9,8 @@ abbrev pub invariant-loop-at : goal.invariant-loop-at
 invariant-loop-at l = record {
   high : l.start ≤ l.at;
   low : l.at ≤ l.end + 1;
-  rest : after_front (map (seen l.source) l.pieces) (pieces_of (texts_of (slice_range l.source l.at l.end))) ≡ pieces_of (texts_of (slice_range l.source l.start l.end));
-  spans : LieBetween l.start (min l.at l.end) l.pieces;
+  rest : after_front (map (seen l.source) l.scratch.items) (pieces_of (texts_of (slice_range l.source l.at l.end))) ≡ pieces_of (texts_of (slice_range l.source l.start l.end));
+  spans : LieBetween l.start (min l.at l.end) l.scratch.items;
 }
 
 abbrev pub decreases-loop-at : goal.decreases-loop-at
