@@ -20,6 +20,7 @@ use Rattle.hk_reclaim.proofs.Counting.{times_same, same_names}
 use Rattle.hk_running.specs.Runners.{process_at}
 use Rattle.hk_walk.specs.declared.trail.Trail.{Trail}
 use Rattle.hk_walk.specs.Walks.{seen, AreRight}
+use Rattle.hk_walk.proofs.Kept.{right_none}
 use Rattle.hk_table.specs.Joined.{AreQueued}
 use Rattle.hk_table.specs.Settled.{wait_namings, FreesUncounted}
 use Rattle.hk_table.specs.Waits.{AreWaitsCounted}
@@ -40,6 +41,13 @@ walks_stay old new b pairs left removed is right =
     let none : HasLost old new → ⊥ = λ lost. let t : b ≡ true = removed.1 lost in let f : true ≡ false = sym t ∙ is in cc in
     let same : new ≡ old = left ∙ nothing_lost (stands new) old (λ w. none (subst (λ (qs : Slots). HasLost old qs) (sym left) w)) in
     subst (λ (qs : Slots). AreRight (seen qs) pairs) (sym same) right
+
+-- and where one has gone none is left
+pub walks_left : (old new : Slots) (b : Bool) (pairs left : List (Trail × Entry)) → new ≡ only (stands new) old → IsTrue b ↔ HasLost old new → left ≡ cond b [] pairs
+    → AreRight (seen old) pairs → AreRight (seen new) left
+walks_left old new true pairs left part removed is right = subst (λ (es : List (Trail × Entry)). AreRight (seen new) es) (sym is) (right_none (seen new))
+walks_left old new false pairs left part removed is right =
+    subst (λ (es : List (Trail × Entry)). AreRight (seen new) es) (sym is) (walks_stay old new false pairs part removed refl right)
 
 -- a root is kept
 or_right : (b c : Bool) → c ≡ true → (b || c) ≡ true

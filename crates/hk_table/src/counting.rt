@@ -13,6 +13,7 @@ use hk_reclaim::{Counts, entry_name};
 use hk_spaces::Stack;
 
 /// A name comes from outside.
+#[inline(always)]
 pub(crate) fn hold_name(objects: &Objects, counts: &mut Counts, name: Name)
     requires { CanHold objects.now.slots (name ∷ []) counts.old }
     ensures { Holds objects.now.slots (name ∷ []) counts.old counts.new }
@@ -23,6 +24,7 @@ pub(crate) fn hold_name(objects: &Objects, counts: &mut Counts, name: Name)
 }
 
 /// A name from outside goes.
+#[inline(always)]
 pub(crate) fn release_name(objects: &Objects, counts: &mut Counts, name: Name)
     requires { CanRelease objects.now.slots (name ∷ []) counts.old }
     ensures { Releases objects.now.slots (name ∷ []) counts.old counts.new }
@@ -53,6 +55,7 @@ pub(crate) fn release_name_inside(objects: &Objects, counts: &mut Counts, name: 
 }
 
 /// What an entry names comes from outside.
+#[inline(always)]
 pub(crate) fn hold_entry(objects: &Objects, counts: &mut Counts, entry: &Entry)
     requires { CanHold objects.now.slots (entry_names entry.now) counts.old }
     ensures { Holds objects.now.slots (entry_names entry.now) counts.old counts.new }
@@ -73,6 +76,7 @@ pub(crate) fn hold_entries(objects: &Objects, counts: &mut Counts, entries: &[En
 }
 
 /// What an entry named from outside goes.
+#[inline(always)]
 pub(crate) fn release_entry(objects: &Objects, counts: &mut Counts, entry: &Entry)
     requires { CanRelease objects.now.slots (entry_names entry.now) counts.old }
     ensures { Releases objects.now.slots (entry_names entry.now) counts.old counts.new }
