@@ -108,8 +108,12 @@ queued_with_roots slots new q ps t counted roots left h = record {
   ready = h.ready;
   waiting = λ s proc at.
       let w = h.waiting s proc at in
-      let some : 0 < slice_index t.outside s = omega (arith, some_wait ps proc.0 w.0 w.2, counted s w.0 w.1) in
-      (w.0, ap (λ (qs : Slots). name_at qs s) left ∙ stays (stands new) slots s w.0 w.1 (roots w.0 (s, w.1, inr some)), w.2);
+      let root : IsRoot t.first_new t.outside slots w.0 =
+      ⊎_elim
+      (λ (opens : w.0.0 < t.first_new.0). (s, w.1, inl opens))
+      (λ (made : t.first_new.0 ≤ w.0.0). let few = counted s w.0 w.1 made in let some : 0 < slice_index t.outside s = omega (arith, some_wait ps proc.0 w.0 w.2, few) in (s, w.1, inr some))
+      (cases_lt w.0.0 t.first_new.0) in
+      (w.0, ap (λ (qs : Slots). name_at qs s) left ∙ stays (stands new) slots s w.0 w.1 (roots w.0 root), w.2);
   ready_once = h.ready_once;
   waiting_once = h.waiting_once;
 }

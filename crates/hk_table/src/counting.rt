@@ -12,23 +12,29 @@ use hk_objects::Objects;
 use hk_reclaim::{Counts, entry_name};
 use hk_spaces::Stack;
 
-/// A name comes from outside.
+/// A name comes from outside. Opening objects stay in any case, so they are not counted.
 #[inline(always)]
 pub(crate) fn hold_name(objects: &Objects, counts: &mut Counts, name: Name)
     requires { CanHold objects.now.slots (name ∷ []) counts.old }
     ensures { Holds objects.now.slots (name ∷ []) counts.old counts.new }
 {
+    if name.0 < counts.first_new().0 {
+        return;
+    }
     if let Some(slot) = slot_of(objects, name) {
         counts.hold_outside(slot);
     }
 }
 
-/// A name from outside goes.
+/// A name from outside goes, of which only those that are no opening object's are counted.
 #[inline(always)]
 pub(crate) fn release_name(objects: &Objects, counts: &mut Counts, name: Name)
     requires { CanRelease objects.now.slots (name ∷ []) counts.old }
     ensures { Releases objects.now.slots (name ∷ []) counts.old counts.new }
 {
+    if name.0 < counts.first_new().0 {
+        return;
+    }
     if let Some(slot) = slot_of(objects, name) {
         counts.release_outside(slot, name);
     }
