@@ -51,6 +51,14 @@ impl Counts {
         })
     }
 
+    /// The first name of an object that is no opening object.
+    #[inline(always)]
+    pub fn first_new(&self) -> Name
+        ensures { result ≡ self.now.first_new }
+    {
+        self.numbers.first_new()
+    }
+
     /// One more naming from outside; a pending slot is pending no longer.
     #[inline(always)]
     pub fn hold_outside(&mut self, slot: SlotNo)

@@ -1,12 +1,12 @@
 -- What is kept and what is reached in the slots is what is kept and rooted in the state that they tell.
-use Rattle.std.proofs.Common.{◌≡◌, ◌≢◌, ℕ, zero, suc, ◌+◌, ◌<◌, ◌⊎◌, inl, inr, Bool, true, false, cond, ◌||◌}
+use Rattle.std.proofs.Common.{◌≡◌, ◌≢◌, ℕ, zero, suc, ◌+◌, ◌<◌, ◌≤◌, ◌⊎◌, inl, inr, Bool, true, false, cond, ◌||◌}
 use Rattle.std.proofs.Common.{◌&&◌, List, [], ◌∷◌, ◌++◌, map, Option, Some, None, refl, sym, ap, ◌∙◌, subst, arith}
 use Rattle.std.proofs.Common.{⊎_elim, option_map}
 use Rattle.std.specs.Prelude.{nat_lt, is_some, slice_index, slice_index_or}
 use Rattle.std.specs.List.{list_any}
 use Rattle.std.specs.Map.{lookup}
 use Rattle.std.specs.BTreeMap.{insert_entry}
-use Rattle.std.proofs.lemmas.Bool.{cases_eq, and_from, and_parts}
+use Rattle.std.proofs.lemmas.Bool.{cases_eq, cases_lt, and_from, and_parts}
 use Rattle.std.proofs.lemmas.Bool.Decides.{nat_tests}
 use Rattle.std.proofs.lemmas.List.Folds.{list_any-append}
 use Rattle.std.proofs.lemmas.Map.Entries.{option_filter}
@@ -189,13 +189,16 @@ module _ (s : State) (ps : List (Option (Name × Body))) (ws : List (List Proc))
   root_to : (S : Name → Bool) (n : Name) → IsRoot t.first_new t.outside ps n → supports s S n ≡ true
   root_to S n r =
       ⊎_elim
-      (λ (low : n.0 < t.first_new.0).
-      or_left (is_opening s n) (is_among n (outer_names s ++ inner (members s S))) (ap (λ (f : Name). nat_lt n.0 f.0) tells.first_new ∙ grind (arith, nat_tests)))
-      (λ (some : 0 < slice_index t.outside r.0).
+      (λ (low : n.0 < t.first_new.0). opens_to low)
+      (λ (some : 0 < slice_index t.outside r.0). ⊎_elim opens_to
+      (λ (made : t.first_new.0 ≤ n.0).
       or_right (is_opening s n) (is_among n (outer_names s ++ inner (members s S)))
       (list_any-append (same_name n) (outer_names s) (inner (members s S))
-      ∙ or_left (is_among n (outer_names s)) (is_among n (inner (members s S))) (any_times n (outer_names s) (subst (λ (k : ℕ). 0 < k) (tells.outside r.0 n r.1) some))))
-      r.2
+      ∙ or_left (is_among n (outer_names s)) (is_among n (inner (members s S))) (any_times n (outer_names s) (subst (λ (k : ℕ). 0 < k) (tells.outside r.0 n r.1 made) some))))
+      (cases_lt n.0 t.first_new.0))
+      r.2 where
+        opens_to : n.0 < t.first_new.0 → supports s S n ≡ true
+        opens_to low = or_left (is_opening s n) (is_among n (outer_names s ++ inner (members s S))) (ap (λ (f : Name). nat_lt n.0 f.0) tells.first_new ∙ grind (arith, nat_tests))
 
   pub member_to : (S : Name → Bool) (n : Name) → IsNamedIn ps S n → supports s S n ≡ true
   member_to S n w =
@@ -211,7 +214,10 @@ module _ (s : State) (ps : List (Option (Name × Body))) (ws : List (List Proc))
       (λ (among : is_among n (outer_names s ++ inner (members s S)) ≡ true).
       ⊎_elim
       (λ (out : is_among n (outer_names s) ≡ true).
-      inl (k, named, inr (subst (λ (m : ℕ). 0 < m) (sym (tells.outside k n named)) (times_any n (outer_names s) out))))
+      ⊎_elim
+      (λ (low : n.0 < t.first_new.0). inl (k, named, inl low))
+      (λ (made : t.first_new.0 ≤ n.0). inl (k, named, inr (subst (λ (m : ℕ). 0 < m) (sym (tells.outside k n named made)) (times_any n (outer_names s) out))))
+      (cases_lt n.0 t.first_new.0))
       (λ (in' : is_among n (inner (members s S)) ≡ true). inr (named_from S n in'))
       (or_cases (is_among n (outer_names s)) (is_among n (inner (members s S))) (sym (list_any-append (same_name n) (outer_names s) (inner (members s S))) ∙ among)))
       (or_cases (is_opening s n) (is_among n (outer_names s ++ inner (members s S))) h)

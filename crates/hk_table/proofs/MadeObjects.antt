@@ -11,14 +11,14 @@ use Rattle.hk_objects.specs.Shelf.{Shelf, new_body}
 use Rattle.hk_objects.specs.Slots.{place, name_at, AreApart}
 use Rattle.hk_reclaim.specs.Naming.{times, named_in, names_in, namings}
 use Rattle.hk_reclaim.specs.Tally.{Tally, raised, lowered, released, due, owing}
-use Rattle.hk_reclaim.proofs.Counting.{times_none, times-cons, times_same, times_other}
-use Rattle.hk_reclaim.proofs.Keeping.{namings_set, made_counted}
+use Rattle.hk_reclaim.proofs.Counting.{times_none, times-cons}
+use Rattle.hk_reclaim.proofs.Keeping.{namings_set, made_counted, release_outside_counted}
 use Rattle.hk_spaces.specs.declared.stack.StackFrame.{StackFrame}
 use Rattle.hk_table.specs.Held.{AreHeld, CanHold, HoldsInside}
 use Rattle.hk_table.specs.Settled.{outside_namings}
 use Rattle.hk_table.specs.Small.{AreSmall}
 use Rattle.hk_table.specs.Told.{AreTold}
-use Rattle.hk_table.proofs.Holding.{Slots, owed_same, released_here}
+use Rattle.hk_table.proofs.Holding.{Slots, owed_same}
 use Rattle.hk_table.proofs.NameBounds.{names_are_few, one_name, entries_within}
 use Rattle.hk_queues.specs.Queued.{Queued}
 use Rattle.hk_table.specs.Stacked.{Stacked, AreNumbered}
@@ -103,34 +103,6 @@ module _ (o : Shelf) (stacks : List (List StackFrame)) (ps : List Process) (firs
   made_other : (k : ℕ) → k ≢ s → name_at made k ≡ name_at o.slots k
   made_other k ne = ap (option_map (λ (e : Name × Body). e.0)) (get_or-set_other o.slots s k (Some new_one) None ne)
 
-  made_held : AreHeld made (owing (λ m. outside_namings m stacks ps) (n ∷ [])) (namings o.slots) raised_there
-  made_held =
-      let lowo : s < length t.outside = omega (arith, made_range, h.held.counted.sizes) in
-      record {
-        counted = made_counted o.slots (namings o.slots) t s n (new_body of words entries) low made_range free unowed h.held.counted;
-        outside = λ k m named. ⊎_elim
-            (λ (same : k ≡ s).
-            let e : Some n ≡ Some m = sym made_name ∙ ap (name_at made) (sym same) ∙ named in
-            let f : m ≡ n = cc in
-            let one : times m (n ∷ []) ≡ 1 = ap (λ (x : Name). times x (n ∷ [])) f ∙ one_time in
-            let out : outside_namings m stacks ps ≡ 0 = ap (λ (x : Name). outside_namings x stacks ps) f ∙ unnamed in
-            let zero_is = h.held.free s no_name in
-            ap (λ (j : ℕ). get_or (raised t.outside s) j 0) same ∙ get_or-set_same t.outside s (get_or t.outside s 0 + 1) 0 lowo ∙ omega (arith, one, out, zero_is))
-            (λ (ne : k ≢ s).
-            let there : name_at o.slots k ≡ Some m = sym (made_other k ne) ∙ named in
-            let never : times m (n ∷ []) ≡ 0 = times_other m n [] (λ f. absent k (there ∙ ap (λ (x : Name). Some x) f)) ∙ times_none m in
-            let w = h.held.outside k m there in
-            get_or-set_other t.outside s k (get_or t.outside s 0 + 1) 0 ne ∙ omega (arith, never, w))
-            (cases_eq k s);
-        free = λ k none. ⊎_elim
-            (λ (same : k ≡ s). let e : None ≡ Some n = sym none ∙ ap (name_at made) same ∙ made_name in absurd (cc))
-            (λ (ne : k ≢ s). get_or-set_other t.outside s k (get_or t.outside s 0 + 1) 0 ne ∙ h.held.free k (sym (made_other k ne) ∙ none))
-            (cases_eq k s);
-        room = length-set t.total s (get_or t.total s 0 + 1) ∙ h.held.room;
-      } where
-        one_time : times n (n ∷ []) ≡ 1
-        one_time = let z : times n [] ≡ 0 = times_none n in omega (arith, times_same n [], z)
-
   pub made_range_still : s < length (raised t.total s)
   made_range_still = let e = length-set t.total s (get_or t.total s 0 + 1) in omega (arith, e, made_range)
 
@@ -141,7 +113,37 @@ module _ (o : Shelf) (stacks : List (List StackFrame)) (ps : List Process) (firs
       omega (arith, e)
 
   made_settled : AreApart made → AreHeld made (λ m. outside_namings m stacks ps) (namings o.slots) (record (released raised_there s n) { outside = lowered (raised t.outside s) s })
-  made_settled apart = released_here made (λ m. outside_namings m stacks ps) (namings o.slots) raised_there s n apart made_name (omega (arith, low, h.small.room)) made_held
+  made_settled apart =
+      let lowo : s < length t.outside = omega (arith, made_range, h.held.counted.sizes) in
+      let up : get_or (raised t.outside s) s 0 ≡ get_or t.outside s 0 + 1 = get_or-set_same t.outside s (get_or t.outside s 0 + 1) 0 lowo in
+      let still : s < length (raised t.outside s) = let l = length-set t.outside s (get_or t.outside s 0 + 1) in omega (arith, l, lowo) in
+      let down : get_or (lowered (raised t.outside s) s) s 0 ≡ 0 =
+      get_or-set_same (raised t.outside s) s (get_or (raised t.outside s) s 0 - 1) 0 still ∙ (let z = h.held.free s no_name in omega (arith, up, z)) in
+      record {
+        counted = release_outside_counted made (namings o.slots) raised_there s n made_name made_range_still made_some
+            (made_counted o.slots (namings o.slots) t s n (new_body of words entries) low made_range free unowed h.held.counted);
+        outside = λ k m named new. ⊎_elim
+            (λ (same : k ≡ s).
+            let e : Some n ≡ Some m = sym made_name ∙ ap (name_at made) (sym same) ∙ named in
+            let f : m ≡ n = cc in
+            let out : outside_namings m stacks ps ≡ 0 = ap (λ (x : Name). outside_namings x stacks ps) f ∙ unnamed in
+            ap (λ (j : ℕ). get_or (lowered (raised t.outside s) s) j 0) same ∙ down ∙ sym out)
+            (λ (ne : k ≢ s). elsewhere k ne ∙ h.held.outside k m (sym (made_other k ne) ∙ named) new)
+            (cases_eq k s);
+        opening = λ k m named opens. ⊎_elim
+            (λ (same : k ≡ s). ap (λ (j : ℕ). get_or (lowered (raised t.outside s) s) j 0) same ∙ down)
+            (λ (ne : k ≢ s). elsewhere k ne ∙ h.held.opening k m (sym (made_other k ne) ∙ named) opens)
+            (cases_eq k s);
+        free = λ k none. ⊎_elim
+            (λ (same : k ≡ s). ap (λ (j : ℕ). get_or (lowered (raised t.outside s) s) j 0) same ∙ down)
+            (λ (ne : k ≢ s). elsewhere k ne ∙ h.held.free k (sym (made_other k ne) ∙ none))
+            (cases_eq k s);
+        room = length-set (raised t.total s) s (get_or (raised t.total s) s 0 - 1) ∙ length-set t.total s (get_or t.total s 0 + 1) ∙ h.held.room;
+      } where
+        elsewhere : (k : ℕ) → k ≢ s → get_or (lowered (raised t.outside s) s) k 0 ≡ get_or t.outside k 0
+        elsewhere k ne =
+            get_or-set_other (raised t.outside s) s k (get_or (raised t.outside s) s 0 - 1) 0 ne
+            ∙ get_or-set_other t.outside s k (get_or t.outside s 0 + 1) 0 ne
 
   made_namings : (m : Name) → owing (owing (namings o.slots) (of ∷ [])) (named_in entries) m ≡ namings made m
   made_namings m =

@@ -40,7 +40,8 @@ counted_renamed ps qs owed t same h = record {
 pub held_renamed : (ps qs : Slots) (outer owed : Name → ℕ) (t : Tally) → ((k : ℕ) → name_at qs k ≡ name_at ps k) → AreHeld ps outer owed t → AreHeld qs outer owed t
 held_renamed ps qs outer owed t same h = record {
   counted = counted_renamed ps qs owed t same h.counted;
-  outside = λ k n named. h.outside k n (sym (same k) ∙ named);
+  outside = λ k n named made. h.outside k n (sym (same k) ∙ named) made;
+  opening = λ k n named opens. h.opening k n (sym (same k) ∙ named) opens;
   free = λ k none. h.free k (sym (same k) ∙ none);
   room = h.room;
 }

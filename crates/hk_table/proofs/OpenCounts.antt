@@ -149,7 +149,8 @@ nothing_counted ps first t room above e = by 65536 room e where
       totals = λ k. let z = due_none (name_at ps k) in let a = zero_at m k in omega (arith, z, a);
       pending = λ k. (λ h. absurd (cc), λ w. absurd (let a = above k w.0 w.1 in let b = w.2 in omega (arith, a, b)));
     };
-    outside = λ k n named. zero_at m k;
+    outside = λ k n named made. zero_at m k;
+    opening = λ k n named opens. zero_at m k;
     free = λ k none. zero_at m k;
     room = length-replicate {A = ℕ} m 0 ∙ sym many ∙ room;
   })

@@ -20,6 +20,7 @@ use Rattle.hk_reclaim.proofs.Counting.{times_same, same_names}
 use Rattle.hk_running.specs.Runners.{process_at}
 use Rattle.hk_walk.specs.declared.trail.Trail.{Trail}
 use Rattle.hk_walk.specs.Walks.{seen, AreRight}
+use Rattle.hk_walk.proofs.Kept.{right_none}
 use Rattle.hk_table.specs.Joined.{AreQueued}
 use Rattle.hk_table.specs.Settled.{wait_namings, FreesUncounted}
 use Rattle.hk_table.specs.Waits.{AreWaitsCounted}
@@ -40,6 +41,13 @@ walks_stay old new b pairs left removed is right =
     let none : HasLost old new → ⊥ = λ lost. let t : b ≡ true = removed.1 lost in let f : true ≡ false = sym t ∙ is in cc in
     let same : new ≡ old = left ∙ nothing_lost (stands new) old (λ w. none (subst (λ (qs : Slots). HasLost old qs) (sym left) w)) in
     subst (λ (qs : Slots). AreRight (seen qs) pairs) (sym same) right
+
+-- and where one has gone none is left
+pub walks_left : (old new : Slots) (b : Bool) (pairs left : List (Trail × Entry)) → new ≡ only (stands new) old → IsTrue b ↔ HasLost old new → left ≡ cond b [] pairs
+    → AreRight (seen old) pairs → AreRight (seen new) left
+walks_left old new true pairs left part removed is right = subst (λ (es : List (Trail × Entry)). AreRight (seen new) es) (sym is) (right_none (seen new))
+walks_left old new false pairs left part removed is right =
+    subst (λ (es : List (Trail × Entry)). AreRight (seen new) es) (sym is) (walks_stay old new false pairs part removed refl right)
 
 -- a root is kept
 or_right : (b c : Bool) → c ≡ true → (b || c) ≡ true
@@ -100,8 +108,12 @@ queued_with_roots slots new q ps t counted roots left h = record {
   ready = h.ready;
   waiting = λ s proc at.
       let w = h.waiting s proc at in
-      let some : 0 < slice_index t.outside s = omega (arith, some_wait ps proc.0 w.0 w.2, counted s w.0 w.1) in
-      (w.0, ap (λ (qs : Slots). name_at qs s) left ∙ stays (stands new) slots s w.0 w.1 (roots w.0 (s, w.1, inr some)), w.2);
+      let root : IsRoot t.first_new t.outside slots w.0 =
+      ⊎_elim
+      (λ (opens : w.0.0 < t.first_new.0). (s, w.1, inl opens))
+      (λ (made : t.first_new.0 ≤ w.0.0). let few = counted s w.0 w.1 made in let some : 0 < slice_index t.outside s = omega (arith, some_wait ps proc.0 w.0 w.2, few) in (s, w.1, inr some))
+      (cases_lt w.0.0 t.first_new.0) in
+      (w.0, ap (λ (qs : Slots). name_at qs s) left ∙ stays (stands new) slots s w.0 w.1 (roots w.0 root), w.2);
   ready_once = h.ready_once;
   waiting_once = h.waiting_once;
 }

@@ -29,7 +29,7 @@ pub tells_told : (o : Shelf) (q : Queued) (ps : List Process) (st : Stacked) (fi
 tells_told o q ps st first events limit t numbered h = record {
   objects = refl;
   first_new = sym h.begins;
-  outside = λ k n named. h.held.outside k n named ∙ sym (outside_named n (told o q ps st first events limit) st.stacks st.next numbered refl);
+  outside = λ k n named made. h.held.outside k n named made ∙ sym (outside_named n (told o q ps st first events limit) st.stacks st.next numbered refl);
 }
 
 all_members : (es : List (Name × Object)) → filter (λ (e : Name × Object). true) es ≡ es

@@ -1,5 +1,5 @@
 -- The parts of a table where objects vanish.
-use Rattle.std.proofs.Common.{◌≡◌, ℕ, zero, suc, ◌+◌, ◌≤◌, Bool, true, false, cond, List, [], ◌∷◌, length, Option, Some, None, refl, sym, ap, ◌∙◌, arith}
+use Rattle.std.proofs.Common.{◌≡◌, ℕ, zero, suc, ◌+◌, ◌<◌, ◌≤◌, Bool, true, false, cond, List, [], ◌∷◌, length, Option, Some, None, refl, sym, ap, ◌∙◌, arith, subst}
 use Rattle.std.proofs.Common.{⊎_elim, option_map}
 use Rattle.std.specs.Prelude.{filter, slice_index}
 use Rattle.std.specs.BTreeMap.{insert_entry}
@@ -49,7 +49,7 @@ only_name S ps k n named = by (place (only S ps) k) refl named where
   by (Some x) e h = ap (option_map (λ (y : Name × Body). y.0)) (only_place S ps k x e) ∙ h
 
 pub waits_counted : (o : Shelf) (stacks : List (List StackFrame)) (ps : List Process) (first : Name) (t : Tally) → AreTold o stacks ps first t → AreWaitsCounted o.slots ps t
-waits_counted o stacks ps first t h k n named = let w = h.held.outside k n named in omega (arith, w)
+waits_counted o stacks ps first t h k n named made = let w = h.held.outside k n named made in omega (arith, w)
 
 -- the counts of what is left
 pub left_counted : (o new : Shelf) (stacks : List (List StackFrame)) (ps : List Process) (first : Name) (t u : Tally) → AreTold o stacks ps first t
@@ -57,8 +57,14 @@ pub left_counted : (o new : Shelf) (stacks : List (List StackFrame)) (ps : List 
 left_counted o new stacks ps first t u h left frees counted same = record {
   held = record {
     counted = counted;
-    outside = λ k n named.
-        ap (λ (xs : List ℕ). slice_index xs k) same.outside ∙ h.held.outside k n (only_name (stands new.slots) o.slots k n (ap (λ (qs : Slots). name_at qs k) (sym left) ∙ named));
+    outside = λ k n named made.
+        ap (λ (xs : List ℕ). slice_index xs k) same.outside
+        ∙ h.held.outside k n (only_name (stands new.slots) o.slots k n (ap (λ (qs : Slots). name_at qs k) (sym left) ∙ named))
+        (subst (λ (f : Name). f.0 ≤ n.0) same.first_new made);
+    opening = λ k n named opens.
+        ap (λ (xs : List ℕ). slice_index xs k) same.outside
+        ∙ h.held.opening k n (only_name (stands new.slots) o.slots k n (ap (λ (qs : Slots). name_at qs k) (sym left) ∙ named))
+        (subst (λ (f : Name). n.0 < f.0) same.first_new opens);
     free = λ k none.
         ap (λ (xs : List ℕ). slice_index xs k) same.outside
         ∙ ⊎_elim (λ (e : name_at o.slots k ≡ None). h.held.free k e) (λ (e : slice_index t.outside k ≡ 0). e) (frees k none);

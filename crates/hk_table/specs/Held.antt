@@ -7,10 +7,12 @@ use Rattle.hk_objects.specs.Slots.{name_at}
 use Rattle.hk_reclaim.specs.Naming.{times}
 use Rattle.hk_reclaim.specs.Tally.{Tally, AreCounted, owing}
 
--- each object that stands is counted as often as it is named from outside, and as often as objects name it; nothing is counted where none stands
+-- each object that stands is counted as often as it is named from outside, and as often as objects name it; of opening objects, which stay in
+-- any case, only what objects name is counted; nothing is counted where none stands
 pub record AreHeld (slots : List (Option (Name × Body))) (outer owed : Name → ℕ) (t : Tally) : Type 0 where
   pub counted : AreCounted slots owed t
-  pub outside : (k : ℕ) (n : Name) → name_at slots k ≡ Some n → slice_index t.outside k ≡ outer n
+  pub outside : (k : ℕ) (n : Name) → name_at slots k ≡ Some n → t.first_new.0 ≤ n.0 → slice_index t.outside k ≡ outer n
+  pub opening : (k : ℕ) (n : Name) → name_at slots k ≡ Some n → n.0 < t.first_new.0 → slice_index t.outside k ≡ 0
   pub free : (k : ℕ) → name_at slots k ≡ None → slice_index t.outside k ≡ 0
   pub room : length t.total ≡ 65536
 

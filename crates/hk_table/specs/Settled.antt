@@ -1,5 +1,5 @@
 -- The slots and counts that tell a state's objects. docs/RULES.md, "Objects that vanish".
-use Rattle.std.specs.Prelude.{◌≡◌, ◌⊎◌, ℕ, ◌+◌, List, Option, Some, None, slice_index}
+use Rattle.std.specs.Prelude.{◌≡◌, ◌≤◌, ◌⊎◌, ℕ, ◌+◌, List, Option, Some, None, slice_index}
 use Rattle.hk_model.specs.declared.names.Name.{Name}
 use Rattle.hk_model.specs.declared.names.Proc.{Proc}
 use Rattle.hk_model.specs.declared.objects.Process.{Process}
@@ -13,12 +13,12 @@ use Rattle.hk_spaces.specs.declared.stack.StackFrame.{StackFrame}
 use Rattle.std.specs.List.{flat_map, sum_by}
 use Rattle.hk_table.specs.Whole.{whole}
 
--- the objects are those in the slots with who waits there, and each is counted from outside as often as the slots of live incarnations and the waiting
--- processes name it
+-- the objects are those in the slots with who waits there, and each that is no opening object is counted from outside as often as the slots of live
+-- incarnations and the waiting processes name it
 pub record Tells (s : State) (slots : List (Option (Name × Body))) (waiting : List (List Proc)) (t : Tally) : Type 0 where
   pub objects : s.objects ≡ standing (whole slots waiting)
   pub first_new : s.first_new ≡ t.first_new
-  pub outside : (k : ℕ) (n : Name) → name_at slots k ≡ Some n → slice_index t.outside k ≡ times n (outer_names s)
+  pub outside : (k : ℕ) (n : Name) → name_at slots k ≡ Some n → t.first_new.0 ≤ n.0 → slice_index t.outside k ≡ times n (outer_names s)
 
 -- what the slots of a process's frames name
 abbrev pub stack_names : List StackFrame → List Name

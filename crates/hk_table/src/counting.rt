@@ -12,21 +12,29 @@ use hk_objects::Objects;
 use hk_reclaim::{Counts, entry_name};
 use hk_spaces::Stack;
 
-/// A name comes from outside.
+/// A name comes from outside. Opening objects stay in any case, so they are not counted.
+#[inline(always)]
 pub(crate) fn hold_name(objects: &Objects, counts: &mut Counts, name: Name)
     requires { CanHold objects.now.slots (name ∷ []) counts.old }
     ensures { Holds objects.now.slots (name ∷ []) counts.old counts.new }
 {
+    if name.0 < counts.first_new().0 {
+        return;
+    }
     if let Some(slot) = slot_of(objects, name) {
         counts.hold_outside(slot);
     }
 }
 
-/// A name from outside goes.
+/// A name from outside goes, of which only those that are no opening object's are counted.
+#[inline(always)]
 pub(crate) fn release_name(objects: &Objects, counts: &mut Counts, name: Name)
     requires { CanRelease objects.now.slots (name ∷ []) counts.old }
     ensures { Releases objects.now.slots (name ∷ []) counts.old counts.new }
 {
+    if name.0 < counts.first_new().0 {
+        return;
+    }
     if let Some(slot) = slot_of(objects, name) {
         counts.release_outside(slot, name);
     }
@@ -53,6 +61,7 @@ pub(crate) fn release_name_inside(objects: &Objects, counts: &mut Counts, name: 
 }
 
 /// What an entry names comes from outside.
+#[inline(always)]
 pub(crate) fn hold_entry(objects: &Objects, counts: &mut Counts, entry: &Entry)
     requires { CanHold objects.now.slots (entry_names entry.now) counts.old }
     ensures { Holds objects.now.slots (entry_names entry.now) counts.old counts.new }
@@ -73,6 +82,7 @@ pub(crate) fn hold_entries(objects: &Objects, counts: &mut Counts, entries: &[En
 }
 
 /// What an entry named from outside goes.
+#[inline(always)]
 pub(crate) fn release_entry(objects: &Objects, counts: &mut Counts, entry: &Entry)
     requires { CanRelease objects.now.slots (entry_names entry.now) counts.old }
     ensures { Releases objects.now.slots (entry_names entry.now) counts.old counts.new }

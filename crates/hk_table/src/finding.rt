@@ -9,6 +9,7 @@ use std::marker::Brand;
 use std::sync::ledger::{Blank, Ledger};
 
 /// The slot of the object of a name, on a ledger of its own.
+#[inline(always)]
 fn slot_on<L: Ledger>(objects: &Objects, name: Name, blank: Blank) -> Option<SlotNo>
     requires name { blank.name ≡ L.name }
     requires parts { blank.parts ≡ L.parts }
@@ -23,6 +24,7 @@ fn slot_on<L: Ledger>(objects: &Objects, name: Name, blank: Blank) -> Option<Slo
 
 /// The slot of the object of a name. None exactly where no object has the name.
 #[tactic(auto, using(crate::proofs::Whole::named_low))]
+#[inline(always)]
 pub(crate) fn slot_of(objects: &Objects, name: Name) -> Option<SlotNo>
     ensures found { IfSome result (λ slot. name_at objects.now.slots slot.0 ≡ Some name) }
     ensures none { IfNone result ((k : ℕ) → name_at objects.now.slots k ≡ Some name → ⊥) }

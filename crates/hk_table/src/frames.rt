@@ -36,6 +36,7 @@ impl Parts {
 
     /// One more incarnation, which is the current one of its process: that of a call of this procedure. NoMemory is want of
     /// memory, and changes nothing.
+    #[inline(always)]
     pub(crate) fn add_call(
         &mut self,
         proc: Proc,

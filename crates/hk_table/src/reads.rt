@@ -9,6 +9,7 @@ ghost use Rattle.hk_model.specs.Refusing.{item_at};
 use crate::counting::{hold_entry_inside, release_entry_inside};
 use crate::finding::slot_of;
 use crate::parts::Parts;
+use crate::settling::forget_all;
 use hk_model::{Entry, Name, NoMemory, Param, Refusal};
 use hk_objects::{Objects, SlotNo};
 
@@ -136,7 +137,7 @@ impl Parts {
             hold_entry_inside(&self.objects, &mut self.counts, &entry);
             release_entry_inside(&self.objects, &mut self.counts, &old);
             self.objects.set_entry(slot, at, entry);
-            self.walker.forget();
+            forget_all(&mut self.walker);
         }
     }
 
@@ -150,7 +151,7 @@ impl Parts {
             Some(slot) => {
                 self.objects.append(slot, entry)?;
                 hold_entry_inside(&self.objects, &mut self.counts, &entry);
-                self.walker.forget();
+                forget_all(&mut self.walker);
                 Ok(())
             }
             None => Ok(()),

@@ -8,6 +8,7 @@ ghost use Rattle.hk_model.specs.Rule.{take_token, give_token, token_given, yield
 ghost use Rattle.hk_table.specs.Giving.{Answers};
 ghost use Rattle.hk_table.specs.Woken.{Wakes, waited};
 
+use crate::counting::{hold_name, release_name};
 use crate::finding::slot_of;
 use crate::parts::Parts;
 use hk_calls::Wanted;
@@ -42,7 +43,7 @@ impl Parts {
     {
         match slot_of(&self.objects, name) {
             Some(slot) => {
-                self.counts.hold_outside(slot);
+                hold_name(&self.objects, &mut self.counts, name);
                 self.queues.wait(slot.0, proc);
                 self.processes.set_run(proc, ProcessState::Waiting(name));
             }
@@ -89,7 +90,7 @@ impl Parts {
         };
         match self.queues.first_waiting(slot.0) {
             Some(first) => {
-                self.counts.release_outside(slot, name);
+                release_name(&self.objects, &mut self.counts, name);
                 self.queues.wake(slot.0);
                 self.queues.ready(first);
                 self.processes.set_run(first, ProcessState::Ready);

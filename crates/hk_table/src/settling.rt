@@ -1,6 +1,6 @@
 //! What vanishes from the slots, by the counts of who names what (`docs/RULES.md`, "Objects that vanish").
 
-ghost use Rattle.std.specs.Prelude.{◌≡◌, ◌↔◌, [], List, IsTrue};
+ghost use Rattle.std.specs.Prelude.{◌≡◌, ◌↔◌, [], List, IsTrue, cond};
 ghost use Rattle.hk_model.specs.declared.names.Proc.{Proc};
 ghost use Rattle.hk_model.specs.declared.objects.Process.{Process};
 ghost use Rattle.hk_model.specs.State.{State};
@@ -56,6 +56,22 @@ pub(crate) fn collect(objects: &mut Objects, counts: &mut Counts) -> bool
     counts.collect(objects)
 }
 
+/// No walk is remembered any longer.
+pub(crate) fn forget_all(walker: &mut Walker)
+    ensures { walker.new ≡ record walker.old { pairs = [] } }
+{
+    walker.forget();
+}
+
+/// No walk is remembered any longer, where an object has gone.
+fn forget_where(walker: &mut Walker, gone: bool)
+    ensures { walker.new ≡ record walker.old { pairs = cond gone [] walker.old.pairs } }
+{
+    if gone {
+        forget_all(walker);
+    }
+}
+
 /// The objects that nothing names vanish, as with `settle`; where one has gone, no walk is remembered.
 pub(crate) fn settle_and_forget(objects: &mut Objects, counts: &mut Counts, walker: &mut Walker)
     requires { IsCounted objects.old.slots counts.old }
@@ -69,9 +85,8 @@ pub(crate) fn settle_and_forget(objects: &mut Objects, counts: &mut Counts, walk
     ensures pending { counts.new.pending ≡ [] }
     ensures walks { AreRight (seen objects.old.slots) walker.old.pairs → AreRight (seen objects.new.slots) walker.new.pairs }
 {
-    if settle(objects, counts) {
-        walker.forget();
-    }
+    let gone = settle(objects, counts);
+    forget_where(walker, gone);
 }
 
 /// The objects that no names lead to vanish, as with `collect`; where one has gone, no walk is remembered.
@@ -87,7 +102,6 @@ pub(crate) fn collect_and_forget(objects: &mut Objects, counts: &mut Counts, wal
     ensures pending { counts.new.pending ≡ [] }
     ensures walks { AreRight (seen objects.old.slots) walker.old.pairs → AreRight (seen objects.new.slots) walker.new.pairs }
 {
-    if collect(objects, counts) {
-        walker.forget();
-    }
+    let gone = collect(objects, counts);
+    forget_where(walker, gone);
 }

@@ -18,7 +18,7 @@ use hk_spaces::{Stack, StackFrame};
 use std::alloc::Global;
 use std::collections::BTreeMap;
 
-/// The object in a slot, with who waits there.
+/// The object in a slot, with these processes, who wait there.
 fn object_in(
     alloc: Global,
     objects: &Objects,
@@ -42,6 +42,22 @@ fn object_in(
     })
 }
 
+/// The object in a slot, with who waits there.
+fn object_at(
+    alloc: Global,
+    objects: &Objects,
+    queues: &Queues,
+    slot: u32,
+) -> Result<Object, NoMemory>
+    requires stands { IsSome (place objects.now.slots slot) }
+    requires slot { slot < length queues.now.waiting }
+    requires known { (proc : Proc) → is_queued proc (waiters queues.now slot) ≡ true → proc.0 < queues.now.processes }
+    ensures { IfOk result (λ o. IfSome (place objects.now.slots slot) (λ e. o ≡ whole_object e.1 (waiters queues.now slot))) }
+{
+    let waiters = waiters_of(alloc, queues, slot)?;
+    object_in(alloc, objects, SlotNo(slot), waiters)
+}
+
 /// What stands in a slot, with who waits there.
 fn placed_at(
     alloc: Global,
@@ -56,8 +72,7 @@ fn placed_at(
     match objects.name_of(SlotNo(slot)) {
         None => Ok(None),
         Some(name) => {
-            let waiters = waiters_of(alloc, queues, slot)?;
-            let object = object_in(alloc, objects, SlotNo(slot), waiters)?;
+            let object = object_at(alloc, objects, queues, slot)?;
             Ok(Some((name, object)))
         }
     }

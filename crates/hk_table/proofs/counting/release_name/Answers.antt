@@ -1,19 +1,30 @@
-use Rattle.std.proofs.Common.{ap, refl, sym, subst}
+use Rattle.std.proofs.Common.{◌<◌, ◌≤◌, ap, refl, sym, subst}
+use Rattle.hk_model.specs.declared.names.Name.{Name}
 use Rattle.hk_reclaim.specs.Tally.{Tally}
 use Rattle.hk_table.specs.Held.{AreHeld}
-use Rattle.hk_table.proofs.Holding.{some_outside, released_here, released_nowhere}
+use Rattle.hk_table.proofs.Holding.{some_outside, released_here, released_nowhere, released_opening}
 use Rattle.hk_table.proofs.counting.release_name.Goals as goal
 
 pub release_outside-requires-clause-held : goal.release_outside-requires-clause-held
-release_outside-requires-clause-held c = some_outside c.args.objects.now.slots c.args.counts.now c.in-Some.slot.0 c.args.name c.in-Some.ensures.found c.requires
+release_outside-requires-clause-held c =
+    let made : c.args.counts.now.first_new.0 ≤ c.args.name.0 = subst (λ (f : Name). f.0 ≤ c.args.name.0) c.first_new.ensures c.if-name-first_new.false in
+    some_outside c.args.objects.now.slots c.args.counts.now c.in-Some.slot.0 c.args.name c.in-Some.ensures.found made c.requires
+
+pub returns-then-name-first_new : goal.returns-then-name-first_new
+returns-then-name-first_new c =
+    let opens : c.args.name.0 < c.args.counts.now.first_new.0 = subst (λ (f : Name). c.args.name.0 < f.0) c.first_new.ensures c.if-name-first_new.true in
+    (refl, λ outer owed h. released_opening c.args.objects.now.slots outer owed c.args.counts.now c.args.name opens h)
 
 pub returns-in-Some : goal.returns-in-Some
-returns-in-Some c = (
-  ap (λ (t : Tally). t.first_new) c.release_outside.ensures,
-  λ outer owed h.
-      subst (λ (t : Tally). AreHeld c.args.objects.now.slots outer owed t) (sym c.release_outside.ensures)
-      (released_here c.args.objects.now.slots outer owed c.args.counts.now c.in-Some.slot.0 c.args.name c.in-Some.ensures.apart c.in-Some.ensures.found c.in-Some.ensures.low h),
-)
+returns-in-Some c =
+    let made : c.args.counts.now.first_new.0 ≤ c.args.name.0 = subst (λ (f : Name). f.0 ≤ c.args.name.0) c.first_new.ensures c.if-name-first_new.false in
+    (
+      ap (λ (t : Tally). t.first_new) c.release_outside.ensures,
+      λ outer owed h.
+          subst (λ (t : Tally). AreHeld c.args.objects.now.slots outer owed t) (sym c.release_outside.ensures)
+          (released_here c.args.objects.now.slots outer owed c.args.counts.now c.in-Some.slot.0 c.args.name c.in-Some.ensures.apart c.in-Some.ensures.found
+          c.in-Some.ensures.low made h),
+    )
 
 pub returns-in_default : goal.returns-in_default
 returns-in_default c = (refl, λ outer owed h. released_nowhere c.args.objects.now.slots outer owed c.args.counts.now c.args.name c.in_default.ensures.none h)

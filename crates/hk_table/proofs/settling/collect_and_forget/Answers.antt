@@ -1,7 +1,9 @@
-use Rattle.hk_table.proofs.Stays.{walks_stay}
+use Rattle.std.proofs.Common.{ap}
+use Rattle.hk_walk.specs.Remembered.{Remembered}
+use Rattle.hk_table.proofs.Stays.{walks_left}
 use Rattle.hk_table.proofs.settling.collect_and_forget.Goals as goal
 
-pub returns-else-collect-clause-walks : goal.returns-else-collect-clause-walks
-returns-else-collect-clause-walks c = λ right.
-    walks_stay c.args.objects.now.slots c.collect.new.objects.slots c.collect.result c.args.walker.now.pairs c.collect.ensures.left c.collect.ensures.removed c.if-collect.false
-    right
+pub returns-clause-walks : goal.returns-clause-walks
+returns-clause-walks c = λ right.
+    walks_left c.args.objects.now.slots c.collect-gone.new.objects.slots c.collect-gone.result c.args.walker.now.pairs c.forget_where.new.walker.pairs c.collect-gone.ensures.left
+    c.collect-gone.ensures.removed (ap (λ (w : Remembered). w.pairs) c.forget_where.ensures) right

@@ -1,6 +1,9 @@
-use Rattle.hk_table.proofs.Stays.{walks_stay}
+use Rattle.std.proofs.Common.{ap}
+use Rattle.hk_walk.specs.Remembered.{Remembered}
+use Rattle.hk_table.proofs.Stays.{walks_left}
 use Rattle.hk_table.proofs.settling.settle_and_forget.Goals as goal
 
-pub returns-else-settle-clause-walks : goal.returns-else-settle-clause-walks
-returns-else-settle-clause-walks c = λ right.
-    walks_stay c.args.objects.now.slots c.settle.new.objects.slots c.settle.result c.args.walker.now.pairs c.settle.ensures.left c.settle.ensures.removed c.if-settle.false right
+pub returns-clause-walks : goal.returns-clause-walks
+returns-clause-walks c = λ right.
+    walks_left c.args.objects.now.slots c.settle-gone.new.objects.slots c.settle-gone.result c.args.walker.now.pairs c.forget_where.new.walker.pairs c.settle-gone.ensures.left
+    c.settle-gone.ensures.removed (ap (λ (w : Remembered). w.pairs) c.forget_where.ensures) right

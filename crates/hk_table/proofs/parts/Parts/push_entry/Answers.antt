@@ -24,8 +24,8 @@ hold_entry_inside-requires c =
 
 pub invariant_of-self-in-Some : goal.invariant_of-self-in-Some
 invariant_of-self-in-Some c = record {
-  joined = part_forgot c.self.inside.objects c.append.new.self c.self.inside.queues c.self.inside.processes c.self.inside.stacks c.self.inside.walker c.forget.new.self
-      c.in-Some.slot.0 (λ b. record b { entries = b.entries ++ c.args.entry ∷ [] }) c.self.invariant.joined c.in_ok-append-in-Some.ensures.ok c.forget.ensures;
+  joined = part_forgot c.self.inside.objects c.append.new.self c.self.inside.queues c.self.inside.processes c.self.inside.stacks c.self.inside.walker c.forget_all.new.walker
+      c.in-Some.slot.0 (λ b. record b { entries = b.entries ++ c.args.entry ∷ [] }) c.self.invariant.joined c.in_ok-append-in-Some.ensures.ok c.forget_all.ensures;
   told =
       let w = some_place c.self.inside.objects.slots c.in-Some.slot.0 c.args.name c.in-Some.ensures.found in
       let room : length w.0.1.entries < 256 =

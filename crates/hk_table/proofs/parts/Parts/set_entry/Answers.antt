@@ -40,8 +40,8 @@ set_entry-requires-clause-at c =
 
 pub invariant_of-self : goal.invariant_of-self
 invariant_of-self c = record {
-  joined = part_forgot c.self.inside.objects c.set_entry.new.self c.self.inside.queues c.self.inside.processes c.self.inside.stacks c.self.inside.walker c.forget.new.self
-      c.in-Some.slot.0 (λ b. record b { entries = set b.entries c.args.at c.args.entry }) c.self.invariant.joined c.set_entry.ensures c.forget.ensures;
+  joined = part_forgot c.self.inside.objects c.set_entry.new.self c.self.inside.queues c.self.inside.processes c.self.inside.stacks c.self.inside.walker c.forget_all.new.walker
+      c.in-Some.slot.0 (λ b. record b { entries = set b.entries c.args.at c.args.entry }) c.self.invariant.joined c.set_entry.ensures c.forget_all.ensures;
   told =
       let w = some_place c.self.inside.objects.slots c.in-Some.slot.0 c.args.name c.in-Some.ensures.found in
       let low : c.args.at < length w.0.1.entries =

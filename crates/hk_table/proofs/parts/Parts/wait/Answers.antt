@@ -9,18 +9,14 @@ use Rattle.hk_running.specs.Runners.{process_at}
 use Rattle.hk_table.specs.Joined.{IsJoined}
 use Rattle.hk_table.proofs.QueueSteps.{idle_running, runs_within, run_joined, wait_move, stray_move}
 use Rattle.hk_table.proofs.RunMoves.{wait_told, missing_wait}
-use Rattle.hk_table.proofs.Holding.{few_total, held_holds, nowhere_holds}
+use Rattle.hk_table.proofs.Holding.{nowhere_holds}
 use Rattle.hk_table.proofs.Telling.{can_hold_entry, runs_unnamed, run_held}
 use Rattle.hk_table.proofs.parts.Parts.wait.Goals as goal
 
-pub hold_outside-requires-clause-in_range : goal.hold_outside-requires-clause-in_range
-hold_outside-requires-clause-in_range c = omega (arith, c.in-Some.ensures.low, c.self.invariant.told.held.room)
-
-pub hold_outside-requires-clause-few : goal.hold_outside-requires-clause-few
-hold_outside-requires-clause-few c =
-    few_total c.self.inside.objects.slots c.self.inside.counts c.in-Some.slot.0 c.args.name c.in-Some.ensures.found
-    (can_hold_entry c.self.inside.objects c.self.inside.stacks.stacks c.self.inside.processes c.self.inside.first_new c.self.inside.counts
-    (Held (record { name = c.args.name; rights = 0 })) c.self.invariant.told)
+pub hold_name-requires : goal.hold_name-requires
+hold_name-requires c =
+    can_hold_entry c.self.inside.objects c.self.inside.stacks.stacks c.self.inside.processes c.self.inside.first_new c.self.inside.counts
+    (Held (record { name = c.args.name; rights = 0 })) c.self.invariant.told
 
 pub invariant_of-self : goal.invariant_of-self
 invariant_of-self c =
@@ -37,11 +33,10 @@ invariant_of-self c =
           c.self.invariant.joined.queued idle low
           c.in-Some.ensures.found c.wait.ensures));
       told = run_held c.self.inside.objects c.self.inside.stacks.stacks c.self.inside.processes c.set_run.new.self c.self.inside.first_new c.self.inside.counts
-          c.hold_outside.new.self c.args.proc (Waiting c.args.name)
+          c.hold_name.new.counts c.args.proc (Waiting c.args.name)
           (runs_within c.self.inside.processes c.args.proc runs) c.self.invariant.told c.set_run.ensures (c.args.name ∷ [])
           (runs_unnamed (process_at c.self.inside.processes c.args.proc.0).run runs) refl
-          (held_holds c.self.inside.objects.slots c.self.inside.counts c.hold_outside.new.self c.in-Some.slot.0 c.args.name c.in-Some.ensures.apart c.in-Some.ensures.found
-          c.in-Some.ensures.low c.hold_outside.ensures);
+          c.hold_name.ensures;
     }
 
 pub invariant_of-self-in-None : goal.invariant_of-self-in-None

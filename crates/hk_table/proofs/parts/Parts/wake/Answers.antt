@@ -8,7 +8,6 @@ use Rattle.hk_table.specs.Joined.{IsJoined}
 use Rattle.hk_table.proofs.PartReads.{missing_is}
 use Rattle.hk_table.proofs.QueueSteps.{run_joined, wake_move, woken_known, woken_within, woken_idle, woken_waiters}
 use Rattle.hk_table.proofs.RunMoves.{woken_told, nobody_waits}
-use Rattle.hk_table.proofs.Holding.{some_outside, released_releases}
 use Rattle.hk_table.proofs.Telling.{woken_waits, waiting_within, run_can, run_released}
 use Rattle.hk_table.proofs.parts.Parts.wake.Goals as goal
 
@@ -18,18 +17,14 @@ returns-in_default c = (
   refl,
 )
 
-pub release_outside-requires-clause-in_range : goal.release_outside-requires-clause-in_range
-release_outside-requires-clause-in_range c = omega (arith, c.in-Some.ensures.low, c.self.invariant.told.held.room)
-
-pub release_outside-requires-clause-held : goal.release_outside-requires-clause-held
-release_outside-requires-clause-held c =
+pub release_name-requires : goal.release_name-requires
+release_name-requires c =
     let waits : (process_at c.self.inside.processes c.in-Some-first_waiting.first.0).run ≡ Waiting c.args.name =
     woken_waits c.self.inside.objects.slots c.self.inside.queues c.self.inside.processes c.in-Some.slot.0 c.args.name c.in-Some-first_waiting.first
     c.self.invariant.joined.queued c.in-Some.ensures.found c.in-Some-first_waiting.ensures in
-    some_outside c.self.inside.objects.slots c.self.inside.counts c.in-Some.slot.0 c.args.name c.in-Some.ensures.found
-    (run_can c.self.inside.objects c.self.inside.stacks.stacks c.self.inside.processes (with_run c.self.inside.processes c.in-Some-first_waiting.first Ready)
+    run_can c.self.inside.objects c.self.inside.stacks.stacks c.self.inside.processes (with_run c.self.inside.processes c.in-Some-first_waiting.first Ready)
     c.self.inside.first_new c.self.inside.counts c.self.inside.counts c.in-Some-first_waiting.first Ready
-    (waiting_within c.self.inside.processes c.in-Some-first_waiting.first.0 c.args.name waits) c.self.invariant.told refl (c.args.name ∷ []) (ap run_names waits) refl)
+    (waiting_within c.self.inside.processes c.in-Some-first_waiting.first.0 c.args.name waits) c.self.invariant.told refl (c.args.name ∷ []) (ap run_names waits) refl
 
 pub ready-requires-clause-proc : goal.ready-requires-clause-proc
 ready-requires-clause-proc c =
@@ -61,11 +56,10 @@ invariant_of-self c =
           (wake_move c.self.inside.objects.slots c.self.inside.queues c.wake.new.self c.self.inside.processes c.in-Some-first_waiting.first c.in-Some.slot.0 c.in-Some.ensures.apart
           c.self.invariant.joined.queued low c.in-Some-first_waiting.ensures c.wake.ensures.rest c.ready.new.self c.ready.ensures));
       told = run_released c.self.inside.objects c.self.inside.stacks.stacks c.self.inside.processes c.set_run.new.self c.self.inside.first_new c.self.inside.counts
-          c.release_outside.new.self c.in-Some-first_waiting.first Ready
+          c.release_name.new.counts c.in-Some-first_waiting.first Ready
           (waiting_within c.self.inside.processes c.in-Some-first_waiting.first.0 c.args.name waits) c.self.invariant.told c.set_run.ensures (c.args.name ∷ [])
           (ap run_names waits) refl
-          (released_releases c.self.inside.objects.slots c.self.inside.counts c.release_outside.new.self c.in-Some.slot.0 c.args.name c.in-Some.ensures.apart
-          c.in-Some.ensures.found c.in-Some.ensures.low c.release_outside.ensures);
+          c.release_name.ensures;
     }
 
 pub returns-in-Some-first_waiting : goal.returns-in-Some-first_waiting
