@@ -16,7 +16,7 @@ use Rattle.hk_table.specs.Settled.{outside_namings}
 use Rattle.hk_table.specs.Small.{AreSmall}
 use Rattle.hk_table.specs.Stacked.{Stacked}
 
--- each object is counted as often as frames and waiting processes name it, and as often as objects do
+-- each object that is no opening one is counted as often as frames and waiting processes name it, and each object as often as objects do
 pub record AreTold (objects : Shelf) (stacks : List (List StackFrame)) (ps : List Process) (first : Name) (t : Tally) : Type 0 where
   pub held : AreHeld objects.slots (λ n. outside_namings n stacks ps) (namings objects.slots) t
   pub begins : t.first_new ≡ first
