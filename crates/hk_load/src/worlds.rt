@@ -9,7 +9,7 @@ ghost use Rattle.hk_format.specs.Worlds.{world};
 use crate::loading::load;
 use hk_format::{Cause, ReadError};
 use hk_model::World;
-use hk_script::parse;
+use hk_script::parse_owned;
 use hk_text::lines;
 use std::alloc::Global;
 
@@ -25,9 +25,7 @@ pub fn read_world(alloc: Global, script: &[u8]) -> Result<World, WorldError>
     ensures ok { IfOk result (λ w. world script.now ≡ Ok w) }
     ensures refused { (line : ℕ) (cause : Cause) → IsRefused result line cause → world script.now ≡ Err (line, cause) }
 {
-    let syntax = {
-        let lines = lines(alloc, script)?;
-        parse(alloc, &lines, script)?
-    };
+    let lines = lines(alloc, script)?;
+    let syntax = parse_owned(alloc, lines, script)?;
     Ok(load(alloc, &syntax)?)
 }

@@ -18,7 +18,7 @@ mod verbs;
 
 pub use crate::errors::ParseError;
 pub use crate::names::Names;
-pub use crate::script::{Syntax, parse};
+pub use crate::script::{Syntax, parse, parse_owned};
 pub use crate::spelled::lines_spell_their_items;
 pub use crate::verbs::verb_of;
 pub use hk_format::{Body, Head, Item, MakingText, Part, Written};

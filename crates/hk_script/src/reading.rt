@@ -65,18 +65,19 @@ impl Reading {
         }
     }
 
-    /// Begins the item with this head.
+    /// Begins the item with this head. Most items have one line more, so there is room for one.
     fn begin(&mut self, alloc: Global, line: u32, head: Head) -> Result<(), LineError>
         requires { IsNone self.old.unclosed }
         ensures { Becomes result (read_of self.new) (begun (read_of self.old) line head) }
     {
         self.note(alloc, &head)?;
-        let parts = Items::new(alloc);
         if has_parts(&head) {
+            let parts = Items::from_vec(Vec::with_capacity(alloc, 1)?);
             let item = Item { line, head, parts };
             let labels = Names::new(alloc);
             self.unclosed = Some(Opened { item, labels });
         } else {
+            let parts = Items::new(alloc);
             self.items.push(Item { line, head, parts })?;
         }
         Ok(())

@@ -74,3 +74,30 @@ pub fn parse(alloc: Global, lines: &[TextLine], source: &[u8]) -> Result<Syntax,
     let items = reading.finish()?;
     Ok(Syntax { items })
 }
+
+/// The same as `parse` answers, of lines that are let go one by one, each once it is read.
+pub fn parse_owned(alloc: Global, lines: Vec<TextLine>, source: &[u8]) -> Result<Syntax, ParseError>
+    requires { text source.now ≡ Ok (map (line_seen source.now) lines.items) }
+    ensures ok { IfOk result (λ syntax. script (map (line_seen source.now) lines.items) ≡ Ok syntax) }
+    ensures refused { (line : ℕ) (cause : ParseCause) → IsRefused result line cause → script (map (line_seen source.now) lines.items) ≡ Err (line, cause) }
+{
+    let mut others = lines.into_iter();
+    let Some(first) = others.next() else {
+        return Err(ParseError::Refused {
+            line: 1,
+            cause: ParseCause::Missing,
+        });
+    };
+    if let Err(error) = Line::new(source, first.pieces.as_slice()).header() {
+        return Err(error.on_line(first.number));
+    }
+    let mut reading = Reading::new(alloc);
+    for line in others {
+        let number = line.number;
+        if let Err(error) = reading.line(alloc, source, &line) {
+            return Err(error.on_line(number));
+        }
+    }
+    let items = reading.finish()?;
+    Ok(Syntax { items })
+}
