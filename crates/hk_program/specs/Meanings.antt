@@ -1,17 +1,11 @@
 -- What an instruction means, by its kind. docs/RULES.md, "Control of a process".
-use Rattle.std.specs.Prelude.{Bool, true, false, Option, Some, None}
-use Rattle.hk_model.specs.declared.calls.Call.{Call}
+use Rattle.std.specs.Prelude.{Bool, true, false}
 use Rattle.hk_model.specs.declared.frames.Frame.{Frame}
 use Rattle.hk_model.specs.declared.frames.Todo.{Todo}
 use Rattle.hk_model.specs.declared.frames.Todo.TheVariants.{Do, Halt}
 use Rattle.hk_model.specs.declared.instructions.Instr.{Instr}
 use Rattle.hk_model.specs.declared.instructions.Instr.TheVariants as instr
 use Rattle.hk_model.specs.Control.{Meaning, Calls, Local}
-
--- the call, where it is one
-abbrev pub call_in : Meaning → Option Call
-call_in (Calls c) = Some c
-call_in (Local f) = None
 
 -- whether it is local
 abbrev pub is_local : Meaning → Bool

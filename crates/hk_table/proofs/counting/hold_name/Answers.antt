@@ -15,8 +15,7 @@ returns-then-name-first_new c =
 
 pub returns-in-Some : goal.returns-in-Some
 returns-in-Some c =
-    let made : c.args.counts.now.first_new.0 ≤ c.args.name.0 = subst (λ (f : Name). f.0 ≤ c.args.name.0) c.first_new.ensures c.if-name-first_new.false in
-    (
+    let made : c.args.counts.now.first_new.0 ≤ c.args.name.0 = subst (λ (f : Name). f.0 ≤ c.args.name.0) c.first_new.ensures c.if-name-first_new.false in (
       ap (λ (t : Tally). t.first_new) c.hold_outside.ensures,
       λ outer owed h.
           subst (λ (t : Tally). AreHeld c.args.objects.now.slots (owing outer (c.args.name ∷ [])) owed t) (sym c.hold_outside.ensures)
