@@ -43,7 +43,7 @@ use Rattle.hk_report.specs.Histories.{told_histories}
 use Rattle.hk_report.specs.Hops.{is_made}
 use Rattle.hk_report.specs.Searches.{direct_param, IsFoundBy, IsFound}
 use Rattle.hk_report.specs.Reasons.{params_at, IsReasonedBy, IsTold, AreTold, AreFew}
-use Rattle.hk_report.proofs.Listed.{changer_lives, live_numbered, changes_found}
+use Rattle.hk_report.proofs.Listed.{changer_lives, live_numbered, changes_found, doings_few}
 use Rattle.hk_report.proofs.Spans.{has_all}
 use Rattle.hk_report.proofs.Found.{found_direct, found_behind}
 use Rattle.hk_report.proofs.Replays.{spans_told}
@@ -275,23 +275,28 @@ few_from n families (d ∷ ds) h =
     (few_by n d.changed (slice_index_or families d.inc.0 []) (omega (arith, h))) (few_from (n + 1) (families_by n d families) ds (omega (arith, h)))
 
 -- the lines of the changes can be numbered
-pub few_changes : (families : List (List Begun)) (ds : List Doing) (found : List BareChange) → length ds < 2 ^ 32 → found ≡ changes_from 0 families ds → AreFew found
+few_changes : (families : List (List Begun)) (ds : List Doing) (found : List BareChange) → length ds < 2 ^ 32 → found ≡ changes_from 0 families ds → AreFew found
 few_changes families ds found few h = subst AreFew (sym h) (few_from 0 families ds (omega (arith, few)))
 
+pub few_told : (w : WorldValue) (lines : List Line) (found : List BareChange) → IsWorld w → AreStepsOf w lines
+    → found ≡ changes_from 0 (replicate (opened w).state.next_inc.0 []) (doings w (opened w) lines) → AreFew found
+few_told w lines found world steps h =
+    few_changes (replicate (opened w).state.next_inc.0 []) (doings w (opened w) lines) found (doings_few w lines (doings w (opened w) lines) world steps refl) h
+
 -- what was found is the list of the definitions
-pub report_is : (w : WorldValue) (lines : List Line) (first : Inc) (ds : List Doing) (histories : List History) (params : List (List Entry)) (families : List (List Begun))
-    (found : List BareChange) (all : List Change) → IsWorld w → AreStepsOf w lines → first ≡ (opened w).state.next_inc → ds ≡ doings w (opened w) lines
-    → histories ≡ told_histories w lines → params ≡ params_given w (opened w) lines → families ≡ families_after 0 ds (replicate first.0 [])
-    → found ≡ changes_from 0 (replicate first.0 []) ds → AreTold families histories params found all → AreExplained w lines (bare_changes w lines) all
-report_is w lines first ds histories params families found all world steps f d h p g c told =
-    let bares : found ≡ map told_change (bare_changes w lines) = changes_found w lines first ds found steps f d c in
-    let same : families ≡ families_after 0 (doings w (opened w) lines) (replicate (opened w).state.next_inc.0 []) =
-    g ∙ ap (λ (es : List Doing). families_after 0 es (replicate first.0 [])) d
-    ∙ ap (λ (i : Inc). families_after 0 (doings w (opened w) lines) (replicate i.0 [])) f in
+pub report_is : (w : WorldValue) (lines : List Line) (histories : List History) (params : List (List Entry)) (families : List (List Begun))
+    (found : List BareChange) (all : List Change) → IsWorld w → AreStepsOf w lines
+    → histories ≡ told_histories w lines → params ≡ params_given w (opened w) lines
+    → families ≡ families_after 0 (doings w (opened w) lines) (replicate (opened w).state.next_inc.0 [])
+    → found ≡ changes_from 0 (replicate (opened w).state.next_inc.0 []) (doings w (opened w) lines)
+    → AreTold families histories params found all → AreExplained w lines (bare_changes w lines) all
+report_is w lines histories params families found all world steps h p g c told =
+    let bares : found ≡ map told_change (bare_changes w lines)
+    = changes_found w lines (opened w).state.next_inc (doings w (opened w) lines) found steps refl refl c in
     explained_each w lines steps world (bare_changes w lines) all (all_listed w lines steps world)
     (subst (λ (x : List BareChange).
     AreTold (families_after 0 (doings w (opened w) lines) (replicate (opened w).state.next_inc.0 [])) (told_histories w lines) (params_given w (opened w) lines) x all)
     bares
     (subst (λ (x : List (List Entry)). AreTold (families_after 0 (doings w (opened w) lines) (replicate (opened w).state.next_inc.0 [])) (told_histories w lines) x found all) p
     (subst (λ (x : List History). AreTold (families_after 0 (doings w (opened w) lines) (replicate (opened w).state.next_inc.0 [])) x params found all) h
-    (subst (λ (x : List (List Begun)). AreTold x histories params found all) same told))))
+    (subst (λ (x : List (List Begun)). AreTold x histories params found all) g told))))

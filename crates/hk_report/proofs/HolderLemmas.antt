@@ -5,9 +5,8 @@ use Rattle.std.proofs.lemmas.Bool.{true≢false, ltb-true, ltb-false, eqb-true, 
 use Rattle.std.proofs.lemmas.List.{append-nil, append_assoc, length-append, length-replicate}
 use Rattle.hk_model.specs.declared.names.Name.{Name}
 use Rattle.hk_report.specs.declared.histories.Span.{Span}
-use Rattle.hk_report.specs.declared.histories.History.{History}
 use Rattle.hk_report.specs.declared.holders.Held.{Held}
-use Rattle.hk_report.specs.Holders.{held_by, spans_from, holds, holders_of, held_at, IsOneMore}
+use Rattle.hk_report.specs.Holders.{held_by, holds, held_at, IsOneMore}
 
 -- ---- one span more is kept
 

@@ -3,6 +3,7 @@ mod Replaying
 pub mod Lengths
 mod Followed
 mod Listed
+pub mod Counts
 mod HistoryLemmas
 mod Keys
 mod HopLemmas
@@ -18,3 +19,5 @@ mod Replays
 mod Makers
 mod ReasonLemmas
 mod Explained
+mod WrittenLemmas
+pub mod Retold

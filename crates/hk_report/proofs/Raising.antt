@@ -1,6 +1,6 @@
 -- The level of one hop more, by those that hold what a level has.
-use Rattle.std.proofs.Common.{◌≡◌, ℕ, zero, suc, ◌+◌, ◌<◌, ◌≤◌, List, [], ◌∷◌, ◌++◌, map, Bool, true, false, Option, Some, None, refl, sym, ◌∙◌, ap, arith, cond, subst}
-use Rattle.std.specs.Prelude.{◌==◌, ◌&&◌, ◌||◌, ◌⊎◌, nat_lt, filter, slice_index_or}
+use Rattle.std.proofs.Common.{◌≡◌, ℕ, zero, suc, ◌+◌, ◌<◌, ◌≤◌, List, [], ◌∷◌, map, Bool, true, false, Option, Some, None, refl, sym, ◌∙◌, ap, arith, cond, subst}
+use Rattle.std.specs.Prelude.{◌==◌, ◌&&◌, ◌||◌, ◌⊎◌, nat_lt, slice_index_or}
 use mathlib.Core.Logic.{inl, inr}
 use Rattle.std.specs.List.{All}
 use Rattle.std.specs.Cmp.{ranked}
@@ -22,7 +22,7 @@ use Rattle.hk_report.specs.declared.hops.Latest.{Latest}
 use Rattle.hk_report.specs.declared.hops.Onward.{Onward}
 use Rattle.hk_report.specs.Histories.{no_history, history_of}
 use Rattle.hk_report.specs.Hops.{later, arrived_by, arrived_whole, is_good, entry_onward, handed_onward, earlier, onward_over}
-use Rattle.hk_report.specs.Hops.{greater, lesser, from_on, entry_bound, handed_bound, no_latest, ends_before, latest_end, latest_from, next_latest}
+use Rattle.hk_report.specs.Hops.{greater, from_on, entry_bound, handed_bound, no_latest, ends_before, latest_end, latest_from, next_latest}
 use Rattle.hk_report.specs.Holders.{held_by, spans_from, holds, holders_of, joined, latest_over, raised_at, raised_over}
 
 -- ---- what all that a level keeps gives

@@ -7,3 +7,6 @@ pub mod Holders
 pub mod Searches
 pub mod Reasons
 pub mod ChangeTexts
+pub mod Counts
+pub mod Written
+pub mod Retold

@@ -2,7 +2,7 @@
 //! (`docs/RULES.md`, "Changes and their reasons").
 
 ghost use Rattle.std.specs.Prelude.{◌≡◌, ◌+◌, ◌<◌, ◌^◌, ◌++◌, [], length, map, replicate, slice_index_or, IfOk, OnOk, Some};
-ghost use Rattle.hk_report.specs.Families.{calls_entered, families_by, families_after, change_under, changes_by, changes_from};
+ghost use Rattle.hk_report.specs.Families.{calls_entered, families_by, change_under, changes_by, changes_from};
 
 use crate::doings::{Doing, Entered};
 use hk_model::{Inc, Items, Name, NoMemory};
@@ -136,23 +136,39 @@ pub struct Families {
     pub changes: Vec<BareChange>,
 }
 
+impl Families {
+    /// No line has come yet, and the incarnations of the opening are those below `first`. NoMemory is want of memory.
+    pub(crate) fn begin(alloc: Global, first: Inc) -> Result<Families, NoMemory>
+        ensures calls { IfOk result (λ f. f.calls.items ≡ replicate first.0 []) }
+        ensures changes { IfOk result (λ f. f.changes.items ≡ []) }
+    {
+        Ok(Families {
+            calls: no_families(alloc, first)?,
+            changes: Vec::new(alloc),
+        })
+    }
+
+    /// One line more, which did this, behind so many. NoMemory is want of memory.
+    pub(crate) fn add(&mut self, alloc: Global, moment: u32, doing: &Doing) -> Result<(), NoMemory>
+        requires { moment + 1 < 2 ^ 32 }
+        ensures changes { OnOk result (self.new.changes.items ≡ self.old.changes.items ++ changes_by moment doing.now.changed (slice_index_or self.old.calls.items doing.now.inc.0 [])) }
+        ensures calls { OnOk result (self.new.calls.items ≡ families_by moment doing.now self.old.calls.items) }
+    {
+        let calls = calls_over(self.calls.as_slice(), doing.inc);
+        add_changes(&mut self.changes, moment, doing.changed, calls)?;
+        add_family(alloc, &mut self.calls, moment, doing)
+    }
+}
+
 /// The changes under confined calls of lines that did this, where the incarnations of the opening
 /// are those below `first`. NoMemory is want of memory.
 pub(crate) fn changes_of(alloc: Global, first: Inc, doings: &[Doing]) -> Result<Families, NoMemory>
     requires { length doings.now < 2 ^ 32 }
-    ensures changes { IfOk result (λ f. f.changes.items ≡ changes_from 0 (replicate first.0 []) doings.now) }
-    ensures calls { IfOk result (λ f. f.calls.items ≡ families_after 0 doings.now (replicate first.0 [])) }
+    ensures { IfOk result (λ f. f.changes.items ≡ changes_from 0 (replicate first.0 []) doings.now) }
 {
-    let mut families = no_families(alloc, first)?;
-    let mut changes = Vec::new(alloc);
+    let mut families = Families::begin(alloc, first)?;
     for (index, doing) in doings.iter().enumerate() {
-        let moment = index as u32;
-        let calls = calls_over(families.as_slice(), doing.inc);
-        add_changes(&mut changes, moment, doing.changed, calls)?;
-        add_family(alloc, &mut families, moment, doing)?;
+        families.add(alloc, index as u32, doing)?;
     }
-    Ok(Families {
-        calls: families,
-        changes,
-    })
+    Ok(families)
 }

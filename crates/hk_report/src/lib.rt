@@ -2,13 +2,15 @@
 //! "Changes and their reasons").
 //!
 //! `changes_under` tells each change with the confined call that it was made under, by one run of
-//! the history; `report` with its reason besides, and `changes_text` is the list as text. `naming` has
+//! the history; `report` with its reason besides, `changes_text` is the list as text, and a `Retelling` writes that text
+//! without the list, of lines that are told to it one by one. `counting` counts the changes as the lines of a run come. `naming` has
 //! what a path names, `doings` what each line did, `replay` the lines of a history once more,
 //! `families` the confined calls that each incarnation is under, `histories` what has stood in lists,
 //! `holders` which of that holds an object, `hops` the hops over it, `searching` the search for the
 //! least reach, `reasons` each change with its reason.
 #![tactic(auto)]
 
+mod counting;
 mod doings;
 mod families;
 mod histories;
@@ -21,7 +23,9 @@ mod reporting;
 mod searching;
 mod texts;
 
+pub use counting::Counting;
 pub use families::{BareChange, Begun};
 pub use hk_model::{Change, Hop, Line, NoMemory, Reach, World};
-pub use reporting::{changes_under, report};
+pub use replay::Retelling;
+pub use reporting::{changes_under, report, report_text};
 pub use texts::changes_text;

@@ -1,15 +1,17 @@
 //! Why a change under a confined call could be made (`docs/RULES.md`, "Changes and their reasons").
 
-ghost use Rattle.std.specs.Prelude.{◌≡◌, ◌<◌, ◌≤◌, ◌^◌, ◌+◌, length, IfOk};
+ghost use Rattle.std.specs.Prelude.{◌≡◌, ◌<◌, ◌≤◌, ◌^◌, ◌+◌, length, IfOk, OnOk, string_bytes};
 ghost use Rattle.hk_report.specs.Holders.{AreHolders};
 ghost use Rattle.hk_report.specs.Reasons.{params_at, IsReasoned, IsTold, AreFew, AreTold};
+ghost use Rattle.hk_report.specs.Written.{AreWritten};
 
 use crate::families::{BareChange, Begun};
 use crate::histories::History;
 use crate::holders::Held;
 use crate::hops::Ground;
-use crate::replay::GivenParams;
+use crate::replay::{GivenParams, Telling};
 use crate::searching::Search;
+use crate::texts::write_change;
 use hk_model::{Change, Entry, Items, NoMemory, Reach};
 use std::alloc::Global;
 
@@ -28,6 +30,21 @@ pub(crate) struct Grounds<'a> {
 }
 
 impl<'a> Grounds<'a> {
+    /// What lines have told, with the spans that hold each object.
+    pub(crate) fn of(telling: &'a Telling, holders: &'a [Items<Held>]) -> Grounds<'a>
+        requires { AreHolders telling.now.histories.items holders.now }
+        ensures histories { result.histories.now ≡ telling.now.histories.items }
+        ensures families { result.families.now ≡ telling.now.families.calls.items }
+        ensures params { result.params.now ≡ telling.now.params.items }
+    {
+        Grounds {
+            histories: telling.histories.as_slice(),
+            families: telling.families.calls.as_slice(),
+            params: telling.params.as_slice(),
+            holders,
+        }
+    }
+
     /// The merged parameters of a call.
     fn params_of(&self, begun: Begun) -> &[Entry]
         ensures same { result.now ≡ params_at self.now.params.now begun.moment }
@@ -91,5 +108,23 @@ impl<'a> Grounds<'a> {
             changes.push(self.explain(alloc, bare)?)?;
         }
         Ok(changes)
+    }
+
+    /// Writes these changes, each with its reason. NoMemory is want of memory.
+    #[tactic(auto, using(crate::proofs::WrittenLemmas::written_none, crate::proofs::WrittenLemmas::written_all, crate::proofs::ReasonLemmas::few_at))]
+    pub(crate) fn write_all(
+        &self,
+        alloc: Global,
+        out: &mut String,
+        bares: &[BareChange],
+    ) -> Result<(), NoMemory>
+        requires { AreFew bares.now }
+        ensures { OnOk result (AreWritten self.now.families.now self.now.histories.now self.now.params.now bares.now (string_bytes out.old) (string_bytes out.new)) }
+    {
+        for bare in bares {
+            let change = self.explain(alloc, bare)?;
+            write_change(out, &change)?;
+        }
+        Ok(())
     }
 }

@@ -1,18 +1,22 @@
 //! A history once more, with what its lines did (`docs/RULES.md`, "Steps of processors").
 
-ghost use Rattle.std.specs.Prelude.{◌≡◌, ◌+◌, ◌<◌, ◌≤◌, ◌^◌, ◌++◌, ◌∷◌, [], length, IfOk, OnOk};
+ghost use Rattle.std.specs.Prelude.{◌≡◌, ◌+◌, ◌<◌, ◌≤◌, ◌^◌, ◌++◌, ◌∷◌, [], length, replicate, slice_index_or, IfOk, OnOk};
 ghost use Rattle.hk_model.specs.Lines.{done_call, param_count};
-ghost use Rattle.hk_model.specs.Running.{opened};
-ghost use Rattle.hk_report.specs.Doings.{doing_behind, doings, given_params, params_given};
-ghost use Rattle.hk_report.specs.Histories.{noted, opened_below, told_histories};
+ghost use Rattle.hk_model.specs.Running.{moved, opened};
+ghost use Rattle.hk_program.specs.Machines.{IsSound};
+ghost use Rattle.hk_report.specs.Doings.{before_line, doing, doing_behind, doings, given_params, params_given};
+ghost use Rattle.hk_report.specs.Families.{changes_by, changes_from, families_after, families_by};
+ghost use Rattle.hk_report.specs.Histories.{finished_below, noted, opened_below, told_histories};
 
 use crate::doings::{Before, Doing, before_line, doing_behind};
+use crate::families::Families;
 use crate::histories::{History, finish, note, opened_histories};
 use hk_model::lists::Limited;
-use hk_model::{Call, Entry, Inc, Line, NoMemory, Reply, What, World};
+use hk_model::{Call, Entry, Inc, Line, Making, NoMemory, Refusal, Reply, Template, What, World};
 use hk_plain::Plain;
 use hk_program::Machine;
 use std::alloc::Global;
+use std::marker::PhantomData;
 
 /// The merged parameters of a call.
 pub type GivenParams = Limited<Entry, 8>;
@@ -29,8 +33,8 @@ pub struct Replay {
 /// What the reasons of changes are told by.
 #[derive(Drop)]
 pub struct Telling {
-    /// What the lines did.
-    pub replay: Replay,
+    /// The changes under confined calls, and the calls that each incarnation is under.
+    pub families: Families,
     /// The merged parameters of the call that each line has begun, none of another line.
     pub params: Vec<GivenParams>,
     /// What has stood in the list of each object, by its name.
@@ -90,64 +94,125 @@ pub(crate) fn replayed(alloc: Global, world: &World, lines: &[Line]) -> Result<R
 
 impl Telling {
     /// What no line tells yet, by a kernel in the state of the opening.
-    fn begin(alloc: Global, kernel: &Plain, count: usize) -> Result<Telling, NoMemory>
-        ensures first { IfOk result (λ t. t.replay.first ≡ kernel.now.next_inc) }
-        ensures doings { IfOk result (λ t. t.replay.doings.items ≡ []) }
+    fn begin(alloc: Global, kernel: &Plain) -> Result<Telling, NoMemory>
+        ensures changes { IfOk result (λ t. t.families.changes.items ≡ []) }
+        ensures calls { IfOk result (λ t. t.families.calls.items ≡ replicate kernel.now.next_inc.0 []) }
         ensures params { IfOk result (λ t. t.params.items ≡ []) }
         ensures histories { IfOk result (λ t. t.histories.items ≡ opened_below kernel.now kernel.now.next_name.0) }
     {
-        let replay = Replay {
-            first: kernel.next_inc(),
-            doings: Vec::with_capacity(alloc, count)?,
-        };
         Ok(Telling {
-            replay,
-            params: Vec::with_capacity(alloc, count)?,
+            families: Families::begin(alloc, kernel.next_inc())?,
+            params: Vec::new(alloc),
             histories: opened_histories(alloc, kernel)?,
         })
     }
 
-    /// What a line tells, by a kernel in the state behind it. `moment` is the number of lines up to and
-    /// with it.
+    /// What a line tells, by a kernel in the state behind it. `index` is the number of lines before it.
     fn add(
         &mut self,
         alloc: Global,
         kernel: &Plain,
         line: &Line,
         before: Before,
-        moment: u32,
+        index: u32,
     ) -> Result<(), NoMemory>
-        ensures first { OnOk result (self.new.replay.first ≡ self.old.replay.first) }
-        ensures doings { OnOk result (self.new.replay.doings.items ≡ self.old.replay.doings.items ++ doing_behind before kernel.now ∷ []) }
+        requires { index + 1 < 2 ^ 32 }
+        ensures changes { OnOk result (self.new.families.changes.items ≡ self.old.families.changes.items ++ changes_by index before.changed (slice_index_or self.old.families.calls.items before.inc.0 [])) }
+        ensures calls { OnOk result (self.new.families.calls.items ≡ families_by index (doing_behind before kernel.now) self.old.families.calls.items) }
         ensures params { OnOk result (self.new.params.items ≡ self.old.params.items ++ given_params line.now before kernel.now ∷ []) }
-        ensures histories { OnOk result (self.new.histories.items ≡ noted moment (doing_behind before kernel.now) kernel.now self.old.histories.items) }
+        ensures histories { OnOk result (self.new.histories.items ≡ noted (index + 1) (doing_behind before kernel.now) kernel.now self.old.histories.items) }
     {
         let doing = doing_behind(before, kernel);
         let params = params_behind(alloc, kernel, line, &before)?;
-        note(alloc, &mut self.histories, kernel, moment, &doing)?;
+        note(alloc, &mut self.histories, kernel, index + 1, &doing)?;
         self.params.push(params)?;
-        self.replay.doings.push(doing)?;
-        Ok(())
+        self.families.add(alloc, index, &doing)
     }
 }
 
-/// The lines of a history once more, with the parameters that they gave and what has stood in lists.
-/// NoMemory is want of memory.
+/// The lines of a history once more, as they come: each step is made again, on a plain kernel.
+#[derive(Drop)]
+pub struct Retelling {
+    /// Where the lines so far have led.
+    pub machine: Machine<Plain>,
+    /// How many lines there were.
+    pub count: u32,
+    /// What they tell.
+    pub telling: Telling,
+}
+
+impl Retelling {
+    /// No line of a history of this world has come yet. NoMemory is want of memory.
+    pub fn begin(alloc: Global, world: &World) -> Result<Retelling, NoMemory>
+        ensures machine { IfOk result (λ r. r.machine ≡ opened world.now) }
+        ensures sound { IfOk result (λ r. IsSound world.now r.machine) }
+        ensures count { IfOk result (λ r. r.count ≡ 0) }
+        ensures changes { IfOk result (λ r. r.telling.families.changes.items ≡ []) }
+        ensures calls { IfOk result (λ r. r.telling.families.calls.items ≡ replicate (opened world.now).state.next_inc.0 []) }
+        ensures params { IfOk result (λ r. r.telling.params.items ≡ []) }
+        ensures histories { IfOk result (λ r. r.telling.histories.items ≡ opened_below (opened world.now).state (opened world.now).state.next_name.0) }
+    {
+        let kernel = Plain::new(alloc, world)?;
+        let machine = Machine::open(alloc, world, kernel)?;
+        let telling = Telling::begin(alloc, machine.kernel())?;
+        Ok(Retelling {
+            machine,
+            count: 0,
+            telling,
+        })
+    }
+
+    /// One line more, which is a step of its processor. NoMemory is want of memory.
+    pub fn add(&mut self, alloc: Global, world: &World, line: &Line) -> Result<(), NoMemory>
+        requires sound { IsSound world.now self.old.machine }
+        requires few { self.old.count + 1 < 2 ^ 32 }
+        ensures machine { OnOk result (self.new.machine ≡ moved world.now self.old.machine line.now.cpu) }
+        ensures sound { OnOk result (IsSound world.now self.new.machine) }
+        ensures count { OnOk result (self.new.count ≡ self.old.count + 1) }
+        ensures changes { OnOk result (self.new.telling.families.changes.items ≡ self.old.telling.families.changes.items ++ changes_by self.old.count (before_line self.old.machine.state line.now).changed (slice_index_or self.old.telling.families.calls.items line.now.inc.0 [])) }
+        ensures calls { OnOk result (self.new.telling.families.calls.items ≡ families_by self.old.count (doing self.old.machine.state line.now (moved world.now self.old.machine line.now.cpu).state) self.old.telling.families.calls.items) }
+        ensures params { OnOk result (self.new.telling.params.items ≡ self.old.telling.params.items ++ given_params line.now (before_line self.old.machine.state line.now) (moved world.now self.old.machine line.now.cpu).state ∷ []) }
+        ensures histories { OnOk result (self.new.telling.histories.items ≡ noted (self.old.count + 1) (doing self.old.machine.state line.now (moved world.now self.old.machine line.now.cpu).state) (moved world.now self.old.machine line.now.cpu).state self.old.telling.histories.items) }
+    {
+        let _ = PhantomData::<(Call, Making, Refusal, Reply, Template, What)>; // Rattle is to know what a Line holds
+        let before = before_line(self.machine.kernel(), line);
+        let _made = self.machine.step(alloc, world, line.cpu)?;
+        self.telling
+            .add(alloc, self.machine.kernel(), line, before, self.count)?;
+        self.count += 1;
+        Ok(())
+    }
+
+    /// What the lines tell, where no more come. NoMemory is want of memory.
+    pub(crate) fn end(self, alloc: Global) -> Result<Telling, NoMemory>
+        requires { self.count + 1 < 2 ^ 32 }
+        ensures changes { IfOk result (λ t. t.families.changes.items ≡ self.telling.families.changes.items) }
+        ensures calls { IfOk result (λ t. t.families.calls.items ≡ self.telling.families.calls.items) }
+        ensures params { IfOk result (λ t. t.params.items ≡ self.telling.params.items) }
+        ensures histories { IfOk result (λ t. t.histories.items ≡ finished_below (self.count + 1) (length self.telling.histories.items) self.telling.histories.items) }
+    {
+        let mut telling = self.telling;
+        finish(alloc, &mut telling.histories, self.count + 1)?;
+        Ok(telling)
+    }
+}
+
+/// The lines of a history once more: what they change under confined calls, the parameters that they gave, and what
+/// has stood in lists. NoMemory is want of memory.
 pub(crate) fn told(alloc: Global, world: &World, lines: &[Line]) -> Result<Telling, NoMemory>
     requires { length lines.now + 1 < 2 ^ 32 }
-    ensures first { IfOk result (λ t. t.replay.first ≡ (opened world.now).state.next_inc) }
-    ensures doings { IfOk result (λ t. t.replay.doings.items ≡ doings world.now (opened world.now) lines.now) }
+    ensures changes { IfOk result (λ t. t.families.changes.items ≡ changes_from 0 (replicate (opened world.now).state.next_inc.0 []) (doings world.now (opened world.now) lines.now)) }
+    ensures calls { IfOk result (λ t. t.families.calls.items ≡ families_after 0 (doings world.now (opened world.now) lines.now) (replicate (opened world.now).state.next_inc.0 [])) }
     ensures params { IfOk result (λ t. t.params.items ≡ params_given world.now (opened world.now) lines.now) }
     ensures histories { IfOk result (λ t. t.histories.items ≡ told_histories world.now lines.now) }
 {
     let kernel = Plain::new(alloc, world)?;
     let mut machine = Machine::open(alloc, world, kernel)?;
-    let mut telling = Telling::begin(alloc, machine.kernel(), lines.len())?;
+    let mut telling = Telling::begin(alloc, machine.kernel())?;
     for (index, line) in lines.iter().enumerate() {
         let before = before_line(machine.kernel(), line);
         let _made = machine.step(alloc, world, line.cpu)?;
-        let moment = index as u32 + 1;
-        telling.add(alloc, machine.kernel(), line, before, moment)?;
+        telling.add(alloc, machine.kernel(), line, before, index as u32)?;
     }
     finish(alloc, &mut telling.histories, lines.len() as u32 + 1)?;
     Ok(telling)

@@ -1,15 +1,21 @@
 //! The changes of a history (`docs/RULES.md`, "Changes and their reasons").
 
-ghost use Rattle.std.specs.Prelude.{◌≡◌, ◌<◌, ◌^◌, length, map, IfOk};
+ghost use Rattle.std.specs.Prelude.{◌≡◌, ◌+◌, ◌<◌, ◌^◌, List, length, map, IfOk};
+ghost use Rattle.hk_model.specs.declared.lines.Line.{Line};
+ghost use Rattle.hk_model.specs.WorldValue.{WorldValue, IsWorld};
 ghost use Rattle.hk_model.specs.Running.{AreStepsOf};
 ghost use Rattle.hk_model.specs.Changes.{AreChanges, bare_changes};
 ghost use Rattle.hk_report.specs.Families.{told_change};
+ghost use Rattle.hk_report.specs.Reasons.{AreFew};
+ghost use Rattle.hk_report.specs.Retold.{IsRetold};
+ghost use Rattle.hk_report.specs.Written.{IsReport};
 
 use crate::families::{BareChange, changes_of};
 use crate::holders::holders;
 use crate::reasons::Grounds;
-use crate::replay::{replayed, told};
-use hk_model::{Change, Line, NoMemory, World};
+use crate::replay::{Retelling, replayed, told};
+use crate::texts::write_count;
+use hk_model::{Change, Line, NoMemory, Text, World};
 use std::alloc::Global;
 
 /// The changes under confined calls (`docs/RULES.md`, "Changes and their reasons"): one for each
@@ -38,21 +44,55 @@ pub fn changes_under(
 /// by rising number of the call.
 ///
 /// `lines` are steps of `world` from its opening on, in the order of the history. NoMemory is want of memory, and nothing else.
-#[tactic(auto, using(crate::proofs::Lengths::lines_few, crate::proofs::Listed::doings_few, crate::proofs::Explained::few_changes, crate::proofs::Explained::report_is))]
+#[tactic(auto, using(crate::proofs::Lengths::lines_few, crate::proofs::Explained::few_told, crate::proofs::Explained::report_is))]
 pub fn report(alloc: Global, world: &World, lines: &[Line]) -> Result<Vec<Change>, NoMemory>
     requires { AreStepsOf world.now lines.now }
     ensures { IfOk result (λ changes. AreChanges world.now lines.now changes.items) }
 {
     let _limit = world.limit();
     let told = told(alloc, world, lines)?;
-    let families = changes_of(alloc, told.replay.first, told.replay.doings.as_slice())?;
     let holders = holders(alloc, told.histories.as_slice())?;
-    let grounds = Grounds {
-        histories: told.histories.as_slice(),
-        families: families.calls.as_slice(),
-        params: told.params.as_slice(),
-        holders: holders.as_slice(),
-    };
-    let changes = grounds.explain_all(alloc, families.changes.as_slice())?;
+    let grounds = Grounds::of(&told, holders.as_slice());
+    let changes = grounds.explain_all(alloc, told.families.changes.as_slice())?;
     Ok(changes)
+}
+
+impl Retelling {
+    /// The changes under confined calls of the lines that have come, each with its reason, as text (`docs/FORMATS.md`,
+    /// "Statuses and outputs"): what `changes_text` makes of what `report` tells, written as each reason is found,
+    /// without a list of them. NoMemory is want of memory, and nothing else.
+    pub fn text(self, alloc: Global) -> Result<Text, NoMemory>
+        requires count { self.count + 1 < 2 ^ 32 }
+        requires few { AreFew self.telling.families.changes.items }
+        ensures { IfOk result (λ text. (w : WorldValue) → (lines : List Line) → IsWorld w → IsRetold w lines self → IsReport w lines text) }
+    {
+        let told = self.end(alloc)?;
+        let holders = holders(alloc, told.histories.as_slice())?;
+        let grounds = Grounds::of(&told, holders.as_slice());
+        let bares = told.families.changes.as_slice();
+        let mut out = String::new(alloc);
+        grounds.write_all(alloc, &mut out, bares)?;
+        write_count(&mut out, bares.len())?;
+        Ok(Text::from_string(out))
+    }
+}
+
+/// The same as text (`docs/FORMATS.md`, "Statuses and outputs"): what `changes_text` makes of what `report` tells,
+/// written as each reason is found, without a list of them.
+///
+/// `lines` are steps of `world` from its opening on, in the order of the history. NoMemory is want of memory, and nothing else.
+#[tactic(auto, using(crate::proofs::Lengths::lines_few, crate::proofs::Explained::few_told))]
+pub fn report_text(alloc: Global, world: &World, lines: &[Line]) -> Result<Text, NoMemory>
+    requires { AreStepsOf world.now lines.now }
+    ensures { IfOk result (λ text. IsReport world.now lines.now text) }
+{
+    let _limit = world.limit();
+    let told = told(alloc, world, lines)?;
+    let holders = holders(alloc, told.histories.as_slice())?;
+    let grounds = Grounds::of(&told, holders.as_slice());
+    let bares = told.families.changes.as_slice();
+    let mut out = String::new(alloc);
+    grounds.write_all(alloc, &mut out, bares)?;
+    write_count(&mut out, bares.len())?;
+    Ok(Text::from_string(out))
 }

@@ -1,10 +1,13 @@
 //! The list of changes as text (`docs/FORMATS.md`, "Statuses and outputs").
 
-ghost use Rattle.std.specs.Prelude.{◌≡◌, ◌++◌, IfOk, OnOk, string_bytes};
+ghost use Rattle.std.specs.Prelude.{◌≡◌, ◌++◌, IfOk, OnOk, codes, string_bytes};
+ghost use Rattle.std.specs.Fmt.{decimal};
 ghost use Rattle.std.specs.List.{flat_map};
+ghost use Rattle.hk_format.specs.Texts.{ended_line};
 ghost use Rattle.hk_report.specs.ChangeTexts.{hop_text, reach_text, change_text, changes_text};
 
 use hk_model::{Change, Hop, NoMemory, Reach, Text};
+use hk_print::{write_next_number, write_number};
 use std::alloc::Global;
 
 /// A line `LINE C OBJECT made` or `LINE C OBJECT param I` for each change, with ` entry INDEX MOMENT`
@@ -17,19 +20,28 @@ pub fn changes_text(alloc: Global, changes: &[Change]) -> Result<Text, NoMemory>
     for change in changes {
         write_change(&mut out, change)?;
     }
-    let count = changes.len();
-    write!(&mut out, "changes {count}\n")?;
+    write_count(&mut out, changes.len())?;
     Ok(Text::from_string(out))
 }
 
+/// Writes the line that tells how many changes there are.
+pub(crate) fn write_count(out: &mut String, count: usize) -> Result<(), NoMemory>
+    ensures { OnOk result (string_bytes out.new ≡ string_bytes out.old ++ ended_line (codes "changes " ++ decimal count)) }
+{
+    write!(out, "changes {count}\n")?;
+    Ok(())
+}
+
 /// Writes the line of a change.
-fn write_change(out: &mut String, change: &Change) -> Result<(), NoMemory>
+pub(crate) fn write_change(out: &mut String, change: &Change) -> Result<(), NoMemory>
     ensures { OnOk result (string_bytes out.new ≡ string_bytes out.old ++ change_text change.now) }
 {
-    let (line, under, object) = (change.line, change.under.0, change.object.0);
-    write!(out, "{line} {under} {object} ")?;
+    write_number(out, change.line as u64)?;
+    write_next_number(out, change.under.0)?;
+    write_next_number(out, change.object.0)?;
+    out.push(' ')?;
     write_reach(out, &change.reach)?;
-    out.push_str("\n")?;
+    out.push('\n')?;
     Ok(())
 }
 
@@ -43,7 +55,8 @@ fn write_reach(out: &mut String, reach: &Reach) -> Result<(), NoMemory>
             Ok(())
         }
         Reach::Param { arg, hops } => {
-            write!(out, "param {arg}")?;
+            out.push_str("param ")?;
+            write_number(out, *arg as u64)?;
             write_hops(out, hops.as_slice())
         }
     }
@@ -64,8 +77,15 @@ fn write_hop(out: &mut String, hop: Hop) -> Result<(), NoMemory>
     ensures { OnOk result (string_bytes out.new ≡ string_bytes out.old ++ hop_text hop) }
 {
     match hop {
-        Hop::Entry { index, moment } => write!(out, " entry {index} {moment}")?,
-        Hop::Handed { index, moment } => write!(out, " handed {index} {moment}")?,
+        Hop::Entry { index, moment } => {
+            out.push_str(" entry ")?;
+            write_number(out, index as u64)?;
+            write_next_number(out, moment as u64)
+        }
+        Hop::Handed { index, moment } => {
+            out.push_str(" handed ")?;
+            write_number(out, index as u64)?;
+            write_next_number(out, moment as u64)
+        }
     }
-    Ok(())
 }

@@ -4,6 +4,7 @@ pub mod ObjectsOpened
 pub mod Opens
 pub mod QueueMoves
 pub mod Live
+pub mod TopFrames
 pub mod EntryLists
 pub mod PartReads
 pub mod WalkSteps

@@ -12,3 +12,4 @@ pub mod Small
 pub mod Waits
 pub mod Told
 pub mod Rooms
+pub mod Confined

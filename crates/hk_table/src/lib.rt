@@ -16,6 +16,7 @@
 
 mod born;
 mod calls;
+mod confined;
 mod counted;
 mod counting;
 mod creating;

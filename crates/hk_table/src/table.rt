@@ -1,7 +1,12 @@
 //! The table kernel.
 
-ghost use Rattle.std.specs.Prelude.{◌≡◌, IfOk};
+ghost use Rattle.std.specs.Prelude.{◌≡◌, false, option_map, IfOk};
+ghost use Rattle.std.specs.Option.{unwrap_or};
+ghost use Rattle.hk_model.specs.declared.names.Inc.{Inc};
+ghost use Rattle.hk_model.specs.declared.names.Proc.{Proc};
 ghost use Rattle.hk_model.specs.Opening.{opening};
+ghost use Rattle.hk_model.specs.Processors.{running_on};
+ghost use Rattle.hk_model.specs.State.{incarnation};
 
 use crate::parts::Parts;
 use hk_model::{Acted, Call, Cpu, Inc, Kernel, NoMemory, Proc, Snapshot, World};
@@ -34,6 +39,13 @@ impl Table {
     {
         let parts = Parts::open(alloc, world)?;
         Ok(Table { parts })
+    }
+
+    /// Whether the call is confined that the processor runs. False where it runs nothing.
+    pub fn runs_confined(&self, cpu: Cpu) -> bool
+        ensures { result ≡ unwrap_or (option_map (λ (x : Proc × Inc). (incarnation self.now x.1).confined) (running_on self.now cpu)) false }
+    {
+        self.parts.runs_confined(cpu)
     }
 }
 

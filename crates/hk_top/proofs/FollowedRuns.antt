@@ -1,5 +1,5 @@
 -- A record, as its lines are found to be steps.
-use Rattle.std.proofs.Common.{◌≡◌, ℕ, ◌<◌, List, [], ◌∷◌, ◌++◌, length, Option, Some, None, Ok, Err, IfOk, Result, refl, ap, subst, arith}
+use Rattle.std.proofs.Common.{◌≡◌, ℕ, ◌+◌, ◌<◌, ◌^◌, List, [], ◌∷◌, ◌++◌, length, Option, Some, None, Ok, Err, IfOk, Result, refl, ap, subst, sym, ◌∙◌, arith}
 use Rattle.std.specs.Prelude.{IfSome}
 use Rattle.std.proofs.lemmas.List.{length-append}
 use Rattle.std.proofs.lemmas.List.Elements.{All-pop}
@@ -19,7 +19,10 @@ use Rattle.hk_audit.proofs.StepsInRange.{steps_in_range}
 use Rattle.hk_program.specs.Machines.{IsSound}
 use Rattle.hk_program.proofs.Machines.{steps_snoc}
 use Rattle.hk_top.specs.declared.served.DueText.{DueText}
-use Rattle.hk_top.specs.Follows.{IsFollowed}
+use Rattle.hk_report.specs.declared.replay.Retelling.{Retelling}
+use Rattle.hk_report.specs.Retold.{IsRetold}
+use Rattle.hk_report.proofs.Retold.{retold_count}
+use Rattle.hk_top.specs.Follows.{IsFollowed, IsFollowedTold}
 use Rattle.hk_top.specs.Outputs.{IsChecked, legal}
 use Rattle.hk_top.proofs.WrittenRuns.{lawful}
 
@@ -83,9 +86,44 @@ way_ends_by w first left m (Ok None) world h ends whole = tt
 way_ends_by w first left m (Ok (Some end)) world h ends whole = (h.0, way_ends w first left h.0 m end world h.1 ends whole)
 way_ends_by w first left m (Err error) world h ends whole = tt
 
+-- ---- lines that are told as they come
+
+-- the lines that were read lead to the machine, and were told
+pub record IsToldWay (w : WorldValue) (first left : List ℕ) (m : Machine) (r : Retelling) : Type 0 where
+  pub lines : List Line
+  pub way : IsOnWay w first left lines m
+  pub told : IsRetold w lines r
+
+pub told_way_begins : (w : WorldValue) (first : List ℕ) (m : Machine) (r : Retelling) → m ≡ opened w → IsRetold w [] r → IsToldWay w first first m r
+told_way_begins w first m r is told = record { lines = []; way = way_begins w first [] m refl is; told = told }
+
+pub told_sound : (w : WorldValue) (first left : List ℕ) (m : Machine) (r : Retelling) → IsSound w m → IsToldWay w first left m r → IsSound w r.machine
+told_sound w first left m r sound h = subst (IsSound w) (h.way.is ∙ sym h.told.machine) sound
+
+pub told_few : (w : WorldValue) (first left : List ℕ) (m : Machine) (r : Retelling) → IsSound w m → IsToldWay w first left m r → r.count + 1 < 2 ^ 32
+told_few w first left m r sound h = retold_count w h.lines r sound.world h.told
+
+pub told_way_goes_on : (w : WorldValue) (first left new : List ℕ) (m after : Machine) (cpu : Cpu) (line : Line) (old more : Retelling) → (h : IsToldWay w first left m old)
+    → step w m cpu ≡ Some (line, after) → IsLine line × (left ≡ line_text line ++ new)
+    → (AreStepsOf w (h.lines ++ line ∷ []) → IsRetold w (h.lines ++ line ∷ []) more) → IsToldWay w first new after more
+told_way_goes_on w first left new m after cpu line old more h made taken tells =
+    let way = way_goes_on w first left new h.lines m after cpu line h.way made taken in
+    record { lines = h.lines ++ line ∷ []; way = way; told = tells way.steps }
+
+pub told_way_ends : (w : WorldValue) (first left : List ℕ) (m : Machine) (r : Retelling) (end : End) → IsWorld w → IsToldWay w first left m r → end_word m.state ≡ Some end
+    → ((bytes : List ℕ) (v : WorldValue) (told : List Line) → IsReadTo bytes v told left → audit bytes ≡ Ok (audited v (events told end))) → IsFollowedTold w first r
+told_way_ends w first left m r end world h ends whole =
+    record { lines = h.lines; end = end; followed = way_ends w first left h.lines m end world h.way ends whole; told = h.told }
+
 -- what is told of a record that was followed
 pub followed_due : (w : WorldValue) (left : List ℕ) (lines : List Line) (end : End) (Told : WorldValue → List Line → List ℕ → Type 0) (r : Result DueText NoMemory)
     → IsFollowed w left lines end → IfOk r (λ due. (due.status ≡ 0) × Told w lines due.text)
     → IfOk r (λ due. IsChecked (audited w (events lines end)) Told due.status due.text)
 followed_due w left lines end Told (Ok due) f h = rw h.0 (legal due.text f.legal f.laws h.1)
 followed_due w left lines end Told (Err error) f h = tt
+
+-- the same, of lines that were told
+pub told_due : (w : WorldValue) (lines : List Line) (Told : WorldValue → List Line → List ℕ → Type 0) (r : Retelling) (due : Result DueText NoMemory) → IsRetold w lines r
+    → IfOk due (λ due. (due.status ≡ 0) × ((told : List Line) → IsRetold w told r → Told w told due.text)) → IfOk due (λ due. (due.status ≡ 0) × Told w lines due.text)
+told_due w lines Told r (Ok due) t h = (h.0, h.1 lines t)
+told_due w lines Told r (Err error) t h = tt

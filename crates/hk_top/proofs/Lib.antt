@@ -8,6 +8,7 @@ pub mod FoundLegal
 pub mod ReadWhole
 pub mod WordLemmas
 pub mod WrittenRuns
+pub mod CountedRuns
 pub mod FollowedRuns
 pub mod OneRun
 pub mod NoFaults

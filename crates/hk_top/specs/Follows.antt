@@ -6,6 +6,8 @@ use Rattle.hk_model.specs.WorldValue.{WorldValue}
 use Rattle.hk_model.specs.Legal.{IsLegal}
 use Rattle.hk_format.specs.Audits.{audit, audited, events}
 use Rattle.hk_audit.specs.Followed.{IsReadTo}
+use Rattle.hk_report.specs.declared.replay.Retelling.{Retelling}
+use Rattle.hk_report.specs.Retold.{IsRetold}
 use Rattle.hk_top.specs.Outputs.{IsLawful}
 
 -- the bytes of which these are left behind the line `record` tell these lines and this end word, which are legal, and the laws
@@ -14,3 +16,10 @@ pub record IsFollowed (w : WorldValue) (left : List ℕ) (lines : List Line) (en
   pub told : (bytes : List ℕ) → IsReadTo bytes w [] left → audit bytes ≡ Ok (audited w (events lines end))
   pub legal : IsLegal w lines end
   pub laws : IsLawful w lines
+
+-- the same of lines that were told as they came
+pub record IsFollowedTold (w : WorldValue) (left : List ℕ) (r : Retelling) : Type 0 where
+  pub lines : List Line
+  pub end : End
+  pub followed : IsFollowed w left lines end
+  pub told : IsRetold w lines r

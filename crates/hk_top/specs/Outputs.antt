@@ -14,7 +14,7 @@ use Rattle.hk_model.specs.declared.lines.End.TheVariants as end
 use Rattle.hk_format.specs.CauseTexts.{cause_name, refusal_text, too_long_text, verdict_text}
 use Rattle.serde_json.specs.Written.{compact_text}
 use Rattle.hk_model.specs.declared.reaches.Change.{Change}
-use Rattle.hk_model.specs.Changes.{AreChanges}
+use Rattle.hk_model.specs.Changes.{AreChanges, bare_changes}
 use Rattle.hk_model.specs.Snapshots.{shown}
 use Rattle.hk_model.specs.WorldValue.{IsWorld, WorldValue}
 use Rattle.hk_model.specs.State.{State}
@@ -94,6 +94,15 @@ pub record IsWrittenRun (w : WorldValue) (text : List ℕ) (end : End) (state : 
   pub run : IsWholeRun w lines end
   pub laws : IsLawful w lines
   pub text_is : text ≡ record_text w lines end
+  pub state_is : state ≡ state_after w lines
+
+-- a whole run on processor 0 that has made so many changes under confined calls, of whose lines the laws hold, and the state
+-- behind them
+pub record IsCountedRun (w : WorldValue) (changes : ℕ) (end : End) (state : State) : Type 0 where
+  pub lines : List Line
+  pub run : IsWholeRun w lines end
+  pub laws : IsLawful w lines
+  pub changes_is : changes ≡ length (bare_changes w lines)
   pub state_is : state ≡ state_after w lines
 
 -- the record of a run that these words ask for, and the state of the kernel that made it: the lines lead there

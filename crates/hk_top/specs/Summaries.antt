@@ -15,10 +15,15 @@ count_line word count = ended_line (word ++ decimal count)
 
 -- of how many processes the world is generated, how many objects stand at the end, how many lines there are, how many changes
 -- under confined calls, and the last line of the record
+abbrev pub summed_text : ℕ → ℕ → ℕ → ℕ → End → List ℕ
+summed_text count objects lines changes end =
+    count_line (codes "gen ") count
+    ++ (count_line (codes "objects ") objects
+    ++ (count_line (codes "lines ") lines
+    ++ (count_line (codes "changes ") changes
+    ++ ended_line (end_text end))))
+
+-- the same of a run with these lines
 abbrev pub summary_text : ℕ → WorldValue → List Line → End → List ℕ
 summary_text count w lines end =
-    count_line (codes "gen ") count
-    ++ (count_line (codes "objects ") (length (state_after w lines).objects)
-    ++ (count_line (codes "lines ") (length lines)
-    ++ (count_line (codes "changes ") (length (bare_changes w lines))
-    ++ ended_line (end_text end))))
+    summed_text count (length (state_after w lines).objects) (length lines) (length (bare_changes w lines)) end

@@ -12,12 +12,13 @@ ghost use Rattle.hk_format.specs.Audits.{audit, audited, events};
 ghost use Rattle.hk_format.specs.LineRanges.{IsLine};
 ghost use Rattle.hk_audit.specs.Followed.{IsReadTo};
 ghost use Rattle.hk_program.specs.Machines.{IsSound};
-ghost use Rattle.hk_top.specs.Follows.{IsFollowed};
+ghost use Rattle.hk_top.specs.Follows.{IsFollowed, IsFollowedTold};
 
 use crate::running::FIRST_PROCESSOR;
 use hk_audit::Reader;
 use hk_model::{Cpu, End, Items, Kernel, Line, NoMemory, World};
 use hk_program::{Machine, blank_line, end_word};
+use hk_report::Retelling;
 use std::alloc::Global;
 
 /// The end word of a legal record, whose world and reader these are. It makes the step of the processor of
@@ -66,6 +67,33 @@ pub(crate) fn follow_lines<K: Kernel>(
     }
     match end_reached(alloc, &machine, &reader)? {
         Some(_end) => Ok(Some(lines)),
+        None => Ok(None),
+    }
+}
+
+/// What the lines of a legal record tell, followed in the same way: each is told as it comes, and none is kept.
+/// None where it finds a difference. NoMemory is want of memory.
+pub(crate) fn follow_told<K: Kernel>(
+    alloc: Global,
+    world: &World,
+    reader: Reader<'_>,
+    kernel: K,
+) -> Result<Option<Retelling>, NoMemory>
+    requires { K.state kernel ≡ opening world.now }
+    ensures { IfOk result (λ found. IfSome found (λ told. IsFollowedTold world.now reader.entry told)) }
+{
+    let mut reader = reader;
+    let mut machine = Machine::open(alloc, world, kernel)?;
+    let mut told = Retelling::begin(alloc, world)?;
+    let mut line = blank_line(FIRST_PROCESSOR);
+    while let Some(cpu) = reader.cpu() {
+        if !takes_step(alloc, world, &mut machine, &mut reader, cpu, &mut line)? {
+            return Ok(None);
+        }
+        told.add(alloc, world, &line)?;
+    }
+    match end_reached(alloc, &machine, &reader)? {
+        Some(_end) => Ok(Some(told)),
         None => Ok(None),
     }
 }

@@ -1,7 +1,9 @@
 //! The status and the text that are due to what a command read (`docs/FORMATS.md`, "Statuses and
 //! outputs").
 
-ghost use Rattle.std.specs.Prelude.{◌≡◌, ◌≢◌, ◌≤◌, ◌-◌, IfOk, None, length};
+ghost use Rattle.std.specs.Prelude.{◌≡◌, ◌≢◌, ◌≤◌, ◌-◌, IfOk, List, None, length};
+ghost use Rattle.hk_model.specs.declared.lines.Line.{Line};
+ghost use Rattle.hk_report.specs.Retold.{IsRetold};
 ghost use Rattle.hk_format.specs.CauseTexts.{cause_name, refusal_text, too_long_text, verdict_text};
 ghost use Rattle.hk_model.specs.Limits.{script_bytes, record_bytes};
 ghost use Rattle.hk_format.specs.Canonical.{canon};
@@ -19,7 +21,7 @@ ghost use Rattle.hk_top.specs.Served.{IsDueTo, Records};
 
 use crate::bounds::bounds_text;
 use crate::causes::{refusal_text, verdict_text};
-use crate::followed::{follow, follow_lines};
+use crate::followed::{follow, follow_lines, follow_told};
 use crate::maker::Maker;
 use crate::running::laws;
 use crate::served::{DueText, Served};
@@ -34,7 +36,7 @@ use hk_json::{JsonError, json_text, read_json};
 use hk_load::{WorldError, read_world};
 use hk_model::{End, Kernel, Line, NoMemory, Snapshot, Text, Verdict, World};
 use hk_print::script_text;
-use hk_report::{changes_text, report};
+use hk_report::{Retelling, report_text};
 use hk_trace::{chains_text, trace};
 use hk_undo::state_text;
 use std::alloc::Global;
@@ -211,8 +213,8 @@ fn confine_record<M: Maker>(alloc: Global, bytes: &[u8], kernels: &M) -> Result<
     match Reader::open(alloc, bytes) {
         Ok((world, reader)) => {
             let kernel = kernels.make(alloc, &world)?;
-            match follow_lines(alloc, &world, reader, kernel)? {
-                Some(lines) => changes(alloc, &world, lines.as_slice()),
+            match follow_told(alloc, &world, reader, kernel)? {
+                Some(told) => changes_told(alloc, &world, told),
                 None => confine_read(alloc, bytes, kernels),
             }
         }
@@ -445,10 +447,21 @@ fn changes(alloc: Global, world: &World, lines: &[Line]) -> Result<DueText, NoMe
     requires { AreStepsOf world.now lines.now }
     ensures { IfOk result (λ due. (due.status ≡ 0) × TellsChanges world.now lines.now due.text) }
 {
-    let changes = report(alloc, world, lines)?;
     Ok(DueText {
         status: status::DONE,
-        text: changes_text(alloc, changes.as_slice())?,
+        text: report_text(alloc, world, lines)?,
+    })
+}
+
+/// The changes under confined calls of lines that were told as they came, as a text.
+fn changes_told(alloc: Global, world: &World, told: Retelling) -> Result<DueText, NoMemory>
+    requires { (lines : List Line) × IsRetold world.now lines told }
+    ensures { IfOk result (λ due. (due.status ≡ 0) × ((lines : List Line) → IsRetold world.now lines told → TellsChanges world.now lines due.text)) }
+{
+    let _limit = world.limit(); // so that the check knows that it is a world
+    Ok(DueText {
+        status: status::DONE,
+        text: told.text(alloc)?,
     })
 }
 

@@ -1,4 +1,4 @@
-use Rattle.std.proofs.Common.{◌≡◌, List, sym, ◌∙◌, ap}
+use Rattle.std.proofs.Common.{List, sym, ◌∙◌, ap}
 use Rattle.hk_model.specs.declared.names.Name.{Name}
 use Rattle.hk_report.specs.declared.hops.Latest.{Latest}
 use Rattle.hk_report.specs.Hops.{is_made, latest_at}

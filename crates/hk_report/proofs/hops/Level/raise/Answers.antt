@@ -1,4 +1,4 @@
-use Rattle.std.proofs.Common.{◌≡◌, ◌∙◌, ap}
+use Rattle.std.proofs.Common.{◌∙◌, ap}
 use Rattle.std.specs.BTreeMap.{get}
 use Rattle.hk_model.specs.State.{name_cmp}
 use Rattle.hk_report.specs.declared.hops.Latest.{Latest}

@@ -1,0 +1,149 @@
+-- What is told of lines as they come, one by one.
+use Rattle.std.proofs.Common.{◌≡◌, ℕ, suc, ◌+◌, ◌<◌, ◌^◌, List, [], ◌∷◌, ◌++◌, length, replicate, refl, sym, ap, ◌∙◌, arith, append_assoc}
+use Rattle.std.specs.Prelude.{codes, slice_index_or}
+use Rattle.std.specs.Fmt.{decimal}
+use Rattle.std.proofs.lemmas.List.{append-nil, length-append}
+use Rattle.hk_format.specs.Texts.{ended_line}
+use Rattle.hk_model.specs.declared.entries.Entry.{Entry}
+use Rattle.hk_model.specs.declared.lines.Line.{Line}
+use Rattle.hk_model.specs.WorldValue.{WorldValue, IsWorld}
+use Rattle.hk_model.specs.Running.{Machine, opened, moved, after_lines, AreStepsOf}
+use Rattle.hk_report.specs.declared.doings.Doing.{Doing}
+use Rattle.hk_report.specs.declared.families.Begun.{Begun}
+use Rattle.hk_report.specs.declared.families.BareChange.{BareChange}
+use Rattle.hk_report.specs.declared.histories.History.{History}
+use Rattle.hk_report.specs.declared.replay.Retelling.{Retelling}
+use Rattle.hk_report.specs.Doings.{before_line, doing, doings, given_params, params_given}
+use Rattle.hk_report.specs.Families.{changes_by, changes_from, families_after, families_by}
+use Rattle.hk_report.specs.Histories.{finished_below, histories_after, noted, opened_below}
+use Rattle.hk_report.specs.Reasons.{AreFew}
+use Rattle.hk_report.specs.Retold.{IsRetold}
+use Rattle.hk_report.specs.Written.{AreWritten, IsReport}
+use Rattle.hk_report.proofs.Lengths.{lines_few}
+use Rattle.hk_report.proofs.Explained.{few_told}
+use Rattle.hk_report.proofs.WrittenLemmas.{reported}
+
+-- ---- one more at the end
+
+after_one : (w : WorldValue) (m : Machine) (lines : List Line) (line : Line) → after_lines w m (lines ++ line ∷ []) ≡ moved w (after_lines w m lines) line.cpu
+after_one w m [] line = refl
+after_one w m (x ∷ lines) line = after_one w (moved w m x.cpu) lines line
+
+doings_one : (w : WorldValue) (m : Machine) (lines : List Line) (line : Line)
+    → doings w m (lines ++ line ∷ []) ≡ doings w m lines ++ doing (after_lines w m lines).state line (moved w (after_lines w m lines) line.cpu).state ∷ []
+doings_one w m [] line = refl
+doings_one w m (x ∷ lines) line = ap (λ (ds : List Doing). doing m.state x (moved w m x.cpu).state ∷ ds) (doings_one w (moved w m x.cpu) lines line)
+
+params_one : (w : WorldValue) (m : Machine) (lines : List Line) (line : Line)
+    → params_given w m (lines ++ line ∷ [])
+    ≡ params_given w m lines ++ given_params line (before_line (after_lines w m lines).state line) (moved w (after_lines w m lines) line.cpu).state ∷ []
+params_one w m [] line = refl
+params_one w m (x ∷ lines) line =
+    ap (λ (ps : List (List Entry)). given_params x (before_line m.state x) (moved w m x.cpu).state ∷ ps) (params_one w (moved w m x.cpu) lines line)
+
+doings_as_many : (w : WorldValue) (m : Machine) (lines : List Line) → length (doings w m lines) ≡ length lines
+doings_as_many w m [] = refl
+doings_as_many w m (x ∷ lines) = ap suc (doings_as_many w (moved w m x.cpu) lines)
+
+-- behind so many of them
+changes_one : (n k : ℕ) (families : List (List Begun)) (ds : List Doing) (d : Doing) → k ≡ n + length ds
+    → changes_from n families (ds ++ d ∷ [])
+    ≡ changes_from n families ds ++ changes_by k d.changed (slice_index_or (families_after n ds families) d.inc.0 [])
+changes_one n k families [] d e =
+    let same : n ≡ k = omega (arith, e) in
+    append-nil (changes_by n d.changed (slice_index_or families d.inc.0 []))
+    ∙ ap (λ (j : ℕ). changes_by j d.changed (slice_index_or families d.inc.0 [])) same
+changes_one n k families (x ∷ ds) d e =
+    ap (λ (cs : List BareChange). changes_by n x.changed (slice_index_or families x.inc.0 []) ++ cs)
+    (changes_one (n + 1) k (families_by n x families) ds d (omega (arith, e)))
+    ∙ sym (append_assoc (changes_by n x.changed (slice_index_or families x.inc.0 [])) (changes_from (n + 1) (families_by n x families) ds)
+    (changes_by k d.changed (slice_index_or (families_after (n + 1) ds (families_by n x families)) d.inc.0 [])))
+
+families_one : (n k : ℕ) (families : List (List Begun)) (ds : List Doing) (d : Doing) → k ≡ n + length ds
+    → families_after n (ds ++ d ∷ []) families ≡ families_by k d (families_after n ds families)
+families_one n k families [] d e = let same : n ≡ k = omega (arith, e) in ap (λ (j : ℕ). families_by j d families) same
+families_one n k families (x ∷ ds) d e = families_one (n + 1) k (families_by n x families) ds d (omega (arith, e))
+
+histories_one : (w : WorldValue) (n k : ℕ) (m : Machine) (lines : List Line) (line : Line) (histories : List History) → k ≡ n + length lines
+    → histories_after w n m (lines ++ line ∷ []) histories
+    ≡ noted (k + 1) (doing (after_lines w m lines).state line (moved w (after_lines w m lines) line.cpu).state) (moved w (after_lines w m lines) line.cpu).state
+    (histories_after w n m lines histories)
+histories_one w n k m [] line histories e =
+    let same : n ≡ k = omega (arith, e) in
+    ap (λ (j : ℕ). noted (j + 1) (doing m.state line (moved w m line.cpu).state) (moved w m line.cpu).state histories) same
+histories_one w n k m (x ∷ lines) line histories e =
+    histories_one w (n + 1) k (moved w m x.cpu) lines line (noted (n + 1) (doing m.state x (moved w m x.cpu).state) (moved w m x.cpu).state histories) (omega (arith, e))
+
+-- ---- what was told
+
+-- of no line
+pub retold_none : (w : WorldValue) (r : Retelling) → r.machine ≡ opened w → r.count ≡ 0 → r.telling.families.changes.items ≡ []
+    → r.telling.families.calls.items ≡ replicate (opened w).state.next_inc.0 [] → r.telling.params.items ≡ []
+    → r.telling.histories.items ≡ opened_below (opened w).state (opened w).state.next_name.0 → IsRetold w [] r
+retold_none w r m n c f p h = record { steps = tt; machine = m; count = n; changes = c; calls = f; params = p; histories = h }
+
+-- of one line more
+pub retold_more : (w : WorldValue) (lines : List Line) (line : Line) (old new : Retelling) → IsRetold w lines old → AreStepsOf w (lines ++ line ∷ [])
+    → new.machine ≡ moved w old.machine line.cpu → new.count ≡ old.count + 1
+    → new.telling.families.changes.items ≡ old.telling.families.changes.items
+    ++ changes_by old.count (before_line old.machine.state line).changed (slice_index_or old.telling.families.calls.items line.inc.0 [])
+    → new.telling.families.calls.items ≡ families_by old.count (doing old.machine.state line (moved w old.machine line.cpu).state) old.telling.families.calls.items
+    → new.telling.params.items ≡ old.telling.params.items ++ given_params line (before_line old.machine.state line) (moved w old.machine line.cpu).state ∷ []
+    → new.telling.histories.items
+    ≡ noted (old.count + 1) (doing old.machine.state line (moved w old.machine line.cpu).state) (moved w old.machine line.cpu).state old.telling.histories.items
+    → IsRetold w (lines ++ line ∷ []) new
+retold_more w lines line old new r steps m n c f p h =
+    let many : old.count ≡ 0 + length (doings w (opened w) lines) = let a = r.count in let b = doings_as_many w (opened w) lines in omega (arith, a, b) in
+    let few : old.count ≡ 0 + length lines = let a = r.count in omega (arith, a) in
+    let d : Machine → Doing = λ (k : Machine). doing k.state line (moved w k line.cpu).state in
+    record {
+      steps = steps;
+      machine = m ∙ ap (λ (k : Machine). moved w k line.cpu) r.machine ∙ sym (after_one w (opened w) lines line);
+      count = let a = r.count in let b = length-append lines (line ∷ []) in omega (arith, n, a, b);
+      changes =
+          c
+          ∙ ap (λ (cs : List BareChange). cs ++ changes_by old.count (before_line old.machine.state line).changed (slice_index_or old.telling.families.calls.items line.inc.0 [])) r.changes
+          ∙ ap (λ (fs : List (List Begun)). changes_from 0 (replicate (opened w).state.next_inc.0 []) (doings w (opened w) lines)
+          ++ changes_by old.count (before_line old.machine.state line).changed (slice_index_or fs line.inc.0 [])) r.calls
+          ∙ ap (λ (k : Machine). changes_from 0 (replicate (opened w).state.next_inc.0 []) (doings w (opened w) lines)
+          ++ changes_by old.count (before_line k.state line).changed
+          (slice_index_or (families_after 0 (doings w (opened w) lines) (replicate (opened w).state.next_inc.0 [])) line.inc.0 [])) r.machine
+          ∙ sym (ap (changes_from 0 (replicate (opened w).state.next_inc.0 [])) (doings_one w (opened w) lines line)
+          ∙ changes_one 0 old.count (replicate (opened w).state.next_inc.0 []) (doings w (opened w) lines) (d (after_lines w (opened w) lines)) many);
+      calls =
+          f
+          ∙ ap (λ (k : Machine). families_by old.count (d k) old.telling.families.calls.items) r.machine
+          ∙ ap (families_by old.count (d (after_lines w (opened w) lines))) r.calls
+          ∙ sym (ap (λ (ds : List Doing). families_after 0 ds (replicate (opened w).state.next_inc.0 [])) (doings_one w (opened w) lines line)
+          ∙ families_one 0 old.count (replicate (opened w).state.next_inc.0 []) (doings w (opened w) lines) (d (after_lines w (opened w) lines)) many);
+      params =
+          p
+          ∙ ap (λ (ps : List (List Entry)). ps ++ given_params line (before_line old.machine.state line) (moved w old.machine line.cpu).state ∷ []) r.params
+          ∙ ap (λ (k : Machine). params_given w (opened w) lines ++ given_params line (before_line k.state line) (moved w k line.cpu).state ∷ []) r.machine
+          ∙ sym (params_one w (opened w) lines line);
+      histories =
+          h
+          ∙ ap (λ (k : Machine). noted (old.count + 1) (d k) (moved w k line.cpu).state old.telling.histories.items) r.machine
+          ∙ ap (noted (old.count + 1) (d (after_lines w (opened w) lines)) (moved w (after_lines w (opened w) lines) line.cpu).state) r.histories
+          ∙ sym (histories_one w 0 old.count (opened w) lines line (opened_below (opened w).state (opened w).state.next_name.0) few);
+    }
+
+-- they can be numbered
+pub retold_count : (w : WorldValue) (lines : List Line) (r : Retelling) → IsWorld w → IsRetold w lines r → r.count + 1 < 2 ^ 32
+retold_count w lines r world h = let a = h.count in let b = lines_few w lines world h.steps in omega (arith, a, b)
+
+pub retold_few : (w : WorldValue) (lines : List Line) (r : Retelling) → IsWorld w → IsRetold w lines r → AreFew r.telling.families.changes.items
+retold_few w lines r world h = few_told w lines r.telling.families.changes.items world h.steps h.changes
+
+-- the text of what was told
+pub retold : (r : Retelling) (histories : List History) (params : List (List Entry)) (families : List (List Begun)) (found : List BareChange)
+    (none mid text : List ℕ)
+    → histories ≡ finished_below (r.count + 1) (length r.telling.histories.items) r.telling.histories.items → params ≡ r.telling.params.items
+    → families ≡ r.telling.families.calls.items → found ≡ r.telling.families.changes.items
+    → none ≡ [] → AreWritten families histories params found none mid → text ≡ mid ++ ended_line (codes "changes " ++ decimal (length found))
+    → (w : WorldValue) → (lines : List Line) → IsWorld w → IsRetold w lines r → IsReport w lines text
+retold r histories params families found none mid text h p f c n told e w lines world t =
+    reported w lines histories params families found none mid text world t.steps
+    (h ∙ ap (λ (k : ℕ). finished_below (k + 1) (length r.telling.histories.items) r.telling.histories.items) t.count
+    ∙ ap (λ (hs : List History). finished_below (length lines + 1) (length hs) hs) t.histories)
+    (p ∙ t.params) (f ∙ t.calls) (c ∙ t.changes) n told e

@@ -1,0 +1,72 @@
+-- Changes that are written one after another.
+use Rattle.std.proofs.Common.{◌≡◌, ℕ, suc, ◌+◌, ◌<◌, List, [], ◌∷◌, ◌++◌, length, replicate, take, refl, sym, ap, ◌∙◌, subst, append_assoc}
+use Rattle.std.specs.Prelude.{codes, slice_index_or}
+use Rattle.std.specs.Fmt.{decimal}
+use Rattle.std.specs.List.{flat_map}
+use Rattle.std.proofs.lemmas.List.{append-nil}
+use Rattle.hk_format.specs.Texts.{ended_line}
+use Rattle.hk_model.specs.declared.entries.Entry.{Entry}
+use Rattle.hk_model.specs.declared.lines.Line.{Line}
+use Rattle.hk_model.specs.declared.reaches.Change.{Change}
+use Rattle.hk_model.specs.WorldValue.{WorldValue, IsWorld}
+use Rattle.hk_model.specs.Running.{opened, AreStepsOf}
+use Rattle.hk_report.specs.declared.families.Begun.{Begun}
+use Rattle.hk_report.specs.declared.families.BareChange.{BareChange}
+use Rattle.hk_report.specs.declared.histories.History.{History}
+use Rattle.hk_report.specs.ChangeTexts.{change_text}
+use Rattle.hk_report.specs.Doings.{doings, params_given}
+use Rattle.hk_report.specs.Families.{changes_from, families_after}
+use Rattle.hk_report.specs.Histories.{told_histories}
+use Rattle.hk_report.specs.Reasons.{IsTold, AreTold}
+use Rattle.hk_report.specs.Written.{AreWritten, IsReport}
+use Rattle.hk_report.proofs.ReasonLemmas.{told_none, told_more}
+use Rattle.hk_report.proofs.Explained.{report_is}
+
+written_one : (changes : List Change) (change : Change) → flat_map change_text (changes ++ change ∷ []) ≡ flat_map change_text changes ++ change_text change
+written_one [] change = append-nil (change_text change)
+written_one (c ∷ changes) change =
+    ap (λ (xs : List ℕ). change_text c ++ xs) (written_one changes change) ∙ sym (append_assoc (change_text c) (flat_map change_text changes) (change_text change))
+
+module _ (families : List (List Begun)) (histories : List History) (params : List (List Entry)) where
+  pub written_none : (bares : List BareChange) (before : List ℕ) → AreWritten families histories params (take 0 bares) before before
+  written_none bares before = record {
+    changes = [];
+    told = told_none families histories params bares [] refl;
+    text_is = sym (append-nil before);
+  }
+
+  pub written_more : (bares : List BareChange) (n : ℕ) (d : BareChange) (before mid after : List ℕ) (change : Change) → n < length bares
+      → AreWritten families histories params (take n bares) before mid → IsTold families histories params (slice_index_or bares n d) change
+      → after ≡ mid ++ change_text change → AreWritten families histories params (take (n + 1) bares) before after
+  written_more bares n d before mid after change l h g e = record {
+    changes = h.changes ++ change ∷ [];
+    told = told_more families histories params bares n d h.changes (h.changes ++ change ∷ []) change l h.told g refl;
+    text_is = e ∙ ap (λ (xs : List ℕ). xs ++ change_text change) h.text_is
+        ∙ append_assoc before (flat_map change_text h.changes) (change_text change)
+        ∙ ap (λ (xs : List ℕ). before ++ xs) (sym (written_one h.changes change));
+  }
+
+  pub written_all : (bares : List BareChange) (n : ℕ) (before after : List ℕ) → take n bares ≡ bares → AreWritten families histories params (take n bares) before after
+      → AreWritten families histories params bares before after
+  written_all bares n before after e h = subst (λ (ys : List BareChange). AreWritten families histories params ys before after) e h
+
+  told_many : (bares : List BareChange) (changes : List Change) → AreTold families histories params bares changes → length changes ≡ length bares
+  told_many [] [] h = refl
+  told_many [] (c ∷ changes) h = absurd h
+  told_many (b ∷ bares) [] h = absurd h
+  told_many (b ∷ bares) (c ∷ changes) h = ap suc (told_many bares changes h.1)
+
+-- the whole text
+pub reported : (w : WorldValue) (lines : List Line) (histories : List History) (params : List (List Entry)) (families : List (List Begun)) (found : List BareChange)
+    (none mid text : List ℕ) → IsWorld w → AreStepsOf w lines
+    → histories ≡ told_histories w lines → params ≡ params_given w (opened w) lines
+    → families ≡ families_after 0 (doings w (opened w) lines) (replicate (opened w).state.next_inc.0 [])
+    → found ≡ changes_from 0 (replicate (opened w).state.next_inc.0 []) (doings w (opened w) lines)
+    → none ≡ [] → AreWritten families histories params found none mid → text ≡ mid ++ ended_line (codes "changes " ++ decimal (length found)) → IsReport w lines text
+reported w lines histories params families found none mid text world steps h p g c n told e = (
+  told.changes,
+  report_is w lines histories params families found told.changes world steps h p g c told.told,
+  e
+      ∙ ap (λ (xs : List ℕ). xs ++ ended_line (codes "changes " ++ decimal (length found))) (told.text_is ∙ ap (λ (xs : List ℕ). xs ++ flat_map change_text told.changes) n)
+      ∙ ap (λ (k : ℕ). flat_map change_text told.changes ++ ended_line (codes "changes " ++ decimal k)) (sym (told_many families histories params found told.changes told.told)),
+)
