@@ -27,7 +27,7 @@ pub(crate) fn run_generated<M: Maker>(
 {
     let world = generate(alloc, count)?;
     let kernel = kernels.make(alloc, &world)?;
-    let run = count_run(alloc, &world, kernels, kernel)?;
+    let run = count_run(alloc, &world, kernel)?;
     Ok(Served {
         due: DueText {
             status: status::of_run(run.end),

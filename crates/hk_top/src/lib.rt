@@ -19,7 +19,7 @@ mod words;
 mod written;
 
 pub use commands::{answer, hydra};
-pub use maker::{Maker, Maps, Slots, runs_confined};
+pub use maker::{Maker, Maps, Slots};
 pub use printed::{
     one_processor_runs_alone, printed_record_is_legal, printed_record_is_read_whole,
     whole_run_is_one,

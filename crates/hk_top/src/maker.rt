@@ -1,9 +1,8 @@
-//! Who makes the kernels that scripts are run on (`docs/FORMATS.md`, "Statuses and outputs"), and tells of them.
+//! Who makes the kernels that scripts are run on (`docs/FORMATS.md`, "Statuses and outputs").
 
 ghost use Rattle.std.specs.Prelude.{◌≡◌};
-ghost use Rattle.hk_report.specs.Counts.{confined_on};
 
-use hk_model::{Cpu, Kernel, NoMemory, World};
+use hk_model::{Kernel, NoMemory, World};
 use hk_plain::Plain;
 use hk_table::Table;
 use std::alloc::Global;
@@ -12,7 +11,6 @@ use std::alloc::Global;
 pub trait Maker {
     ghost use Rattle.std.specs.Prelude.{◌≡◌, IfOk};
     ghost use Rattle.hk_model.specs.Opening.{opening};
-    ghost use Rattle.hk_report.specs.Counts.{confined_on};
 
     /// The kernels that it makes. A thread may have one.
     type Made: Kernel + Send;
@@ -20,23 +18,6 @@ pub trait Maker {
     /// A kernel that has opened the world. NoMemory is want of memory.
     fn make(&self, alloc: Global, world: &World) -> Result<Self::Made, NoMemory>
         ensures { IfOk result (λ kernel. Self.Made.state kernel ≡ opening world.now) };
-
-    /// Whether the call is confined that the processor of such a kernel runs. False where it runs nothing.
-    fn runs_confined(&self, kernel: &Self::Made, cpu: Cpu) -> bool
-        ensures { result ≡ confined_on (Self.Made.state kernel.now) cpu };
-}
-
-/// Whether the call is confined that the processor of a plain kernel runs. False where it runs nothing.
-pub fn runs_confined(kernel: &Plain, cpu: Cpu) -> bool
-    ensures { result ≡ confined_on kernel.now cpu }
-{
-    let Some((_, inc)) = kernel.current(cpu) else {
-        return false;
-    };
-    match kernel.incarnation(inc) {
-        Some(incarnation) => incarnation.confined,
-        None => false,
-    }
 }
 
 /// It makes plain kernels, which keep their objects in a map.
@@ -49,10 +30,6 @@ impl Maker for Maps {
     fn make(&self, alloc: Global, world: &World) -> Result<Plain, NoMemory> {
         Plain::new(alloc, world)
     }
-
-    fn runs_confined(&self, kernel: &Plain, cpu: Cpu) -> bool {
-        runs_confined(kernel, cpu)
-    }
 }
 
 /// It makes table kernels, which keep their objects in slots (`docs/PROMISES.md`, "The table kernel").
@@ -64,9 +41,5 @@ impl Maker for Slots {
 
     fn make(&self, alloc: Global, world: &World) -> Result<Table, NoMemory> {
         Table::new(alloc, world)
-    }
-
-    fn runs_confined(&self, kernel: &Table, cpu: Cpu) -> bool {
-        kernel.runs_confined(cpu)
     }
 }

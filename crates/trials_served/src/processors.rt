@@ -5,7 +5,7 @@ use hk_io::SureBytes;
 use hk_model::{Acted, Call, Cpu, Inc, Kernel, NoMemory, Proc, Snapshot, World};
 use hk_plain::Plain;
 use hk_procs::Gate;
-use hk_top::{Maker, Maps, hydra, runs_confined, status};
+use hk_top::{Maker, Maps, hydra, status};
 use std::alloc::Global;
 use std::sync::Wait;
 use std::sync::atomic::{AtomicU64, Ordering};
@@ -212,10 +212,6 @@ impl Maker for Wants {
             plain: Plain::new(alloc, world)?,
             wanted: false,
         })
-    }
-
-    fn runs_confined(&self, kernel: &Wanting, cpu: Cpu) -> bool {
-        runs_confined(&kernel.plain, cpu)
     }
 }
 
