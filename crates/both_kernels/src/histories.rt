@@ -1,5 +1,7 @@
 //! A history by two machines, each over a kernel of its own.
 
+ghost use Rattle.std.specs.Prelude.{◌≡◌};
+ghost use Rattle.hk_model.specs.Opening.{opening};
 ghost use Rattle.hk_program.specs.Machines.{IsSound};
 
 use hk_model::{Call, Cpu, Kernel, Line, Making, NoMemory, Refusal, Reply, What, What8, World};
@@ -47,11 +49,11 @@ fn compared(one: Option<Line>, other: Option<Line>) -> Step {
 }
 
 /// The step of a processor by both machines.
-fn step_of(
+fn step_of<P: Kernel, T: Kernel>(
     alloc: Global,
     world: &World,
-    plain: &mut Machine<Plain>,
-    table: &mut Machine<Table>,
+    plain: &mut Machine<P>,
+    table: &mut Machine<T>,
     cpu: Cpu,
 ) -> Result<Step, NoMemory>
     requires plain { IsSound world.now plain.old }
@@ -65,11 +67,11 @@ fn step_of(
 }
 
 /// The step of the first processor that has one, from some processor on.
-fn some_step(
+fn some_step<P: Kernel, T: Kernel>(
     alloc: Global,
     world: &World,
-    plain: &mut Machine<Plain>,
-    table: &mut Machine<Table>,
+    plain: &mut Machine<P>,
+    table: &mut Machine<T>,
     first: u8,
 ) -> Result<Step, NoMemory>
     requires plain { IsSound world.now plain.old }
@@ -98,11 +100,11 @@ fn first_of(seed: u32) -> u8 {
 }
 
 /// Makes lines while some processor has a step and both machines have the same: how many, and whether one differed.
-fn make_lines(
+fn make_lines<P: Kernel, T: Kernel>(
     alloc: Global,
     world: &World,
-    plain: &mut Machine<Plain>,
-    table: &mut Machine<Table>,
+    plain: &mut Machine<P>,
+    table: &mut Machine<T>,
 ) -> Result<Told, NoMemory>
     requires plain { IsSound world.now plain.old }
     requires table { IsSound world.now table.old }
@@ -120,16 +122,24 @@ fn make_lines(
 }
 
 /// Whether the states of two kernels have the same text.
-fn same_state(alloc: Global, plain: &Plain, table: &Table) -> Result<bool, NoMemory> {
+fn same_state<P: Kernel, T: Kernel>(alloc: Global, plain: &P, table: &T) -> Result<bool, NoMemory> {
     let one = state_text(alloc, &plain.snapshot(alloc)?, 0)?;
     let other = state_text(alloc, &table.snapshot(alloc)?, 0)?;
     Ok(one.as_bytes() == other.as_bytes())
 }
 
-/// Makes lines of a world by both kernels, and compares.
-pub(crate) fn compare(alloc: Global, world: &World) -> Result<Told, NoMemory> {
-    let mut plain = Machine::open(alloc, world, Plain::new(alloc, world)?)?;
-    let mut table = Machine::open(alloc, world, Table::new(alloc, world)?)?;
+/// Makes lines of a world by two kernels that have opened it, and compares.
+fn compare_on<P: Kernel, T: Kernel>(
+    alloc: Global,
+    world: &World,
+    plain: P,
+    table: T,
+) -> Result<Told, NoMemory>
+    requires plain { P.state plain ≡ opening world.now }
+    requires table { T.state table ≡ opening world.now }
+{
+    let mut plain = Machine::open(alloc, world, plain)?;
+    let mut table = Machine::open(alloc, world, table)?;
     let told = make_lines(alloc, world, &mut plain, &mut table)?;
     match told {
         Told::Same(count) if !same_state(alloc, plain.kernel(), table.kernel())? => {
@@ -137,4 +147,17 @@ pub(crate) fn compare(alloc: Global, world: &World) -> Result<Told, NoMemory> {
         }
         _ => Ok(told),
     }
+}
+
+/// Makes lines of a world by both kernels, and compares.
+pub(crate) fn compare(alloc: Global, world: &World) -> Result<Told, NoMemory> {
+    let plain = Plain::new(alloc, world)?;
+    compare_table(alloc, world, plain)
+}
+
+/// The same, where the plain kernel has opened the world.
+fn compare_table<P: Kernel>(alloc: Global, world: &World, plain: P) -> Result<Told, NoMemory>
+    requires { P.state plain ≡ opening world.now }
+{
+    compare_on(alloc, world, plain, Table::new(alloc, world)?)
 }

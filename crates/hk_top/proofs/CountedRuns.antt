@@ -7,7 +7,7 @@ use Rattle.hk_model.specs.State.{State}
 use Rattle.hk_model.specs.Legal.{end_word}
 use Rattle.hk_model.specs.Changes.{bare_changes}
 use Rattle.hk_model.specs.Generated.{generate}
-use Rattle.hk_model.specs.Running.{Machine, AreStepsOf, opened, step}
+use Rattle.hk_model.specs.Running.{Machine, AreStepsOf, opened, state_after, step}
 use Rattle.hk_model.proofs.EventCounts.{events_are}
 use Rattle.hk_report.specs.Counts.{Counted, confined_on, counted, counted_by}
 use Rattle.hk_report.proofs.Counts.{counted_more}
@@ -39,6 +39,22 @@ counting_more w c new m line after s confined t made at b h =
       history = g;
       counted_is = counted_more w t.lines line s confined c new (ap (λ (x : Machine). x.state) g.machine ∙ sym at) t.counted_is b h;
     }
+
+-- one line more by two machines that stand alike: the one tells of the other
+pub counting_beside : (w : WorldValue) (c new : Counted) (m other : Machine) (line also : Line) (after beside : Machine) (s : State) (confined : Bool)
+    → IsCounting w c m → other ≡ m → step w m first_processor ≡ Some (line, after) → step w other first_processor ≡ Some (also, beside)
+    → s ≡ beside.state → confined ≡ confined_on s also.cpu → new ≡ counted_by also confined c → IsCounting w new after × (beside ≡ after)
+counting_beside w c new m other line also after beside s confined t same made told at b h =
+    let both : (also, beside) ≡ (line, after) = cc in
+    let e : also ≡ line = ap (λ (p : Line × Machine). p.0) both in
+    let f : beside ≡ after = ap (λ (p : Line × Machine). p.1) both in
+    (counting_more w c new m line after s confined t made (at ∙ ap (λ (x : Machine). x.state) f) (b ∙ ap (λ (x : Line). confined_on s x.cpu) e)
+      (h ∙ ap (λ (x : Line). counted_by x confined c) e), f)
+
+-- machines that stand alike have a step together
+pub steps_beside : (w : WorldValue) (m other : Machine) (line : Line) (after : Machine) → other ≡ m → step w m first_processor ≡ Some (line, after)
+    → step w other first_processor ≡ None → ⊥
+steps_beside w m other line after same made none = cc
 
 -- where the run stops
 pub record IsCounted (w : WorldValue) (c : Counted) (s : State) (word : Option End) : Type 0 where

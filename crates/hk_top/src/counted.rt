@@ -1,13 +1,12 @@
 //! A run on processor 0 of which the changes are counted as its lines come (`docs/FORMATS.md`, "Summaries").
 
-ghost use Rattle.std.specs.Prelude.{◌≡◌, ◌∷◌, [], IfOk, IsTrue, Some};
+ghost use Rattle.std.specs.Prelude.{◌≡◌, IfOk};
 ghost use Rattle.hk_model.specs.Opening.{opening};
-ghost use Rattle.hk_model.specs.Running.{step};
-ghost use Rattle.hk_program.specs.Machines.{IsSound};
-ghost use Rattle.hk_top.specs.Outputs.{first_processor, IsCountedRun};
+ghost use Rattle.hk_report.specs.Counts.{confined_on};
+ghost use Rattle.hk_top.specs.Outputs.{IsCountedRun};
 
 use crate::running::FIRST_PROCESSOR;
-use hk_model::{End, Kernel, NoMemory, World};
+use hk_model::{Cpu, End, Kernel, NoMemory, World};
 use hk_program::{Machine, blank_line, end_word};
 use hk_report::Counting;
 use hk_table::Table;
@@ -21,26 +20,44 @@ pub struct CountedRun<K: Kernel> {
     pub kernel: K,
 }
 
+/// A kernel that tells whether the call is confined that a processor runs.
+pub(crate) trait TellsConfined: Kernel {
+    ghost use Rattle.std.specs.Prelude.{◌≡◌};
+    ghost use Rattle.hk_report.specs.Counts.{confined_on};
+
+    /// Whether the call is confined that the processor runs. False where it runs nothing.
+    fn runs_confined(&self, cpu: Cpu) -> bool
+        ensures { result ≡ confined_on (Self.state self.now) cpu };
+}
+
+impl TellsConfined for Table {
+    fn runs_confined(&self, cpu: Cpu) -> bool {
+        Table::runs_confined(self, cpu)
+    }
+}
+
 /// Runs a world on processor 0 and a kernel that has opened it, until the processor has no step, and counts the
-/// changes of each line as it comes. Which calls are confined is told by a table that makes the same steps beside
-/// the kernel. NoMemory is want of memory.
-pub(crate) fn count_run<K: Kernel>(
+/// changes of each line as it comes. Which calls are confined is told by another kernel that has opened the world
+/// and makes the same steps. NoMemory is want of memory.
+pub(crate) fn count_run<K: Kernel, T: TellsConfined>(
     alloc: Global,
     world: &World,
     kernel: K,
+    beside: T,
 ) -> Result<CountedRun<K>, NoMemory>
-    requires { K.state kernel ≡ opening world.now }
+    requires kernel { K.state kernel ≡ opening world.now }
+    requires beside { T.state beside ≡ opening world.now }
     ensures { IfOk result (λ run. IsCountedRun world.now run.changes run.end (K.state run.kernel)) }
 {
     let mut machine = Machine::open(alloc, world, kernel)?;
-    let mut beside = Machine::open(alloc, world, Table::new(alloc, world)?)?;
+    let mut teller = Machine::open(alloc, world, beside)?;
     let mut counting = Counting::new(alloc, world)?;
     let mut line = blank_line(FIRST_PROCESSOR);
     while machine.step_into(alloc, world, FIRST_PROCESSOR, &mut line)? {
-        if !beside.step_into(alloc, world, FIRST_PROCESSOR, &mut line)? {
+        if !teller.step_into(alloc, world, FIRST_PROCESSOR, &mut line)? {
             unreachable!()
         }
-        let confined = beside.kernel().runs_confined(line.cpu);
+        let confined = teller.kernel().runs_confined(line.cpu);
         counting.add(&line, confined)?;
     }
     let Some(end) = end_word(alloc, machine.kernel())? else {

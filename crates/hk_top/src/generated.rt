@@ -12,6 +12,7 @@ use crate::served::{DueText, Served};
 use crate::status;
 use hk_gen::generate;
 use hk_model::{End, Kernel, NoMemory, Text};
+use hk_table::Table;
 use std::alloc::Global;
 
 /// What is due to `gen` and a number of processes, 1 to 256: the generated world is run on processor 0,
@@ -27,7 +28,8 @@ pub(crate) fn run_generated<M: Maker>(
 {
     let world = generate(alloc, count)?;
     let kernel = kernels.make(alloc, &world)?;
-    let run = count_run(alloc, &world, kernel)?;
+    let beside = Table::new(alloc, &world)?;
+    let run = count_run(alloc, &world, kernel, beside)?;
     Ok(Served {
         due: DueText {
             status: status::of_run(run.end),

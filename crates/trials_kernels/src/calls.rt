@@ -1,4 +1,5 @@
-// Runs call by call, each by both kernels.
+// Runs call by call, each by both kernels. A kernel is handed to functions over any kernel as it is made, which let it go: who lets go
+// of one by its type has to prove anew how each of its parts is let go, which takes long.
 
 use crate::worlds::world;
 use hk_model::{Call, Cpu, Inc, Kernel, Name, Path, Proc, Refusal, Reply, Slot, Snapshot, World};
@@ -121,7 +122,7 @@ fn told(shown: &Snapshot) -> Shown {
 }
 
 /// What the state in which a kernel opened shows, where there is memory to show it.
-fn opening<K: Kernel>(alloc: Global, kernel: &K) -> Option<Shown> {
+fn opening<K: Kernel>(alloc: Global, kernel: K) -> Option<Shown> {
     match kernel.snapshot(alloc) {
         Ok(shown) => Some(told(&shown)),
         Err(_) => None,
@@ -131,8 +132,8 @@ fn opening<K: Kernel>(alloc: Global, kernel: &K) -> Option<Shown> {
 /// What the opening shows, by each kernel.
 fn openings(alloc: Global) -> Result<[Option<Shown>; 2], Fail> {
     let world = world(alloc, SCRIPT)?;
-    let by_plain = opening(alloc, &plain(alloc, &world)?);
-    let by_table = opening(alloc, &table(alloc, &world)?);
+    let by_plain = opening(alloc, plain(alloc, &world)?);
+    let by_table = opening(alloc, table(alloc, &world)?);
     Ok([by_plain, by_table])
 }
 
@@ -193,20 +194,21 @@ struct Run {
 }
 
 /// The smallest run.
-fn smallest_run<K: Kernel>(alloc: Global, kernel: &mut K) -> Run {
+fn smallest_run<K: Kernel>(alloc: Global, kernel: K) -> Run {
+    let mut kernel = kernel;
     Run {
-        given: is_given(kernel),
-        read: is_read(alloc, kernel),
-        kept: is_kept(alloc, kernel),
-        halted: is_halted(kernel),
+        given: is_given(&mut kernel),
+        read: is_read(alloc, &mut kernel),
+        kept: is_kept(alloc, &mut kernel),
+        halted: is_halted(&mut kernel),
     }
 }
 
 /// The smallest run, by each kernel.
 fn smallest_runs(alloc: Global) -> Result<[Run; 2], Fail> {
     let world = world(alloc, SCRIPT)?;
-    let by_plain = smallest_run(alloc, &mut plain(alloc, &world)?);
-    let by_table = smallest_run(alloc, &mut table(alloc, &world)?);
+    let by_plain = smallest_run(alloc, plain(alloc, &world)?);
+    let by_table = smallest_run(alloc, table(alloc, &world)?);
     Ok([by_plain, by_table])
 }
 
@@ -262,18 +264,19 @@ struct ListCounts {
 }
 
 /// How many stand before and after.
-fn list_counts<K: Kernel>(alloc: Global, kernel: &mut K, naming_itself: bool) -> ListCounts {
+fn list_counts<K: Kernel>(alloc: Global, kernel: K, naming_itself: bool) -> ListCounts {
+    let mut kernel = kernel;
     ListCounts {
-        with: with_list(alloc, kernel, naming_itself),
-        without: without_slot(alloc, kernel),
+        with: with_list(alloc, &mut kernel, naming_itself),
+        without: without_slot(alloc, &mut kernel),
     }
 }
 
 /// The same, by each kernel.
 fn by_each(alloc: Global, naming_itself: bool) -> Result<[ListCounts; 2], Fail> {
     let world = world(alloc, SCRIPT)?;
-    let by_plain = list_counts(alloc, &mut plain(alloc, &world)?, naming_itself);
-    let by_table = list_counts(alloc, &mut table(alloc, &world)?, naming_itself);
+    let by_plain = list_counts(alloc, plain(alloc, &world)?, naming_itself);
+    let by_table = list_counts(alloc, table(alloc, &world)?, naming_itself);
     Ok([by_plain, by_table])
 }
 

@@ -8,7 +8,8 @@ abbrev pub invariant-loop-counting : goal.invariant-loop-counting
 invariant-loop-counting g l = record {
   counting : IsCounting l.world l.counting l.machine;
   sound : IsSound l.world l.machine;
-  same : l.beside ≡ l.machine;
+  beside : IsSound l.world l.teller;
+  same : l.teller ≡ l.machine;
 }
 
 abbrev pub decreases-loop-counting : goal.decreases-loop-counting
