@@ -47,9 +47,11 @@ pub counting_beside : (w : WorldValue) (c new : Counted) (m other : Machine) (li
 counting_beside w c new m other line also after beside s confined t same made told at b h =
     let both : (also, beside) ≡ (line, after) = cc in
     let e : also ≡ line = ap (λ (p : Line × Machine). p.0) both in
-    let f : beside ≡ after = ap (λ (p : Line × Machine). p.1) both in
-    (counting_more w c new m line after s confined t made (at ∙ ap (λ (x : Machine). x.state) f) (b ∙ ap (λ (x : Line). confined_on s x.cpu) e)
-      (h ∙ ap (λ (x : Line). counted_by x confined c) e), f)
+    let f : beside ≡ after = ap (λ (p : Line × Machine). p.1) both in (
+      counting_more w c new m line after s confined t made (at ∙ ap (λ (x : Machine). x.state) f) (b ∙ ap (λ (x : Line). confined_on s x.cpu) e)
+          (h ∙ ap (λ (x : Line). counted_by x confined c) e),
+      f,
+    )
 
 -- machines that stand alike have a step together
 pub steps_beside : (w : WorldValue) (m other : Machine) (line : Line) (after : Machine) → other ≡ m → step w m first_processor ≡ Some (line, after)

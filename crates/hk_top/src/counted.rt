@@ -2,7 +2,6 @@
 
 ghost use Rattle.std.specs.Prelude.{◌≡◌, IfOk};
 ghost use Rattle.hk_model.specs.Opening.{opening};
-ghost use Rattle.hk_report.specs.Counts.{confined_on};
 ghost use Rattle.hk_top.specs.Outputs.{IsCountedRun};
 
 use crate::running::FIRST_PROCESSOR;

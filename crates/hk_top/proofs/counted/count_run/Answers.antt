@@ -19,11 +19,11 @@ loop-counting-smaller g c =
 pub loop-counting-preserved : goal.loop-counting-preserved
 loop-counting-preserved g c =
     let told =
-      counting_beside c.args.world.now c.loop-counting.counting c.add.new.self c.loop-counting.machine c.loop-counting.teller
-      c.step_into.new.line c.step_into-in-loop-counting.new.line c.step_into.new.self c.step_into-in-loop-counting.new.self
-      (g.T.Kernel.state c.kernel.result.now) c.runs_confined-confined.result
-      c.loop-counting.invariant.counting c.loop-counting.invariant.same (c.in_ok-step_into.ensures.made c.if-branch.true)
-      (c.in_ok-step_into-2.ensures.made c.if-not-branch.false) c.kernel.ensures c.runs_confined-confined.ensures c.in_ok-add.ensures in
+    counting_beside c.args.world.now c.loop-counting.counting c.add.new.self c.loop-counting.machine c.loop-counting.teller
+    c.step_into.new.line c.step_into-in-loop-counting.new.line c.step_into.new.self c.step_into-in-loop-counting.new.self
+    (g.T.Kernel.state c.kernel.result.now) c.runs_confined-confined.result
+    c.loop-counting.invariant.counting c.loop-counting.invariant.same (c.in_ok-step_into.ensures.made c.if-branch.true)
+    (c.in_ok-step_into-2.ensures.made c.if-not-branch.false) c.kernel.ensures c.runs_confined-confined.ensures c.in_ok-add.ensures in
     record {
       counting = told.0;
       sound = c.step_into.ensures.sound;
