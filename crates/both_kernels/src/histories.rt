@@ -41,10 +41,12 @@ enum Step {
 /// Whether two lines are the same.
 fn compared(one: Option<Line>, other: Option<Line>) -> Step {
     let _ = PhantomData::<(Making, Call, What, Reply, Refusal, What8, Right)>; // Rattle is to know what a Line holds
-    match (one, other) {
-        (None, None) => Step::Missing,
-        (Some(line), Some(same)) if line == same => Step::Same,
-        _ => Step::Differs,
+    if one != other {
+        return Step::Differs;
+    }
+    match one {
+        Some(_line) => Step::Same,
+        None => Step::Missing,
     }
 }
 
