@@ -145,7 +145,7 @@ fn compare_on<P: Kernel, T: Kernel>(
     let told = make_lines(alloc, world, &mut plain, &mut table)?;
     match told {
         Told::Same(count) if !same_state(alloc, plain.kernel(), table.kernel())? => {
-            Ok(Told::Differs(count + 1))
+            Ok(Told::Differs(count.saturating_add(1)))
         }
         _ => Ok(told),
     }

@@ -36,9 +36,22 @@ impl TellsConfined for Table {
 }
 
 /// Runs a world on processor 0 and a kernel that has opened it, until the processor has no step, and counts the
-/// changes of each line as it comes. Which calls are confined is told by another kernel that has opened the world
-/// and makes the same steps. NoMemory is want of memory.
-pub(crate) fn count_run<K: Kernel, T: TellsConfined>(
+/// changes of each line as it comes. NoMemory is want of memory.
+pub(crate) fn run_counted<K: Kernel>(
+    alloc: Global,
+    world: &World,
+    kernel: K,
+) -> Result<CountedRun<K>, NoMemory>
+    requires { K.state kernel ≡ opening world.now }
+    ensures { IfOk result (λ run. IsCountedRun world.now run.changes run.end (K.state run.kernel)) }
+{
+    let table = Table::new(alloc, world)?;
+    count_run(alloc, world, kernel, table)
+}
+
+/// The same, where another kernel, which has opened the world too, makes the same steps and tells which calls are
+/// confined.
+fn count_run<K: Kernel, T: TellsConfined>(
     alloc: Global,
     world: &World,
     kernel: K,

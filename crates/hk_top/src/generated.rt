@@ -6,13 +6,12 @@ ghost use Rattle.hk_top.specs.Words.{MayGenerate};
 ghost use Rattle.hk_top.specs.Served.{IsSummary};
 ghost use Rattle.hk_top.specs.Summaries.{summed_text};
 
-use crate::counted::{CountedRun, count_run};
+use crate::counted::{CountedRun, run_counted};
 use crate::maker::Maker;
 use crate::served::{DueText, Served};
 use crate::status;
 use hk_gen::generate;
 use hk_model::{End, Kernel, NoMemory, Text};
-use hk_table::Table;
 use std::alloc::Global;
 
 /// What is due to `gen` and a number of processes, 1 to 256: the generated world is run on processor 0,
@@ -28,8 +27,7 @@ pub(crate) fn run_generated<M: Maker>(
 {
     let world = generate(alloc, count)?;
     let kernel = kernels.make(alloc, &world)?;
-    let beside = Table::new(alloc, &world)?;
-    let run = count_run(alloc, &world, kernel, beside)?;
+    let run = run_counted(alloc, &world, kernel)?;
     Ok(Served {
         due: DueText {
             status: status::of_run(run.end),
