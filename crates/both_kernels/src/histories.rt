@@ -97,7 +97,7 @@ fn next_number(seed: u32) -> u32 {
 }
 
 /// The processor that a number chooses.
-fn first_of(seed: u32) -> u8 {
+fn chosen(seed: u32) -> u8 {
     ((seed >> 16) % u32::from(PROCESSORS)) as u8
 }
 
@@ -114,7 +114,7 @@ fn make_lines<P: Kernel, T: Kernel>(
     let mut seed = 1;
     for count in 0..LINES {
         seed = next_number(seed);
-        match some_step(alloc, world, plain, table, first_of(seed))? {
+        match some_step(alloc, world, plain, table, chosen(seed))? {
             Step::Missing => return Ok(Told::Same(count)),
             Step::Same => {}
             Step::Differs => return Ok(Told::Differs(count + 1)),
