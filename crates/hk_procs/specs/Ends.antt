@@ -26,4 +26,5 @@ Holds w cpu notes (Some (proc, context)) = HandsOut w cpu notes proc context
 -- what comes of a call of the desk
 abbrev pub ComesTo : WorldValue → Cpu → List Noted → Outcome → Type 0
 ComesTo w cpu notes (outcome.Goes held) = Holds w cpu notes held
+ComesTo w cpu notes outcome.Idles = RunsNothing w cpu notes
 ComesTo w cpu notes (outcome.Ends ended) = Ends w cpu notes ended

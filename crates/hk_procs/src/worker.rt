@@ -13,10 +13,9 @@ use crate::gate::Gate;
 use crate::notes::Noted;
 use hk_model::{Cpu, Proc, World};
 use hk_program::{Context, next};
-use hk_turn::Pass;
+use hk_turn::{Pass, Rest};
 use std::alloc::Global;
 use std::sync::Wait;
-use std::thread;
 
 /// How a worker has ended.
 #[derive(Clone, Copy, PartialEq, Eq, Debug)]
@@ -34,6 +33,8 @@ pub enum Ended {
 pub(crate) enum Outcome {
     // With the process that its processor runs, if there is one, and the control of that process.
     Goes(Option<(Proc, Context)>),
+    // With nothing to run, until others have gone on.
+    Idles,
     // There is no more to do.
     Ends(Ended),
 }
@@ -67,6 +68,8 @@ pub fn work<D: Desk, G: Gate, R: Wait>(
     let mut pass = pass;
     let mut held = None;
     let mut nth = 0u64;
+    let rest = Rest::new();
+    let mut idle = 0u32;
     for _ in rt.forever() {
         gate.before(cpu, nth);
         nth = nth.saturating_add(1);
@@ -75,6 +78,13 @@ pub fn work<D: Desk, G: Gate, R: Wait>(
             Outcome::Goes(next) => {
                 pass = back;
                 held = next;
+                idle = 0;
+            }
+            Outcome::Idles => {
+                pass = back;
+                held = None;
+                rest.pause(rt, idle);
+                idle = idle.saturating_add(1);
             }
             Outcome::Ends(ended) => return (back, ended),
         }
@@ -117,10 +127,7 @@ fn ask<D: Desk, R: Wait>(rt: &R, desk: &D, pass: Pass<Noted>) -> (Pass<Noted>, O
     let (pass, asked) = desk.ask(rt, pass);
     let outcome = match asked {
         Asked::Given(proc, context) => Outcome::Goes(Some((proc, context))),
-        Asked::Idle(_) => {
-            thread::yield_now();
-            Outcome::Goes(None)
-        }
+        Asked::Idle(_) => Outcome::Idles,
         Asked::Over => Outcome::Ends(Ended::Over),
         Asked::Stopped => Outcome::Ends(Ended::Stopped),
     };

@@ -4,6 +4,7 @@
 
 mod memory;
 mod pass;
+mod rest;
 mod rule;
 mod steps;
 mod story;
@@ -13,6 +14,7 @@ mod view;
 
 pub use memory::NoMemory;
 pub use pass::Pass;
+pub use rest::Rest;
 pub use story::Story;
 pub use turn::Turn;
 pub use turns::Turns;

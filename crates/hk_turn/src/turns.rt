@@ -4,6 +4,7 @@ ghost use Rattle.hk_turn.specs.Views.{blank_view, opening_view};
 
 use crate::memory::NoMemory;
 use crate::pass::Pass;
+use crate::rest::Rest;
 use crate::rule::TurnRule;
 use crate::steps::{Load, MakePass, TakeIn, Try};
 use crate::story::Story;
@@ -12,7 +13,6 @@ use crate::view::View;
 use atomic_table::{Seat, Table};
 use std::alloc::Global;
 use std::sync::Wait;
-use std::thread;
 
 /// A value that passes take turns at. Threads share it by reference.
 ///
@@ -21,6 +21,7 @@ use std::thread;
 pub struct Turns<T: Story> {
     pub(crate) table: Table<Option<T>, View<T::Entry>, u16, TurnRule<T>, Global>,
     pub(crate) seats: u16,
+    rest: Rest,
     ghost sized: { (table.shared.table_id.words ≡ 1) × (table.shared.table_id.slots ≡ 1) },
     ghost keyed: { (table.shared.key ≡ seats) × (0 < seats) },
 }
@@ -73,7 +74,8 @@ impl<T: Story> Turns<T> {
         let Ok((table, first)) = Table::new(alloc, &[0], slots, &seats) else {
             return Err(NoMemory);
         };
-        Ok((Turns { table, seats }, first))
+        let rest = Rest::new();
+        Ok((Turns { table, seats, rest }, first))
     }
 
     /// Splits the pass of that number off the first seat, which has made those below it.
@@ -128,6 +130,7 @@ impl<T: Story> Turns<T> {
         ensures seat { seat.new.table_id ≡ seat.old.table_id }
         ensures won { Wins T.stands T.owner seat.old.me result seat.new.me }
     {
+        let mut tries = 0u32;
         for _ in rt.forever() {
             let word = self.table.shared.peek(0);
             if word % 2 == 0 {
@@ -139,7 +142,8 @@ impl<T: Story> Turns<T> {
                     return word;
                 }
             }
-            thread::yield_now();
+            self.rest.pause(rt, tries);
+            tries = tries.saturating_add(1);
         }
         unreachable!()
     }
@@ -179,7 +183,7 @@ impl<T: Story> Turns<T> {
         ensures { StandsForAll T.stands T.owner (seat_count self) passes.items result }
     {
         let seat = self.join_passes(passes);
-        let Turns { table, seats: _ } = self;
+        let Turns { table, .. } = self;
         let mut closed = table.close_with(seat);
         let value = closed.take(0);
         closed.free();
