@@ -4,10 +4,10 @@ use std::thread;
 use std::time::Duration;
 
 /// So often a thread tries in vain before it sleeps between tries.
-const TRIES_AWAKE: u32 = 2;
+const TRIES_AWAKE: u32 = 4;
 
 /// So long it sleeps, in microseconds: some hundred turns of others.
-const SLEEP: u64 = 50;
+const SLEEP: u64 = 20;
 
 /// Where threads rest between tries. Nobody wakes them: each sleeps for its time. `docs/TURNS.md`, "Waiting".
 #[derive(Drop)]
