@@ -53,7 +53,7 @@ use Rattle.hk_program.proofs.Kept.{Kept, context_fits, entered_none, leave_done,
 use Rattle.hk_program.proofs.StepCases.{moved_by}
 use Rattle.hk_program.proofs.Machines.{sound_kept, sound_after}
 
-abbrev proc_at : ℕ → Proc
+abbrev pub proc_at : ℕ → Proc
 proc_at n = record { 0 = n }
 
 -- no fewer frames than incarnations
@@ -142,7 +142,7 @@ module _ (s : State) (line : Line) (t : State) where
   not_it p q h = grind (arith, nat_tests, h)
 
   -- no other process has more
-  others_fewer : Turn s line t → (q : ℕ) → (q ≡ line.proc.0 → ⊥) → depth t (proc_at q) ≤ depth s (proc_at q)
+  pub others_fewer : Turn s line t → (q : ℕ) → (q ≡ line.proc.0 → ⊥) → depth t (proc_at q) ≤ depth s (proc_at q)
   others_fewer (Still quiet e) q other = of_lists q (rw quiet.activations (omega arith))
   others_fewer (Enter e) q other =
       let added = amount_added q (activations_in s.incarnations) s.next_inc (record { proc = line.proc; caller = Some line.inc }) in
@@ -340,18 +340,18 @@ opened_full w q =
 
 -- ---- every moment
 
-at_opening : (w : WorldValue) (lines : List Line) → machine_at w lines 0 ≡ opened w
+pub at_opening : (w : WorldValue) (lines : List Line) → machine_at w lines 0 ≡ opened w
 at_opening w [] = refl
 at_opening w (x ∷ lines) = refl
 
-no_more : (lines : List Line) (n : ℕ) → slice_get lines n ≡ None → take (suc n) lines ≡ take n lines
+pub no_more : (lines : List Line) (n : ℕ) → slice_get lines n ≡ None → take (suc n) lines ≡ take n lines
 no_more [] zero h = refl
 no_more [] (suc n) h = refl
 no_more (x ∷ lines) zero h = absurd (cc)
 no_more (x ∷ lines) (suc n) h = ap (λ (l : List Line). x ∷ l) (no_more lines n h)
 
 module _ (w : WorldValue) (lines : List Line) (world : IsWorld w) (steps : AreStepsOf w lines) where
-  kept_at : (moment : ℕ) → Kept w (machine_at w lines moment)
+  pub kept_at : (moment : ℕ) → Kept w (machine_at w lines moment)
   kept_at moment = sound_kept w (machine_at w lines moment) (sound_after w (take moment lines) (first_steps w (opened w) lines moment steps) world)
 
   full_at : (moment : ℕ) → IsFull (machine_at w lines moment)

@@ -30,3 +30,8 @@ is_return _ _ = false
 abbrev pub behind_top : WorldValue → List Frame → Reply → List Frame
 behind_top w [] reply = []
 behind_top w (f ∷ rest) reply = behind w f reply ∷ rest
+
+-- there is no frame
+abbrev pub has_no_frame : List Frame → Bool
+has_no_frame [] = true
+has_no_frame (f ∷ frames) = false

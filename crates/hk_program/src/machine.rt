@@ -23,9 +23,9 @@ use std::marker::Model;
 /// processors"). Contracts see the state of the kernel and the frames of each process.
 #[derive(Drop)]
 pub struct Machine<K: Kernel> {
-    kernel: K,
+    pub(crate) kernel: K,
     // By the numbers of the processes.
-    contexts: Vec<Context>,
+    pub(crate) contexts: Vec<Context>,
 }
 
 impl<K: Kernel> Model for Machine<K> {
