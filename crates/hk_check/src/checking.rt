@@ -12,7 +12,7 @@ ghost use Rattle.hk_program.specs.Machines.{IsSound};
 use crate::differences::difference;
 use hk_model::{End, Kernel, Line, Misstep, NoMemory, Snapshot, Verdict, World};
 use hk_plain::Plain;
-use hk_program::{Machine, end_word};
+use hk_program::Machine;
 use std::alloc::Global;
 
 /// The verdict on the lines and the end word of a record of a world (`docs/FORMATS.md`, "Legal
@@ -40,7 +40,7 @@ pub fn check_on<K: Kernel>(
     let mut machine = Machine::open(alloc, world, kernel)?;
     match first_misstep(alloc, world, &mut machine, lines, 0, lines.len())? {
         Some((line, cause)) => Ok(Verdict::Illegal { line, cause }),
-        None => last_verdict(alloc, world, &machine, lines, end),
+        None => Ok(last_verdict(world, &machine, lines, end)),
     }
 }
 
@@ -92,7 +92,7 @@ pub fn check_and_show_on<K: Kernel>(
     if let Some((line, cause)) = first_misstep(alloc, world, &mut machine, lines, moment, count)? {
         return Ok(Judged::Illegal { line, cause });
     }
-    match last_verdict(alloc, world, &machine, lines, end)? {
+    match last_verdict(world, &machine, lines, end) {
         Verdict::Legal => Ok(Judged::Legal(state)),
         Verdict::Illegal { line, cause } => Ok(Judged::Illegal { line, cause }),
     }
@@ -125,32 +125,32 @@ fn first_misstep<K: Kernel>(
 
 /// The verdict on a record whose lines are all steps, and lead to this machine.
 fn last_verdict<K: Kernel>(
-    alloc: Global,
     world: &World,
     machine: &Machine<K>,
     lines: &[Line],
     end: End,
-) -> Result<Verdict, NoMemory>
+) -> Verdict
     requires { IsReplay world.now (take (length lines.now) lines.now) machine.now }
-    ensures { IfOk result (λ verdict. IsVerdict world.now lines.now end verdict) }
+    ensures { IsVerdict world.now lines.now end result }
 {
     let _limit = world.limit();
-    if ends_by(alloc, machine.kernel(), end)? {
-        return Ok(Verdict::Legal);
+    if ends_by(world, machine, end) {
+        return Verdict::Legal;
     }
-    Ok(Verdict::Illegal {
+    Verdict::Illegal {
         line: lines.len() as u32 + 1,
         cause: Misstep::EndWord,
-    })
+    }
 }
 
-/// Whether the state that a kernel is in has this end word.
-fn ends_by<K: Kernel>(alloc: Global, kernel: &K, end: End) -> Result<bool, NoMemory>
-    ensures { IfOk result (λ holds. Decides holds (end_word (K.state kernel.now) ≡ Some end)) }
+/// Whether the state of a machine has this end word.
+fn ends_by<K: Kernel>(world: &World, machine: &Machine<K>, end: End) -> bool
+    requires { IsSound world.now machine.now }
+    ensures { Decides result (end_word machine.now.state ≡ Some end) }
 {
-    match end_word(alloc, kernel)? {
-        Some(word) => Ok(word == end),
-        None => Ok(false),
+    match machine.end_word(world) {
+        Some(word) => word == end,
+        None => false,
     }
 }
 

@@ -6,7 +6,7 @@ ghost use Rattle.hk_top.specs.Outputs.{IsCountedRun};
 
 use crate::running::FIRST_PROCESSOR;
 use hk_model::{Cpu, End, Kernel, NoMemory, World};
-use hk_program::{Machine, blank_line, end_word};
+use hk_program::{Machine, blank_line};
 use hk_report::Counting;
 use hk_table::Table;
 use std::alloc::Global;
@@ -72,7 +72,7 @@ fn count_run<K: Kernel, T: TellsConfined>(
         let confined = teller.kernel().runs_confined(line.cpu);
         counting.add(&line, confined)?;
     }
-    let Some(end) = end_word(alloc, machine.kernel())? else {
+    let Some(end) = machine.end_word(world) else {
         unreachable!()
     };
     Ok(CountedRun {

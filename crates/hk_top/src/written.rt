@@ -7,7 +7,7 @@ ghost use Rattle.hk_top.specs.Outputs.{IsWrittenRun};
 use crate::running::FIRST_PROCESSOR;
 use hk_audit::Writer;
 use hk_model::{End, Kernel, NoMemory, Text, World};
-use hk_program::{Machine, blank_line, end_word};
+use hk_program::{Machine, blank_line};
 use std::alloc::Global;
 
 /// A run: its record, how it ended, and the kernel behind it.
@@ -34,7 +34,7 @@ pub(crate) fn write_run<K: Kernel>(
     while machine.step_into(alloc, world, FIRST_PROCESSOR, &mut line)? {
         writer.add(&line)?;
     }
-    let Some(end) = end_word(alloc, machine.kernel())? else {
+    let Some(end) = machine.end_word(world) else {
         unreachable!()
     };
     Ok(WrittenRun {

@@ -1,4 +1,4 @@
-use Rattle.std.proofs.Common.{◌∙◌, sym, subst}
+use Rattle.std.proofs.Common.{◌∙◌, refl, sym, subst}
 use Rattle.hk_top.specs.Outputs.{IsCountedRun}
 use Rattle.hk_top.proofs.CountedRuns.{counting_none, counting_fewer, counting_beside, counting_last, steps_beside}
 use Rattle.hk_top.proofs.counted.count_run.Goals as goal
@@ -38,14 +38,14 @@ unreachable-requires g c =
 
 pub unreachable-requires-in_default : goal.unreachable-requires-in_default
 unreachable-requires-in_default g c =
-    (counting_last c.args.world.now c.loop-counting.counting c.loop-counting.machine c.step_into.new.self (g.K.Kernel.state c.kernel-2.result.now)
-    c.in_ok-end.field-0 c.loop-counting.invariant.sound.world c.loop-counting.invariant.counting (c.in_ok-step_into.ensures.none c.if-branch.false)
-    c.kernel-2.ensures c.in_ok-end.ensures).there
+    (counting_last c.args.world.now c.loop-counting.counting c.loop-counting.machine c.step_into.new.self c.step_into.new.self.state
+    c.end_word.result c.loop-counting.invariant.sound.world c.loop-counting.invariant.counting (c.in_ok-step_into.ensures.none c.if-branch.false)
+    refl c.end_word.ensures).there
     c.in_default.is
 
 pub returns : goal.returns
 returns g c =
-    subst (λ s. IsCountedRun c.args.world.now c.changes.result c.in-Some.end s) (c.kernel-2.ensures ∙ sym c.into_kernel.ensures)
-    ((counting_last c.args.world.now c.loop-counting.counting c.loop-counting.machine c.step_into.new.self (g.K.Kernel.state c.kernel-2.result.now)
-    c.in_ok-end.field-0 c.loop-counting.invariant.sound.world c.loop-counting.invariant.counting (c.in_ok-step_into.ensures.none c.if-branch.false)
-    c.kernel-2.ensures c.in_ok-end.ensures).run c.in-Some.end c.changes.result c.in-Some.is c.changes.ensures.all)
+    subst (λ s. IsCountedRun c.args.world.now c.changes.result c.in-Some.end s) (sym c.into_kernel.ensures)
+    ((counting_last c.args.world.now c.loop-counting.counting c.loop-counting.machine c.step_into.new.self c.step_into.new.self.state
+    c.end_word.result c.loop-counting.invariant.sound.world c.loop-counting.invariant.counting (c.in_ok-step_into.ensures.none c.if-branch.false)
+    refl c.end_word.ensures).run c.in-Some.end c.changes.result c.in-Some.is c.changes.ensures.all)

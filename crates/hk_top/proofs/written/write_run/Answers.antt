@@ -1,4 +1,4 @@
-use Rattle.std.proofs.Common.{◌∙◌, sym, subst}
+use Rattle.std.proofs.Common.{refl, sym, subst}
 use Rattle.hk_top.specs.Outputs.{IsWrittenRun}
 use Rattle.hk_top.proofs.WrittenRuns.{told_none, told_line, told_fewer, told_more, told_last}
 use Rattle.hk_top.proofs.written.write_run.Goals as goal
@@ -29,13 +29,13 @@ loop-writer-preserved g c = record {
 
 pub unreachable-requires : goal.unreachable-requires
 unreachable-requires g c =
-    (told_last c.args.world.now c.loop-writer.writer c.loop-writer.machine c.step_into.new.self (g.K.Kernel.state c.kernel.result.now) c.in_ok-end.field-0
-    c.loop-writer.invariant.sound.world c.loop-writer.invariant.told (c.in_ok-step_into.ensures.none c.if-branch.false) c.kernel.ensures c.in_ok-end.ensures).there
+    (told_last c.args.world.now c.loop-writer.writer c.loop-writer.machine c.step_into.new.self c.step_into.new.self.state c.end_word.result
+    c.loop-writer.invariant.sound.world c.loop-writer.invariant.told (c.in_ok-step_into.ensures.none c.if-branch.false) refl c.end_word.ensures).there
     c.in_default.is
 
 pub returns : goal.returns
 returns g c =
-    subst (λ s. IsWrittenRun c.args.world.now c.in_ok-finish.field-0 c.in-Some.end s) (c.kernel.ensures ∙ sym c.into_kernel.ensures)
-    ((told_last c.args.world.now c.loop-writer.writer c.loop-writer.machine c.step_into.new.self (g.K.Kernel.state c.kernel.result.now) c.in_ok-end.field-0
-    c.loop-writer.invariant.sound.world c.loop-writer.invariant.told (c.in_ok-step_into.ensures.none c.if-branch.false) c.kernel.ensures
-    c.in_ok-end.ensures).written c.in-Some.end c.in_ok-finish.field-0 c.in-Some.is c.in_ok-finish.ensures)
+    subst (λ s. IsWrittenRun c.args.world.now c.in_ok-finish.field-0 c.in-Some.end s) (sym c.into_kernel.ensures)
+    ((told_last c.args.world.now c.loop-writer.writer c.loop-writer.machine c.step_into.new.self c.step_into.new.self.state c.end_word.result
+    c.loop-writer.invariant.sound.world c.loop-writer.invariant.told (c.in_ok-step_into.ensures.none c.if-branch.false) refl
+    c.end_word.ensures).written c.in-Some.end c.in_ok-finish.field-0 c.in-Some.is c.in_ok-finish.ensures)
