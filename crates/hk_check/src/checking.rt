@@ -124,12 +124,7 @@ fn first_misstep<K: Kernel>(
 }
 
 /// The verdict on a record whose lines are all steps, and lead to this machine.
-fn last_verdict<K: Kernel>(
-    world: &World,
-    machine: &Machine<K>,
-    lines: &[Line],
-    end: End,
-) -> Verdict
+fn last_verdict<K: Kernel>(world: &World, machine: &Machine<K>, lines: &[Line], end: End) -> Verdict
     requires { IsReplay world.now (take (length lines.now) lines.now) machine.now }
     ensures { IsVerdict world.now lines.now end result }
 {

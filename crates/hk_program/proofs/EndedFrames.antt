@@ -1,7 +1,7 @@
 -- A process has ended exactly where it has no frame.
-use Rattle.std.specs.Prelude.{◌≡◌, ◌⊎◌, ℕ, zero, suc, ◌+◌, ◌≤◌, List, [], ◌∷◌, length, Bool, true, false, Option, Some, None, Ok, Err, IfOk, IfSome, IsSome, map, slice_get, take, refl}
+use Rattle.std.specs.Prelude.{◌≡◌, ℕ, zero, suc, ◌+◌, ◌≤◌, List, [], ◌∷◌, length, Bool, true, false, Option, Some, None, Ok, Err, IsSome, map, slice_get, refl}
 use Rattle.std.specs.Option.{unwrap_or}
-use Rattle.std.specs.Map.{lookup, remove_entry}
+use Rattle.std.specs.Map.{lookup}
 use Rattle.std.proofs.Common.{arith, ap, sym, ◌∙◌, subst}
 use Rattle.std.proofs.lemmas.Bool.{true≢false, cases_eq}
 use Rattle.std.proofs.lemmas.List.{take_all}
@@ -9,7 +9,6 @@ use mathlib.Core.Logic.{inl, inr}
 use Rattle.hk_model.specs.declared.names.Inc.{Inc}
 use Rattle.hk_model.specs.declared.names.Proc.{Proc}
 use Rattle.hk_model.specs.declared.names.Cpu.{Cpu}
-use Rattle.hk_model.specs.declared.names.Slot.{Slot}
 use Rattle.hk_model.specs.declared.calls.Call.{Call}
 use Rattle.hk_model.specs.declared.calls.Call.TheVariants as call
 use Rattle.hk_model.specs.declared.calls.Answer.{Answer}
@@ -19,23 +18,22 @@ use Rattle.hk_model.specs.declared.lines.Line.{Line}
 use Rattle.hk_model.specs.declared.lines.What.TheVariants as what
 use Rattle.hk_model.specs.declared.objects.Incarnation.{Incarnation}
 use Rattle.hk_model.specs.declared.objects.Process.{Process}
-use Rattle.hk_model.specs.declared.objects.ProcessState.{ProcessState}
-use Rattle.hk_model.specs.declared.objects.ProcessState.TheVariants.{Ready, Running, Waiting, Ended}
+use Rattle.hk_model.specs.declared.objects.ProcessState.TheVariants.{Ready, Running, Ended}
 use Rattle.hk_model.specs.declared.world.Task.{Task}
 use Rattle.hk_model.specs.WorldValue.{WorldValue, IsWorld}
-use Rattle.hk_model.specs.State.{State, incarnation, process, same_inc, no_incarnation}
+use Rattle.hk_model.specs.State.{State, incarnation, process, same_inc}
 use Rattle.hk_model.specs.Rule.{Outcome, outcome, rule, settled, answered, depth, leave}
 use Rattle.hk_model.specs.Processors.{runner, halted, has_ended}
 use Rattle.hk_model.specs.Control.{Context, new_frame}
 use Rattle.hk_model.specs.Opening.{opening, all_ready}
-use Rattle.hk_model.specs.Lines.{done_by, leaves_call}
+use Rattle.hk_model.specs.Lines.{leaves_call}
 use Rattle.hk_model.specs.Running.{Machine, opened, context_of, moved, after_lines, machine_at, state_at, AreStepsOf}
-use Rattle.hk_model.specs.Shapes.{CurrentsCallNone, CallersAreKin, IsCaller, IsKin, Lives}
+use Rattle.hk_model.specs.Shapes.{CurrentsCallNone, CallersAreKin, IsKin}
 use Rattle.hk_model.proofs.TestLemmas.{if_ok}
 use Rattle.hk_model.proofs.Standing.{inc_laws, inc_same}
 use Rattle.hk_model.proofs.Activations.{Activation, activation, activations_in, currents_in, look_up}
 use Rattle.hk_model.proofs.ActivationLists.{activation_live, activations_apart, activations_filter, left_found, left_keeps}
-use Rattle.hk_model.proofs.Turns.{Turn, LeavesBy, CurrentAfter, turn_each, leave_leaves, runs_current}
+use Rattle.hk_model.proofs.Turns.{Turn, LeavesBy, turn_each, leave_leaves, runs_current}
 use Rattle.hk_model.proofs.Histories.{Sound}
 use Rattle.hk_model.proofs.Linked.{currents_at, found_activation}
 use Rattle.hk_model.proofs.CallersLive.{callers_at}

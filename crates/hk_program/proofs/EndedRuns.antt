@@ -1,6 +1,6 @@
 -- Which processes have ended after an event: those that had before, and the one of the event where it halts or returns from its
 -- last incarnation.
-use Rattle.std.specs.Prelude.{◌≡◌, ℕ, zero, suc, ◌-◌, ◌+◌, ◌++◌, List, [], ◌∷◌, Bool, true, false, Option, Some, None, Ok, Err, IfOk, nat_lt, slice_get, slice_set, refl}
+use Rattle.std.specs.Prelude.{◌≡◌, ℕ, zero, suc, ◌-◌, ◌+◌, ◌++◌, List, [], ◌∷◌, Bool, true, false, Option, Some, None, Ok, Err, IfOk, nat_lt, slice_set, refl}
 use Rattle.std.specs.Map.{remove_entry}
 use Rattle.std.proofs.Common.{ap, sym, ◌∙◌, subst}
 use Rattle.std.proofs.lemmas.Bool.{true≢false}

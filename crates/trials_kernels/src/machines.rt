@@ -54,8 +54,10 @@ fn a_machine_steps_until_its_processes_have_ended(rt: HostRuntime) -> Result<(),
     let mut machine = machine(alloc, &world)?;
     assert!(rt; steps(alloc, &world, &mut machine)?);
     assert!(rt; word_of(alloc, machine.kernel())?.is_none());
+    assert!(rt; machine.end_word(&world).is_none());
     assert!(rt; steps(alloc, &world, &mut machine)?);
     assert!(rt; !steps(alloc, &world, &mut machine)?);
+    assert!(rt; machine.end_word(&world) == Some(End::Done));
     let kernel = machine.into_kernel();
     assert!(rt; word_of(alloc, &kernel)? == Some(End::Done));
     Ok(())
