@@ -4,3 +4,4 @@ mod Indexing
 mod Tables
 mod Frees
 mod Padding
+mod InPlace

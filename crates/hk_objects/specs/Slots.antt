@@ -1,5 +1,5 @@
 -- A table of slots, as contracts see it, and the objects that stand in it.
-use Rattle.std.specs.Prelude.{◌≡◌, ℕ, List, [], ◌∷◌, Option, Some, None, slice_index_or, slice_set, option_map}
+use Rattle.std.specs.Prelude.{◌≡◌, ℕ, ◌<◌, List, [], ◌∷◌, Option, Some, None, slice_index_or, slice_set, option_map}
 use Rattle.std.specs.BTreeMap.{insert_entry}
 use Rattle.hk_model.specs.declared.names.Name.{Name}
 use Rattle.hk_model.specs.State.{name_cmp}
@@ -28,3 +28,7 @@ AreApart ps = (i j : ℕ) (n : Name) → name_at ps i ≡ Some n → name_at ps 
 -- the slots with a part of one object changed
 abbrev pub change : {X : Type 0} → List (Option (Name × X)) → ℕ → (X → X) → List (Option (Name × X))
 change ps s f = slice_set ps s (option_map (λ e. (e.0, f e.1)) (place ps s))
+
+-- each of so many slots has the object whose name is the slot's own number
+abbrev pub AreInPlace : {X : Type 0} → List (Option (Name × X)) → ℕ → Type 0
+AreInPlace ps many = (k : ℕ) → k < many → name_at ps k ≡ Some (record { 0 = k })

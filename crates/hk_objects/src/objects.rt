@@ -1,8 +1,8 @@
 //! The table of slots.
 
-ghost use Rattle.std.specs.Prelude.{◌≡◌, ◌<◌, ◌≤◌, ◌+◌, ◌^◌, ◌++◌, ◌∷◌, ◌↔◌, [], ℕ, Some, None, length, IfSome, IfNone, IfOk, OnOk, OnErr, IsSome, IsTrue, slice_set};
+ghost use Rattle.std.specs.Prelude.{◌≡◌, ◌<◌, ◌≤◌, ◌+◌, ◌^◌, ◌++◌, ◌∷◌, ◌↔◌, ◌==◌, ◌&&◌, cond, [], ℕ, Some, None, length, IfSome, IfNone, IfOk, OnOk, OnErr, IsSome, IsTrue, slice_set};
 ghost use Rattle.hk_model.specs.declared.names.Name.{Name};
-ghost use Rattle.hk_objects.specs.Slots.{standing, place, name_at, change, AreApart};
+ghost use Rattle.hk_objects.specs.Slots.{standing, place, name_at, change, AreApart, AreInPlace};
 ghost use Rattle.hk_objects.specs.Shelf.{new_body, code_of, params_of};
 
 use crate::body::{Body, Procedure};
@@ -31,17 +31,33 @@ pub struct Objects {
     index: NameIndex,
     free: FreeSlots,
     next: Name,
+    // Each slot below this one has the object of the slot's own number.
+    in_place: u32,
+}
+
+/// How many slots have the objects of their own numbers, once this slot has the object of this name besides.
+#[inline(always)]
+fn placed(in_place: u32, slot: u32, name: Name) -> u32
+    requires { slot < 65536 }
+    ensures { result ≡ cond (slot == in_place && name.0 == slot) (slot + 1) in_place }
+{
+    if slot == in_place && name.0 == slot as u64 {
+        slot + 1
+    } else {
+        in_place
+    }
 }
 
 impl Model for Objects {
     ghost use Rattle.hk_objects.specs.Shelf.{Shelf};
     ghost use Rattle.hk_objects.specs.Indexed.{IsTable};
+    ghost use Rattle.hk_objects.specs.Slots.{AreInPlace};
 
     ghost Value = { Shelf };
 
     ghost view = { λ a. record { slots = a.slots; next = a.next } };
 
-    ghost invariant = { λ a. IsTable a.slots a.index a.free a.next };
+    ghost invariant = { λ a. IsTable a.slots a.index a.free a.next × AreInPlace a.slots a.in_place };
 }
 
 impl Objects {
@@ -61,6 +77,7 @@ impl Objects {
             index,
             free,
             next,
+            in_place: 0,
         })
     }
 
@@ -87,6 +104,15 @@ impl Objects {
         ensures room { length self.now.slots ≡ 65536 }
     {
         self.next
+    }
+
+    /// A number of slots, from the first on, of which each has the object whose name is the slot's own number. Objects
+    /// that are made before any is removed stand so, and so the opening ones.
+    pub fn in_place(&self) -> u32
+        ensures here { AreInPlace self.now.slots result }
+        ensures few { result ≤ 65536 }
+    {
+        self.in_place
     }
 
     /// Whether 65,536 objects stand.
@@ -264,6 +290,7 @@ impl Objects {
                 self.index.put(slot, name);
                 self.slots.put(slot, (name, Body::new(of, words, entries)));
                 self.next = Name(name.0 + 1);
+                self.in_place = placed(self.in_place, slot, name);
                 Some(SlotNo(slot))
             }
             None => None,
@@ -278,5 +305,6 @@ impl Objects {
         self.slots.clear(slot.0);
         self.index.clear(slot.0);
         self.free.give(slot.0);
+        self.in_place = self.in_place.min(slot.0);
     }
 }

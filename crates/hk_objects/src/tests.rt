@@ -159,10 +159,11 @@ fn take_away(objects: &mut Objects, slot: SlotNo) -> Result<(), AllocError> {
     Ok(())
 }
 
-/// Two objects of a table of which the first has gone.
+/// Two objects of a table of which the first has gone, and how many stood in place before.
 #[derive(Drop)]
 struct Two {
     objects: Objects,
+    in_place: u32,
     first: SlotNo,
     second: SlotNo,
 }
@@ -172,9 +173,11 @@ fn first_gone(alloc: Global) -> Result<Two, AllocError> {
     let mut objects = empty(alloc)?;
     let first = made(alloc, &mut objects)?;
     let second = made(alloc, &mut objects)?;
+    let in_place = objects.in_place();
     take_away(&mut objects, first)?;
     Ok(Two {
         objects,
+        in_place,
         first,
         second,
     })
@@ -185,6 +188,8 @@ fn an_object_is_found_until_it_goes(rt: HostRuntime) -> Result<(), Fail> {
     let two = first_gone(rt.alloc())?;
     assert!(rt; two.first != two.second);
     assert!(rt; !two.objects.is_full());
+    assert_eq!(rt; two.in_place, 2);
+    assert_eq!(rt; two.objects.in_place(), 0);
     assert_eq!(rt; two.objects.next_name(), Name(2));
     let first = told_of(&two.objects, two.first, Name(0));
     assert_eq!(rt; first.name, None);

@@ -120,9 +120,18 @@ all_off first ps all es i old now high h outside owed a =
     left_same first ps outside (owing owed []) owed now (λ n. let z : times n [] ≡ 0 = times_none n in omega arith)
     (subst (λ (xs : List Entry). AreLeft first ps outside (owing owed (named_in xs)) now) (drop_all i es high) (h outside owed a))
 
--- sweeping slot by slot: nothing is swept yet
-pub swept_none : (ps : List (Option (Name × Body))) (flag : ℕ → Bool) → IsSweptTo ps flag 0 ps
-swept_none ps flag = record { room = refl; places = λ k. let f : nat_lt k 0 ≡ false = grind (arith, nat_tests) in rw f refl }
+-- sweeping slot by slot: nothing is swept yet, where no flag is up so far
+pub swept_none : (ps : List (Option (Name × Body))) (flag : ℕ → Bool) (from : ℕ) → ((k : ℕ) → k < from → flag k ≡ false) → IsSweptTo ps flag from ps
+swept_none ps flag from down = record {
+  room = refl;
+  places = λ k. ⊎_elim
+      (λ (low : k < from). rw (down k low) (stays (nat_lt k from) (place ps k)))
+      (λ (high : from ≤ k). let f : nat_lt k from ≡ false = grind (arith, nat_tests) in rw f refl)
+      (cases_lt k from);
+} where
+  stays : (b : Bool) (p : Option (Name × Body)) → p ≡ cond (b && false) None p
+  stays true p = refl
+  stays false p = refl
 
 -- a slot whose flag is down
 pub swept_keeps : (ps qs : List (Option (Name × Body))) (flag : ℕ → Bool) (i : ℕ) → flag i ≡ false → IsSweptTo ps flag i qs → IsSweptTo ps flag (i + 1) qs
@@ -174,9 +183,23 @@ pub made_stands : (first : Name) (ps : List (Option (Name × Body))) (k : ℕ) �
 made_stands first ps k h = made_some first (place ps k) h
 
 -- what the made objects name is taken off slot by slot
-pub leaving_starts : (first : Name) (ps : List (Option (Name × Body))) (outside total left : List ℕ) → left ≡ total → AreLeft first ps outside (namings ps) total
-    → IsHalfLeft first ps outside 0 left
-leaving_starts first ps outside total left e h = (ps, swept_none ps (λ k. is_made first (name_at ps k)), rw e h)
+pub leaving_starts : (first : Name) (ps : List (Option (Name × Body))) (outside total left : List ℕ) (from : ℕ) → length left ≡ length total
+    → ((k : ℕ) → from ≤ k → get_or left k 0 ≡ get_or total k 0) → ((k : ℕ) → k < from → is_made first (name_at ps k) ≡ false)
+    → AreLeft first ps outside (namings ps) total → IsHalfLeft first ps outside from left
+leaving_starts first ps outside total left from size same opening h = (
+  ps,
+  swept_none ps (λ k. is_made first (name_at ps k)) from opening,
+  record {
+    room = λ k some. rw size (h.room k some);
+    namings = λ k n at made. ⊎_elim
+        (λ (low : k < from). absurd (
+        let up : is_made first (Some n) ≡ true = grind (arith, nat_tests) in
+        let down : is_made first (Some n) ≡ false = sym (ap (is_made first) at) ∙ opening k low in
+        cc (up, down)))
+        (λ (high : from ≤ k). same k high ∙ h.namings k n at made)
+        (cases_lt k from);
+  },
+)
 
 pub left_of_counted : (first : Name) (ps : List (Option (Name × Body))) (owed : Name → ℕ) (t : Tally) → AreCounted ps owed t → AreLeft first ps t.outside owed t.total
 left_of_counted first ps owed t h = record { room = h.room; namings = λ k n at made. named_counts ps owed t k n h at }

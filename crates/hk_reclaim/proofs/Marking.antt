@@ -1,9 +1,9 @@
 -- What a mark does to the flags and to the order.
-use Rattle.std.proofs.Common.{◌≡◌, ℕ, zero, suc, ◌+◌, ◌<◌, ◌≤◌, Bool, true, false, cond, List, [], ◌∷◌, length, get_or, set, refl, ◌∙◌, sym, arith}
+use Rattle.std.proofs.Common.{◌≡◌, ℕ, zero, suc, ◌+◌, ◌<◌, ◌≤◌, Bool, true, false, cond, List, [], ◌∷◌, length, get_or, set, drop, refl, ◌∙◌, sym, arith}
 use Rattle.std.proofs.Common.{⊎_elim, length-set, Some, None, ◌||◌, slice_get}
 use Rattle.std.proofs.lemmas.Bool.Decides.{nat_tests}
 use Rattle.std.proofs.lemmas.Bool.{cases_lt}
-use Rattle.std.proofs.lemmas.List.{get_or_past}
+use Rattle.std.proofs.lemmas.List.{drop_all, get_or_past}
 use Rattle.std.proofs.lemmas.List.Sums.{count_by-le-length, sum_by-set}
 use Rattle.std.specs.Bool.{◌==◌}
 use Rattle.std.specs.List.{count_by}
@@ -43,8 +43,28 @@ room_left marked order s h low down =
     omega (arith, length-set marked s true, h.many)
 
 -- what is marked is within
-pub mark_within : (marked : List Bool) (order : List ℕ) (k : ℕ) → AreMarks marked order → has order k ≡ true → k < length marked
-mark_within marked order k h m = ⊎_elim
+pub flag_within : (marked : List Bool) (k : ℕ) → get_or marked k false ≡ true → k < length marked
+flag_within marked k up = ⊎_elim
     (λ (l : k < length marked). l)
-    (λ (g : length marked ≤ k). absurd (let f : false ≡ true = sym (get_or_past marked k false g) ∙ h.flags k ∙ m in cc))
+    (λ (g : length marked ≤ k). absurd (let f : false ≡ true = sym (get_or_past marked k false g) ∙ up in cc))
     (cases_lt k (length marked))
+
+pub mark_within : (marked : List Bool) (order : List ℕ) (k : ℕ) → AreMarks marked order → has order k ≡ true → k < length marked
+mark_within marked order k h m = flag_within marked k (h.flags k ∙ m)
+
+-- the flags of the marked slots are taken down one by one, until none is left
+pub all_lowered : (marked : List Bool) (order : List ℕ) (i : ℕ) → length order ≤ i → ((k : ℕ) → get_or marked k false ≡ true → has (drop i order) k ≡ true)
+    → (k : ℕ) → get_or marked k false ≡ false
+all_lowered marked order i high h k = by (get_or marked k false) (h k) where
+  by : (b : Bool) → (b ≡ true → has (drop i order) k ≡ true) → b ≡ false
+  by false up = refl
+  by true up = absurd (
+      let none : has (drop i order) k ≡ false = rw (drop_all i order high) refl in
+      let some : has (drop i order) k ≡ true = up refl in cc (none, some))
+
+none_up : (marked : List Bool) → ((k : ℕ) → get_or marked k false ≡ false) → count_by (λ b. b) marked ≡ 0
+none_up [] down = refl
+none_up (b ∷ marked) down = let f : b ≡ false = down 0 in rw f (none_up marked (λ k. down (suc k)))
+
+pub none_marked : (marked : List Bool) → ((k : ℕ) → get_or marked k false ≡ false) → AreMarks marked []
+none_marked marked down = record { flags = down; many = none_up marked down }

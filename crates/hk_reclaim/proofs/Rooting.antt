@@ -7,7 +7,7 @@ use Rattle.hk_model.specs.declared.names.Name.{Name}
 use Rattle.hk_objects.specs.declared.body.Body.{Body}
 use Rattle.hk_objects.specs.Slots.{place, name_at}
 use Rattle.hk_reclaim.specs.Naming.{names_in, times, namings}
-use Rattle.hk_reclaim.specs.Made.{is_made, AreMade, IsSweptTo, AreLeft}
+use Rattle.hk_reclaim.specs.Made.{is_made, AreMade, IsFirst, IsSweptTo, AreLeft}
 use Rattle.hk_reclaim.specs.Marks.{Marked}
 use Rattle.hk_reclaim.specs.Reach.{IsInRoom, IsWalked, IsMarking, is_opening, is_lost, stays}
 use Rattle.hk_reclaim.specs.Tally.{has}
@@ -65,6 +65,17 @@ leaves_lost first ps marks k h some = by (place ps k) (has marks k) some h where
 names_some : (p : Option (Name × Body)) (n : Name) → 0 < times n (names_in p) → IsSome p
 names_some None n h = absurd (omega (arith, times_none n))
 names_some (Some q) n h = refl
+
+-- no root stands below the first made object
+pub none_below : (from size : ℕ) (flags : List Bool) (left : List ℕ) → IsFirst from size flags → (k : ℕ)
+    → false ≡ (nat_lt k from && (get_or flags k false && nat_lt 0 (get_or left k 0)))
+none_below from size flags left h k = ⊎_elim
+    (λ (low : k < from). rw (h.below k low) (neither (nat_lt k from)))
+    (λ (high : from ≤ k). let f : nat_lt k from ≡ false = grind (arith, nat_tests) in rw f refl)
+    (cases_lt k from) where
+      neither : (b : Bool) → false ≡ (b && false)
+      neither true = refl
+      neither false = refl
 
 module _ (first : Name) (outside : List ℕ) (ps ws : List (Option (Name × Body))) (size : ℕ) (flags : List Bool) (left : List ℕ) (old new : Marked)
     (room : IsInRoom ps size) (made : AreMade first ps flags) (sw : IsSweptTo ps (λ k. is_made first (name_at ps k)) size ws) (al : AreLeft first ps outside (namings ws) left)

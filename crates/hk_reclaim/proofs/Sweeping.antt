@@ -11,7 +11,7 @@ use Rattle.hk_objects.specs.Slots.{place, name_at, AreApart}
 use Rattle.hk_objects.proofs.Standing.{within_some}
 use Rattle.hk_reclaim.specs.Naming.{names_in, times, namings, stands}
 use Rattle.hk_reclaim.specs.Kept.{IsReached}
-use Rattle.hk_reclaim.specs.Made.{is_made, AreMade, IsSweptTo}
+use Rattle.hk_reclaim.specs.Made.{is_made, AreMade, IsFirst, IsSweptTo}
 use Rattle.hk_reclaim.specs.Tally.{Tally, has, owing, AreCounted, SameOutside}
 use Rattle.hk_reclaim.specs.Reach.{IsInRoom, IsMarking, stays, is_lost, IsHalfSwept, IsDropped}
 use Rattle.hk_reclaim.proofs.Counting.{times_none, times-le-namings, namer, counted_same, removed_one, no_some}
@@ -20,8 +20,10 @@ use Rattle.hk_reclaim.proofs.Rooting.{stays_unlost, leaves_lost}
 use Rattle.hk_reclaim.proofs.Settling.{stands_at, stands_where, pending_stands, named_counts}
 
 -- nothing is swept yet
-pub sweep_starts : (ps : List (Option (Name × Body))) (flag : ℕ → Bool) (t : Tally) → AreCounted ps (namings ps) t → IsHalfSwept ps flag 0 t
-sweep_starts ps flag t h = (ps, swept_none ps flag, h)
+pub sweep_starts : (first : Name) (ps : List (Option (Name × Body))) (flags : List Bool) (marks : List ℕ) (from size : ℕ) (t : Tally) → AreMade first ps flags
+    → IsFirst from size flags → AreCounted ps (namings ps) t → IsHalfSwept ps (is_lost first ps marks) from t
+sweep_starts first ps flags marks from size t made none h =
+    (ps, swept_none ps (is_lost first ps marks) from (λ k low. rw (sym (made k) ∙ none.below k low) refl), h)
 
 -- an object that is kept
 pub sweep_keeps : (ps : List (Option (Name × Body))) (flag : ℕ → Bool) (i : ℕ) (t : Tally) → flag i ≡ false → IsHalfSwept ps flag i t → IsHalfSwept ps flag (i + 1) t

@@ -15,6 +15,11 @@ is_made first (Some n) = not (nat_lt n.0 first.0)
 abbrev pub AreMade : Name → List (Option (Name × Body)) → List Bool → Type 0
 AreMade first ps flags = (k : ℕ) → slice_index_or flags k false ≡ is_made first (name_at ps k)
 
+-- no made object stands in the slots below one of them, or below their end
+pub record IsFirst (from size : ℕ) (flags : List Bool) : Type 0 where
+  pub within : from ≤ size
+  pub below : (k : ℕ) → k < from → slice_index_or flags k false ≡ false
+
 -- the made object of a name stands in a slot
 abbrev pub IsMadeAt : Name → List (Option (Name × Body)) → Option Name → ℕ → Type 0
 IsMadeAt first ps name k = (n : Name) × (name ≡ Some n) × (first.0 ≤ n.0) × (name_at ps k ≡ Some n)

@@ -7,7 +7,7 @@ use Rattle.hk_reclaim.specs.Naming.{names_in, times, namings}
 use Rattle.hk_reclaim.specs.Kept.{IsNamedIn, IsClosed, IsPartOf}
 use Rattle.hk_reclaim.specs.Tally.{Tally, has, AreCounted}
 use Rattle.hk_reclaim.specs.Marks.{Marked, marked_with}
-use Rattle.hk_reclaim.specs.Made.{is_made, IsMadeAt, IsSweptTo}
+use Rattle.hk_reclaim.specs.Made.{is_made, IsFirst, IsMadeAt, IsSweptTo}
 
 -- every object stands in a slot of this room
 abbrev pub IsInRoom : List (Option (Name × Body)) → ℕ → Type 0
@@ -67,9 +67,10 @@ abbrev pub IsHalfSwept : List (Option (Name × Body)) → (ℕ → Bool) → ℕ
 IsHalfSwept ps flag upto t = (qs : List (Option (Name × Body))) × IsSweptTo ps flag upto qs × AreCounted ps (namings qs) t
 
 -- between two collections nothing is marked, and there is room for each slot
-pub record IsIdle (size : ℕ) (stands : List Bool) (left : List ℕ) (marks : Marked) : Type 0 where
+pub record IsIdle (size from : ℕ) (stands : List Bool) (left : List ℕ) (marks : Marked) : Type 0 where
   pub stands_size : length stands ≡ size
   pub left_size : length left ≡ size
+  pub first : IsFirst from size stands
   pub unmarked : marks ≡ record { size = size; slots = [] }
 
 -- what is gone was owed nothing

@@ -36,7 +36,7 @@ impl Model for Counts {
 
     ghost view = { λ a. a.numbers };
 
-    ghost invariant = { λ a. IsIdle (length a.numbers.total) a.made.stands a.made.left a.marks };
+    ghost invariant = { λ a. IsIdle (length a.numbers.total) a.made.from a.made.stands a.made.left a.marks };
 }
 
 impl Counts {

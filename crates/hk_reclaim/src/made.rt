@@ -3,7 +3,7 @@
 ghost use Rattle.std.specs.Prelude.{◌≡◌, ◌<◌, ◌+◌, ◌&&◌, ℕ, List, None, false, length, nat_lt, IfOk, IfSome, IsSome, slice_index, slice_index_or};
 ghost use Rattle.hk_model.specs.declared.names.Name.{Name};
 ghost use Rattle.hk_objects.specs.Slots.{place, name_at};
-ghost use Rattle.hk_reclaim.specs.Made.{is_made, AreMade, AreLeft, IsHalfLeft, IsMadeAt, IsTakeable, IsTakenOff};
+ghost use Rattle.hk_reclaim.specs.Made.{is_made, AreMade, AreLeft, IsFirst, IsHalfLeft, IsMadeAt, IsTakeable, IsTakenOff};
 ghost use Rattle.hk_reclaim.specs.Naming.{names_in, namings};
 ghost use Rattle.hk_reclaim.specs.Reach.{IsInRoom};
 ghost use Rattle.hk_reclaim.specs.Tally.{owing};
@@ -15,9 +15,11 @@ use hk_model::{Name, NoMemory};
 use hk_objects::{Objects, SlotNo};
 use std::alloc::Global;
 
-/// The slots in which made objects stand, and how often each slot's object is named, less the namings taken off.
+/// The slots in which made objects stand, and how often each of these objects is named, less the namings taken off.
+/// In no slot below `from` a made object stands.
 #[derive(Drop)]
 pub(crate) struct Made {
+    pub(crate) from: u32,
     stands: PerSlot<bool>,
     left: PerSlot<u32>,
 }
@@ -49,18 +51,25 @@ pub(crate) fn made_slot(objects: &Objects, name: Option<Name>, first_new: Name) 
     }
 }
 
-/// Writes for each slot whether a made object stands there.
-fn read_stands(stands: &mut PerSlot<bool>, size: u32, first_new: Name, objects: &Objects)
+/// A number of slots, from the first on, in which no made object stands: opening objects stand in the slots of their own
+/// numbers.
+fn opening_slots(objects: &Objects, first_new: Name) -> u32
+    ensures { (k : ℕ) → k < result → is_made first_new (name_at objects.now.slots k) ≡ false }
+{
+    first_new.0.min(objects.in_place() as u64) as u32
+}
+
+/// Writes for each slot from one on whether a made object stands there.
+fn read_stands(stands: &mut PerSlot<bool>, from: u32, size: u32, first_new: Name, objects: &Objects)
     requires size { length stands.old ≡ size }
     requires room { IsInRoom objects.now.slots size }
+    requires first { IsFirst from size stands.old }
+    requires opening { (k : ℕ) → k < from → is_made first_new (name_at objects.now.slots k) ≡ false }
     ensures size { length stands.new ≡ size }
     ensures stands { AreMade first_new objects.now.slots stands.new }
 {
-    stands.fill(false);
-    for i in 0..size {
-        if is_made(objects, SlotNo(i), first_new) {
-            stands.set(i, true);
-        }
+    for i in from..size {
+        stands.set(i, is_made(objects, SlotNo(i), first_new));
     }
 }
 
@@ -105,8 +114,10 @@ impl Made {
     pub(crate) fn with(alloc: Global, slots: u32) -> Result<Made, NoMemory>
         ensures stands { IfOk result (λ made. length made.stands ≡ slots) }
         ensures left { IfOk result (λ made. length made.left ≡ slots) }
+        ensures first { IfOk result (λ made. IsFirst made.from slots made.stands) }
     {
         Ok(Made {
+            from: slots,
             stands: PerSlot::with(alloc, slots, false)?,
             left: PerSlot::with(alloc, slots, 0)?,
         })
@@ -140,6 +151,7 @@ impl Made {
         requires stands { length self.old.stands ≡ size }
         requires left { length self.old.left ≡ size }
         requires total { length total.now ≡ size }
+        requires first { IsFirst self.old.from size self.old.stands }
         requires room { IsInRoom objects.now.slots size }
         requires counted { (outside : List ℕ) × AreLeft first_new objects.now.slots outside (namings objects.now.slots) total.now }
         ensures stands { AreMade first_new objects.now.slots self.new.stands }
@@ -147,10 +159,12 @@ impl Made {
             → IsHalfLeft first_new objects.now.slots outside size self.new.left }
         ensures stands_size { length self.new.stands ≡ size }
         ensures left_size { length self.new.left ≡ size }
+        ensures first { IsFirst self.new.from size self.new.stands }
     {
-        read_stands(&mut self.stands, size, first_new, objects);
-        self.left.copy(total);
-        for i in 0..size {
+        self.from = self.from.min(opening_slots(objects, first_new));
+        read_stands(&mut self.stands, self.from, size, first_new, objects);
+        self.left.copy_from(total, self.from);
+        for i in self.from..size {
             take_off_if(&mut self.left, objects, i, first_new, self.stands.get(i));
         }
     }

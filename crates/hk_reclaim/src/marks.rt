@@ -27,6 +27,17 @@ impl Model for Marks {
     ghost invariant = { λ a. AreMarks a.marked a.order.items × (length a.marked ≤ vec_capacity a.order) };
 }
 
+/// Takes down the flags of these slots, which are all that are up.
+fn lower_flags(marked: &mut PerSlot<bool>, order: &[u32])
+    requires { (k : ℕ) → slice_index_or marked.old k false ≡ has order.now k }
+    ensures size { length marked.new ≡ length marked.old }
+    ensures down { (k : ℕ) → slice_index_or marked.new k false ≡ false }
+{
+    for slot in order {
+        marked.set(*slot, false);
+    }
+}
+
 impl Marks {
     /// No marks, with room for so many slots. No other call takes memory.
     pub(crate) fn with(alloc: Global, slots: u32) -> Result<Marks, NoMemory>
@@ -74,7 +85,7 @@ impl Marks {
     pub(crate) fn clear(&mut self)
         ensures { self.new ≡ record self.old { slots = [] } }
     {
-        self.marked.fill(false);
+        lower_flags(&mut self.marked, self.order.as_slice());
         self.order.clear();
     }
 }

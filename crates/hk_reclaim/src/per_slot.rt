@@ -1,6 +1,6 @@
 //! A value for each slot, of which memory is touched only as far as slots were written.
 
-ghost use Rattle.std.specs.Prelude.{◌≡◌, ◌<◌, ◌≤◌, ◌++◌, ◌-◌, ◌^◌, length, IfOk, replicate, slice_index, slice_index_or, slice_set, vec_capacity};
+ghost use Rattle.std.specs.Prelude.{◌≡◌, ◌<◌, ◌≤◌, ◌++◌, ◌-◌, ◌^◌, ℕ, length, IfOk, replicate, slice_index, slice_index_or, slice_set, vec_capacity};
 ghost use Rattle.hk_reclaim.specs.Tally.{raised, lowered};
 
 use hk_model::NoMemory;
@@ -36,18 +36,6 @@ fn lengthen<T: Copy>(front: &mut Vec<T>, to: usize, rest: T)
 {
     for _next in front.len()..to {
         front.push_reserved(rest);
-    }
-}
-
-/// Writes values over a list in which there is room for them.
-fn refill<T: Copy>(front: &mut Vec<T>, from: &[T])
-    requires { length from.now ≤ vec_capacity front.old }
-    ensures items { front.new.items ≡ from.now }
-    ensures capacity { vec_capacity front.new ≡ vec_capacity front.old }
-{
-    front.clear();
-    for i in 0..from.len() {
-        front.push_reserved(from[i]);
     }
 }
 
@@ -91,23 +79,6 @@ impl<T: Copy> PerSlot<T> {
         lengthen(&mut self.front, at + 1, self.rest);
         self.front[at] = value;
     }
-
-    /// Writes one value to all slots.
-    pub(crate) fn fill(&mut self, value: T)
-        ensures { self.new ≡ replicate (length self.old) value }
-    {
-        self.front.clear();
-        self.rest = value;
-    }
-
-    /// Writes the values of as many other slots.
-    pub(crate) fn copy(&mut self, other: &PerSlot<T>)
-        requires { length self.old ≡ length other.now }
-        ensures { self.new ≡ other.now }
-    {
-        refill(&mut self.front, other.front.as_slice());
-        self.rest = other.rest;
-    }
 }
 
 impl PerSlot<u32> {
@@ -131,5 +102,16 @@ impl PerSlot<u32> {
     {
         let number = self.get(slot);
         self.set(slot, number - 1);
+    }
+
+    /// Writes the numbers of as many other slots from one slot on.
+    pub(crate) fn copy_from(&mut self, other: &PerSlot<u32>, from: u32)
+        requires { length self.old ≡ length other.now }
+        ensures size { length self.new ≡ length self.old }
+        ensures numbers { (k : ℕ) → from ≤ k → slice_index self.new k ≡ slice_index other.now k }
+    {
+        for slot in from..self.size() {
+            self.set(slot, other.get(slot));
+        }
     }
 }

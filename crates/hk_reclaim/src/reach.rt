@@ -2,7 +2,7 @@
 
 ghost use Rattle.std.specs.Prelude.{◌≡◌, ◌<◌, ◌&&◌, ℕ, List, [], true, false, cond, length, IsSome, nat_lt, slice_index, slice_index_or};
 ghost use Rattle.hk_objects.specs.Slots.{place, name_at};
-ghost use Rattle.hk_reclaim.specs.Made.{AreMade, IsHalfLeft};
+ghost use Rattle.hk_reclaim.specs.Made.{AreMade, IsFirst, IsHalfLeft};
 ghost use Rattle.hk_reclaim.specs.Marks.{marked_with};
 ghost use Rattle.hk_reclaim.specs.Naming.{names_in};
 ghost use Rattle.hk_reclaim.specs.Reach.{IsInRoom, IsMarkedBy, Grows, IsWalked, IsMarking, stays};
@@ -50,11 +50,12 @@ fn mark_if(marks: &mut Marks, slot: u32, so: bool)
 fn mark_roots(marks: &mut Marks, size: u32, made: &Made)
     requires stands { length made.now.stands ≡ size }
     requires left { length made.now.left ≡ size }
+    requires first { IsFirst made.now.from size made.now.stands }
     requires empty { marks.old ≡ record { size = size; slots = [] } }
     ensures size { marks.new.size ≡ size }
     ensures roots { (k : ℕ) → has marks.new.slots k ≡ (nat_lt k size && (slice_index_or made.now.stands k false && nat_lt 0 (slice_index made.now.left k))) }
 {
-    for i in 0..size {
+    for i in made.from..size {
         mark_if(marks, i, made.is_root(i));
     }
 }
@@ -85,6 +86,7 @@ pub(crate) fn mark_reached(
 )
     requires stands_size { length made.now.stands ≡ size }
     requires left_size { length made.now.left ≡ size }
+    requires first { IsFirst made.now.from size made.now.stands }
     requires empty { marks.old ≡ record { size = size; slots = [] } }
     requires room { IsInRoom objects.now.slots size }
     requires stands { AreMade first_new objects.now.slots made.now.stands }

@@ -4,7 +4,7 @@ ghost use Rattle.std.specs.Prelude.{◌≡◌, ◌<◌, ◌+◌, ◌↔◌, ◌&
 ghost use Rattle.hk_model.specs.declared.names.Name.{Name};
 ghost use Rattle.hk_reclaim.specs.Kept.{HasLost};
 ghost use Rattle.hk_objects.specs.Slots.{place};
-ghost use Rattle.hk_reclaim.specs.Made.{AreMade};
+ghost use Rattle.hk_reclaim.specs.Made.{AreMade, IsFirst};
 ghost use Rattle.hk_reclaim.specs.Reach.{IsHalfSwept, IsDropped, is_lost};
 ghost use Rattle.hk_reclaim.specs.Tally.{has, AreCounted, IsCounted, SameOutside};
 
@@ -44,13 +44,14 @@ pub(crate) fn release_lost(
 )
     requires size { size ≡ marks.now.size }
     requires made_size { length made.now.stands ≡ size }
+    requires first { IsFirst made.now.from size made.now.stands }
     requires made { (first : Name) × AreMade first objects.now.slots made.now.stands }
     requires counted { IsCounted objects.now.slots numbers.old }
     ensures counted { (first : Name) → AreMade first objects.now.slots made.now.stands
         → IsHalfSwept objects.now.slots (is_lost first objects.now.slots marks.now.slots) size numbers.new }
     ensures outside { SameOutside numbers.old numbers.new }
 {
-    for i in 0..size {
+    for i in made.from..size {
         release_if(numbers, objects, i, is_lost(made, marks, i));
     }
 }

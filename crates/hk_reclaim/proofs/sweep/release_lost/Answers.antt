@@ -6,7 +6,9 @@ use Rattle.hk_reclaim.proofs.sweep.release_lost.Goals as goal
 
 pub loop-i-init : goal.loop-i-init
 loop-i-init c = record {
-  counted = λ first made. sweep_starts c.args.objects.now.slots (is_lost first c.args.objects.now.slots c.args.marks.now.slots) c.args.numbers.now c.requires.counted;
+  counted = λ first made.
+      sweep_starts first c.args.objects.now.slots c.args.made.now.stands c.args.marks.now.slots c.args.made.now.from c.args.size c.args.numbers.now made c.requires.first
+      c.requires.counted;
   outside = same_tally c.args.numbers.now c.args.numbers.now refl;
 }
 
