@@ -11,59 +11,48 @@ use Rattle.hk_format.specs.Texts.{Lines, text}
 use Rattle.hk_format.specs.Grammar.{script}
 use Rattle.hk_format.specs.Loading.{load}
 use Rattle.hk_model.specs.WorldValue.{WorldValue}
-use Rattle.hk_format.specs.Worlds.{world, pass, parsed, last_pass}
+use Rattle.hk_format.specs.Worlds.{Refused, world, pass, parsed, last_pass}
 use Rattle.hk_format.specs.declared.errors.ReadError.{ReadError}
 use Rattle.hk_format.specs.declared.errors.ReadError.TheVariants as read_error
 use Rattle.hk_format.specs.Outcomes.{IsRefused, with_cause}
+use Rattle.hk_script.specs.Progresses.{checked, source_items}
 
--- behind the first pass
-at_lines : (bytes : List ℕ) (lines : Lines) → text bytes ≡ Ok lines → world bytes ≡ parsed lines
+-- the last pass over what the passes before gave
+abbrev loaded : Result (List Item) Refused → Result WorldValue Refused
+loaded (Ok items) = last_pass items
+loaded (Err refused) = Err refused
+
+-- the passes before, and the last
+in_passes : (bytes : List ℕ) → world bytes ≡ loaded (source_items bytes)
 unfolding world
-at_lines bytes lines h = ap (λ r. pass OfText r parsed) h
+in_passes bytes = go (text bytes)
+  where
+    at_script : (items : Result (List Item) (ℕ × ParseCause)) → pass OfParse items last_pass ≡ loaded (pass OfParse items Ok)
+    at_script (Ok items) = refl
+    at_script (Err refused) = refl
 
--- behind the second
-at_items : (bytes : List ℕ) (lines : Lines) (items : List Item) → text bytes ≡ Ok lines → script lines ≡ Ok items → world bytes ≡ last_pass items
-at_items bytes lines items h g = at_lines bytes lines h ∙ ap (λ r. pass OfParse r last_pass) g
+    go : (lines : Result Lines (ℕ × TextCause)) → pass OfText lines parsed ≡ loaded (checked lines script)
+    go (Ok ls) = at_script (script ls)
+    go (Err refused) = refl
 
-pub text_refused : (bytes : List ℕ) (line : ℕ) (cause : TextCause) → text bytes ≡ Err (line, cause) → world bytes ≡ Err (line, OfText cause)
-unfolding world
-text_refused bytes line cause h = ap (λ r. pass OfText r parsed) h
+-- a world
+pub world_is : (bytes : List ℕ) (items : List Item) (w : WorldValue) → source_items bytes ≡ Ok items → load items ≡ Ok w → world bytes ≡ Ok w
+world_is bytes items w h g = in_passes bytes ∙ ap loaded h ∙ ap (λ r. pass OfLoad r Ok) g
 
-pub parse_refused : (bytes : List ℕ) (lines : Lines) (line : ℕ) (cause : ParseCause) → text bytes ≡ Ok lines → script lines ≡ Err (line, cause)
-    → world bytes ≡ Err (line, OfParse cause)
-parse_refused bytes lines line cause h g = at_lines bytes lines h ∙ ap (λ r. pass OfParse r last_pass) g
+-- a refusal of the passes before
+pub source_refused : (bytes : List ℕ) (line : ℕ) (cause : Cause) → source_items bytes ≡ Err (line, cause) → world bytes ≡ Err (line, cause)
+source_refused bytes line cause h = in_passes bytes ∙ ap loaded h
 
-pub load_refused : (bytes : List ℕ) (lines : Lines) (items : List Item) (line : ℕ) (cause : LoadCause) → text bytes ≡ Ok lines → script lines ≡ Ok items
-    → load items ≡ Err (line, cause) → world bytes ≡ Err (line, OfLoad cause)
-load_refused bytes lines items line cause h g f = at_items bytes lines items h g ∙ ap (λ r. pass OfLoad r Ok) f
+load_refused : (bytes : List ℕ) (items : List Item) (line : ℕ) (cause : LoadCause) → source_items bytes ≡ Ok items → load items ≡ Err (line, cause)
+    → world bytes ≡ Err (line, OfLoad cause)
+load_refused bytes items line cause h g = in_passes bytes ∙ ap loaded h ∙ ap (λ r. pass OfLoad r Ok) g
 
-pub world_is : (bytes : List ℕ) (lines : Lines) (items : List Item) (w : WorldValue) → text bytes ≡ Ok lines → script lines ≡ Ok items → load items ≡ Ok w → world bytes ≡ Ok w
-world_is bytes lines items w h g f = at_items bytes lines items h g ∙ ap (λ r. pass OfLoad r Ok) f
-
--- what each pass that refuses says of the whole
-
-pub of_text_error : (bytes : List ℕ) (result : Result WorldValue (ReadError Cause)) (e : (ReadError TextCause)) → IsErrAnd result (λ error. error ≡ with_cause OfText e)
-    → ((line : ℕ) (cause : TextCause) → e ≡ read_error.Refused line cause → text bytes ≡ Err (line, cause))
-    → (line : ℕ) (cause : Cause) → IsRefused result line cause → world bytes ≡ Err (line, cause)
-of_text_error bytes (Ok w) e h f line cause r = absurd h
-of_text_error bytes (Err error) (read_error.Refused at why) h f line cause r =
-    let a : at ≡ line = cc in let b : OfText why ≡ cause = cc in text_refused bytes at why (f at why refl) ∙ rw (a, b) refl
-of_text_error bytes (Err error) read_error.NoMemory h f line cause r = absurd (cc)
-
-pub of_parse_error : (bytes : List ℕ) (lines : Lines) (result : Result WorldValue (ReadError Cause)) (e : (ReadError ParseCause)) → text bytes ≡ Ok lines
-    → IsErrAnd result (λ error. error ≡ with_cause OfParse e)
-    → ((line : ℕ) (cause : ParseCause) → e ≡ read_error.Refused line cause → script lines ≡ Err (line, cause)) → (line : ℕ) (cause : Cause) → IsRefused result line cause
-    → world bytes ≡ Err (line, cause)
-of_parse_error bytes lines (Ok w) e t h f line cause r = absurd h
-of_parse_error bytes lines (Err error) (read_error.Refused at why) t h f line cause r =
-    let a : at ≡ line = cc in let b : OfParse why ≡ cause = cc in parse_refused bytes lines at why t (f at why refl) ∙ rw (a, b) refl
-of_parse_error bytes lines (Err error) read_error.NoMemory t h f line cause r = absurd (cc)
-
-pub of_load_error : (bytes : List ℕ) (lines : Lines) (items : List Item) (result : Result WorldValue (ReadError Cause)) (e : (ReadError LoadCause)) → text bytes ≡ Ok lines
-    → script lines ≡ Ok items → IsErrAnd result (λ error. error ≡ with_cause OfLoad e)
+-- what the last pass says of the whole, where it refuses
+pub of_load_error : (bytes : List ℕ) (items : List Item) (result : Result WorldValue (ReadError Cause)) (e : (ReadError LoadCause)) → source_items bytes ≡ Ok items
+    → IsErrAnd result (λ error. error ≡ with_cause OfLoad e)
     → ((line : ℕ) (cause : LoadCause) → e ≡ read_error.Refused line cause → load items ≡ Err (line, cause)) → (line : ℕ) (cause : Cause) → IsRefused result line cause
     → world bytes ≡ Err (line, cause)
-of_load_error bytes lines items (Ok w) e t p h f line cause r = absurd h
-of_load_error bytes lines items (Err error) (read_error.Refused at why) t p h f line cause r =
-    let a : at ≡ line = cc in let b : OfLoad why ≡ cause = cc in load_refused bytes lines items at why t p (f at why refl) ∙ rw (a, b) refl
-of_load_error bytes lines items (Err error) read_error.NoMemory t p h f line cause r = absurd (cc)
+of_load_error bytes items (Ok w) e p h f line cause r = absurd h
+of_load_error bytes items (Err error) (read_error.Refused at why) p h f line cause r =
+    let a : at ≡ line = cc in let b : OfLoad why ≡ cause = cc in load_refused bytes items at why p (f at why refl) ∙ rw (a, b) refl
+of_load_error bytes items (Err error) read_error.NoMemory p h f line cause r = absurd (cc)

@@ -9,8 +9,7 @@ ghost use Rattle.hk_format.specs.Worlds.{world};
 use crate::loading::load;
 use hk_format::{Cause, ReadError};
 use hk_model::World;
-use hk_script::parse_owned;
-use hk_text::lines;
+use hk_script::parse_source;
 use std::alloc::Global;
 
 /// Why bytes are no script of a world.
@@ -25,7 +24,6 @@ pub fn read_world(alloc: Global, script: &[u8]) -> Result<World, WorldError>
     ensures ok { IfOk result (λ w. world script.now ≡ Ok w) }
     ensures refused { (line : ℕ) (cause : Cause) → IsRefused result line cause → world script.now ≡ Err (line, cause) }
 {
-    let lines = lines(alloc, script)?;
-    let syntax = parse_owned(alloc, lines, script)?;
+    let syntax = parse_source(alloc, script)?;
     Ok(load(alloc, &syntax)?)
 }

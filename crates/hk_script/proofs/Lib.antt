@@ -10,3 +10,4 @@ pub mod ReadersGood
 pub mod InstructionsGood
 pub mod PartsGood
 pub mod SyntaxGood
+pub mod ProgressLemmas

@@ -1,6 +1,6 @@
 -- Names by their numbers.
 use Rattle.std.proofs.Common.{◌≡◌, ℕ, suc, zero, ◌+◌, ◌<◌, Bool, true, false, cond, ◌||◌, eqb, List, [], ◌∷◌, ◌++◌, length, map, refl, sym, ap, ◌∙◌, Some, None, Option, String, Global, string_bytes, arith}
-use Rattle.std.specs.Prelude.{is_some, if◌then◌else◌}
+use Rattle.std.specs.Prelude.{is_some, unwrap_or, not, if◌then◌else◌}
 use Rattle.std.specs.List.{list_any, position_from, range_with_len}
 use Rattle.std.specs.declared.cmp.Ordering.{Ordering}
 use Rattle.std.specs.declared.cmp.Ordering.TheVariants.{Less, Equal, Greater}
@@ -291,3 +291,68 @@ long_stays short long new e numbered = (rw e numbered.0, rw e numbered.1, λ t. 
     same : (t : List ℕ) (o : Option ℕ) → number_by o short new t ≡ number_by o short long t
     same t (Some key) = refl
     same t None = ap (lookup (is_at (λ k. slice_cmp nat_cmp t (string_bytes k)))) e
+
+-- a short name by one look-up
+
+-- a name that is put over itself with its own number
+over_itself : {K : Type 0} (cmp : K → K → Ordering) (k : K) (old : ℕ) (es : List (K × ℕ)) → lookup (is_at (cmp k)) es ≡ Some old
+    → length (insert_entry cmp es k old) ≡ length es → insert_entry cmp es k old ≡ es
+over_itself {K = K} cmp k old [] h len = absurd (let no : None ≡ Some old = h in cc)
+over_itself {K = K} cmp k old (e ∷ es) h len = by (cmp k e.0) h len (over_itself cmp k old es)
+  where
+    by : (o : Ordering) → cond (is_eq o) (Some e.1) (lookup (is_at (cmp k)) es) ≡ Some old
+        → length (match_ordering o ((k, old) ∷ e ∷ es) ((e.0, old) ∷ es) (e ∷ insert_entry cmp es k old)) ≡ length (e ∷ es)
+        → (lookup (is_at (cmp k)) es ≡ Some old → length (insert_entry cmp es k old) ≡ length es → insert_entry cmp es k old ≡ es)
+        → match_ordering o ((k, old) ∷ e ∷ es) ((e.0, old) ∷ es) (e ∷ insert_entry cmp es k old) ≡ e ∷ es
+    by Less h len later = absurd (omega (arith, len))
+    by Equal h len later = let same : e.1 ≡ old = cc in ap (λ (n : ℕ). (e.0, n) ∷ es) (sym same)
+    by Greater h len later = ap (λ (xs : List (K × ℕ)). e ∷ xs) (later h (omega (arith, len)))
+
+-- the number of a name is below their count
+below_found : {K : Type 0} (cmp : K → Ordering) (bound old : ℕ) (es : List (K × ℕ)) → AreBelow bound es → lookup (is_at cmp) es ≡ Some old → old < bound
+below_found cmp bound old [] below h = absurd (let no : None ≡ Some old = h in cc)
+below_found cmp bound old (e ∷ es) below h = by (is_eq (cmp e.0)) h (below_found cmp bound old es below.1)
+  where
+    by : (b : Bool) → cond b (Some e.1) (lookup (is_at cmp) es) ≡ Some old → (lookup (is_at cmp) es ≡ Some old → old < bound) → old < bound
+    by true h later = let same : e.1 ≡ old = cc in let low : e.1 < bound = below.0 in omega (arith, same)
+    by false h later = later h
+
+-- the names after a look-up that puts a name at the end where it is not there
+pub record Known (short new : Short) (long : Long) (names : List (List ℕ)) (t : List ℕ) (is_new : Bool) : Type 0 where
+  pub numbered : IsNumbered new long
+  pub is : is_new ≡ not (is_among names t)
+  pub all : names_numbered new long ≡ cond is_new (names ++ t ∷ []) names
+
+pub short_found : (short new : Short) (long : Long) (names : List (List ℕ)) (t : List ℕ) (key n found : ℕ) → IsNumbered short long → names_numbered short long ≡ names
+    → n ≡ name_count short long → Some key ≡ short_key t → found ≡ unwrap_or (get nat_cmp short key) n
+    → length new.entries ≡ length short.entries + (if is_some (get nat_cmp short key) then 0 else 1)
+    → new.entries ≡ insert_entry nat_cmp short.entries key found → Updates nat_cmp short new key (Some found)
+    → Known short new long names t (eqb found n)
+short_found short new long names t key n found numbered v count is at len e updates = by (get nat_cmp short key) refl at len
+  where
+    placed : (o : Option ℕ) → get nat_cmp short key ≡ o → is_among names t ≡ is_some o
+    placed o h =
+        sym (place_among names t) ∙ ap (λ (ts : List (List ℕ)). is_some (place ts t)) (sym v)
+        ∙ ap is_some (sym (numbered.2 t) ∙ ap (λ (k : Option ℕ). number_by k short long t) (sym is) ∙ h)
+
+    by : (o : Option ℕ) → get nat_cmp short key ≡ o → found ≡ unwrap_or o n → length new.entries ≡ length short.entries + (if is_some o then 0 else 1)
+        → Known short new long names t (eqb found n)
+    by None h at len =
+        let absent = placed None h in
+        let is_new : eqb found n ≡ true = grind (arith, nat_tests) in
+        let added = short_added short new long names t key found None numbered v absent (omega (arith, at, count)) is (sym h) len e updates in
+        record { numbered = added.0; is = rw (is_new, absent); all = rw is_new added.1 }
+    by (Some old) h at len =
+        let there = placed (Some old) h in
+        let low : old < n = rw count (below_found (nat_cmp key) (name_count short long) old short.entries numbered.0 h) in
+        let is_new : eqb found n ≡ false = grind (arith, nat_tests) in
+        let same : found ≡ old = at in
+        let put : new.entries ≡ insert_entry nat_cmp short.entries key old = rw same at e in
+        let stays : new.entries ≡ short.entries = put ∙ over_itself nat_cmp key old short.entries h (ap length (sym put) ∙ omega (arith, len)) in
+        record {
+          numbered = short_stays short new long stays numbered;
+          is = rw (is_new, there);
+          all =
+              rw is_new (ap (λ (es : List (ℕ × ℕ)). map (λ i. text_numbered key_text es i ++ text_numbered string_bytes long.entries i) (range_with_len 0 (length es + length long.entries))) stays
+              ∙ v);
+        }

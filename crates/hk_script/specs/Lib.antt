@@ -1,6 +1,7 @@
 pub mod Lines
 pub mod Outcomes
 pub mod Readings
+pub mod Progresses
 pub mod Paths
 pub mod Keys
 pub mod Numbered

@@ -1,11 +1,12 @@
 -- What was read of a script, as the grammar has it. docs/FORMATS.md, "Grammar".
-use Rattle.std.specs.Prelude.{◌≡◌, ℕ, List, Option, Some, None, Result, Ok, Err, false, true}
+use Rattle.std.specs.Prelude.{◌≡◌, ℕ, Bool, not, List, [], ◌∷◌, ◌++◌, Option, Some, None, Result, Ok, Err, false, true, if◌then◌else◌}
 use Rattle.hk_format.specs.declared.causes.ParseCause.{ParseCause}
 use Rattle.hk_format.specs.declared.causes.ParseCause.TheVariants.{Repeated}
 use Rattle.hk_format.specs.declared.syntax.Head.{Head}
 use Rattle.hk_format.specs.declared.syntax.Body.{Body}
 use Rattle.hk_format.specs.declared.syntax.Item.{Item}
-use Rattle.hk_format.specs.Grammar.{Read, Open, Refused, is_new, noted, is_new_label, noted_label}
+use Rattle.hk_format.specs.Grammar.{Read, Open, Refused, is_new, noted, is_new_label, noted_label, with_part, between_items, in_item}
+use Rattle.hk_format.specs.Outcomes.{Fails}
 use Rattle.hk_format.specs.declared.errors.ReadError.{ReadError}
 use Rattle.hk_format.specs.declared.errors.ReadError.TheVariants as parse_error
 use Rattle.hk_format.specs.declared.errors.LineError.{LineError}
@@ -37,6 +38,22 @@ abbrev pub MatchNewLabel : Result (Unit {0}) (LineError ParseCause) → List (Li
 MatchNewLabel (Ok x) new old body = (is_new_label old body ≡ true) × (new ≡ noted_label old body)
 MatchNewLabel (Err (line_error.Bad cause)) new old body = (is_new_label old body ≡ false) × (cause ≡ Repeated)
 MatchNewLabel (Err line_error.NoMemory) new old body = Unit {0}
+
+-- the open item with one line more, and its label where it gives one
+abbrev pub extended : Open → ℕ → Body → Result Open ParseCause
+extended o line body =
+    if not (is_new_label o.labels body) then Err Repeated
+    else Ok (record { item = with_part o.item line body; labels = noted_label o.labels body })
+
+-- what was read, where the item that is open is now this one, or is it and ends
+abbrev pub after_part : Read → Open → Bool → Read
+after_part r o true = between_items (r.items ++ o.item ∷ []) r.seen
+after_part r o false = in_item r.items r.seen o.item o.labels
+
+-- the line was read, and tells whether it ends the open item; or the cause is the one that was given, or memory was wanting
+abbrev pub MatchPart : Result Bool (LineError ParseCause) → Open → (Read → Result Read ParseCause) → Type 0
+MatchPart (Ok ends) new given = (r : Read) → given r ≡ Ok (after_part r new ends)
+MatchPart (Err error) new given = (r : Read) → Fails error (given r)
 
 -- the items are those that the grammar gives, or the line and the cause are
 abbrev pub Closes : Result (List Item) (ReadError ParseCause) → Result (List Item) Refused → Type 0

@@ -47,6 +47,21 @@ impl Names {
         ensures found { IfOk result (λ new. new ≡ not (is_among self.old name.now)) }
         ensures names { IfOk result (λ new. self.new ≡ (if new then self.old ++ name.now ∷ [] else self.old)) }
     {
+        match short_key(name.as_bytes()) {
+            Some(key) => {
+                let number = self.short.len() + self.long.len();
+                let found = *self.short.entry(key)?.or_insert(number);
+                Ok(found == number)
+            }
+            None => self.add_long(alloc, name),
+        }
+    }
+
+    /// Puts a name that has no key at the end unless it is there already.
+    fn add_long(&mut self, alloc: Global, name: &str) -> Result<bool, AllocError>
+        ensures found { IfOk result (λ new. new ≡ not (is_among self.old name.now)) }
+        ensures names { IfOk result (λ new. self.new ≡ (if new then self.old ++ name.now ∷ [] else self.old)) }
+    {
         if self.place(name).is_some() {
             return Ok(false);
         }

@@ -1,13 +1,13 @@
 //! What the lines before have given (`docs/FORMATS.md`, "Grammar").
 
-ghost use Rattle.std.specs.Prelude.{◌≡◌, [], IsTrue, IsNone, IfOk, IfErr, map};
+ghost use Rattle.std.specs.Prelude.{◌≡◌, [], ◌∷◌, ◌++◌, Some, None, Ok, true, IsTrue, IsNone, map};
 ghost use Rattle.std.specs.List.{list_all};
 ghost use Rattle.hk_format.specs.Pieces.{is_piece};
-ghost use Rattle.hk_format.specs.Grammar.{between_items, nothing_seen, after_line, begun, joined, closed, with_part};
-ghost use Rattle.hk_format.specs.declared.errors.LineError.TheVariants as line_error;
+ghost use Rattle.hk_format.specs.Grammar.{between_items, nothing_seen, after_line, next_line, in_item, item_at, joined, and_then, part_line, closed, Read, Open};
 ghost use Rattle.hk_text.specs.Views.{seen};
 ghost use Rattle.hk_format.specs.Outcomes.{Becomes};
-ghost use Rattle.hk_script.specs.Readings.{read_of, open_of, MatchNew, MatchNewLabel, Closes};
+ghost use Rattle.hk_script.specs.Lines.{rest};
+ghost use Rattle.hk_script.specs.Readings.{read_of, open_of, option_open, extended, after_part, MatchNew, MatchNewLabel, MatchPart, Closes};
 
 use crate::errors::{LineError, ParseError};
 use crate::heads::{has_parts, name_of};
@@ -15,7 +15,7 @@ use crate::line::Line;
 use crate::names::Names;
 use hk_format::{Body, Head, Item, ParseCause, Part};
 use hk_model::Items;
-use hk_text::TextLine;
+use hk_text::Piece;
 use std::alloc::Global;
 
 /// An item whose end is to come, and the labels that it has given.
@@ -23,6 +23,30 @@ use std::alloc::Global;
 pub struct Opened {
     item: Item,
     labels: Names,
+}
+
+impl Opened {
+    /// Reads a line of the item, and tells whether it ends the item.
+    fn line(&mut self, alloc: Global, number: u32, line: &mut Line) -> Result<bool, LineError>
+        ensures { MatchPart result (open_of self.new) (λ (r : Read). and_then (part_line self.old.item.head (rest line.old)) (joined r (open_of self.old) number)) }
+    {
+        match line.part(alloc, &self.item.head)? {
+            Some(body) => {
+                self.extend(alloc, number, body)?;
+                Ok(false)
+            }
+            None => Ok(true),
+        }
+    }
+
+    /// Puts a line in its place, or Repeated.
+    fn extend(&mut self, alloc: Global, line: u32, body: Body) -> Result<(), LineError>
+        ensures { Becomes result (open_of self.new) (extended (open_of self.old) line body) }
+    {
+        note_label(alloc, &mut self.labels, &body)?;
+        self.item.parts.push(Part { line, body })?;
+        Ok(())
+    }
 }
 
 /// What the lines before have given.
@@ -48,39 +72,40 @@ impl Reading {
     }
 
     /// Reads the next line.
-    pub fn line(&mut self, alloc: Global, source: &[u8], line: &TextLine) -> Result<(), LineError>
-        requires { IsTrue (list_all is_piece (map (seen source.now) line.now.pieces)) }
-        ensures { Becomes result (read_of self.new) (after_line (read_of self.old) line.now.number (map (seen source.now) line.now.pieces)) }
+    pub fn line(
+        &mut self,
+        alloc: Global,
+        source: &[u8],
+        number: u32,
+        pieces: &[Piece],
+    ) -> Result<(), LineError>
+        requires { IsTrue (list_all is_piece (map (seen source.now) pieces.now)) }
+        ensures { Becomes result (read_of self.new) (after_line (read_of self.old) number (map (seen source.now) pieces.now)) }
     {
-        let mut rest = Line::new(source, line.pieces.as_slice());
-        match self.unclosed.take() {
-            None => {
-                let head = rest.head(alloc)?;
-                self.begin(alloc, line.number, head)
-            }
+        let mut line = Line::new(source, pieces);
+        match &mut self.unclosed {
+            None => self.between(alloc, number, &mut line),
             Some(opened) => {
-                let part = rest.part(alloc, &opened.item.head)?;
-                self.join(alloc, line.number, opened, part)
+                if opened.line(alloc, number, &mut line)? {
+                    self.close()?;
+                }
+                Ok(())
             }
         }
     }
 
-    /// Begins the item with this head. Most items have one line more, so there is room for one.
-    fn begin(&mut self, alloc: Global, line: u32, head: Head) -> Result<(), LineError>
+    /// Reads a line between items, which is the head of one.
+    fn between(&mut self, alloc: Global, number: u32, line: &mut Line) -> Result<(), LineError>
         requires { IsNone self.old.unclosed }
-        ensures { Becomes result (read_of self.new) (begun (read_of self.old) line head) }
+        ensures { Becomes result (read_of self.new) (next_line (read_of self.old) None number (rest line.old)) }
     {
+        let head = line.head(alloc)?;
         self.note(alloc, &head)?;
         if has_parts(&head) {
-            let parts = Items::from_vec(Vec::with_capacity(alloc, 1)?);
-            let item = Item { line, head, parts };
-            let labels = Names::new(alloc);
-            self.unclosed = Some(Opened { item, labels });
+            self.open(alloc, number, head)
         } else {
-            let parts = Items::new(alloc);
-            self.items.push(Item { line, head, parts })?;
+            self.push_single(alloc, number, head)
         }
-        Ok(())
     }
 
     /// Keeps what a head gives, or Repeated.
@@ -101,47 +126,36 @@ impl Reading {
         }
     }
 
-    /// Puts a line of the open item in its place, or ends the item.
-    fn join(
-        &mut self,
-        alloc: Global,
-        line: u32,
-        opened: Opened,
-        part: Option<Body>,
-    ) -> Result<(), LineError>
+    /// Begins the item with this head. Most items have one line more, so there is room for one.
+    fn open(&mut self, alloc: Global, line: u32, head: Head) -> Result<(), LineError>
         requires { IsNone self.old.unclosed }
-        ensures { Becomes result (read_of self.new) (joined (read_of self.old) (open_of opened) line part) }
+        ensures { Becomes result (read_of self.new) (Ok (in_item self.old.items (read_of self.old).seen (item_at line head []) [])) }
     {
-        match part {
-            None => self.close(opened),
-            Some(body) => self.extend(alloc, line, opened, body),
-        }
-    }
-
-    /// Ends the open item.
-    fn close(&mut self, opened: Opened) -> Result<(), LineError>
-        requires { IsNone self.old.unclosed }
-        ensures { Becomes result (read_of self.new) (joined (read_of self.old) (open_of opened) 0 None) }
-    {
-        let Opened { item, labels: _ } = opened;
-        self.items.push(item)?;
+        let parts = Items::from_vec(Vec::with_capacity(alloc, 1)?);
+        let item = Item { line, head, parts };
+        let labels = Names::new(alloc);
+        self.unclosed = Some(Opened { item, labels });
         Ok(())
     }
 
-    /// Puts a line of the open item in its place, or Repeated.
-    fn extend(
-        &mut self,
-        alloc: Global,
-        line: u32,
-        opened: Opened,
-        body: Body,
-    ) -> Result<(), LineError>
-        ensures { Becomes result (read_of self.new) (joined (read_of self.old) (open_of opened) line (Some body)) }
+    /// Puts an item of one line at the end.
+    fn push_single(&mut self, alloc: Global, line: u32, head: Head) -> Result<(), LineError>
+        requires { IsNone self.old.unclosed }
+        ensures { Becomes result (read_of self.new) (Ok (between_items (self.old.items ++ item_at line head [] ∷ []) (read_of self.old).seen)) }
     {
-        let Opened { item, mut labels } = opened;
-        note_label(alloc, &mut labels, &body)?;
-        let item = with_part(item, line, body)?;
-        self.unclosed = Some(Opened { item, labels });
+        let parts = Items::new(alloc);
+        self.items.push(Item { line, head, parts })?;
+        Ok(())
+    }
+
+    /// Ends the open item.
+    fn close(&mut self) -> Result<(), LineError>
+        ensures { (o : Open) → option_open self.old.unclosed ≡ Some o → Becomes result (read_of self.new) (Ok (after_part (read_of self.old) o true)) }
+    {
+        if let Some(opened) = self.unclosed.take() {
+            let Opened { item, labels: _ } = opened;
+            self.items.push(item)?;
+        }
         Ok(())
     }
 
@@ -175,22 +189,4 @@ fn note_label(alloc: Global, labels: &mut Names, body: &Body) -> Result<(), Line
         }
     }
     Ok(())
-}
-
-/// The item with one line more.
-fn with_part(item: Item, line: u32, body: Body) -> Result<Item, LineError>
-    ensures ok { IfOk result (λ longer. longer ≡ with_part item line body) }
-    ensures memory { IfErr result (λ e. e ≡ line_error.NoMemory) }
-{
-    let Item {
-        line: first,
-        head,
-        mut parts,
-    } = item;
-    parts.push(Part { line, body })?;
-    Ok(Item {
-        line: first,
-        head,
-        parts,
-    })
 }

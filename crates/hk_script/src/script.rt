@@ -1,18 +1,21 @@
 //! A whole script (`docs/FORMATS.md`, "Grammar").
 
-ghost use Rattle.std.specs.Prelude.{◌≡◌, ℕ, map, Ok, Err, IfOk};
+ghost use Rattle.std.specs.Prelude.{◌≡◌, ℕ, ◌<◌, ◌-◌, ◌^◌, [], length, map, Ok, Err, IfOk, OnOk};
+ghost use Rattle.hk_format.specs.declared.causes.TextCause.{TextCause};
 ghost use Rattle.hk_format.specs.declared.causes.ParseCause.{ParseCause};
-ghost use Rattle.hk_format.specs.Texts.{text};
+ghost use Rattle.hk_format.specs.declared.causes.Cause.{Cause};
+ghost use Rattle.hk_format.specs.declared.causes.Cause.TheVariants.{OfText};
+ghost use Rattle.hk_format.specs.Texts.{text, lines_of};
 ghost use Rattle.hk_format.specs.Grammar.{script};
-ghost use Rattle.hk_text.specs.Views.{line_seen};
 ghost use Rattle.hk_format.specs.Outcomes.{IsRefused};
+ghost use Rattle.hk_text.specs.Views.{line_seen};
+ghost use Rattle.hk_script.specs.Progresses.{items_after, checked, source_items};
 
-use crate::errors::ParseError;
-use crate::line::Line;
-use crate::reading::Reading;
-use hk_format::{Item, ParseCause};
+use crate::errors::{ParseError, SourceError};
+use crate::progress::Progress;
+use hk_format::Item;
 use hk_model::Items;
-use hk_text::TextLine;
+use hk_text::{LineReader, TextError, TextLine};
 use std::alloc::Global;
 use std::marker::Model;
 
@@ -56,48 +59,41 @@ pub fn parse(alloc: Global, lines: &[TextLine], source: &[u8]) -> Result<Syntax,
     ensures ok { IfOk result (λ syntax. script (map (line_seen source.now) lines.now) ≡ Ok syntax) }
     ensures refused { (line : ℕ) (cause : ParseCause) → IsRefused result line cause → script (map (line_seen source.now) lines.now) ≡ Err (line, cause) }
 {
-    let Some((first, others)) = lines.split_first() else {
-        return Err(ParseError::Refused {
-            line: 1,
-            cause: ParseCause::Missing,
-        });
-    };
-    if let Err(error) = Line::new(source, first.pieces.as_slice()).header() {
-        return Err(error.on_line(first.number));
+    let mut progress = Progress::new(alloc);
+    for line in lines {
+        progress.line(alloc, source, line.number, line.pieces.as_slice())?;
     }
-    let mut reading = Reading::new(alloc);
-    for line in others {
-        if let Err(error) = reading.line(alloc, source, line) {
-            return Err(error.on_line(line.number));
-        }
-    }
-    let items = reading.finish()?;
+    let items = progress.finish()?;
     Ok(Syntax { items })
 }
 
-/// The same as `parse` answers, of lines that are let go one by one, each once it is read.
-pub fn parse_owned(alloc: Global, lines: Vec<TextLine>, source: &[u8]) -> Result<Syntax, ParseError>
-    requires { text source.now ≡ Ok (map (line_seen source.now) lines.items) }
-    ensures ok { IfOk result (λ syntax. script (map (line_seen source.now) lines.items) ≡ Ok syntax) }
-    ensures refused { (line : ℕ) (cause : ParseCause) → IsRefused result line cause → script (map (line_seen source.now) lines.items) ≡ Err (line, cause) }
+/// The items of the script that these bytes are. `Refused` tells the first line that is refused by the
+/// text check, and where that refuses none by the grammar, and the first of its causes
+/// (`docs/FORMATS.md`, "Text" and "Grammar"). Want of memory is `NoMemory`. No line is held longer than
+/// it is read. The bytes are to have fewer than 2^32 - 1 lines, so that each has a number.
+pub fn parse_source(alloc: Global, source: &[u8]) -> Result<Syntax, SourceError>
+    requires { length (lines_of source.now) < 2 ^ 32 - 1 }
+    ensures ok { IfOk result (λ syntax. source_items source.now ≡ Ok syntax) }
+    ensures refused { (line : ℕ) (cause : Cause) → IsRefused result line cause → source_items source.now ≡ Err (line, cause) }
 {
-    let mut others = lines.into_iter();
-    let Some(first) = others.next() else {
-        return Err(ParseError::Refused {
-            line: 1,
-            cause: ParseCause::Missing,
-        });
-    };
-    if let Err(error) = Line::new(source, first.pieces.as_slice()).header() {
-        return Err(error.on_line(first.number));
-    }
-    let mut reading = Reading::new(alloc);
-    for line in others {
-        let number = line.number;
-        if let Err(error) = reading.line(alloc, source, &line) {
-            return Err(error.on_line(number));
+    let mut progress = Progress::new(alloc);
+    read_lines(alloc, source, &mut progress)?;
+    let items = progress.finish()?;
+    Ok(Syntax { items })
+}
+
+/// Reads the lines of a source.
+fn read_lines(alloc: Global, source: &[u8], progress: &mut Progress) -> Result<(), TextError>
+    requires { length (lines_of source.now) < 2 ^ 32 - 1 }
+    ensures ok { OnOk result (checked (text source.now) (items_after progress.old) ≡ checked (Ok []) (items_after progress.new)) }
+    ensures refused { (line : ℕ) (cause : TextCause) → IsRefused result line cause → checked (text source.now) (items_after progress.old) ≡ Err (line, OfText cause) }
+{
+    let mut lines = LineReader::new(alloc, source);
+    while !lines.is_done() {
+        let number = lines.read_line()?;
+        if !lines.pieces().is_empty() {
+            progress.line(alloc, source, number, lines.pieces())?;
         }
     }
-    let items = reading.finish()?;
-    Ok(Syntax { items })
+    Ok(())
 }

@@ -117,6 +117,14 @@ line_good line = go (list_any is_no_text line) (ltb 1000 (length line)) (pieces_
     go false true h = tt
     go false false h = h
 
+-- the pieces of a line of a text are spelled by some text
+pub line_spelled : (line : List ℕ) (ps : List Piece) → text_line line ≡ Ok ps → list_all is_piece ps ≡ true
+line_spelled line ps h = go (text_line line) (line_good line) h
+  where
+    go : (r : Result (List Piece) TextCause) → GoodPieces r → r ≡ Ok ps → list_all is_piece ps ≡ true
+    go (Ok qs) h e = rw (let same : ps ≡ qs = cc in same) h
+    go (Err cause) h e = cc
+
 lines_good : (n : ℕ) (ls : List (List ℕ)) → GoodLines (text_lines n ls)
 lines_good n [] = refl
 lines_good n (l ∷ ls) = go (text_line l) (text_lines (n + 1) ls) (line_good l) (lines_good (n + 1) ls)

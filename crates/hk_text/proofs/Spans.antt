@@ -1,6 +1,6 @@
 -- Pieces that lie one behind another.
 use Rattle.std.proofs.Common.{ℕ, ◌≤◌, List, [], ◌∷◌, ◌++◌, Result, Ok, Err, arith}
-use Rattle.std.specs.Prelude.{IfOk}
+use Rattle.std.specs.Prelude.{OnOk}
 use Rattle.hk_text.specs.declared.pieces.Piece.{Piece}
 use Rattle.std.specs.List.{flat_map}
 use Rattle.std.proofs.lemmas.Grind.{flat_map-append}
@@ -18,10 +18,10 @@ pub lie_before : (start middle end : ℕ) (ps : List Piece) → LieBetween start
 lie_before start middle end [] h k = omega arith
 lie_before start middle end (p ∷ ps) h k = (h.0, h.1, lie_before p.end middle end ps h.2 k)
 
--- the same for the pieces of an answer
-pub ok_before : {E : Type 0} (start middle end : ℕ) (r : Result (List Piece) E) → IfOk r (λ v. LieBetween start middle v) → middle ≤ end → IfOk r (λ v. LieBetween start end v)
-ok_before start middle end (Ok ps) h k = lie_before start middle end ps h k
-ok_before start middle end (Err e) h k = tt
+-- the same where an answer is one
+pub ok_before : {X E : Type 0} (start middle end : ℕ) (ps : List Piece) (r : Result X E) → OnOk r (LieBetween start middle ps) → middle ≤ end → OnOk r (LieBetween start end ps)
+ok_before start middle end ps (Ok x) h k = lie_before start middle end ps h k
+ok_before start middle end ps (Err e) h k = tt
 
 -- the pieces of lines, and of one line more
 pub lines_lie : (lines : List TextLine) (line : TextLine) (start middle end : ℕ) → LieBetween 0 start (flat_map line_pieces lines) → LieBetween start middle line.pieces

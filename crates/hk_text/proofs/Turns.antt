@@ -180,6 +180,30 @@ line_turn source start n len front all inside place h =
     let here : len ≡ position_or_len (λ b. eqb b 10) (drop start source) = rw whole at place in
     rw (first, ← drop-drop (len + 1) start source) (rw (turn, ← here) at h)
 
+no_front : (r : Result Lines (ℕ × TextCause)) → after_lines [] r ≡ r
+no_front (Ok ls) = refl
+no_front (Err e) = refl
+
+-- the next line, before what stands behind
+line_ahead : (source : List ℕ) (start n len : ℕ) → start < length source → len ≡ position_or_len (λ b. eqb b 10) (slice_range source start (length source))
+    → text_lines n (lines_of (drop start source))
+    ≡ line_onto n (text_line (slice_range source start (start + len))) (text_lines (n + 1) (lines_of (drop (start + (len + 1)) source)))
+line_ahead source start n len inside place = sym (no_front _) ∙ sym (line_turn source start n len [] _ inside place refl) ∙ no_front _
+
+pub ahead_read : (source : List ℕ) (start n len : ℕ) (ps : List piece.Piece) → start < length source
+    → len ≡ position_or_len (λ b. eqb b 10) (slice_range source start (length source)) → text_line (slice_range source start (start + len)) ≡ Ok ps
+    → text_lines n (lines_of (drop start source)) ≡ line_onto n (Ok ps) (text_lines (n + 1) (lines_of (drop (start + (len + 1)) source)))
+ahead_read source start n len ps inside place read =
+    line_ahead source start n len inside place
+    ∙ ap (λ (r : Result (List piece.Piece) TextCause). line_onto n r (text_lines (n + 1) (lines_of (drop (start + (len + 1)) source)))) read
+
+pub ahead_refused : (source : List ℕ) (start n len : ℕ) (cause : TextCause) → start < length source
+    → len ≡ position_or_len (λ b. eqb b 10) (slice_range source start (length source)) → text_line (slice_range source start (start + len)) ≡ Err cause
+    → text_lines n (lines_of (drop start source)) ≡ Err (n, cause)
+ahead_refused source start n len cause inside place read =
+    line_ahead source start n len inside place
+    ∙ ap (λ (r : Result (List piece.Piece) TextCause). line_onto n r (text_lines (n + 1) (lines_of (drop (start + (len + 1)) source)))) read
+
 pub line_read : (source : List ℕ) (start n len : ℕ) (front : Lines) (ps : List piece.Piece) (all : Result Lines (ℕ × TextCause)) → start < length source
     → len ≡ position_or_len (λ b. eqb b 10) (slice_range source start (length source)) → text_line (slice_range source start (start + len)) ≡ Ok ps
     → after_lines front (text_lines n (lines_of (drop start source))) ≡ all

@@ -1,3 +1,4 @@
 pub mod Views
+pub mod Ahead
 pub mod Outcomes
 pub mod Numerals

@@ -7,6 +7,7 @@ mod bytes;
 mod errors;
 mod numerals;
 mod pieces;
+mod reader;
 #[cfg(test)]
 mod tests;
 mod text;
@@ -15,4 +16,5 @@ pub use crate::bytes::{first_of, is_register};
 pub use crate::errors::TextError;
 pub use crate::numerals::numeral;
 pub use crate::pieces::{Piece, PieceKind, value};
+pub use crate::reader::LineReader;
 pub use crate::text::{TextLine, lines};

@@ -1,10 +1,10 @@
 //! Bytes as lines, and lines as pieces (`docs/FORMATS.md`, "Text").
 
-ghost use Rattle.std.specs.Prelude.{◌≡◌, ℕ, ◌<◌, ◌≤◌, ◌^◌, ◌-◌, length, map, Ok, Err, IfOk};
+ghost use Rattle.std.specs.Prelude.{◌≡◌, ℕ, ◌<◌, ◌≤◌, ◌^◌, ◌-◌, length, map, Ok, Err, IfOk, OnOk};
 ghost use Rattle.std.specs.List.{slice_range, flat_map};
 ghost use Rattle.hk_format.specs.Texts.{lines_of, text, text_line, pieces_of};
 ghost use Rattle.hk_text.specs.Views.{seen, line_seen, line_pieces, texts_of, LieBetween};
-ghost use Rattle.hk_format.specs.Outcomes.{Gives, IsRefused};
+ghost use Rattle.hk_format.specs.Outcomes.{Gives, Becomes, IsRefused};
 
 use crate::bytes::{first_blank, first_of, has_no_text};
 use crate::errors::{LineError, TextError};
@@ -67,6 +67,22 @@ fn pieces_of_line(
     ensures value { Gives (λ v. map (seen source.now) v) result (text_line (slice_range source.now start end)) }
     ensures spans { IfOk result (λ v. LieBetween start end v) }
 {
+    cut_line(scratch, source, start, end)?;
+    Ok(Items::from_vec(Vec::from_slice(alloc, scratch.as_slice())?))
+}
+
+/// Puts the pieces of the line that begins and ends at these places in the place of others.
+pub(crate) fn cut_line(
+    pieces: &mut Vec<Piece>,
+    source: &[u8],
+    start: usize,
+    end: usize,
+) -> Result<(), LineError>
+    requires order { start ≤ end }
+    requires inside { end ≤ length source.now }
+    ensures value { Becomes result (map (seen source.now) pieces.new.items) (text_line (slice_range source.now start end)) }
+    ensures spans { OnOk result (LieBetween start end pieces.new.items) }
+{
     let line = &source[start..end];
     if has_no_text(line) {
         return Err(LineError::Bad(TextCause::NotAscii));
@@ -74,23 +90,22 @@ fn pieces_of_line(
     if line.len() > LINE_BYTES {
         return Err(LineError::Bad(TextCause::LongLine));
     }
-    pieces_between(alloc, scratch, source, start, start + first_of(line, b'#'))
+    cut_between(pieces, source, start, start + first_of(line, b'#'))
 }
 
-/// The pieces between these places, put together in `scratch`.
-fn pieces_between(
-    alloc: Global,
-    scratch: &mut Vec<Piece>,
+/// Puts the pieces between these places in the place of others.
+fn cut_between(
+    pieces: &mut Vec<Piece>,
     source: &[u8],
     start: usize,
     end: usize,
-) -> Result<Items<Piece>, LineError>
+) -> Result<(), LineError>
     requires order { start ≤ end }
     requires inside { end ≤ length source.now }
-    ensures value { Gives (λ v. map (seen source.now) v) result (pieces_of (texts_of (slice_range source.now start end))) }
-    ensures spans { IfOk result (λ v. LieBetween start end v) }
+    ensures value { Becomes result (map (seen source.now) pieces.new.items) (pieces_of (texts_of (slice_range source.now start end))) }
+    ensures spans { OnOk result (LieBetween start end pieces.new.items) }
 {
-    scratch.clear();
+    pieces.clear();
     let mut at = start;
     while at < end {
         let rest = &source[at..end];
@@ -102,11 +117,11 @@ fn pieces_between(
                 end: at + len,
                 kind,
             };
-            if let Err(_) = scratch.push(piece) {
+            if let Err(_) = pieces.push(piece) {
                 return Err(LineError::NoMemory);
             }
         }
         at += len + 1;
     }
-    Ok(Items::from_vec(Vec::from_slice(alloc, scratch.as_slice())?))
+    Ok(())
 }

@@ -3,8 +3,8 @@ use Rattle.std.proofs.lemmas.List.{length-take}
 use Rattle.std.proofs.lemmas.Result.{err_from_is_err_and}
 use Rattle.hk_text.proofs.Turns.{turn_none, turn_pushed, turn_refused}
 use Rattle.hk_text.proofs.Spans.{lie_both, lie_before}
-use Rattle.hk_text.proofs.text.pieces_between.Goals as goal
-use Rattle.hk_text.proofs.text.pieces_between.Goals.{then-len-gt0+in_ok-kind+in_default, else-len-gt0}
+use Rattle.hk_text.proofs.text.cut_between.Goals as goal
+use Rattle.hk_text.proofs.text.cut_between.Goals.{then-len-gt0+in_ok-kind+in_default, else-len-gt0}
 
 pub returns-in_err-kind-clause-value : goal.returns-in_err-kind-clause-value
 returns-in_err-kind-clause-value c =
@@ -18,17 +18,17 @@ loop-at-preserved c = record {
   high = omega arith;
   low = let size = length-take (c.args.end - c.loop-at.at) (drop c.loop-at.at c.args.source.now) in omega (arith, c.first_blank-len.ensures.within);
   rest = elim c.if-len-gt0.branch [
-    | then-len-gt0+in_ok-kind+in_default w ↦ rw (w.scratch-is, w.in_default.ensures.items)
-        (turn_pushed c.args.source.now c.loop-at.at c.args.end c.first_blank-len.result c.loop-at.scratch.items w.in_ok-kind.kind _
+    | then-len-gt0+in_ok-kind+in_default w ↦ rw (w.pieces-is, w.in_default.ensures.items)
+        (turn_pushed c.args.source.now c.loop-at.at c.args.end c.first_blank-len.result c.loop-at.pieces.items w.in_ok-kind.kind _
         (omega arith) c.requires.inside c.first_blank-len.ensures.place w.if-len-gt0.true c.first_blank-len.ensures.within w.in_ok-kind.ensures c.loop-at.invariant.rest)
-    | else-len-gt0 w ↦ rw w.scratch-is (turn_none c.args.source.now c.loop-at.at c.args.end c.first_blank-len.result _ _ c.first_blank-len.ensures.place
+    | else-len-gt0 w ↦ rw w.pieces-is (turn_none c.args.source.now c.loop-at.at c.args.end c.first_blank-len.result _ _ c.first_blank-len.ensures.place
         (omega arith) c.loop-at.invariant.rest)
   ];
   spans =
       let size = length-take (c.args.end - c.loop-at.at) (drop c.loop-at.at c.args.source.now) in
       elim c.if-len-gt0.branch [
-        | then-len-gt0+in_ok-kind+in_default w ↦ rw (w.scratch-is, w.in_default.ensures.items)
-            (lie_both _ _ _ c.loop-at.scratch.items _ c.loop-at.invariant.spans (omega arith, omega arith, omega (arith, c.first_blank-len.ensures.within)))
-        | else-len-gt0 w ↦ rw w.scratch-is (lie_before _ _ _ c.loop-at.scratch.items c.loop-at.invariant.spans (omega arith))
+        | then-len-gt0+in_ok-kind+in_default w ↦ rw (w.pieces-is, w.in_default.ensures.items)
+            (lie_both _ _ _ c.loop-at.pieces.items _ c.loop-at.invariant.spans (omega arith, omega arith, omega (arith, c.first_blank-len.ensures.within)))
+        | else-len-gt0 w ↦ rw w.pieces-is (lie_before _ _ _ c.loop-at.pieces.items c.loop-at.invariant.spans (omega arith))
       ];
 }

@@ -1,6 +1,0 @@
-use Rattle.std.proofs.Common.{arith}
-use Rattle.hk_text.proofs.Spans.{ok_before}
-use Rattle.hk_text.proofs.text.pieces_of_line.Goals as goal
-
-pub returns-clause-spans : goal.returns-clause-spans
-returns-clause-spans c = ok_before _ _ _ c.pieces_between.result c.pieces_between.ensures.spans (omega (arith, c.first_of.ensures.within))
