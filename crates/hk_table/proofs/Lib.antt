@@ -39,3 +39,4 @@ pub mod Named
 pub mod Runs
 pub mod OpenCounts
 pub mod Rooms
+pub mod Numbers

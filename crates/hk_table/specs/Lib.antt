@@ -13,3 +13,4 @@ pub mod Waits
 pub mod Told
 pub mod Rooms
 pub mod Confined
+pub mod Numbered
