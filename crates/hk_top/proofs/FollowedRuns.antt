@@ -78,13 +78,12 @@ way_ends w first left lines m end world h ends whole = record {
 }
 
 -- the same, of the end word that was found
-pub way_ends_by : (w : WorldValue) (first left : List ℕ) (m : Machine) (r : Result (Option End) NoMemory) → IsWorld w → IsSomeWay w first left m
-    → IfOk r (λ found. IfSome found (λ end. end_word m.state ≡ Some end))
-    → IfOk r (λ found. IfSome found (λ end. (bytes : List ℕ) (v : WorldValue) (told : List Line) → IsReadTo bytes v told left → audit bytes ≡ Ok (audited v (events told end))))
-    → IfOk r (λ found. IfSome found (λ end. (lines : List Line) × IsFollowed w first lines end))
-way_ends_by w first left m (Ok None) world h ends whole = tt
-way_ends_by w first left m (Ok (Some end)) world h ends whole = (h.0, way_ends w first left h.0 m end world h.1 ends whole)
-way_ends_by w first left m (Err error) world h ends whole = tt
+pub way_ends_by : (w : WorldValue) (first left : List ℕ) (m : Machine) (r : Option End) → IsWorld w → IsSomeWay w first left m
+    → IfSome r (λ end. end_word m.state ≡ Some end)
+    → IfSome r (λ end. (bytes : List ℕ) (v : WorldValue) (told : List Line) → IsReadTo bytes v told left → audit bytes ≡ Ok (audited v (events told end)))
+    → IfSome r (λ end. (lines : List Line) × IsFollowed w first lines end)
+way_ends_by w first left m None world h ends whole = tt
+way_ends_by w first left m (Some end) world h ends whole = (h.0, way_ends w first left h.0 m end world h.1 ends whole)
 
 -- ---- lines that are told as they come
 

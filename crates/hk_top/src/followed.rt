@@ -17,7 +17,7 @@ ghost use Rattle.hk_top.specs.Follows.{IsFollowed, IsFollowedTold};
 use crate::running::FIRST_PROCESSOR;
 use hk_audit::Reader;
 use hk_model::{Cpu, End, Items, Kernel, Line, NoMemory, World};
-use hk_program::{Machine, blank_line, end_word};
+use hk_program::{Machine, blank_line};
 use hk_report::Retelling;
 use std::alloc::Global;
 
@@ -41,7 +41,7 @@ pub(crate) fn follow<K: Kernel>(
             return Ok(None);
         }
     }
-    end_reached(alloc, &machine, &reader)
+    Ok(end_reached(world, &machine, &reader))
 }
 
 /// The lines of a legal record, followed in the same way. None where it finds a difference. NoMemory is want
@@ -65,7 +65,7 @@ pub(crate) fn follow_lines<K: Kernel>(
         }
         lines.push(line)?;
     }
-    match end_reached(alloc, &machine, &reader)? {
+    match end_reached(world, &machine, &reader) {
         Some(_end) => Ok(Some(lines)),
         None => Ok(None),
     }
@@ -92,7 +92,7 @@ pub(crate) fn follow_told<K: Kernel>(
         }
         told.add(alloc, world, &line)?;
     }
-    match end_reached(alloc, &machine, &reader)? {
+    match end_reached(world, &machine, &reader) {
         Some(_end) => Ok(Some(told)),
         None => Ok(None),
     }
@@ -120,21 +120,20 @@ fn takes_step<K: Kernel>(
     Ok(reader.take(line)?)
 }
 
-/// The end word with which a record ends here, where the machine's state has it. NoMemory is want of memory.
+/// The end word with which a record ends here, where the machine's state has it.
 fn end_reached<K: Kernel>(
-    alloc: Global,
+    world: &World,
     machine: &Machine<K>,
     reader: &Reader<'_>,
-) -> Result<Option<End>, NoMemory>
-    ensures state { IfOk result (λ found. IfSome found (λ end. end_word machine.now.state ≡ Some end)) }
-    ensures whole { IfOk result (λ found. IfSome found (λ end. (bytes : List ℕ) (w : WorldValue) (lines : List Line) → IsReadTo bytes w lines reader.now
-        → audit bytes ≡ Ok (audited w (events lines end)))) }
+) -> Option<End>
+    requires { IsSound world.now machine.now }
+    ensures state { IfSome result (λ end. end_word machine.now.state ≡ Some end) }
+    ensures whole { IfSome result (λ end. (bytes : List ℕ) (w : WorldValue) (lines : List Line) → IsReadTo bytes w lines reader.now
+        → audit bytes ≡ Ok (audited w (events lines end))) }
 {
-    let Some(end) = reader.end() else {
-        return Ok(None);
-    };
-    match end_word(alloc, machine.kernel())? {
-        Some(word) if word == end => Ok(Some(end)),
-        _ => Ok(None),
+    let end = reader.end()?;
+    match machine.end_word(world) {
+        Some(word) if word == end => Some(end),
+        _ => None,
     }
 }

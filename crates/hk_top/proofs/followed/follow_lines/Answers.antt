@@ -15,8 +15,8 @@ loop-cpu-preserved g c = record {
 
 pub returns-in-Some-2 : goal.returns-in-Some-2
 returns-in-Some-2 g c =
-    let state = rw c.in-Some-2.is at c.in_ok-_end.ensures.state in
-    let whole = rw c.in-Some-2.is at c.in_ok-_end.ensures.whole in (
+    let state = rw c.in-Some-2.is at c.end_reached.ensures.state in
+    let whole = rw c.in-Some-2.is at c.end_reached.ensures.whole in (
       c.in-Some-2._end,
       way_ends c.args.world.now c.args.reader c.loop-cpu.reader c.loop-cpu.lines c.loop-cpu.machine c.in-Some-2._end c.loop-cpu.invariant.sound.world
           c.loop-cpu.invariant.way state whole,

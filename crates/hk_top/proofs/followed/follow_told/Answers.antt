@@ -35,7 +35,7 @@ loop-cpu-preserved g c =
 
 pub returns-in-Some-2 : goal.returns-in-Some-2
 returns-in-Some-2 g c =
-    let state = rw c.in-Some-2.is at c.in_ok-_end.ensures.state in
-    let whole = rw c.in-Some-2.is at c.in_ok-_end.ensures.whole in
+    let state = rw c.in-Some-2.is at c.end_reached.ensures.state in
+    let whole = rw c.in-Some-2.is at c.end_reached.ensures.whole in
     told_way_ends c.args.world.now c.args.reader c.loop-cpu.reader c.loop-cpu.machine c.loop-cpu.told c.in-Some-2._end c.loop-cpu.invariant.sound.world
     c.loop-cpu.invariant.way state whole
