@@ -121,11 +121,7 @@ fn takes_step<K: Kernel>(
 }
 
 /// The end word with which a record ends here, where the machine's state has it.
-fn end_reached<K: Kernel>(
-    world: &World,
-    machine: &Machine<K>,
-    reader: &Reader<'_>,
-) -> Option<End>
+fn end_reached<K: Kernel>(world: &World, machine: &Machine<K>, reader: &Reader<'_>) -> Option<End>
     requires { IsSound world.now machine.now }
     ensures state { IfSome result (λ end. end_word machine.now.state ≡ Some end) }
     ensures whole { IfSome result (λ end. (bytes : List ℕ) (w : WorldValue) (lines : List Line) → IsReadTo bytes w lines reader.now
