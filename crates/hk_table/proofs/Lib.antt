@@ -39,4 +39,3 @@ pub mod Named
 pub mod Runs
 pub mod OpenCounts
 pub mod Rooms
-pub mod Numbers

@@ -13,4 +13,3 @@ pub mod Waits
 pub mod Told
 pub mod Rooms
 pub mod Confined
-pub mod Numbered

@@ -3,8 +3,7 @@
 //!
 //! Its state is that of the rule table, told from its parts. The files are by subject: `stacks` has the name spaces of the
 //! calls, `parts` these with the objects, the queues and the counts, `born`, `counted` and `opening` the state in which a world
-//! opens, `processors` the dispatch, the halt and what a processor runs, `finding` and `reads` the objects by name,
-//! `numbered` the incarnations by their numbers, `walks` and
+//! opens, `processors` the dispatch, the halt and what a processor runs, `finding` and `reads` the objects by name, `walks` and
 //! `targets` the tests that the calls share, `frames` the incarnations that come and go, `making` and `objects` what is made.
 //! The calls: `words`, `lists`, `slots`, `templates`, `semaphores`, `procedures` and `creating`; `calls` hands each to its row.
 //! The state as plain data: `queued`, `shown` and `shows`. `counting` raises and lowers the counts by what names come and go,
@@ -12,8 +11,7 @@
 //! are to be, and what each change of frames and processes is to them. `table` is the kernel over the parts.
 //!
 //! What is not in a list of objects or frames is found by its number: nothing here grows with the number of objects,
-//! incarnations or processes but the opening, the state as plain data, and a look for an incarnation that the processor does
-//! not run.
+//! incarnations or processes but the opening and the state as plain data.
 #![tactic(auto)]
 
 mod born;
@@ -27,7 +25,6 @@ mod frames;
 mod laws;
 mod lists;
 mod making;
-mod numbered;
 mod objects;
 mod opening;
 mod parts;

@@ -1,15 +1,15 @@
 //! The table kernel.
 
-ghost use Rattle.std.specs.Prelude.{◌≡◌, ◌≤◌, false, length, option_map, IfOk};
+ghost use Rattle.std.specs.Prelude.{◌≡◌, false, option_map, IfOk};
 ghost use Rattle.std.specs.Option.{unwrap_or};
 ghost use Rattle.hk_model.specs.declared.names.Inc.{Inc};
 ghost use Rattle.hk_model.specs.declared.names.Proc.{Proc};
 ghost use Rattle.hk_model.specs.Opening.{opening};
 ghost use Rattle.hk_model.specs.Processors.{running_on};
-ghost use Rattle.hk_model.specs.State.{incarnation, object};
+ghost use Rattle.hk_model.specs.State.{incarnation};
 
 use crate::parts::Parts;
-use hk_model::{Acted, Call, Cpu, Entry, Inc, Kernel, Name, NoMemory, Proc, Snapshot, World};
+use hk_model::{Acted, Call, Cpu, Inc, Kernel, NoMemory, Proc, Snapshot, World};
 use std::alloc::Global;
 use std::marker::Model;
 
@@ -46,42 +46,6 @@ impl Table {
         ensures { result ≡ unwrap_or (option_map (λ (x : Proc × Inc). (incarnation self.now x.1).confined) (running_on self.now cpu)) false }
     {
         self.parts.runs_confined(cpu)
-    }
-
-    /// The name that the next object takes.
-    pub fn next_name(&self) -> Name
-        ensures { result ≡ self.now.next_name }
-    {
-        self.parts.objects.next_name()
-    }
-
-    /// The number that the next incarnation takes.
-    pub fn next_inc(&self) -> Inc
-        ensures { result ≡ self.now.next_inc }
-    {
-        self.parts.stacks.next()
-    }
-
-    /// The list of an object. An object that does not stand has none.
-    pub fn entries(&self, name: Name) -> &[Entry]
-        ensures value { result.now ≡ (object self.now name).entries }
-        ensures few { length result.now ≤ 256 }
-    {
-        self.parts.entries(name)
-    }
-
-    /// The slots of an incarnation. One that is not live has none. What the processor runs is looked at first.
-    pub fn slots(&self, cpu: Cpu, inc: Inc) -> &[Entry]
-        ensures { result.now ≡ (incarnation self.now inc).slots }
-    {
-        self.parts.slots_of(cpu, inc)
-    }
-
-    /// Whether an incarnation is confined. One that is not live is not. What the processor runs is looked at first.
-    pub fn is_confined(&self, cpu: Cpu, inc: Inc) -> bool
-        ensures { result ≡ (incarnation self.now inc).confined }
-    {
-        self.parts.is_confined(cpu, inc)
     }
 }
 
