@@ -13,11 +13,11 @@ loop-cpu-preserved g c = record {
   sound = c.takes_step.ensures.sound;
 }
 
-pub returns-in-Some-2 : goal.returns-in-Some-2
-returns-in-Some-2 g c =
-    let state = rw c.in-Some-2.is at c.end_reached.ensures.state in
-    let whole = rw c.in-Some-2.is at c.end_reached.ensures.whole in (
-      c.in-Some-2._end,
-      way_ends c.args.world.now c.args.reader c.loop-cpu.reader c.loop-cpu.lines c.loop-cpu.machine c.in-Some-2._end c.loop-cpu.invariant.sound.world
+pub returns-in-Some-end_reached : goal.returns-in-Some-end_reached
+returns-in-Some-end_reached g c =
+    let state = rw c.in-Some-end_reached.is at c.end_reached.ensures.state in
+    let whole = rw c.in-Some-end_reached.is at c.end_reached.ensures.whole in (
+      c.in-Some-end_reached._end,
+      way_ends c.args.world.now c.args.reader c.loop-cpu.reader c.loop-cpu.lines c.loop-cpu.machine c.in-Some-end_reached._end c.loop-cpu.invariant.sound.world
           c.loop-cpu.invariant.way state whole,
     )
