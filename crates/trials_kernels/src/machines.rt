@@ -1,10 +1,12 @@
-// A machine whose only process returns at once, and the laws of its history.
+// A machine whose only process returns at once, and the laws of its history. The machine is handed to functions over any kernel, which
+// let it go.
 
-ghost use Rattle.std.specs.Prelude.{◌≡◌, IfOk};
+ghost use Rattle.std.specs.Prelude.{◌≡◌};
+ghost use Rattle.hk_model.specs.Opening.{opening};
 ghost use Rattle.hk_program.specs.Machines.{IsSound};
 
 use crate::worlds::world;
-use hk_model::{Cpu, End, World};
+use hk_model::{Cpu, End, Kernel, World};
 use hk_plain::Plain;
 use hk_program::{Machine, end_word, kept_law, shapes_law};
 use std::alloc::Global;
@@ -13,21 +15,8 @@ use std::test::Fail;
 /// A process of a code without instructions.
 const SCRIPT: &[u8] = b"hydra 1\ncode main\nend\nprocess a main\nend\n";
 
-/// The machine in which a world opens.
-fn machine(alloc: Global, world: &World) -> Result<Machine<Plain>, Fail>
-    ensures { IfOk result (λ machine. IsSound world.now machine) }
-{
-    let Ok(kernel) = Plain::new(alloc, world) else {
-        return Err("a kernel".into());
-    };
-    match Machine::open(alloc, world, kernel) {
-        Ok(machine) => Ok(machine),
-        Err(_) => Err("a machine".into()),
-    }
-}
-
 /// Whether processor 0 has a step, which is made.
-fn steps(alloc: Global, world: &World, machine: &mut Machine<Plain>) -> Result<bool, Fail>
+fn steps<K: Kernel>(alloc: Global, world: &World, machine: &mut Machine<K>) -> Result<bool, Fail>
     requires { IsSound world.now machine.old }
     ensures { IsSound world.now machine.new }
 {
@@ -38,27 +27,93 @@ fn steps(alloc: Global, world: &World, machine: &mut Machine<Plain>) -> Result<b
 }
 
 /// The end word of a kernel's state.
-fn word_of(alloc: Global, kernel: &Plain) -> Result<Option<End>, Fail> {
+fn word_of<K: Kernel>(alloc: Global, kernel: &K) -> Result<Option<End>, Fail> {
     match end_word(alloc, kernel) {
         Ok(word) => Ok(word),
         Err(_) => Err("a state".into()),
     }
 }
 
-#[test]
-fn a_machine_steps_until_its_processes_have_ended(rt: HostRuntime) -> Result<(), Fail> {
-    let alloc = rt.alloc();
+/// What processor 0 does, and the end words of its machine and of the machine's kernel.
+#[derive(Clone, Copy, PartialEq, Eq, Debug)]
+struct Moment {
+    stepped: bool,
+    of_machine: Option<End>,
+    of_kernel: Option<End>,
+}
+
+/// The next step of processor 0, and what the end words are behind it.
+fn moment<K: Kernel>(alloc: Global, world: &World, machine: &mut Machine<K>) -> Result<Moment, Fail>
+    requires { IsSound world.now machine.old }
+    ensures { IsSound world.now machine.new }
+{
+    Ok(Moment {
+        stepped: steps(alloc, world, machine)?,
+        of_machine: machine.end_word(world),
+        of_kernel: word_of(alloc, machine.kernel())?,
+    })
+}
+
+/// The three moments of a run on processor 0.
+fn moments<K: Kernel>(
+    alloc: Global,
+    world: &World,
+    machine: &mut Machine<K>,
+) -> Result<[Moment; 3], Fail>
+    requires { IsSound world.now machine.old }
+{
+    let dispatched = moment(alloc, world, machine)?;
+    let returned = moment(alloc, world, machine)?;
+    let over = moment(alloc, world, machine)?;
+    Ok([dispatched, returned, over])
+}
+
+/// The run of a kernel that has opened the world, and the end word of the kernel that its machine gives back.
+fn run<K: Kernel>(
+    alloc: Global,
+    world: &World,
+    kernel: K,
+) -> Result<([Moment; 3], Option<End>), Fail>
+    requires { K.state kernel ≡ opening world.now }
+{
+    let Ok(mut machine) = Machine::open(alloc, world, kernel) else {
+        return Err("a machine".into());
+    };
+    let moments = moments(alloc, world, &mut machine)?;
+    let kernel = machine.into_kernel();
+    Ok((moments, word_of(alloc, &kernel)?))
+}
+
+/// The run of the script.
+fn run_of_script(alloc: Global) -> Result<([Moment; 3], Option<End>), Fail> {
     let world = world(alloc, SCRIPT)?;
     kept_law(&world, &[]);
     shapes_law(&world, &[]);
-    let mut machine = machine(alloc, &world)?;
-    assert!(rt; steps(alloc, &world, &mut machine)?);
-    assert!(rt; word_of(alloc, machine.kernel())?.is_none());
-    assert!(rt; machine.end_word(&world).is_none());
-    assert!(rt; steps(alloc, &world, &mut machine)?);
-    assert!(rt; !steps(alloc, &world, &mut machine)?);
-    assert!(rt; machine.end_word(&world) == Some(End::Done));
-    let kernel = machine.into_kernel();
-    assert!(rt; word_of(alloc, &kernel)? == Some(End::Done));
+    let Ok(kernel) = Plain::new(alloc, &world) else {
+        return Err("a kernel".into());
+    };
+    run(alloc, &world, kernel)
+}
+
+#[test]
+fn a_machine_steps_until_its_processes_have_ended(rt: HostRuntime) -> Result<(), Fail> {
+    let (moments, word) = run_of_script(rt.alloc())?;
+    let running = Moment {
+        stepped: true,
+        of_machine: None,
+        of_kernel: None,
+    };
+    let done = Some(End::Done);
+    let returned = Moment {
+        stepped: true,
+        of_machine: done,
+        of_kernel: done,
+    };
+    let over = Moment {
+        stepped: false,
+        ..returned
+    };
+    assert!(rt; moments == [running, returned, over]);
+    assert!(rt; word == done);
     Ok(())
 }

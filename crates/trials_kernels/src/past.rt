@@ -59,19 +59,42 @@ fn has(alloc: Global, past: &Past, count: u32) -> Result<bool, Fail> {
     Ok(lines == count as usize && events == count)
 }
 
+/// What a world tells at a moment: whether its process stands at this instruction with this word, and whether there are so many lines.
+fn is_at(alloc: Global, past: &Past, at: u16, word: u32, count: u32) -> Result<bool, Fail> {
+    Ok(stands(past, at, word) && has(alloc, past, count)?)
+}
+
+/// Whether two lines are made, and what stands before and behind them is told.
+fn goes_forward(alloc: Global, past: &mut Past) -> Result<bool, Fail> {
+    let begins = is_at(alloc, past, 0, 0, 0)?;
+    let first = forward(alloc, past)?;
+    let second = forward(alloc, past)?;
+    Ok(begins && first && second && is_at(alloc, past, 2, 7, 2)?)
+}
+
+/// Whether both are taken back and no other, and what stands before each is told.
+fn goes_back(alloc: Global, past: &mut Past) -> Result<bool, Fail> {
+    let second = back(alloc, past)? && is_at(alloc, past, 0, 0, 1)?;
+    let first = back(alloc, past)? && is_at(alloc, past, 0, 0, 0)?;
+    let none = !back(alloc, past)?;
+    Ok(second && first && none)
+}
+
+/// Both, of a history that is let go in one place.
+fn there_and_back(alloc: Global) -> Result<[bool; 2], Fail> {
+    let mut past = begun(alloc)?;
+    both(alloc, &mut past)
+}
+
+/// Both.
+fn both(alloc: Global, past: &mut Past) -> Result<[bool; 2], Fail> {
+    Ok([goes_forward(alloc, past)?, goes_back(alloc, past)?])
+}
+
 #[test]
 fn frames_and_states_go_and_come_back(rt: HostRuntime) -> Result<(), Fail> {
-    let alloc = rt.alloc();
-    let mut past = begun(alloc)?;
-    assert!(rt; stands(&past, 0, 0));
-    assert!(rt; forward(alloc, &mut past)?);
-    assert!(rt; forward(alloc, &mut past)?);
-    assert!(rt; stands(&past, 2, 7));
-    assert!(rt; has(alloc, &past, 2)?);
-    assert!(rt; back(alloc, &mut past)?);
-    assert!(rt; stands(&past, 0, 0));
-    assert!(rt; has(alloc, &past, 1)?);
-    assert!(rt; back(alloc, &mut past)?);
-    assert!(rt; !back(alloc, &mut past)?);
+    for told in there_and_back(rt.alloc())? {
+        assert!(rt; told);
+    }
     Ok(())
 }

@@ -24,6 +24,37 @@ impl Gate for Open {
     fn before(&self, _cpu: Cpu, _nth: u64) {}
 }
 
+/// How the top call came out: its status, and how many events the kernel tells that it gave back. A kernel is let go in functions over
+/// any kernel: who lets go of one by its type has to prove anew how each of its parts is let go, which takes long.
+#[derive(Clone, Copy, PartialEq, Eq, Debug)]
+pub struct Answered {
+    pub status: u8,
+    pub events: Option<u32>,
+}
+
+/// How many events a kernel tells, where there is one, and memory to show it.
+fn events_of<K: Kernel>(alloc: Global, kernel: Option<K>) -> Option<u32> {
+    match kernel?.snapshot(alloc) {
+        Ok(shown) => Some(shown.events),
+        Err(_) => None,
+    }
+}
+
+/// How the top call came out, over kernels of this maker and with this gate.
+pub fn answered<S: Source, W: Sink, G: Gate, M: Maker, R: Threads + Wait + Sync>(
+    rt: &R,
+    alloc: Global,
+    words: &[String],
+    input: &mut S,
+    output: &mut W,
+    gate: &G,
+    kernels: &M,
+) -> Answered {
+    let (status, kernel) = hydra(rt, alloc, words, input, output, gate, kernels);
+    let events = events_of(alloc, kernel);
+    Answered { status, events }
+}
+
 /// The status of the top call, over plain kernels.
 pub fn status_of<S: Source, W: Sink, R: Threads + Wait + Sync>(
     rt: &R,
@@ -32,7 +63,7 @@ pub fn status_of<S: Source, W: Sink, R: Threads + Wait + Sync>(
     input: &mut S,
     output: &mut W,
 ) -> u8 {
-    hydra(rt, alloc, words, input, output, &Open, &Maps).0
+    answered(rt, alloc, words, input, output, &Open, &Maps).status
 }
 
 /// These words, as the program gets them.
@@ -75,28 +106,44 @@ fn run_word(alloc: Global) -> Result<Vec<String>, AllocError>
     Ok(vec![in alloc; String::from_str(alloc, "run")?]?)
 }
 
-#[test]
-fn hands_back_the_kernel_that_was_run(rt: HostRuntime) -> Result<(), Fail> {
-    let alloc = rt.alloc();
+/// How the same call came out without a run time.
+fn answered_alone<M: Maker>(alloc: Global, kernels: &M) -> Result<Answered, Fail> {
     let run = run_word(alloc)?;
     let mut input = SureBytes::new(SCRIPT.to_vec(alloc)?);
     let mut output = SureOut::new();
-    let (status, kernel) = answer(alloc, &run, &mut input, &mut output, &Maps);
-    assert_eq!(rt; status, status::DONE);
-    let kernel = kernel.ok_or("a kernel")?;
-    let snapshot = kernel.snapshot(alloc).ok().ok_or("a snapshot")?;
-    assert_eq!(rt; snapshot.events, 3);
+    let (status, kernel) = answer(alloc, &run, &mut input, &mut output, kernels);
+    let events = events_of(alloc, kernel);
+    Ok(Answered { status, events })
+}
+
+/// How it came out over streams that never fail.
+fn answered_surely<M: Maker, R: Threads + Wait + Sync>(
+    rt: &R,
+    alloc: Global,
+    kernels: &M,
+) -> Result<Answered, Fail> {
+    let run = words(alloc, &["run"])?;
+    let mut input = SureBytes::new(SCRIPT.to_vec(alloc)?);
+    let (status, kernel) = hydra_surely(rt, alloc, &run, &mut input, &Open, kernels);
+    let events = events_of(alloc, kernel);
+    Ok(Answered { status, events })
+}
+
+/// The run was made, of three events.
+const OF_THREE_EVENTS: Answered = Answered {
+    status: status::DONE,
+    events: Some(3),
+};
+
+#[test]
+fn hands_back_the_kernel_that_was_run(rt: HostRuntime) -> Result<(), Fail> {
+    assert_eq!(rt; answered_alone(rt.alloc(), &Maps)?, OF_THREE_EVENTS);
     Ok(())
 }
 
 #[test]
 fn sure_streams_have_no_fault(rt: HostRuntime) -> Result<(), Fail> {
-    let alloc = rt.alloc();
-    let run = words(alloc, &["run"])?;
-    let mut input = SureBytes::new(SCRIPT.to_vec(alloc)?);
-    let (status, kernel) = hydra_surely(&rt, alloc, &run, &mut input, &Open, &Maps);
-    assert_eq!(rt; status, status::DONE);
-    assert!(rt; kernel.is_some());
+    assert_eq!(rt; answered_surely(&rt, rt.alloc(), &Maps)?, OF_THREE_EVENTS);
     Ok(())
 }
 
@@ -149,7 +196,7 @@ fn summary<M: Maker, R: Threads + Wait + Sync>(
     let asked = words(alloc, &["gen", "3"])?;
     let mut input = source(alloc, Vec::new(alloc))?;
     let mut output = sink(alloc, Vec::new(alloc))?;
-    let (_status, _kernel) = hydra(rt, alloc, &asked, &mut input, &mut output, &Open, kernels);
+    let _answered = answered(rt, alloc, &asked, &mut input, &mut output, &Open, kernels);
     Ok(output)
 }
 

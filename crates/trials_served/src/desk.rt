@@ -1,6 +1,7 @@
 // A world that workers run at a desk.
 
-ghost use Rattle.std.specs.Prelude.{◌≡◌};
+ghost use Rattle.std.specs.Prelude.{◌≡◌, IfOk};
+ghost use Rattle.hk_model.specs.Opening.{opening};
 
 use crate::commands::Open;
 use crate::worlds::world;
@@ -28,13 +29,28 @@ struct Left {
     current: bool,
 }
 
-/// Runs the world that is named.
-#[tactic(auto, using(hk_shared::proofs::NewPasses::new_runs_nothing))]
-fn run_named<J: Naming, R: Wait>(rt: &R, alloc: Global, world: &World) -> Result<Left, Fail>
-    requires { world.now ≡ J.world }
+/// The kernel in which a world opens.
+fn plain(alloc: Global, world: &World) -> Result<Plain, Fail>
+    ensures { IfOk result (λ kernel. kernel ≡ opening world.now) }
 {
-    let kernel = Plain::new(alloc, world).ok().ok_or("a kernel")?;
-    let started = Shared::<Plain, J>::start(alloc, kernel, world, 1);
+    match Plain::new(alloc, world) {
+        Ok(kernel) => Ok(kernel),
+        Err(_) => Err("a kernel".into()),
+    }
+}
+
+/// Runs the world that is named, on a kernel that has opened it.
+#[tactic(auto, using(hk_shared::proofs::NewPasses::new_runs_nothing))]
+fn run_named<K: Kernel, J: Naming, R: Wait>(
+    rt: &R,
+    alloc: Global,
+    world: &World,
+    kernel: K,
+) -> Result<Left, Fail>
+    requires name { world.now ≡ J.world }
+    requires opened { K.state kernel ≡ opening world.now }
+{
+    let started = Shared::<K, J>::start(alloc, kernel, world, 1);
     let (shared, mut passes) = started.ok().ok_or("a desk")?;
     let pass = passes.remove(0);
     let (pass, ended) = work(rt, alloc, &shared, &Open, world, pass);
@@ -53,7 +69,7 @@ fn run_named<J: Naming, R: Wait>(rt: &R, alloc: Global, world: &World) -> Result
 
 /// Runs a world, which it names.
 fn run<R: Wait>(rt: &R, alloc: Global, world: &World) -> Result<Left, Fail> {
-    run_named::<Brand, R>(rt, alloc, world)
+    run_named::<Plain, Brand, R>(rt, alloc, world, plain(alloc, world)?)
 }
 
 #[test]
@@ -79,11 +95,16 @@ fn a_worker_is_over_at_the_limit(rt: HostRuntime) -> Result<(), Fail> {
 
 /// How many lines a second processor is told of, where the first runs the only process of the world that is named.
 #[tactic(auto, using(hk_shared::proofs::NewPasses::new_runs_nothing))]
-fn idle_named<J: Naming, R: Wait>(rt: &R, alloc: Global, world: &World) -> Result<u64, Fail>
-    requires { world.now ≡ J.world }
+fn idle_named<K: Kernel, J: Naming, R: Wait>(
+    rt: &R,
+    alloc: Global,
+    world: &World,
+    kernel: K,
+) -> Result<u64, Fail>
+    requires name { world.now ≡ J.world }
+    requires opened { K.state kernel ≡ opening world.now }
 {
-    let kernel = Plain::new(alloc, world).ok().ok_or("a kernel")?;
-    let started = Shared::<Plain, J>::start(alloc, kernel, world, 2);
+    let started = Shared::<K, J>::start(alloc, kernel, world, 2);
     let (shared, mut passes) = started.ok().ok_or("a desk")?;
     let first = passes.remove(0);
     let second = passes.remove(0);
@@ -96,7 +117,7 @@ fn idle_named<J: Naming, R: Wait>(rt: &R, alloc: Global, world: &World) -> Resul
 
 /// Runs a world, which it names.
 fn idle<R: Wait>(rt: &R, alloc: Global, world: &World) -> Result<u64, Fail> {
-    idle_named::<Brand, R>(rt, alloc, world)
+    idle_named::<Plain, Brand, R>(rt, alloc, world, plain(alloc, world)?)
 }
 
 #[test]

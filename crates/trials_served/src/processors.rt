@@ -1,11 +1,11 @@
 // Runs on several processors, each a thread.
 
-use crate::commands::{Open, sink, words};
+use crate::commands::{Answered, Open, answered, sink, words};
 use hk_io::SureBytes;
 use hk_model::{Acted, Call, Cpu, Inc, Kernel, NoMemory, Proc, Snapshot, World};
 use hk_plain::Plain;
 use hk_procs::Gate;
-use hk_top::{Maker, Maps, hydra, status};
+use hk_top::{Maker, Maps, status};
 use std::alloc::Global;
 use std::sync::Wait;
 use std::sync::atomic::{AtomicU64, Ordering};
@@ -117,12 +117,10 @@ fn run_in_order<R: Threads + Wait + Sync>(
     let words = words(alloc, &["run", "2"])?;
     let mut input = SureBytes::new(SCRIPT.to_vec(alloc)?);
     let mut output = sink(alloc, Vec::new(alloc))?;
-    let (status, kernel) = hydra(rt, alloc, &words, &mut input, &mut output, &gate, &Maps);
-    let kernel = kernel.ok_or("a kernel")?;
-    let snapshot = kernel.snapshot(alloc).ok().ok_or("a snapshot")?;
+    let answered = answered(rt, alloc, &words, &mut input, &mut output, &gate, &Maps);
     Ok(Ran {
-        status,
-        events: snapshot.events,
+        status: answered.status,
+        events: answered.events.ok_or("a kernel")?,
         missed: gate.missed.load(Ordering::SeqCst),
         text: output.taken().to_vec(alloc)?,
     })
@@ -154,17 +152,17 @@ fn another_order_makes_another_record(rt: HostRuntime) -> Result<(), Fail> {
     Ok(())
 }
 
-/// A plain kernel, but its first call wants memory.
+/// A kernel whose first call wants memory, but that is the other in all else.
 #[derive(Drop)]
-struct Wanting {
-    plain: Plain,
+struct Wanting<K: Kernel> {
+    other: K,
     wanted: bool,
 }
 
-impl Kernel for Wanting {
+impl<K: Kernel> Kernel for Wanting<K> {
     ghost use Rattle.std.specs.Prelude.{true};
 
-    ghost state = { λ kernel. kernel.plain };
+    ghost state = { λ kernel. K.state kernel.other };
 
     ghost wants = { λ _. true };
 
@@ -173,31 +171,31 @@ impl Kernel for Wanting {
             self.wanted = true;
             return Err(NoMemory);
         }
-        self.plain.act(alloc, cpu, call)
+        self.other.act(alloc, cpu, call)
     }
 
     fn dispatch(&mut self, cpu: Cpu) -> Option<Proc> {
-        self.plain.dispatch(cpu)
+        self.other.dispatch(cpu)
     }
 
     fn halt(&mut self, cpu: Cpu) {
-        self.plain.halt(cpu)
+        self.other.halt(cpu)
     }
 
     fn current(&self, cpu: Cpu) -> Option<(Proc, Inc)> {
-        self.plain.current(cpu)
+        self.other.current(cpu)
     }
 
     fn over(&self) -> bool {
-        self.plain.over()
+        self.other.over()
     }
 
     fn limit_reached(&self) -> bool {
-        self.plain.limit_reached()
+        self.other.limit_reached()
     }
 
     fn snapshot(&self, alloc: Global) -> Result<Snapshot, NoMemory> {
-        self.plain.snapshot(alloc)
+        self.other.snapshot(alloc)
     }
 }
 
@@ -205,37 +203,39 @@ impl Kernel for Wanting {
 struct Wants;
 
 impl Maker for Wants {
-    type Made = Wanting;
+    type Made = Wanting<Plain>;
 
-    fn make(&self, alloc: Global, world: &World) -> Result<Wanting, NoMemory> {
+    fn make(&self, alloc: Global, world: &World) -> Result<Wanting<Plain>, NoMemory> {
+        let other = Plain::new(alloc, world)?;
         Ok(Wanting {
-            plain: Plain::new(alloc, world)?,
+            other,
             wanted: false,
         })
     }
 }
 
-/// The status of a run of such a kernel, whether a kernel came back, and how much was written.
+/// How a run of such a kernel came out, and how much was written.
 fn run_wanting<R: Threads + Wait + Sync>(
     rt: &R,
     alloc: Global,
     spelled: &[&str],
-) -> Result<(u8, bool, usize), Fail> {
+) -> Result<(Answered, usize), Fail> {
     let words = words(alloc, spelled)?;
     let mut input = SureBytes::new(SCRIPT.to_vec(alloc)?);
     let mut output = sink(alloc, Vec::new(alloc))?;
-    let (status, kernel) = hydra(rt, alloc, &words, &mut input, &mut output, &Open, &Wants);
-    Ok((status, kernel.is_some(), output.taken().len()))
+    let answered = answered(rt, alloc, &words, &mut input, &mut output, &Open, &Wants);
+    Ok((answered, output.taken().len()))
 }
 
 #[test]
 fn a_stop_writes_nothing(rt: HostRuntime) -> Result<(), Fail> {
     let alloc = rt.alloc();
+    let stopped = Answered {
+        status: status::NO_MEMORY,
+        events: None,
+    };
     for spelled in [&["run"][..], &["run", "4"]] {
-        assert_eq!(rt;
-            run_wanting(&rt, alloc, spelled)?,
-            (status::NO_MEMORY, false, 0)
-        );
+        assert_eq!(rt; run_wanting(&rt, alloc, spelled)?, (stopped, 0));
     }
     Ok(())
 }
