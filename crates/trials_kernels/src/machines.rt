@@ -36,18 +36,18 @@ fn word_of<K: Kernel>(alloc: Global, kernel: &K) -> Result<Option<End>, Fail> {
 
 /// What processor 0 does, and the end words of its machine and of the machine's kernel.
 #[derive(Clone, Copy, PartialEq, Eq, Debug)]
-struct Moment {
+struct Seen {
     stepped: bool,
     of_machine: Option<End>,
     of_kernel: Option<End>,
 }
 
 /// The next step of processor 0, and what the end words are behind it.
-fn moment<K: Kernel>(alloc: Global, world: &World, machine: &mut Machine<K>) -> Result<Moment, Fail>
+fn moment<K: Kernel>(alloc: Global, world: &World, machine: &mut Machine<K>) -> Result<Seen, Fail>
     requires { IsSound world.now machine.old }
     ensures { IsSound world.now machine.new }
 {
-    Ok(Moment {
+    Ok(Seen {
         stepped: steps(alloc, world, machine)?,
         of_machine: machine.end_word(world),
         of_kernel: word_of(alloc, machine.kernel())?,
@@ -59,7 +59,7 @@ fn moments<K: Kernel>(
     alloc: Global,
     world: &World,
     machine: &mut Machine<K>,
-) -> Result<[Moment; 3], Fail>
+) -> Result<[Seen; 3], Fail>
     requires { IsSound world.now machine.old }
 {
     let dispatched = moment(alloc, world, machine)?;
@@ -69,11 +69,7 @@ fn moments<K: Kernel>(
 }
 
 /// The run of a kernel that has opened the world, and the end word of the kernel that its machine gives back.
-fn run<K: Kernel>(
-    alloc: Global,
-    world: &World,
-    kernel: K,
-) -> Result<([Moment; 3], Option<End>), Fail>
+fn run<K: Kernel>(alloc: Global, world: &World, kernel: K) -> Result<([Seen; 3], Option<End>), Fail>
     requires { K.state kernel ≡ opening world.now }
 {
     let Ok(mut machine) = Machine::open(alloc, world, kernel) else {
@@ -85,7 +81,7 @@ fn run<K: Kernel>(
 }
 
 /// The run of the script.
-fn run_of_script(alloc: Global) -> Result<([Moment; 3], Option<End>), Fail> {
+fn run_of_script(alloc: Global) -> Result<([Seen; 3], Option<End>), Fail> {
     let world = world(alloc, SCRIPT)?;
     kept_law(&world, &[]);
     shapes_law(&world, &[]);
@@ -98,18 +94,18 @@ fn run_of_script(alloc: Global) -> Result<([Moment; 3], Option<End>), Fail> {
 #[test]
 fn a_machine_steps_until_its_processes_have_ended(rt: HostRuntime) -> Result<(), Fail> {
     let (moments, word) = run_of_script(rt.alloc())?;
-    let running = Moment {
+    let running = Seen {
         stepped: true,
         of_machine: None,
         of_kernel: None,
     };
     let done = Some(End::Done);
-    let returned = Moment {
+    let returned = Seen {
         stepped: true,
         of_machine: done,
         of_kernel: done,
     };
-    let over = Moment {
+    let over = Seen {
         stepped: false,
         ..returned
     };

@@ -41,7 +41,7 @@ fn events_of<K: Kernel>(alloc: Global, kernel: Option<K>) -> Option<u32> {
 }
 
 /// How the top call came out, over kernels of this maker and with this gate.
-pub fn answered<S: Source, W: Sink, G: Gate, M: Maker, R: Threads + Wait + Sync>(
+pub fn answered<S: Source, W: Sink, G: Gate + Sync, M: Maker, R: Threads + Wait + Sync>(
     rt: &R,
     alloc: Global,
     words: &[String],
