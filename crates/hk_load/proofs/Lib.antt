@@ -1,6 +1,6 @@
 pub mod Unions
-pub mod NameLists
-pub mod NamesApart
+pub mod NamesMeant
+pub mod HeadsMeant
 pub mod Fillings
 pub mod Outcomes
 pub mod Jumps

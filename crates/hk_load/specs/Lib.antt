@@ -1,5 +1,5 @@
 pub mod Texts
-pub mod Naming
+pub mod Meanings
 pub mod Filling
 pub mod Jumping
 pub mod Building

@@ -11,7 +11,7 @@ use crate::rights::rights;
 use hk_format::{Body, LoadCause};
 use hk_model::{Cap, Entry, Param, Template, Text};
 
-impl Declared {
+impl<'a> Declared<'a> {
     /// The entry of a line. UnknownName and BadRights come from the left; WrongPart where the line is
     /// that of no entry.
     pub fn entry(&self, body: &Body) -> Result<Entry, LineError>

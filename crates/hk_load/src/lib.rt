@@ -11,6 +11,7 @@ mod instructions;
 mod items;
 mod labels;
 mod loading;
+mod meanings;
 mod names;
 mod rights;
 mod steps;

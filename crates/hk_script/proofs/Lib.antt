@@ -10,4 +10,5 @@ pub mod ReadersGood
 pub mod InstructionsGood
 pub mod PartsGood
 pub mod SyntaxGood
+pub mod NamesKept
 pub mod ProgressLemmas

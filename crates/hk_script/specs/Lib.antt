@@ -1,4 +1,5 @@
 pub mod Lines
+pub mod Given
 pub mod Outcomes
 pub mod Readings
 pub mod Progresses

@@ -10,6 +10,7 @@ use Rattle.hk_format.specs.Grammar.{Read, Refused, header, after_header, items_f
 use Rattle.hk_format.specs.Worlds.{pass}
 use Rattle.hk_script.specs.declared.progress.Progress.{Progress}
 use Rattle.hk_script.specs.declared.progress.Refusal.{Refusal}
+use Rattle.hk_script.specs.Given.{HasNames}
 use Rattle.hk_script.specs.Readings.{read_of}
 
 -- the items of these lines, behind others; the first of all is the header
@@ -26,6 +27,15 @@ unless_refused None given = given
 -- the items, where these lines are still to come
 abbrev pub items_after : Progress → Lines → Result (List Item) Refused
 items_after progress ls = unless_refused progress.refused (lines_behind progress.begun (read_of progress.reading) ls)
+
+-- the names are those of the heads, unless a line was refused
+abbrev pub HasNamesUnless : Option Refusal → Read → Type 0
+HasNamesUnless (Some refusal) r = Unit {0}
+HasNamesUnless None r = HasNames r
+
+-- the names that are kept are those of the heads that were read, unless a line was refused
+abbrev pub KeepsNames : Progress → Type 0
+KeepsNames progress = HasNamesUnless progress.refused (read_of progress.reading)
 
 -- all lines pass the text check before any refusal of the grammar counts
 abbrev pub checked : Result Lines (ℕ × TextCause) → (Lines → Result (List Item) Refused) → Result (List Item) (ℕ × Cause)

@@ -55,8 +55,8 @@ abbrev pub MatchPart : Result Bool (LineError ParseCause) → Open → (Read →
 MatchPart (Ok ends) new given = (r : Read) → given r ≡ Ok (after_part r new ends)
 MatchPart (Err error) new given = (r : Read) → Fails error (given r)
 
--- the items are those that the grammar gives, or the line and the cause are
-abbrev pub Closes : Result (List Item) (ReadError ParseCause) → Result (List Item) Refused → Type 0
-Closes (Ok items) given = given ≡ Ok items
+-- the items, which stand beside their names, are those that the grammar gives, or the line and the cause are
+abbrev pub Closes : Result (List Item × List (List ℕ)) (ReadError ParseCause) → Result (List Item) Refused → Type 0
+Closes (Ok found) given = given ≡ Ok found.0
 Closes (Err (parse_error.Refused line cause)) given = given ≡ Err (line, cause)
 Closes (Err parse_error.NoMemory) given = ⊥

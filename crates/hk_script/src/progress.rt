@@ -1,6 +1,6 @@
 //! How far a script was read (`docs/FORMATS.md`, "Grammar").
 
-ghost use Rattle.std.specs.Prelude.{◌≡◌, ◌∷◌, [], IsTrue, IsNone, OnOk, Err, map};
+ghost use Rattle.std.specs.Prelude.{◌≡◌, ◌∷◌, [], IsTrue, IsNone, IfOk, OnOk, Err, map};
 ghost use Rattle.std.specs.List.{list_all};
 ghost use Rattle.hk_format.specs.declared.causes.ParseCause.{ParseCause};
 ghost use Rattle.hk_format.specs.declared.errors.LineError.TheVariants.{Bad};
@@ -8,11 +8,13 @@ ghost use Rattle.hk_format.specs.Pieces.{is_piece};
 ghost use Rattle.hk_format.specs.Texts.{Lines};
 ghost use Rattle.hk_format.specs.Grammar.{script};
 ghost use Rattle.hk_text.specs.Views.{seen};
+ghost use Rattle.hk_script.specs.Given.{names_given};
 ghost use Rattle.hk_script.specs.Readings.{Closes};
-ghost use Rattle.hk_script.specs.Progresses.{items_after};
+ghost use Rattle.hk_script.specs.Progresses.{items_after, KeepsNames};
 
 use crate::errors::{LineError, ParseError};
 use crate::line::Line;
+use crate::names::Names;
 use crate::reading::Reading;
 use hk_format::{Item, ParseCause};
 use hk_model::Items;
@@ -38,7 +40,8 @@ pub struct Progress {
 impl Progress {
     /// Before the first line.
     pub fn new(alloc: Global) -> Progress
-        ensures { (lines : Lines) → items_after result lines ≡ script lines }
+        ensures items { (lines : Lines) → items_after result lines ≡ script lines }
+        ensures names { KeepsNames result }
     {
         Progress {
             begun: false,
@@ -57,7 +60,8 @@ impl Progress {
         pieces: &[Piece],
     ) -> Result<(), AllocError>
         requires { IsTrue (list_all is_piece (map (seen source.now) pieces.now)) }
-        ensures { OnOk result ((lines : Lines) → items_after self.new lines ≡ items_after self.old ((number, map (seen source.now) pieces.now) ∷ lines)) }
+        ensures items { OnOk result ((lines : Lines) → items_after self.new lines ≡ items_after self.old ((number, map (seen source.now) pieces.now) ∷ lines)) }
+        ensures names { OnOk result (KeepsNames self.old → KeepsNames self.new) }
     {
         if self.refused.is_some() {
             return Ok(());
@@ -86,6 +90,7 @@ impl Progress {
         requires spelled { IsTrue (list_all is_piece (map (seen source.now) pieces.now)) }
         requires none { IsNone self.old.refused }
         ensures ok { OnOk result ((lines : Lines) → items_after self.new lines ≡ items_after self.old ((number, map (seen source.now) pieces.now) ∷ lines)) }
+        ensures names { OnOk result (KeepsNames self.old → KeepsNames self.new) }
         ensures bad { (cause : ParseCause) (lines : Lines) → result ≡ Err (Bad cause) → items_after self.old ((number, map (seen source.now) pieces.now) ∷ lines) ≡ Err (number, cause) }
     {
         if self.begun {
@@ -96,10 +101,12 @@ impl Progress {
         Ok(())
     }
 
-    /// The items, or the first line that was refused and its cause. Unclosed stands at the head of the
-    /// item that is open.
-    pub fn finish(self) -> Result<Items<Item>, ParseError>
-        ensures { Closes result (items_after self []) }
+    /// The items and the names that their heads give, or the first line that was refused and its cause.
+    /// Unclosed stands at the head of the item that is open.
+    pub fn finish(self) -> Result<(Items<Item>, Names), ParseError>
+        requires { KeepsNames self }
+        ensures items { Closes result (items_after self []) }
+        ensures names { IfOk result (λ found. found.1 ≡ names_given found.0) }
     {
         let Progress {
             begun,

@@ -1,11 +1,12 @@
 //! What the lines before have given (`docs/FORMATS.md`, "Grammar").
 
-ghost use Rattle.std.specs.Prelude.{◌≡◌, [], ◌∷◌, ◌++◌, Some, None, Ok, true, IsTrue, IsNone, map};
+ghost use Rattle.std.specs.Prelude.{◌≡◌, [], ◌∷◌, ◌++◌, Some, None, Ok, true, IsTrue, IsNone, IfOk, map};
 ghost use Rattle.std.specs.List.{list_all};
 ghost use Rattle.hk_format.specs.Pieces.{is_piece};
 ghost use Rattle.hk_format.specs.Grammar.{between_items, nothing_seen, after_line, next_line, in_item, item_at, joined, and_then, part_line, closed, Read, Open};
 ghost use Rattle.hk_text.specs.Views.{seen};
 ghost use Rattle.hk_format.specs.Outcomes.{Becomes};
+ghost use Rattle.hk_script.specs.Given.{names_given, HasNames};
 ghost use Rattle.hk_script.specs.Lines.{rest};
 ghost use Rattle.hk_script.specs.Readings.{read_of, open_of, option_open, extended, after_part, MatchNew, MatchNewLabel, MatchPart, Closes};
 
@@ -159,18 +160,20 @@ impl Reading {
         Ok(())
     }
 
-    /// The items, or Unclosed at the head of the item that is open.
-    pub fn finish(self) -> Result<Items<Item>, ParseError>
-        ensures { Closes result (closed (read_of self).items (read_of self).unclosed) }
+    /// The items and the names that their heads give, or Unclosed at the head of the item that is open.
+    pub fn finish(self) -> Result<(Items<Item>, Names), ParseError>
+        requires { HasNames (read_of self) }
+        ensures items { Closes result (closed (read_of self).items (read_of self).unclosed) }
+        ensures names { IfOk result (λ found. found.1 ≡ names_given found.0) }
     {
         let Reading {
             items,
-            names: _,
+            names,
             limited: _,
             unclosed,
         } = self;
         match unclosed {
-            None => Ok(items),
+            None => Ok((items, names)),
             Some(opened) => Err(ParseError::Refused {
                 line: opened.item.line,
                 cause: ParseCause::Unclosed,

@@ -9,9 +9,11 @@ ghost use Rattle.hk_format.specs.Texts.{text, lines_of};
 ghost use Rattle.hk_format.specs.Grammar.{script};
 ghost use Rattle.hk_format.specs.Outcomes.{IsRefused};
 ghost use Rattle.hk_text.specs.Views.{line_seen};
-ghost use Rattle.hk_script.specs.Progresses.{items_after, checked, source_items};
+ghost use Rattle.hk_script.specs.Given.{names_given};
+ghost use Rattle.hk_script.specs.Progresses.{items_after, checked, source_items, KeepsNames};
 
 use crate::errors::{ParseError, SourceError};
+use crate::names::Names;
 use crate::progress::Progress;
 use hk_format::Item;
 use hk_model::Items;
@@ -25,18 +27,21 @@ use std::marker::Model;
 #[derive(Drop)]
 pub struct Syntax {
     items: Items<Item>,
+    /// The names that the heads give, in their order.
+    names: Names,
 }
 
 impl Model for Syntax {
-    ghost use Rattle.std.specs.Prelude.{List};
+    ghost use Rattle.std.specs.Prelude.{◌≡◌, List};
     ghost use Rattle.hk_format.specs.declared.syntax.Item.{Item};
     ghost use Rattle.hk_format.specs.Syntax.{IsSyntax};
+    ghost use Rattle.hk_script.specs.Given.{names_given};
 
     ghost Value = { List Item };
 
     ghost view = { λ syntax. syntax.items };
 
-    ghost invariant = { λ syntax. IsSyntax syntax.items };
+    ghost invariant = { λ syntax. IsSyntax syntax.items × (syntax.names ≡ names_given syntax.items) };
 }
 
 impl Syntax {
@@ -48,6 +53,13 @@ impl Syntax {
         ensures valid { IsSyntax self.now }
     {
         self.items.as_slice()
+    }
+
+    /// The names that the heads give, in their order.
+    pub fn names(&self) -> &Names
+        ensures { result.now ≡ names_given self.now }
+    {
+        &self.names
     }
 }
 
@@ -63,8 +75,8 @@ pub fn parse(alloc: Global, lines: &[TextLine], source: &[u8]) -> Result<Syntax,
     for line in lines {
         progress.line(alloc, source, line.number, line.pieces.as_slice())?;
     }
-    let items = progress.finish()?;
-    Ok(Syntax { items })
+    let (items, names) = progress.finish()?;
+    Ok(Syntax { items, names })
 }
 
 /// The items of the script that these bytes are. `Refused` tells the first line that is refused by the
@@ -78,14 +90,15 @@ pub fn parse_source(alloc: Global, source: &[u8]) -> Result<Syntax, SourceError>
 {
     let mut progress = Progress::new(alloc);
     read_lines(alloc, source, &mut progress)?;
-    let items = progress.finish()?;
-    Ok(Syntax { items })
+    let (items, names) = progress.finish()?;
+    Ok(Syntax { items, names })
 }
 
 /// Reads the lines of a source.
 fn read_lines(alloc: Global, source: &[u8], progress: &mut Progress) -> Result<(), TextError>
     requires { length (lines_of source.now) < 2 ^ 32 - 1 }
     ensures ok { OnOk result (checked (text source.now) (items_after progress.old) ≡ checked (Ok []) (items_after progress.new)) }
+    ensures names { OnOk result (KeepsNames progress.old → KeepsNames progress.new) }
     ensures refused { (line : ℕ) (cause : TextCause) → IsRefused result line cause → checked (text source.now) (items_after progress.old) ≡ Err (line, OfText cause) }
 {
     let mut lines = LineReader::new(alloc, source);
