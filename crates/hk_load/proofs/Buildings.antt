@@ -127,6 +127,11 @@ item_turn names b items at i more e =
     ∙ ap (λ (x : Item). after b (items_of names (counts_of b) (x ∷ drop (at + 1) items))) (sym e)
     ∙ item_onto names b i.line i.parts i.head (λ n. items_of names n (drop (at + 1) items))
 
+-- the first of some items, with those behind it
+pub front_turn : (names : Names) (b : Built) (i : Item) (is : List Item)
+    → after b (items_of names (counts_of b) (i ∷ is)) ≡ (added names b i.line i.parts i.head >>= (λ d. after d (items_of names (counts_of d) is)))
+front_turn names b i is = item_onto names b i.line i.parts i.head (λ n. items_of names n is)
+
 -- no item is left
 pub no_item : (b : Built) → after b (Ok (world_value 10000 [] [] [])) ≡ Ok (finished b)
 no_item b =

@@ -7,7 +7,6 @@ use mathlib.Core.List.{append_assoc}
 use Rattle.hk_format.specs.declared.syntax.Head.{Head}
 use Rattle.hk_format.specs.declared.syntax.Head.TheVariants.{LimitIs, TypeIs, ObjectIs, SemaphoreIs, ProcedureIs, CodeIs, ProcessIs}
 use Rattle.hk_format.specs.declared.syntax.Item.{Item}
-use Rattle.hk_model.specs.Labels.{are_apart}
 use Rattle.hk_format.specs.Names.{kernel_names, kernel_flags}
 use Rattle.hk_format.specs.Grammar.{GivenNames, nothing_seen, is_new, noted}
 use Rattle.hk_format.specs.Syntax.{AreItems, IsHead, IsSyntax}

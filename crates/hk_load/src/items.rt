@@ -1,6 +1,6 @@
 //! The items of a script, one after another (`docs/FORMATS.md`, "Loading").
 
-ghost use Rattle.std.specs.Prelude.{◌≡◌, [], None, Ok, length, nat_lt};
+ghost use Rattle.std.specs.Prelude.{◌≡◌, [], None, Ok, IfOk, length, nat_lt};
 ghost use Rattle.hk_format.specs.declared.syntax.Head.TheVariants.{ObjectIs, ProcedureIs, CodeIs, ProcessIs};
 ghost use Rattle.hk_model.specs.declared.world.Kind.TheVariants as kind;
 ghost use Rattle.hk_model.specs.Limits.{process_limit};
@@ -15,12 +15,12 @@ use crate::contents::{Contents, Room};
 use crate::errors::{LineError, LoadError};
 use crate::names::Declared;
 use crate::steps::steps;
-use hk_format::{Head, Item, LoadCause};
+use hk_format::{Head, LoadCause, Part};
 use hk_model::limits::{
     CODE_LIMIT, ENTRY_LIMIT, OBJECT_LIMIT, PROCESS_LIMIT, SLOT_LIMIT, USUAL_LIMIT,
 };
 use hk_model::{Born, Code, Entry, Items, Kind, Name, Task, Template, Text, World};
-use std::alloc::Global;
+use std::alloc::{AllocError, Global};
 use std::marker::PhantomData;
 
 /// The objects that a script may declare: the seven kernel types stand beside them.
@@ -54,27 +54,36 @@ impl Loaded {
         }
     }
 
-    /// Adds what an item gives. Causes come in the order of its lines: at its head UnknownName, then
-    /// WrongPart, then TooMany.
-    pub fn add(&mut self, alloc: Global, declared: &Declared, item: &Item) -> Result<(), LoadError>
-        requires { HasNewLabels [] item.now.parts }
-        ensures { BecomesAll result (built_of self.new) (added declared.now (built_of self.old) item.now.line item.now.parts item.now.head) }
+    /// Adds what the item with this head and these lines behind it gives. Causes come in the order of its
+    /// lines: at its head UnknownName, then WrongPart, then TooMany.
+    pub fn add(
+        &mut self,
+        alloc: Global,
+        declared: &Declared,
+        line: u32,
+        head: Head,
+        parts: &[Part],
+    ) -> Result<(), LoadError>
+        requires { HasNewLabels [] parts.now }
+        ensures { BecomesAll result (built_of self.new) (added declared.now (built_of self.old) line parts.now head) }
     {
-        match &item.head {
+        match head {
             Head::LimitIs(limit) => {
-                self.set_limit(*limit);
+                self.set_limit(limit);
                 Ok(())
             }
-            Head::TypeIs { name } => self.add_single(alloc, item.line, name, Kind::TypeObject),
-            Head::ObjectIs { name, of } => self.add_object(alloc, declared, item, name, of),
+            Head::TypeIs { name } => self.add_single(line, name, Kind::TypeObject),
+            Head::ObjectIs { name, of } => self.add_object(alloc, declared, line, parts, name, &of),
             Head::SemaphoreIs { name, count } => {
-                self.add_single(alloc, item.line, name, Kind::Semaphore { count: *count })
+                self.add_single(line, name, Kind::Semaphore { count })
             }
             Head::ProcedureIs { name, code } => self.add_procedure(
-                alloc, declared, item, name, code,
+                alloc, declared, line, parts, name, &code,
             ),
-            Head::CodeIs { name } => self.add_code(alloc, item, name),
-            Head::ProcessIs { name, code } => self.add_task(alloc, declared, item, name, code),
+            Head::CodeIs { name } => self.add_code(alloc, line, parts, name),
+            Head::ProcessIs { name, code } => self.add_task(
+                alloc, declared, line, parts, name, &code,
+            ),
         }
     }
 
@@ -88,20 +97,14 @@ impl Loaded {
     }
 
     /// Adds an object of one line, or TooMany.
-    fn add_single(
-        &mut self,
-        alloc: Global,
-        line: u32,
-        name: &Text,
-        kind: Kind,
-    ) -> Result<(), LoadError>
-        ensures { BecomesAll result (built_of self.new) (single_added (built_of self.old) line name.now kind) }
+    fn add_single(&mut self, line: u32, name: Text, kind: Kind) -> Result<(), LoadError>
+        ensures { BecomesAll result (built_of self.new) (single_added (built_of self.old) line name kind) }
     {
         if self.objects.len() >= DECLARED_LIMIT {
             let cause = LoadCause::TooMany;
             return Err(LoadError::Refused { line, cause });
         }
-        self.push_object(alloc, name, kind)
+        self.push_object(name, kind)
     }
 
     /// Adds an object of DATA, of UNIVERSAL or of a type of the script.
@@ -109,19 +112,20 @@ impl Loaded {
         &mut self,
         alloc: Global,
         declared: &Declared,
-        item: &Item,
-        name: &Text,
+        line: u32,
+        parts: &[Part],
+        name: Text,
         of: &Text,
     ) -> Result<(), LoadError>
-        ensures { BecomesAll result (built_of self.new) (added declared.now (built_of self.old) item.now.line item.now.parts (ObjectIs name.now of.now)) }
+        ensures { BecomesAll result (built_of self.new) (added declared.now (built_of self.old) line parts.now (ObjectIs name of.now)) }
     {
-        let of = self.object_type(declared, item.line, of)?;
+        let of = self.object_type(declared, line, of)?;
         let room = Room {
             listed: of != DATA,
             entries: ENTRY_LIMIT,
         };
-        let contents = Contents::of(alloc, declared, room, item.parts.as_slice())?;
-        self.push_object(alloc, name, plain_kind(of, contents))
+        let contents = Contents::of(alloc, declared, room, parts)?;
+        self.push_object(name, plain_kind(of, contents))
     }
 
     /// Adds a procedure.
@@ -129,36 +133,39 @@ impl Loaded {
         &mut self,
         alloc: Global,
         declared: &Declared,
-        item: &Item,
-        name: &Text,
+        line: u32,
+        parts: &[Part],
+        name: Text,
         code: &Text,
     ) -> Result<(), LoadError>
-        ensures { BecomesAll result (built_of self.new) (added declared.now (built_of self.old) item.now.line item.now.parts (ProcedureIs name.now code.now)) }
+        ensures { BecomesAll result (built_of self.new) (added declared.now (built_of self.old) line parts.now (ProcedureIs name code.now)) }
     {
-        let code = self.procedure_code(declared, item.line, code)?;
+        let code = self.procedure_code(declared, line, code)?;
         let room = Room {
             listed: true,
             entries: ENTRY_LIMIT,
         };
-        let contents = Contents::of(alloc, declared, room, item.parts.as_slice())?;
-        self.push_object(alloc, name, procedure_kind(code, contents))
+        let contents = Contents::of(alloc, declared, room, parts)?;
+        self.push_object(name, procedure_kind(code, contents))
     }
 
     /// Adds a code.
-    fn add_code(&mut self, alloc: Global, item: &Item, name: &Text) -> Result<(), LoadError>
-        requires { HasNewLabels [] item.now.parts }
-        ensures { (names : Names) → BecomesAll result (built_of self.new) (added names (built_of self.old) item.now.line item.now.parts (CodeIs name.now)) }
+    fn add_code(
+        &mut self,
+        alloc: Global,
+        line: u32,
+        parts: &[Part],
+        name: Text,
+    ) -> Result<(), LoadError>
+        requires { HasNewLabels [] parts.now }
+        ensures { (names : Names) → BecomesAll result (built_of self.new) (added names (built_of self.old) line parts.now (CodeIs name)) }
     {
         if self.codes.len() >= CODE_LIMIT {
             let cause = LoadCause::TooMany;
-            return Err(LoadError::Refused {
-                line: item.line,
-                cause,
-            });
+            return Err(LoadError::Refused { line, cause });
         }
-        let steps = steps(alloc, item.parts.as_slice())?;
-        let label = name.copy(alloc)?;
-        self.codes.push(Code { label, steps })?;
+        let steps = steps(alloc, parts)?;
+        self.codes.push(Code { label: name, steps })?;
         Ok(())
     }
 
@@ -167,19 +174,20 @@ impl Loaded {
         &mut self,
         alloc: Global,
         declared: &Declared,
-        item: &Item,
-        name: &Text,
+        line: u32,
+        parts: &[Part],
+        name: Text,
         code: &Text,
     ) -> Result<(), LoadError>
-        ensures { BecomesAll result (built_of self.new) (added declared.now (built_of self.old) item.now.line item.now.parts (ProcessIs name.now code.now)) }
+        ensures { BecomesAll result (built_of self.new) (added declared.now (built_of self.old) line parts.now (ProcessIs name code.now)) }
     {
-        let code = self.task_code(declared, item.line, code)?;
+        let code = self.task_code(declared, line, code)?;
         let room = Room {
             listed: true,
             entries: SLOT_LIMIT,
         };
-        let contents = Contents::of(alloc, declared, room, item.parts.as_slice())?;
-        self.push_task(alloc, name, code, contents)
+        let contents = Contents::of(alloc, declared, room, parts)?;
+        self.push_task(name, code, contents)
     }
 
     /// The type of an object, or the cause of its line.
@@ -234,27 +242,19 @@ impl Loaded {
     }
 
     /// Puts an object at the end.
-    fn push_object(&mut self, alloc: Global, name: &Text, kind: Kind) -> Result<(), LoadError>
-        ensures { BecomesAll result (built_of self.new) (Ok (with_born (built_of self.old) name.now kind)) }
+    fn push_object(&mut self, label: Text, kind: Kind) -> Result<(), LoadError>
+        ensures { BecomesAll result (built_of self.new) (Ok (with_born (built_of self.old) label kind)) }
     {
         let _ = PhantomData::<(Entry, Template)>;
-        let label = name.copy(alloc)?;
         self.objects.push(Born { label, kind })?;
         Ok(())
     }
 
     /// Puts a process at the end, whose slots begin with the entries.
-    fn push_task(
-        &mut self,
-        alloc: Global,
-        name: &Text,
-        code: u16,
-        contents: Contents,
-    ) -> Result<(), LoadError>
-        ensures { BecomesAll result (built_of self.new) (Ok (with_task (built_of self.old) name.now code contents.entries)) }
+    fn push_task(&mut self, label: Text, code: u16, contents: Contents) -> Result<(), LoadError>
+        ensures { BecomesAll result (built_of self.new) (Ok (with_task (built_of self.old) label code contents.entries)) }
     {
         let _ = PhantomData::<(Entry, Template)>;
-        let label = name.copy(alloc)?;
         let Contents {
             words: _,
             params: _,
@@ -321,4 +321,35 @@ fn procedure_kind(code: u16, contents: Contents) -> Kind
         params,
         entries,
     }
+}
+
+/// An equal head.
+pub fn head_copy(alloc: Global, head: &Head) -> Result<Head, AllocError>
+    ensures { IfOk result (λ h. h ≡ head.now) }
+{
+    Ok(match head {
+        Head::LimitIs(limit) => Head::LimitIs(*limit),
+        Head::TypeIs { name } => Head::TypeIs {
+            name: name.copy(alloc)?,
+        },
+        Head::ObjectIs { name, of } => Head::ObjectIs {
+            name: name.copy(alloc)?,
+            of: of.copy(alloc)?,
+        },
+        Head::SemaphoreIs { name, count } => Head::SemaphoreIs {
+            name: name.copy(alloc)?,
+            count: *count,
+        },
+        Head::ProcedureIs { name, code } => Head::ProcedureIs {
+            name: name.copy(alloc)?,
+            code: code.copy(alloc)?,
+        },
+        Head::CodeIs { name } => Head::CodeIs {
+            name: name.copy(alloc)?,
+        },
+        Head::ProcessIs { name, code } => Head::ProcessIs {
+            name: name.copy(alloc)?,
+            code: code.copy(alloc)?,
+        },
+    })
 }

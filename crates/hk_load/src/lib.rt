@@ -18,7 +18,7 @@ mod steps;
 mod worlds;
 
 pub use crate::errors::LoadError;
-pub use crate::loading::load;
+pub use crate::loading::{load, load_owned};
 pub use crate::rights::rights_spelled;
 pub use crate::worlds::{WorldError, read_world};
 pub use hk_model::World;

@@ -9,10 +9,10 @@ ghost use Rattle.hk_format.specs.Outcomes.{IsRefused, GivesAll};
 ghost use Rattle.hk_script.specs.Given.{names_given};
 
 use crate::errors::LoadError;
-use crate::items::Loaded;
+use crate::items::{Loaded, head_copy};
 use crate::names::Declared;
 use hk_format::Item;
-use hk_model::World;
+use hk_model::{Items, World};
 use hk_script::{Names, Syntax};
 use std::alloc::Global;
 
@@ -23,6 +23,40 @@ pub fn load(alloc: Global, syntax: &Syntax) -> Result<World, LoadError>
     ensures refused { (line : ℕ) (cause : LoadCause) → IsRefused result line cause → load syntax.now ≡ Err (line, cause) }
 {
     load_items(alloc, syntax.names(), syntax.items())
+}
+
+/// The world that a script declares, as `load` gives it. The script is used up: its names become the labels
+/// of the world, and each item is let go of once it is loaded.
+pub fn load_owned(alloc: Global, syntax: Syntax) -> Result<World, LoadError>
+    ensures ok { IfOk result (λ w. load syntax ≡ Ok w) }
+    ensures refused { (line : ℕ) (cause : LoadCause) → IsRefused result line cause → load syntax ≡ Err (line, cause) }
+{
+    let (items, names) = syntax.into_parts();
+    load_each(alloc, &names, items)
+}
+
+/// The world of these items, whose heads give these names.
+fn load_each(alloc: Global, names: &Names, items: Items<Item>) -> Result<World, LoadError>
+    requires syntax { IsSyntax items }
+    requires names { names.now ≡ names_given items }
+    ensures { GivesAll (λ x. x) result (load items) }
+{
+    let declared = Declared::of(alloc, names, items.as_slice())?;
+    load_each_with(alloc, &declared, items.into_vec())
+}
+
+/// The world of these items, whose heads declare these names.
+fn load_each_with(alloc: Global, declared: &Declared, items: Vec<Item>) -> Result<World, LoadError>
+    requires syntax { IsSyntax items.items }
+    requires names { declared.now ≡ names_of (map (λ (i : Item). i.head) items.items) }
+    ensures { GivesAll (λ x. x) result (load items.items) }
+{
+    let mut loaded = Loaded::new(alloc);
+    for item in items {
+        let Item { line, head, parts } = item;
+        loaded.add(alloc, declared, line, head, parts.as_slice())?;
+    }
+    Ok(loaded.finish())
 }
 
 /// The world of these items, whose heads give these names.
@@ -43,7 +77,8 @@ fn load_with(alloc: Global, declared: &Declared, items: &[Item]) -> Result<World
 {
     let mut loaded = Loaded::new(alloc);
     for item in items {
-        loaded.add(alloc, declared, item)?;
+        let head = head_copy(alloc, &item.head)?;
+        loaded.add(alloc, declared, item.line, head, item.parts.as_slice())?;
     }
     Ok(loaded.finish())
 }

@@ -6,7 +6,7 @@ ghost use Rattle.hk_format.specs.Outcomes.{IsRefused};
 ghost use Rattle.hk_format.specs.Texts.{lines_of};
 ghost use Rattle.hk_format.specs.Worlds.{world};
 
-use crate::loading::load;
+use crate::loading::load_owned;
 use hk_format::{Cause, ReadError};
 use hk_model::World;
 use hk_script::parse_source;
@@ -25,5 +25,5 @@ pub fn read_world(alloc: Global, script: &[u8]) -> Result<World, WorldError>
     ensures refused { (line : ℕ) (cause : Cause) → IsRefused result line cause → world script.now ≡ Err (line, cause) }
 {
     let syntax = parse_source(alloc, script)?;
-    Ok(load(alloc, &syntax)?)
+    Ok(load_owned(alloc, syntax)?)
 }

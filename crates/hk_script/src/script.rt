@@ -61,6 +61,15 @@ impl Syntax {
     {
         &self.names
     }
+
+    /// The items, in the order of their heads, and the names that these give.
+    pub fn into_parts(self) -> (Items<Item>, Names)
+        ensures items { result.0 ≡ self }
+        ensures names { result.1 ≡ names_given self }
+        ensures valid { IsSyntax self }
+    {
+        (self.items, self.names)
+    }
 }
 
 /// The items of a script: `lines` are those that `hk_text::lines` gave of `source`. `Refused` tells

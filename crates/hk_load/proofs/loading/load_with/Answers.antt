@@ -15,24 +15,26 @@ loop-item-init c = record {
 }
 
 pub add-requires : goal.add-requires
-add-requires c = (next_new c.args.items.now c.loop-item.item-index c.item-item.result c.loop-item-test.true c.item-item.is c.loop-item.invariant.new).0
+add-requires c = rw c.as_slice.ensures (next_new c.args.items.now c.loop-item.item-index c.item-item.result c.loop-item-test.true c.item-item.is c.loop-item.invariant.new).0
 
 pub loop-item-preserved : goal.loop-item-preserved
 loop-item-preserved c = record {
   new = (next_new c.args.items.now c.loop-item.item-index c.item-item.result c.loop-item-test.true c.item-item.is c.loop-item.invariant.new).1;
   all =
       item_goes (added c.args.declared.now (built_of c.loop-item.loaded) c.item-item.result.line c.item-item.result.parts c.item-item.result.head) (built_of c.add.new.self)
-      (λ (d : Built). after d (items_of c.args.declared.now (counts_of d) (drop (c.loop-item.item-index + 1) c.args.items.now))) (load c.args.items.now) c.in_ok-add.ensures
+      (λ (d : Built). after d (items_of c.args.declared.now (counts_of d) (drop (c.loop-item.item-index + 1) c.args.items.now))) (load c.args.items.now)
+      (rw (c.as_slice.ensures, c.in_ok-head.ensures) at c.in_ok-add.ensures)
       (sym c.loop-item.invariant.all ∙ item_turn c.args.declared.now
       (built_of c.loop-item.loaded) c.args.items.now c.loop-item.item-index c.item-item.result c.loop-item-test.true c.item-item.is);
 }
 
 pub returns-in_err-add : goal.returns-in_err-add
 returns-in_err-add c =
-    let p = err_from_is_err_and c.from_residual.result c.from_residual.ensures.1 in
+    let p = err_from_is_err_and c.from_residual-in_err-add.result c.from_residual-in_err-add.ensures.1 in
     rw (p.1, p.2) (item_stops c.in_err-add.field-0.0
     (added c.args.declared.now (built_of c.loop-item.loaded) c.item-item.result.line c.item-item.result.parts c.item-item.result.head)
-    (λ (d : Built). after d (items_of c.args.declared.now (counts_of d) (drop (c.loop-item.item-index + 1) c.args.items.now))) (load c.args.items.now) c.in_err-add.ensures
+    (λ (d : Built). after d (items_of c.args.declared.now (counts_of d) (drop (c.loop-item.item-index + 1) c.args.items.now))) (load c.args.items.now)
+    (rw (c.as_slice.ensures, c.in_ok-head.ensures) at c.in_err-add.ensures)
     (sym c.loop-item.invariant.all ∙ item_turn c.args.declared.now
     (built_of c.loop-item.loaded) c.args.items.now c.loop-item.item-index c.item-item.result c.loop-item-test.true c.item-item.is))
 
