@@ -41,7 +41,7 @@ fn events_of<K: Kernel>(alloc: Global, kernel: Option<K>) -> Option<u32> {
 }
 
 /// How the top call came out, over kernels of this maker and with this gate.
-pub fn answered<S: Source, W: Sink, G: Gate + Sync, M: Maker, R: Threads + Wait + Sync>(
+pub fn serve<S: Source, W: Sink, G: Gate + Sync, M: Maker, R: Threads + Wait + Sync>(
     rt: &R,
     alloc: Global,
     words: &[String],
@@ -63,7 +63,7 @@ pub fn status_of<S: Source, W: Sink, R: Threads + Wait + Sync>(
     input: &mut S,
     output: &mut W,
 ) -> u8 {
-    answered(rt, alloc, words, input, output, &Open, &Maps).status
+    serve(rt, alloc, words, input, output, &Open, &Maps).status
 }
 
 /// These words, as the program gets them.
@@ -107,7 +107,7 @@ fn run_word(alloc: Global) -> Result<Vec<String>, AllocError>
 }
 
 /// How the same call came out without a run time.
-fn answered_alone<M: Maker>(alloc: Global, kernels: &M) -> Result<Answered, Fail> {
+fn serve_alone<M: Maker>(alloc: Global, kernels: &M) -> Result<Answered, Fail> {
     let run = run_word(alloc)?;
     let mut input = SureBytes::new(SCRIPT.to_vec(alloc)?);
     let mut output = SureOut::new();
@@ -117,7 +117,7 @@ fn answered_alone<M: Maker>(alloc: Global, kernels: &M) -> Result<Answered, Fail
 }
 
 /// How it came out over streams that never fail.
-fn answered_surely<M: Maker, R: Threads + Wait + Sync>(
+fn serve_surely<M: Maker, R: Threads + Wait + Sync>(
     rt: &R,
     alloc: Global,
     kernels: &M,
@@ -137,13 +137,13 @@ const OF_THREE_EVENTS: Answered = Answered {
 
 #[test]
 fn hands_back_the_kernel_that_was_run(rt: HostRuntime) -> Result<(), Fail> {
-    assert_eq!(rt; answered_alone(rt.alloc(), &Maps)?, OF_THREE_EVENTS);
+    assert_eq!(rt; serve_alone(rt.alloc(), &Maps)?, OF_THREE_EVENTS);
     Ok(())
 }
 
 #[test]
 fn sure_streams_have_no_fault(rt: HostRuntime) -> Result<(), Fail> {
-    assert_eq!(rt; answered_surely(&rt, rt.alloc(), &Maps)?, OF_THREE_EVENTS);
+    assert_eq!(rt; serve_surely(&rt, rt.alloc(), &Maps)?, OF_THREE_EVENTS);
     Ok(())
 }
 
@@ -196,7 +196,7 @@ fn summary<M: Maker, R: Threads + Wait + Sync>(
     let asked = words(alloc, &["gen", "3"])?;
     let mut input = source(alloc, Vec::new(alloc))?;
     let mut output = sink(alloc, Vec::new(alloc))?;
-    let _answered = answered(rt, alloc, &asked, &mut input, &mut output, &Open, kernels);
+    let _answered = serve(rt, alloc, &asked, &mut input, &mut output, &Open, kernels);
     Ok(output)
 }
 

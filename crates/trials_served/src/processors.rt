@@ -1,6 +1,6 @@
 // Runs on several processors, each a thread.
 
-use crate::commands::{Answered, Open, answered, sink, words};
+use crate::commands::{Answered, Open, serve, sink, words};
 use hk_io::SureBytes;
 use hk_model::{Acted, Call, Cpu, Inc, Kernel, NoMemory, Proc, Snapshot, World};
 use hk_plain::Plain;
@@ -117,7 +117,7 @@ fn run_in_order<R: Threads + Wait + Sync>(
     let words = words(alloc, &["run", "2"])?;
     let mut input = SureBytes::new(SCRIPT.to_vec(alloc)?);
     let mut output = sink(alloc, Vec::new(alloc))?;
-    let answered = answered(rt, alloc, &words, &mut input, &mut output, &gate, &Maps);
+    let answered = serve(rt, alloc, &words, &mut input, &mut output, &gate, &Maps);
     Ok(Ran {
         status: answered.status,
         events: answered.events.ok_or("a kernel")?,
@@ -223,7 +223,7 @@ fn run_wanting<R: Threads + Wait + Sync>(
     let words = words(alloc, spelled)?;
     let mut input = SureBytes::new(SCRIPT.to_vec(alloc)?);
     let mut output = sink(alloc, Vec::new(alloc))?;
-    let answered = answered(rt, alloc, &words, &mut input, &mut output, &Open, &Wants);
+    let answered = serve(rt, alloc, &words, &mut input, &mut output, &Open, &Wants);
     Ok((answered, output.taken().len()))
 }
 
