@@ -97,17 +97,6 @@ module _ (w : WorldValue) (s : State) (sound : Sound s) (reg : Regular w s) (cpu
       (same_others (proc_line s cpu proc what.Halt reply.Done) (halted s proc) refl (turn_each.halts s cpu proc runs sound.rises))
       (λ h. omega (arith, count, none, left)) (λ h. absurd (true≢false h)) all
 
-  -- its current incarnation lives, and is its own
-  current_lives : CurrentsCallNone s → (x : Activation) × ((look_up inc (activations_in s.incarnations) ≡ Some x) × (x.proc.0 ≡ proc.0))
-  current_lives currents =
-      let number = depth_is s proc.0 in
-      let before = some_before in
-      let o = counted_lives proc.0 0 s.next_inc.0 s.incarnations sound.rises (omega (arith, number, before)) in
-      let here : IsSome (lookup (same_inc inc) s.incarnations) =
-      subst (λ (n : ℕ). IsSome (lookup (same_inc (process s (proc_at n)).current) s.incarnations)) o.own (currents.lives o.inc o.is o.lives) in
-      let live = activation_live s.incarnations inc here in
-      (_, (live, sound.stacked.own proc.0 inc _ (runs_current s cpu proc runs) live))
-
   abbrev call_line : Call → Reply → Line
   call_line c r = proc_line s cpu proc (what.Call c) r
 

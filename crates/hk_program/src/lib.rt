@@ -3,6 +3,7 @@
 //! `docs/RULES.md`, "Control of a process", states the rules that the contracts name.
 #![tactic(auto)]
 
+mod ahead;
 mod answering;
 mod calling;
 mod carrying;
