@@ -11,7 +11,7 @@ ghost use Rattle.hk_table.specs.Settled.{stack_names};
 use crate::counting::{hold_entries, release_entries, release_stack};
 use crate::parts::Parts;
 use crate::stacks::Stacks;
-use hk_model::{Name, NoMemory, Proc, ProcessState, Slot};
+use hk_model::{Inc, Name, NoMemory, Proc, ProcessState, Slot};
 use hk_objects::Objects;
 use hk_reclaim::Counts;
 use hk_spaces::{Space, StackFrame};
@@ -27,6 +27,13 @@ fn release_frames(objects: &Objects, counts: &mut Counts, stacks: &Stacks, proc:
 }
 
 impl Parts {
+    /// The number that the next incarnation takes.
+    pub(crate) fn next_inc(&self) -> Inc
+        ensures { result ≡ self.now.next_inc }
+    {
+        self.stacks.next()
+    }
+
     /// How many incarnations a process has.
     pub(crate) fn depth(&self, proc: Proc) -> usize
         ensures { result ≡ depth self.now proc }
