@@ -58,7 +58,7 @@ current_written (p ∷ ps) zero new d old h = refl
 current_written (p ∷ ps) (suc j) new d old h = current_written ps j new d old h
 
 -- the processor runs the incarnation that a line has made
-abbrev RunsNew : State → Line → State → Type 0
+abbrev pub RunsNew : State → Line → State → Type 0
 RunsNew s line t = enters_call (done_call line) ≡ true → running_on t line.cpu ≡ Some (line.proc, s.next_inc)
 
 module _ (s : State) (cpu : Cpu) (proc : Proc) (runs : runner s cpu ≡ Some proc) where
@@ -100,7 +100,7 @@ call_runs s cpu proc (call.Enter path args into) r =
     by (Err refusal) h e = absurd (true≢false (sym e))
 call_runs s cpu proc c r = λ e. absurd (true≢false (sym e ∙ enters_not c (rule s proc c).0 refl))
 
-runs_each : EachStep RunsNew
+pub runs_each : EachStep RunsNew
 runs_each = record {
   calls = call_runs;
   halts = λ s cpu proc r e. absurd (true≢false (sym e));

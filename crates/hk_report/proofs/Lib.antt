@@ -4,6 +4,7 @@ pub mod Lengths
 mod Followed
 mod Listed
 pub mod Counts
+pub mod NextLines
 mod HistoryLemmas
 mod Keys
 mod HopLemmas

@@ -8,16 +8,17 @@ use Rattle.hk_model.specs.declared.entries.Entry.{Entry}
 use Rattle.hk_model.specs.declared.lines.Line.{Line}
 use Rattle.hk_model.specs.WorldValue.{WorldValue, IsWorld}
 use Rattle.hk_model.specs.Running.{Machine, opened, moved, after_lines, AreStepsOf}
+use Rattle.hk_report.specs.declared.doings.Before.{Before}
 use Rattle.hk_report.specs.declared.doings.Doing.{Doing}
 use Rattle.hk_report.specs.declared.families.Begun.{Begun}
 use Rattle.hk_report.specs.declared.families.BareChange.{BareChange}
 use Rattle.hk_report.specs.declared.histories.History.{History}
 use Rattle.hk_report.specs.declared.replay.Retelling.{Retelling}
-use Rattle.hk_report.specs.Doings.{before_line, doing, doings, given_params, params_given}
+use Rattle.hk_report.specs.Doings.{before_line, doing, doing_behind, doings, given_params, params_given}
 use Rattle.hk_report.specs.Families.{changes_by, changes_from, families_after, families_by}
 use Rattle.hk_report.specs.Histories.{finished_below, histories_after, noted, opened_below}
 use Rattle.hk_report.specs.Reasons.{AreFew}
-use Rattle.hk_report.specs.Retold.{IsRetold}
+use Rattle.hk_report.specs.Retold.{IsRetold, IsToldMore}
 use Rattle.hk_report.specs.Written.{AreWritten, IsReport}
 use Rattle.hk_report.proofs.Lengths.{lines_few}
 use Rattle.hk_report.proofs.Explained.{few_told}
@@ -77,22 +78,20 @@ histories_one w n k m (x ∷ lines) line histories e =
 -- ---- what was told
 
 -- of no line
-pub retold_none : (w : WorldValue) (r : Retelling) → r.machine ≡ opened w → r.count ≡ 0 → r.telling.families.changes.items ≡ []
+pub retold_none : {K : Type 0} (w : WorldValue) (r : Retelling K) → r.machine ≡ opened w → r.count ≡ 0 → r.telling.families.changes.items ≡ []
     → r.telling.families.calls.items ≡ replicate (opened w).state.next_inc.0 [] → r.telling.params.items ≡ []
     → r.telling.histories.items ≡ opened_below (opened w).state (opened w).state.next_name.0 → IsRetold w [] r
 retold_none w r m n c f p h = record { steps = tt; machine = m; count = n; changes = c; calls = f; params = p; histories = h }
 
 -- of one line more
-pub retold_more : (w : WorldValue) (lines : List Line) (line : Line) (old new : Retelling) → IsRetold w lines old → AreStepsOf w (lines ++ line ∷ [])
-    → new.machine ≡ moved w old.machine line.cpu → new.count ≡ old.count + 1
-    → new.telling.families.changes.items ≡ old.telling.families.changes.items
-    ++ changes_by old.count (before_line old.machine.state line).changed (slice_index_or old.telling.families.calls.items line.inc.0 [])
-    → new.telling.families.calls.items ≡ families_by old.count (doing old.machine.state line (moved w old.machine line.cpu).state) old.telling.families.calls.items
-    → new.telling.params.items ≡ old.telling.params.items ++ given_params line (before_line old.machine.state line) (moved w old.machine line.cpu).state ∷ []
-    → new.telling.histories.items
-    ≡ noted (old.count + 1) (doing old.machine.state line (moved w old.machine line.cpu).state) (moved w old.machine line.cpu).state old.telling.histories.items
-    → IsRetold w (lines ++ line ∷ []) new
-retold_more w lines line old new r steps m n c f p h =
+pub retold_more : {K : Type 0} (w : WorldValue) (lines : List Line) (line : Line) (old new : Retelling K) → IsRetold w lines old → AreStepsOf w (lines ++ line ∷ [])
+    → new.machine ≡ moved w old.machine line.cpu → IsToldMore old new line → IsRetold w (lines ++ line ∷ []) new
+retold_more w lines line old new r steps m told =
+    let c = told.changes in
+    let f = told.calls ∙ ap (λ (k : Machine). families_by old.count (doing old.machine.state line k.state) old.telling.families.calls.items) m in
+    let p = told.params ∙ ap (λ (k : Machine). old.telling.params.items ++ given_params line (before_line old.machine.state line) k.state ∷ []) m in
+    let h = told.histories ∙ ap (λ (k : Machine). noted (old.count + 1) (doing old.machine.state line k.state) k.state old.telling.histories.items) m in
+    let n = told.count in
     let many : old.count ≡ 0 + length (doings w (opened w) lines) = let a = r.count in let b = doings_as_many w (opened w) lines in omega (arith, a, b) in
     let few : old.count ≡ 0 + length lines = let a = r.count in omega (arith, a) in
     let d : Machine → Doing = λ (k : Machine). doing k.state line (moved w k line.cpu).state in
@@ -128,15 +127,42 @@ retold_more w lines line old new r steps m n c f p h =
           ∙ sym (histories_one w 0 old.count (opened w) lines line (opened_below (opened w).state (opened w).state.next_name.0) few);
     }
 
+-- a line more, of which this was known before it
+pub told_more : {K : Type 0} (old new : Retelling K) (line : Line) (t : Machine) (before : Before) → before ≡ before_line old.machine.state line → new.machine ≡ t
+    → new.count ≡ old.count + 1
+    → new.telling.families.changes.items ≡ old.telling.families.changes.items
+    ++ changes_by old.count before.changed (slice_index_or old.telling.families.calls.items before.inc.0 [])
+    → new.telling.families.calls.items ≡ families_by old.count (doing_behind before t.state) old.telling.families.calls.items
+    → new.telling.params.items ≡ old.telling.params.items ++ given_params line before t.state ∷ []
+    → new.telling.histories.items ≡ noted (old.count + 1) (doing_behind before t.state) t.state old.telling.histories.items → IsToldMore old new line
+told_more old new line t before e m n c f p h = record {
+  count = n;
+  changes =
+      c
+      ∙ ap (λ (b : Before). old.telling.families.changes.items ++ changes_by old.count b.changed (slice_index_or old.telling.families.calls.items b.inc.0 [])) e;
+  calls =
+      f
+      ∙ ap (λ (b : Before). families_by old.count (doing_behind b t.state) old.telling.families.calls.items) e
+      ∙ ap (λ (k : Machine). families_by old.count (doing old.machine.state line k.state) old.telling.families.calls.items) (sym m);
+  params =
+      p
+      ∙ ap (λ (b : Before). old.telling.params.items ++ given_params line b t.state ∷ []) e
+      ∙ ap (λ (k : Machine). old.telling.params.items ++ given_params line (before_line old.machine.state line) k.state ∷ []) (sym m);
+  histories =
+      h
+      ∙ ap (λ (b : Before). noted (old.count + 1) (doing_behind b t.state) t.state old.telling.histories.items) e
+      ∙ ap (λ (k : Machine). noted (old.count + 1) (doing old.machine.state line k.state) k.state old.telling.histories.items) (sym m);
+}
+
 -- they can be numbered
-pub retold_count : (w : WorldValue) (lines : List Line) (r : Retelling) → IsWorld w → IsRetold w lines r → r.count + 1 < 2 ^ 32
+pub retold_count : {K : Type 0} (w : WorldValue) (lines : List Line) (r : Retelling K) → IsWorld w → IsRetold w lines r → r.count + 1 < 2 ^ 32
 retold_count w lines r world h = let a = h.count in let b = lines_few w lines world h.steps in omega (arith, a, b)
 
-pub retold_few : (w : WorldValue) (lines : List Line) (r : Retelling) → IsWorld w → IsRetold w lines r → AreFew r.telling.families.changes.items
+pub retold_few : {K : Type 0} (w : WorldValue) (lines : List Line) (r : Retelling K) → IsWorld w → IsRetold w lines r → AreFew r.telling.families.changes.items
 retold_few w lines r world h = few_told w lines r.telling.families.changes.items world h.steps h.changes
 
 -- the text of what was told
-pub retold : (r : Retelling) (histories : List History) (params : List (List Entry)) (families : List (List Begun)) (found : List BareChange)
+pub retold : {K : Type 0} (r : Retelling K) (histories : List History) (params : List (List Entry)) (families : List (List Begun)) (found : List BareChange)
     (none mid text : List ℕ)
     → histories ≡ finished_below (r.count + 1) (length r.telling.histories.items) r.telling.histories.items → params ≡ r.telling.params.items
     → families ≡ r.telling.families.calls.items → found ≡ r.telling.families.changes.items

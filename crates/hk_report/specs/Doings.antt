@@ -1,11 +1,15 @@
 -- What each line did that the changes under confined calls are told by. docs/RULES.md, "Under a call".
-use Rattle.std.specs.Prelude.{true, false, List, [], ◌∷◌, take, Option, Some, None, option_map}
+use Rattle.std.specs.Prelude.{◌≡◌, true, false, List, [], ◌∷◌, take, Option, Some, None, IfSome, is_some, option_map}
+use Rattle.std.specs.Option.{option_and_then, unwrap_or}
 use Rattle.hk_model.specs.declared.calls.Call.{Call}
 use Rattle.hk_model.specs.declared.entries.Entry.{Entry}
 use Rattle.hk_model.specs.declared.lines.Line.{Line}
 use Rattle.hk_model.specs.declared.names.Inc.{Inc}
+use Rattle.hk_model.specs.declared.names.Proc.{Proc}
+use Rattle.hk_model.specs.declared.names.Cpu.{Cpu}
 use Rattle.hk_model.specs.WorldValue.{WorldValue}
 use Rattle.hk_model.specs.State.{State, incarnation}
+use Rattle.hk_model.specs.Processors.{running_on}
 use Rattle.hk_model.specs.Running.{Machine, moved}
 use Rattle.hk_model.specs.Lines.{done_call, makes_object, enters_call, param_count}
 use Rattle.hk_report.specs.declared.doings.Before.{Before}
@@ -24,6 +28,18 @@ before_call s inc c = record {
 -- what is known of a line before it
 abbrev pub before_line : State → Line → Before
 before_line s line = before_call s line.inc (done_call line)
+
+-- the same before a line that does no call
+abbrev pub before_none : Inc → Before
+before_none inc = record { inc = inc; changed = None; made = None; enters = None }
+
+-- what is known of the call that a processor's process makes next, if it makes one, before it
+abbrev pub before_next : State → Cpu → Option Call → Option Before
+before_next s cpu next = option_and_then (λ (x : Proc × Inc). option_map (λ (c : Call). before_call s x.1 (Some c)) next) (running_on s cpu)
+
+-- what is known of a line, where this was known of its processor's next call before it
+abbrev pub before_by : Option Before → Line → Before
+before_by next line = elim (is_some (done_call line)) [ true ↦ unwrap_or next (before_none line.inc) | false ↦ before_none line.inc ]
 
 -- what a line did of which this was known, from the state behind it
 abbrev pub doing_behind : Before → State → Doing
@@ -50,3 +66,11 @@ given_params line before t = elim before.enters [ None ↦ [] | Some inc ↦ tak
 abbrev pub params_given : WorldValue → Machine → List Line → List (List Entry)
 params_given w m [] = []
 params_given w m (line ∷ lines) = given_params line (before_line m.state line) (moved w m line.cpu).state ∷ params_given w (moved w m line.cpu) lines
+
+-- the slots of the incarnation that the processor runs; where it runs nothing, none
+abbrev pub slots_on : State → Cpu → List Entry
+slots_on s cpu = unwrap_or (option_map (λ (x : Proc × Inc). (incarnation s x.1).slots) (running_on s cpu)) []
+
+-- behind a line of which this was known its processor runs the incarnation that it has made, if it has made one
+abbrev pub RunsEntered : State → Cpu → Before → Type 0
+RunsEntered t cpu before = IfSome before.enters (λ (inc : Inc). option_map (λ (x : Proc × Inc). x.1) (running_on t cpu) ≡ Some inc)

@@ -1,15 +1,16 @@
 //! What a line did that the changes under confined calls are told by (`docs/RULES.md`, "Under a
 //! call").
 
-ghost use Rattle.std.specs.Prelude.{◌≡◌, Some};
+ghost use Rattle.std.specs.Prelude.{◌≡◌, Some, is_some};
 ghost use Rattle.hk_model.specs.Control.{is_refusal};
 ghost use Rattle.hk_model.specs.State.{incarnation};
 ghost use Rattle.hk_model.specs.Lines.{done_call};
 ghost use Rattle.hk_report.specs.Named.{named_change};
-ghost use Rattle.hk_report.specs.Doings.{before_call, before_line, doing_behind};
+ghost use Rattle.hk_report.specs.Doings.{RunsEntered, before_by, before_call, before_line, before_next, before_none, doing_behind};
 
-use crate::naming::named_by;
-use hk_model::{Call, Inc, Line, Name, Reply, What};
+use crate::naming::{Caller, named_by};
+use crate::shows::{Shows, is_confined, slots_of};
+use hk_model::{Call, Cpu, Inc, Line, Name, Reply, What};
 use hk_plain::Plain;
 
 /// An incarnation that an Enter has made.
@@ -47,24 +48,26 @@ pub struct Before {
 }
 
 /// The object that a call changes where it is done.
-fn named_change(kernel: &Plain, inc: Inc, call: &Call) -> Option<Name>
-    ensures { result ≡ named_change kernel.now inc (Some call.now) }
+fn named_change<K: Shows>(kernel: &K, caller: Caller<'_>, call: &Call) -> Option<Name>
+    requires { caller.slots.now ≡ (incarnation (K.state kernel.now) caller.inc).slots }
+    ensures { result ≡ named_change (K.state kernel.now) caller.entry.inc (Some call.now) }
 {
     match call {
-        Call::Put { of, .. } => Some(named_by(kernel, inc, of)),
-        Call::Add { of, .. } => Some(named_by(kernel, inc, of)),
-        Call::Store { list, .. } => Some(named_by(kernel, inc, list)),
-        Call::Append { list, .. } => Some(named_by(kernel, inc, list)),
-        Call::Erase { list, .. } => Some(named_by(kernel, inc, list)),
-        Call::P { of } => Some(named_by(kernel, inc, of)),
-        Call::V { of } => Some(named_by(kernel, inc, of)),
+        Call::Put { of, .. } => Some(named_by(kernel, caller, of)),
+        Call::Add { of, .. } => Some(named_by(kernel, caller, of)),
+        Call::Store { list, .. } => Some(named_by(kernel, caller, list)),
+        Call::Append { list, .. } => Some(named_by(kernel, caller, list)),
+        Call::Erase { list, .. } => Some(named_by(kernel, caller, list)),
+        Call::P { of } => Some(named_by(kernel, caller, of)),
+        Call::V { of } => Some(named_by(kernel, caller, of)),
         _ => None,
     }
 }
 
 /// What is known of a call that is done, before it.
-fn before_call(kernel: &Plain, inc: Inc, call: &Call) -> Before
-    ensures { result ≡ before_call kernel.now inc (Some call.now) }
+fn before_call<K: Shows>(kernel: &K, caller: Caller<'_>, call: &Call) -> Before
+    requires { caller.slots.now ≡ (incarnation (K.state kernel.now) caller.inc).slots }
+    ensures { result ≡ before_call (K.state kernel.now) caller.entry.inc (Some call.now) }
 {
     let made = match call {
         Call::Create { .. } => Some(kernel.next_name()),
@@ -76,10 +79,22 @@ fn before_call(kernel: &Plain, inc: Inc, call: &Call) -> Before
         _ => None,
     };
     Before {
-        inc,
-        changed: named_change(kernel, inc, call),
+        inc: caller.inc,
+        changed: named_change(kernel, caller, call),
         made,
         enters,
+    }
+}
+
+/// What is known before a line that does no call.
+fn before_none(inc: Inc) -> Before
+    ensures { result ≡ before_none inc }
+{
+    Before {
+        inc,
+        changed: None,
+        made: None,
+        enters: None,
     }
 }
 
@@ -97,32 +112,59 @@ fn is_refusal(reply: &Reply) -> bool
 pub(crate) fn before_line(kernel: &Plain, line: &Line) -> Before
     ensures { result ≡ before_line kernel.now line.now }
 {
-    let nothing = Before {
-        inc: line.inc,
-        changed: None,
-        made: None,
-        enters: None,
-    };
     match &line.what {
-        What::Dispatch => nothing,
-        What::Halt => nothing,
+        What::Dispatch => before_none(line.inc),
+        What::Halt => before_none(line.inc),
         What::Call(call) => {
             if is_refusal(&line.reply) {
-                nothing
+                before_none(line.inc)
             } else {
-                before_call(kernel, line.inc, call)
+                let caller = Caller {
+                    inc: line.inc,
+                    slots: slots_of(kernel, line.inc),
+                };
+                before_call(kernel, caller, call)
             }
         }
     }
 }
 
-/// Whether a live incarnation is confined.
-fn is_confined(kernel: &Plain, inc: Inc) -> bool
-    ensures { result ≡ (incarnation kernel.now inc).confined }
+/// What is known of the call that a processor's process makes next, if it makes one, by a kernel in the state before it.
+pub(crate) fn before_next<K: Shows>(kernel: &K, cpu: Cpu, next: &Option<Call>) -> Option<Before>
+    ensures { result ≡ before_next (K.state kernel.now) cpu next.now }
 {
-    match kernel.incarnation(inc) {
-        Some(incarnation) => incarnation.confined,
-        None => false,
+    match kernel.current(cpu) {
+        Some((_, inc)) => match next {
+            Some(call) => {
+                let slots = kernel.running_slots(cpu);
+                Some(before_call(kernel, Caller { inc, slots }, call))
+            }
+            None => None,
+        },
+        None => None,
+    }
+}
+
+/// Whether a line has done a call.
+fn does_call(line: &Line) -> bool
+    ensures { result ≡ is_some (done_call line.now) }
+{
+    match &line.what {
+        What::Call(_) => !is_refusal(&line.reply),
+        _ => false,
+    }
+}
+
+/// What is known of a line, where this was known of its processor's next call before it.
+pub(crate) fn before_by(next: Option<Before>, line: &Line) -> Before
+    ensures { result ≡ before_by next line.now }
+{
+    if !does_call(line) {
+        return before_none(line.inc);
+    }
+    match next {
+        Some(before) => before,
+        None => before_none(line.inc),
     }
 }
 
@@ -134,6 +176,26 @@ pub(crate) fn doing_behind(before: Before, kernel: &Plain) -> Doing
         Some(inc) => Some(Entered {
             inc,
             confined: is_confined(kernel, inc),
+        }),
+        None => None,
+    };
+    Doing {
+        inc: before.inc,
+        changed: before.changed,
+        made: before.made,
+        entered,
+    }
+}
+
+/// The same, where the processor of the line runs the incarnation that it has made, if it has made one.
+pub(crate) fn doing_on<K: Shows>(before: Before, kernel: &K, cpu: Cpu) -> Doing
+    requires { RunsEntered (K.state kernel.now) cpu before }
+    ensures { result ≡ doing_behind before (K.state kernel.now) }
+{
+    let entered = match before.enters {
+        Some(inc) => Some(Entered {
+            inc,
+            confined: kernel.runs_confined(cpu),
         }),
         None => None,
     };

@@ -21,6 +21,7 @@ mod reasons;
 mod replay;
 mod reporting;
 mod searching;
+mod shows;
 mod texts;
 
 pub use counting::Counting;
@@ -28,4 +29,5 @@ pub use families::{BareChange, Begun};
 pub use hk_model::{Change, Hop, Line, NoMemory, Reach, World};
 pub use replay::Retelling;
 pub use reporting::{changes_under, report, report_text};
+pub use shows::Shows;
 pub use texts::changes_text;

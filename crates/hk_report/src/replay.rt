@@ -1,18 +1,23 @@
 //! A history once more, with what its lines did (`docs/RULES.md`, "Steps of processors").
 
-ghost use Rattle.std.specs.Prelude.{◌≡◌, ◌+◌, ◌<◌, ◌≤◌, ◌^◌, ◌++◌, ◌∷◌, [], length, replicate, slice_index_or, IfOk, OnOk};
+ghost use Rattle.std.specs.Prelude.{◌≡◌, ◌+◌, ◌<◌, ◌≤◌, ◌^◌, ◌++◌, ◌∷◌, [], true, false, Some, None, length, replicate, take, slice_index_or, IfOk, OnOk};
 ghost use Rattle.hk_model.specs.Lines.{done_call, param_count};
-ghost use Rattle.hk_model.specs.Running.{moved, opened};
+ghost use Rattle.hk_model.specs.Opening.{opening};
+ghost use Rattle.hk_model.specs.Running.{opened, step};
 ghost use Rattle.hk_program.specs.Machines.{IsSound};
-ghost use Rattle.hk_report.specs.Doings.{before_line, doing, doing_behind, doings, given_params, params_given};
+ghost use Rattle.hk_report.specs.Doings.{RunsEntered, doing_behind, doings, given_params, params_given};
 ghost use Rattle.hk_report.specs.Families.{changes_by, changes_from, families_after, families_by};
 ghost use Rattle.hk_report.specs.Histories.{finished_below, noted, opened_below, told_histories};
+ghost use Rattle.hk_report.specs.Retold.{IsToldMore};
 
-use crate::doings::{Before, Doing, before_line, doing_behind};
+use crate::doings::{Before, Doing, before_by, before_line, before_next, doing_behind, doing_on};
 use crate::families::Families;
 use crate::histories::{History, finish, note, opened_histories};
+use crate::shows::{Shows, slots_of};
 use hk_model::lists::Limited;
-use hk_model::{Call, Entry, Inc, Line, Making, NoMemory, Refusal, Reply, Template, What, World};
+use hk_model::{
+    Call, Cpu, Entry, Inc, Line, Making, NoMemory, Refusal, Reply, Template, What, World,
+};
 use hk_plain::Plain;
 use hk_program::Machine;
 use std::alloc::Global;
@@ -55,6 +60,14 @@ fn param_count(line: &Line) -> usize
     }
 }
 
+/// The entries in the first of these slots, in as many as the call has parameters that a line has begun.
+fn first_params(alloc: Global, line: &Line, slots: &[Entry]) -> Result<GivenParams, NoMemory>
+    ensures { IfOk result (λ params. params ≡ take (param_count (done_call line.now)) slots.now) }
+{
+    let count = param_count(line).min(slots.len());
+    Ok(GivenParams::from_vec(Vec::from_slice(alloc, &slots[..count])?))
+}
+
 /// The merged parameters of the call that a line has begun, by a kernel in the state behind it.
 fn params_behind(
     alloc: Global,
@@ -64,15 +77,26 @@ fn params_behind(
 ) -> Result<GivenParams, NoMemory>
     ensures { IfOk result (λ params. params ≡ given_params line.now before.now kernel.now) }
 {
-    let Some(inc) = before.enters else {
-        return Ok(GivenParams::new(alloc));
-    };
-    let Some(incarnation) = kernel.incarnation(inc) else {
-        return Ok(GivenParams::new(alloc));
-    };
-    let slots = incarnation.slots.as_slice();
-    let count = param_count(line).min(slots.len());
-    Ok(GivenParams::from_vec(Vec::from_slice(alloc, &slots[..count])?))
+    match before.enters {
+        Some(inc) => first_params(alloc, line, slots_of(kernel, inc)),
+        None => Ok(GivenParams::new(alloc)),
+    }
+}
+
+/// The same, where the processor of the line runs the incarnation that it has made, if it has made one.
+fn params_on<K: Shows>(
+    alloc: Global,
+    kernel: &K,
+    line: &Line,
+    before: &Before,
+) -> Result<GivenParams, NoMemory>
+    requires { RunsEntered (K.state kernel.now) line.now.cpu before.now }
+    ensures { IfOk result (λ params. params ≡ given_params line.now before.now (K.state kernel.now)) }
+{
+    match before.enters {
+        Some(_) => first_params(alloc, line, kernel.running_slots(line.cpu)),
+        None => Ok(GivenParams::new(alloc)),
+    }
 }
 
 /// The lines of a history once more, from the opening of its world on. NoMemory is want of memory.
@@ -94,11 +118,11 @@ pub(crate) fn replayed(alloc: Global, world: &World, lines: &[Line]) -> Result<R
 
 impl Telling {
     /// What no line tells yet, by a kernel in the state of the opening.
-    fn begin(alloc: Global, kernel: &Plain) -> Result<Telling, NoMemory>
+    fn begin<K: Shows>(alloc: Global, kernel: &K) -> Result<Telling, NoMemory>
         ensures changes { IfOk result (λ t. t.families.changes.items ≡ []) }
-        ensures calls { IfOk result (λ t. t.families.calls.items ≡ replicate kernel.now.next_inc.0 []) }
+        ensures calls { IfOk result (λ t. t.families.calls.items ≡ replicate (K.state kernel.now).next_inc.0 []) }
         ensures params { IfOk result (λ t. t.params.items ≡ []) }
-        ensures histories { IfOk result (λ t. t.histories.items ≡ opened_below kernel.now kernel.now.next_name.0) }
+        ensures histories { IfOk result (λ t. t.histories.items ≡ opened_below (K.state kernel.now) (K.state kernel.now).next_name.0) }
     {
         Ok(Telling {
             families: Families::begin(alloc, kernel.next_inc())?,
@@ -107,43 +131,43 @@ impl Telling {
         })
     }
 
-    /// What a line tells, by a kernel in the state behind it. `index` is the number of lines before it.
-    fn add(
+    /// What a line tells that has done this and given these parameters, by a kernel in the state behind it. `index` is the
+    /// number of lines before it.
+    fn add<K: Shows>(
         &mut self,
         alloc: Global,
-        kernel: &Plain,
-        line: &Line,
-        before: Before,
+        kernel: &K,
+        doing: &Doing,
+        params: GivenParams,
         index: u32,
     ) -> Result<(), NoMemory>
         requires { index + 1 < 2 ^ 32 }
-        ensures changes { OnOk result (self.new.families.changes.items ≡ self.old.families.changes.items ++ changes_by index before.changed (slice_index_or self.old.families.calls.items before.inc.0 [])) }
-        ensures calls { OnOk result (self.new.families.calls.items ≡ families_by index (doing_behind before kernel.now) self.old.families.calls.items) }
-        ensures params { OnOk result (self.new.params.items ≡ self.old.params.items ++ given_params line.now before kernel.now ∷ []) }
-        ensures histories { OnOk result (self.new.histories.items ≡ noted (index + 1) (doing_behind before kernel.now) kernel.now self.old.histories.items) }
+        ensures changes { OnOk result (self.new.families.changes.items ≡ self.old.families.changes.items ++ changes_by index doing.now.changed (slice_index_or self.old.families.calls.items doing.now.inc.0 [])) }
+        ensures calls { OnOk result (self.new.families.calls.items ≡ families_by index doing.now self.old.families.calls.items) }
+        ensures params { OnOk result (self.new.params.items ≡ self.old.params.items ++ params ∷ []) }
+        ensures histories { OnOk result (self.new.histories.items ≡ noted (index + 1) doing.now (K.state kernel.now) self.old.histories.items) }
     {
-        let doing = doing_behind(before, kernel);
-        let params = params_behind(alloc, kernel, line, &before)?;
-        note(alloc, &mut self.histories, kernel, index + 1, &doing)?;
+        note(alloc, &mut self.histories, kernel, index + 1, doing)?;
         self.params.push(params)?;
-        self.families.add(alloc, index, &doing)
+        self.families.add(alloc, index, doing)
     }
 }
 
-/// The lines of a history once more, as they come: each step is made again, on a plain kernel.
+/// The lines of a history as they come: a machine makes each step, and its line is told at once.
 #[derive(Drop)]
-pub struct Retelling {
+pub struct Retelling<K: Shows> {
     /// Where the lines so far have led.
-    pub machine: Machine<Plain>,
+    pub machine: Machine<K>,
     /// How many lines there were.
     pub count: u32,
     /// What they tell.
     pub telling: Telling,
 }
 
-impl Retelling {
-    /// No line of a history of this world has come yet. NoMemory is want of memory.
-    pub fn begin(alloc: Global, world: &World) -> Result<Retelling, NoMemory>
+impl<K: Shows> Retelling<K> {
+    /// No line of a history of this world has come yet, on a kernel that has opened it. NoMemory is want of memory.
+    pub fn begin(alloc: Global, world: &World, kernel: K) -> Result<Retelling<K>, NoMemory>
+        requires { K.state kernel ≡ opening world.now }
         ensures machine { IfOk result (λ r. r.machine ≡ opened world.now) }
         ensures sound { IfOk result (λ r. IsSound world.now r.machine) }
         ensures count { IfOk result (λ r. r.count ≡ 0) }
@@ -152,7 +176,6 @@ impl Retelling {
         ensures params { IfOk result (λ r. r.telling.params.items ≡ []) }
         ensures histories { IfOk result (λ r. r.telling.histories.items ≡ opened_below (opened world.now).state (opened world.now).state.next_name.0) }
     {
-        let kernel = Plain::new(alloc, world)?;
         let machine = Machine::open(alloc, world, kernel)?;
         let telling = Telling::begin(alloc, machine.kernel())?;
         Ok(Retelling {
@@ -162,23 +185,47 @@ impl Retelling {
         })
     }
 
-    /// One line more, which is a step of its processor. NoMemory is want of memory.
-    pub fn add(&mut self, alloc: Global, world: &World, line: &Line) -> Result<(), NoMemory>
+    /// Makes the step of a processor, writes its line over the one that is handed in, and tells it. False exactly where the
+    /// processor has no step: then nothing changes. NoMemory is want of memory; then nobody goes on with what is told.
+    pub fn step_into(
+        &mut self,
+        alloc: Global,
+        world: &World,
+        cpu: Cpu,
+        line: &mut Line,
+    ) -> Result<bool, NoMemory>
         requires sound { IsSound world.now self.old.machine }
         requires few { self.old.count + 1 < 2 ^ 32 }
-        ensures machine { OnOk result (self.new.machine ≡ moved world.now self.old.machine line.now.cpu) }
-        ensures sound { OnOk result (IsSound world.now self.new.machine) }
+        ensures made { IfOk result (λ made. made ≡ true → step world.now self.old.machine cpu ≡ Some (line.new, self.new.machine)) }
+        ensures told { IfOk result (λ made. made ≡ true → IsToldMore self.old self.new line.new) }
+        ensures none { IfOk result (λ made. made ≡ false → (step world.now self.old.machine cpu ≡ None) × (self.new ≡ self.old)) }
+        ensures sound { IsSound world.now self.new.machine }
+    {
+        let next = self.machine.next_call(world, cpu);
+        let known = before_next(self.machine.kernel(), cpu, &next);
+        if !self.machine.step_into(alloc, world, cpu, line)? {
+            return Ok(false);
+        }
+        self.tell(alloc, line, before_by(known, line))?;
+        Ok(true)
+    }
+
+    /// Tells the line that has led to the machine, of which this was known before it. NoMemory is want of memory.
+    fn tell(&mut self, alloc: Global, line: &Line, before: Before) -> Result<(), NoMemory>
+        requires runs { RunsEntered self.old.machine.state line.now.cpu before }
+        requires few { self.old.count + 1 < 2 ^ 32 }
+        ensures machine { self.new.machine ≡ self.old.machine }
         ensures count { OnOk result (self.new.count ≡ self.old.count + 1) }
-        ensures changes { OnOk result (self.new.telling.families.changes.items ≡ self.old.telling.families.changes.items ++ changes_by self.old.count (before_line self.old.machine.state line.now).changed (slice_index_or self.old.telling.families.calls.items line.now.inc.0 [])) }
-        ensures calls { OnOk result (self.new.telling.families.calls.items ≡ families_by self.old.count (doing self.old.machine.state line.now (moved world.now self.old.machine line.now.cpu).state) self.old.telling.families.calls.items) }
-        ensures params { OnOk result (self.new.telling.params.items ≡ self.old.telling.params.items ++ given_params line.now (before_line self.old.machine.state line.now) (moved world.now self.old.machine line.now.cpu).state ∷ []) }
-        ensures histories { OnOk result (self.new.telling.histories.items ≡ noted (self.old.count + 1) (doing self.old.machine.state line.now (moved world.now self.old.machine line.now.cpu).state) (moved world.now self.old.machine line.now.cpu).state self.old.telling.histories.items) }
+        ensures changes { OnOk result (self.new.telling.families.changes.items ≡ self.old.telling.families.changes.items ++ changes_by self.old.count before.changed (slice_index_or self.old.telling.families.calls.items before.inc.0 [])) }
+        ensures calls { OnOk result (self.new.telling.families.calls.items ≡ families_by self.old.count (doing_behind before self.old.machine.state) self.old.telling.families.calls.items) }
+        ensures params { OnOk result (self.new.telling.params.items ≡ self.old.telling.params.items ++ given_params line.now before self.old.machine.state ∷ []) }
+        ensures histories { OnOk result (self.new.telling.histories.items ≡ noted (self.old.count + 1) (doing_behind before self.old.machine.state) self.old.machine.state self.old.telling.histories.items) }
     {
         let _ = PhantomData::<(Call, Making, Refusal, Reply, Template, What)>; // Rattle is to know what a Line holds
-        let before = before_line(self.machine.kernel(), line);
-        let _made = self.machine.step(alloc, world, line.cpu)?;
-        self.telling
-            .add(alloc, self.machine.kernel(), line, before, self.count)?;
+        let kernel = self.machine.kernel();
+        let doing = doing_on(before, kernel, line.cpu);
+        let params = params_on(alloc, kernel, line, &before)?;
+        self.telling.add(alloc, kernel, &doing, params, self.count)?;
         self.count += 1;
         Ok(())
     }
@@ -212,7 +259,15 @@ pub(crate) fn told(alloc: Global, world: &World, lines: &[Line]) -> Result<Telli
     for (index, line) in lines.iter().enumerate() {
         let before = before_line(machine.kernel(), line);
         let _made = machine.step(alloc, world, line.cpu)?;
-        telling.add(alloc, machine.kernel(), line, before, index as u32)?;
+        let kernel = machine.kernel();
+        let params = params_behind(alloc, kernel, line, &before)?;
+        telling.add(
+            alloc,
+            kernel,
+            &doing_behind(before, kernel),
+            params,
+            index as u32,
+        )?;
     }
     finish(alloc, &mut telling.histories, lines.len() as u32 + 1)?;
     Ok(telling)

@@ -14,6 +14,7 @@ use crate::families::{BareChange, changes_of};
 use crate::holders::holders;
 use crate::reasons::Grounds;
 use crate::replay::{Retelling, replayed, told};
+use crate::shows::Shows;
 use crate::texts::write_count;
 use hk_model::{Change, Line, NoMemory, Text, World};
 use std::alloc::Global;
@@ -57,7 +58,7 @@ pub fn report(alloc: Global, world: &World, lines: &[Line]) -> Result<Vec<Change
     Ok(changes)
 }
 
-impl Retelling {
+impl<K: Shows> Retelling<K> {
     /// The changes under confined calls of the lines that have come, each with its reason, as text (`docs/FORMATS.md`,
     /// "Statuses and outputs"): what `changes_text` makes of what `report` tells, written as each reason is found,
     /// without a list of them. NoMemory is want of memory, and nothing else.

@@ -1,0 +1,101 @@
+-- What was known of a processor's next call is known of the line of its step.
+use Rattle.std.proofs.Common.{◌≡◌, List, [], Bool, true, false, Option, Some, None, refl, sym, ap, subst, ◌∙◌, option_map}
+use Rattle.std.specs.Prelude.{IfSome, is_some, if◌then◌else◌}
+use Rattle.std.specs.Option.{option_and_then, unwrap_or}
+use Rattle.hk_model.specs.declared.names.Inc.{Inc}
+use Rattle.hk_model.specs.declared.names.Proc.{Proc}
+use Rattle.hk_model.specs.declared.names.Cpu.{Cpu}
+use Rattle.hk_model.specs.declared.calls.Call.{Call}
+use Rattle.hk_model.specs.declared.calls.Reply.{Reply}
+use Rattle.hk_model.specs.declared.lines.What.{What}
+use Rattle.hk_model.specs.declared.lines.What.TheVariants as what
+use Rattle.hk_model.specs.declared.lines.Line.{Line}
+use Rattle.hk_model.specs.WorldValue.{WorldValue}
+use Rattle.hk_model.specs.State.{State, incarnation}
+use Rattle.hk_model.specs.Control.{is_refusal}
+use Rattle.hk_model.specs.Processors.{running_on}
+use Rattle.hk_model.specs.Running.{Machine, line_of, moved, step}
+use Rattle.hk_model.specs.Lines.{done_by, done_call, enters_call}
+use Rattle.hk_model.proofs.Steps.{moved_holds}
+use Rattle.hk_program.specs.Machines.{next_call}
+use Rattle.hk_program.proofs.NextCalls.{call_was_next}
+use Rattle.hk_program.proofs.Machines.{step_cpu}
+use Rattle.hk_report.specs.declared.doings.Before.{Before}
+use Rattle.hk_report.specs.Counts.{confined_on}
+use Rattle.hk_report.specs.Doings.{RunsEntered, before_by, before_call, before_line, before_next, before_none, slots_on}
+use Rattle.hk_report.proofs.Counts.{RunsNew, runs_each}
+
+-- ---- what is told of the incarnation that a processor runs
+
+pub slots_run : (s : State) (cpu : Cpu) (inc : Inc) → option_map (λ (x : Proc × Inc). x.1) (running_on s cpu) ≡ Some inc → slots_on s cpu ≡ (incarnation s inc).slots
+slots_run s cpu inc h = by (running_on s cpu) h
+  where
+    by : (o : Option (Proc × Inc)) → option_map (λ (x : Proc × Inc). x.1) o ≡ Some inc
+        → unwrap_or (option_map (λ (x : Proc × Inc). (incarnation s x.1).slots) o) [] ≡ (incarnation s inc).slots
+    by None e = absurd (cc)
+    by (Some x) e = let same : x.1 ≡ inc = cc in ap (λ (i : Inc). (incarnation s i).slots) same
+
+pub confined_run : (s : State) (cpu : Cpu) (inc : Inc) → option_map (λ (x : Proc × Inc). x.1) (running_on s cpu) ≡ Some inc
+    → confined_on s cpu ≡ (incarnation s inc).confined
+confined_run s cpu inc h = by (running_on s cpu) h
+  where
+    by : (o : Option (Proc × Inc)) → option_map (λ (x : Proc × Inc). x.1) o ≡ Some inc
+        → unwrap_or (option_map (λ (x : Proc × Inc). (incarnation s x.1).confined) o) false ≡ (incarnation s inc).confined
+    by None e = absurd (cc)
+    by (Some x) e = let same : x.1 ≡ inc = cc in ap (λ (i : Inc). (incarnation s i).confined) same
+
+-- ---- a step
+
+-- a call that was done was made
+was_made : (x : What) (reply : Reply) (c : Call) → done_by x reply ≡ Some c → x ≡ what.Call c
+was_made what.Dispatch reply c h = absurd (cc)
+was_made what.Halt reply c h = absurd (cc)
+was_made (what.Call d) reply c h = by (is_refusal reply) h
+  where
+    by : (b : Bool) → ◌≡◌ {A = Option Call} (if b then None else Some d) (Some c) → what.Call d ≡ what.Call c
+    by true e = absurd (cc)
+    by false e = cc
+
+module _ (w : WorldValue) (m : Machine) (cpu : Cpu) (line : Line) (after : Machine) (made : step w m cpu ≡ Some (line, after)) where
+  same_cpu : line.cpu ≡ cpu
+  same_cpu = subst (λ (found : Option (Line × Machine)). IfSome found (λ f. f.0.cpu ≡ cpu)) made (step_cpu w m cpu)
+
+  pub step_line : line_of w m line.cpu ≡ Some line
+  step_line =
+      subst (λ (c : Cpu). line_of w m c ≡ Some line) (sym same_cpu) (ap (λ (found : Option (Line × Machine)). option_map (λ f. f.0) found) made)
+
+  pub step_moves : after ≡ moved w m line.cpu
+  step_moves =
+      sym (subst (λ (c : Cpu). moved w m c ≡ after) (sym same_cpu) (ap (λ (found : Option (Line × Machine)). unwrap_or (option_map (λ f. f.1) found) m) made))
+
+  pub before_known : before_by (before_next m.state cpu (next_call w m cpu)) line ≡ before_line m.state line
+  before_known = by (done_call line) refl
+    where
+      by : (o : Option Call) → done_call line ≡ o
+          → elim (is_some o) as (λ b. Before) [ true ↦ unwrap_or (before_next m.state cpu (next_call w m cpu)) (before_none line.inc) | false ↦ before_none line.inc ]
+          ≡ before_call m.state line.inc o
+      by None e = refl
+      by (Some c) e =
+          let was = call_was_next w m cpu line after made c (was_made line.what line.reply c e) in
+          ap (λ (o : Option Call). unwrap_or (before_next m.state cpu o) (before_none line.inc)) was.call
+          ∙ ap (λ (o : Option (Proc × Inc)). unwrap_or
+          (option_and_then (λ (x : Proc × Inc). let known : Option Before = Some (before_call m.state x.1 (Some c)) in known) o) (before_none line.inc)) was.runs
+
+  -- of a line of which this was known
+  pub line_known : (s : State) (next : Option Call) (known : Option Before) (before : Before) → s ≡ m.state → next ≡ next_call w m cpu
+      → known ≡ before_next s cpu next → before ≡ before_by known line → before ≡ before_line m.state line
+  line_known s next known before a b c d =
+      d
+      ∙ ap (λ (k : Option Before). before_by k line) (c ∙ ap (λ (t : State). before_next t cpu next) a ∙ ap (λ (o : Option Call). before_next m.state cpu o) b)
+      ∙ before_known
+
+  pub step_enters : RunsEntered after.state line.cpu (before_line m.state line)
+  step_enters = by (enters_call (done_call line)) refl
+    where
+      by : (b : Bool) → enters_call (done_call line) ≡ b
+          → IfSome (elim b as (λ x. Option Inc) [ true ↦ Some m.state.next_inc | false ↦ None ])
+          (λ (inc : Inc). option_map (λ (x : Proc × Inc). x.1) (running_on after.state line.cpu) ≡ Some inc)
+      by false e = tt
+      by true e =
+          subst (λ (k : Machine). option_map (λ (x : Proc × Inc). x.1) (running_on k.state line.cpu) ≡ Some m.state.next_inc) (sym step_moves)
+          (ap (λ (o : Option (Proc × Inc)). option_map (λ (x : Proc × Inc). x.1) o) (moved_holds RunsNew runs_each w m line step_line e))
