@@ -390,6 +390,31 @@ joined_none a =
 pub none_raised : (level : Name → Latest) (name : Name) (latest : Latest) → latest.modify ≡ 0 → latest.unconf ≡ 0 → level ≡ raised_at level name latest
 none_raised level name latest m u = stays_is level name latest (ap (joined (level name)) (latest_none latest m u) ∙ joined_none (level name))
 
+pub nothing_raised : (level : Name → Latest) (name : Name) → raised_at level name no_latest ≡ level
+nothing_raised level name = sym (none_raised level name no_latest refl refl)
+
+-- a level that is raised twice at one object
+joined_more : (a b c : Latest) → joined (joined a b) c ≡ joined a (joined b c)
+joined_more a b c =
+    both_ways (joined (joined a b) c) (joined a (joined b c))
+    (both_joined (joined a b) c (joined a (joined b c))
+    (both_joined a b (joined a (joined b c)) (left_joined a (joined b c)) (at_most_through b (joined b c) (joined a (joined b c)) (left_joined b c) (right_joined a (joined b c))))
+    (at_most_through c (joined b c) (joined a (joined b c)) (right_joined b c) (right_joined a (joined b c))))
+    (both_joined a (joined b c) (joined (joined a b) c)
+    (at_most_through a (joined a b) (joined (joined a b) c) (left_joined a b) (left_joined (joined a b) c))
+    (both_joined b c (joined (joined a b) c) (at_most_through b (joined a b) (joined (joined a b) c) (right_joined a b) (left_joined (joined a b) c)) (right_joined (joined a b) c)))
+
+pub raised_twice : (level : Name → Latest) (first second : Name) (a b : Latest) → first.0 ≡ second.0
+    → raised_at level first (joined a b) ≡ raised_at (raised_at level first a) second b
+raised_twice level first second a b e = subst (λ (y : Name). raised_at level first (joined a b) ≡ raised_at (raised_at level first a) y b) (name_is first second e) (λ i x. at x i)
+  where
+    at : (x : Name) → raised_at level first (joined a b) x ≡ raised_at (raised_at level first a) first b x
+    at x = by (first.0 == x.0)
+      where
+        by : (o : Bool) → cond o (joined (level x) (joined a b)) (level x) ≡ cond o (joined (cond o (joined (level x) a) (level x)) b) (cond o (joined (level x) a) (level x))
+        by true = sym (joined_more (level x) a b)
+        by false = refl
+
 -- the level of no hop
 pub end_is : (name : Name) (before : ℕ) → raised_at (λ x. no_latest) name (ends_before before) ≡ latest_end name before
 end_is name before = λ i x. at x i

@@ -43,6 +43,13 @@ pub struct Level {
     pub latest: BTreeMap<Name, Latest>,
 }
 
+/// What is to be raised at an object.
+#[derive(Clone, Copy)]
+pub(crate) struct Raise {
+    pub name: Name,
+    pub latest: Latest,
+}
+
 /// A hop, and where it leads.
 #[derive(Clone, Copy, PartialEq, Eq, Debug)]
 pub struct Onward {
@@ -329,6 +336,25 @@ impl Level {
         self.latest.insert(name, all)?;
         Ok(())
     }
+
+    /// The same, behind what is to be raised already: where it is at the same object, both are joined and raised
+    /// later, else the earlier one is raised now.
+    fn raise_later(
+        &mut self,
+        waiting: &mut Raise,
+        name: Name,
+        latest: Latest,
+    ) -> Result<(), NoMemory>
+        ensures { OnOk result (raised_at (latest_at self.new) waiting.new.name waiting.new.latest ≡ raised_at (raised_at (latest_at self.old) waiting.old.name waiting.old.latest) name latest) }
+    {
+        if waiting.name.0 == name.0 {
+            waiting.latest = joined(waiting.latest, latest);
+            return Ok(());
+        }
+        self.raise(waiting.name, waiting.latest)?;
+        *waiting = Raise { name, latest };
+        Ok(())
+    }
 }
 
 impl<'a> Ground<'a> {
@@ -412,15 +438,25 @@ impl<'a> Ground<'a> {
         }
     }
 
-    /// What is kept for an object gives to those that held it.
+    /// What is kept for an object gives to those that held it. The spans of one list stand together, so a list is
+    /// looked up once.
+    #[tactic(auto, using(crate::proofs::Raising::nothing_raised))]
     fn raise_holders(&self, next: &mut Level, name: Name, latest: Latest) -> Result<(), NoMemory>
         ensures { OnOk result (latest_at next.new ≡ raised_over latest (is_made self.now.families.now self.now.begun self.now.histories.now name) (latest_at next.old) (holders_of self.now.histories.now name)) }
     {
         let made = self.is_made(name);
+        let mut waiting = Raise {
+            name,
+            latest: Latest {
+                modify: 0,
+                unconf: 0,
+            },
+        };
         for held in self.holders_of(name) {
-            next.raise(held.by, latest_over(&held.span, latest, made))?;
+            let over = latest_over(&held.span, latest, made);
+            next.raise_later(&mut waiting, held.by, over)?;
         }
-        Ok(())
+        next.raise(waiting.name, waiting.latest)
     }
 
     /// The level of one hop more. NoMemory is want of memory.
