@@ -152,17 +152,17 @@ fn another_order_makes_another_record(rt: HostRuntime) -> Result<(), Fail> {
     Ok(())
 }
 
-/// A kernel whose first call wants memory, but that is the other in all else.
+/// A plain kernel, but its first call wants memory.
 #[derive(Drop)]
-struct Wanting<K: Kernel> {
-    other: K,
+struct Wanting {
+    plain: Plain,
     wanted: bool,
 }
 
-impl<K: Kernel> Kernel for Wanting<K> {
+impl Kernel for Wanting {
     ghost use Rattle.std.specs.Prelude.{true};
 
-    ghost state = { λ kernel. K.state kernel.other };
+    ghost state = { λ kernel. kernel.plain };
 
     ghost wants = { λ _. true };
 
@@ -171,31 +171,31 @@ impl<K: Kernel> Kernel for Wanting<K> {
             self.wanted = true;
             return Err(NoMemory);
         }
-        self.other.act(alloc, cpu, call)
+        self.plain.act(alloc, cpu, call)
     }
 
     fn dispatch(&mut self, cpu: Cpu) -> Option<Proc> {
-        self.other.dispatch(cpu)
+        self.plain.dispatch(cpu)
     }
 
     fn halt(&mut self, cpu: Cpu) {
-        self.other.halt(cpu)
+        self.plain.halt(cpu)
     }
 
     fn current(&self, cpu: Cpu) -> Option<(Proc, Inc)> {
-        self.other.current(cpu)
+        self.plain.current(cpu)
     }
 
     fn over(&self) -> bool {
-        self.other.over()
+        self.plain.over()
     }
 
     fn limit_reached(&self) -> bool {
-        self.other.limit_reached()
+        self.plain.limit_reached()
     }
 
     fn snapshot(&self, alloc: Global) -> Result<Snapshot, NoMemory> {
-        self.other.snapshot(alloc)
+        self.plain.snapshot(alloc)
     }
 }
 
@@ -203,12 +203,11 @@ impl<K: Kernel> Kernel for Wanting<K> {
 struct Wants;
 
 impl Maker for Wants {
-    type Made = Wanting<Plain>;
+    type Made = Wanting;
 
-    fn make(&self, alloc: Global, world: &World) -> Result<Wanting<Plain>, NoMemory> {
-        let other = Plain::new(alloc, world)?;
+    fn make(&self, alloc: Global, world: &World) -> Result<Wanting, NoMemory> {
         Ok(Wanting {
-            other,
+            plain: Plain::new(alloc, world)?,
             wanted: false,
         })
     }
