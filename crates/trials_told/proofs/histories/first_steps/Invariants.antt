@@ -1,7 +1,7 @@
 use Rattle.std.proofs.Common.{◌≡◌}
 use Rattle.hk_model.specs.Running.{AreStepsOf, after_lines, opened}
 use Rattle.hk_program.specs.Machines.{IsSound}
-use Rattle.trials_told.proofs.histories.steps.Given as goal
+use Rattle.trials_told.proofs.histories.first_steps.Given as goal
 
 -- the lines are steps of the world, and the machine is the one that they lead to
 abbrev pub invariant-loop : goal.invariant-loop

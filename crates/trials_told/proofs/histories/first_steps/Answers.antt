@@ -3,7 +3,7 @@ use Rattle.std.specs.Prelude.{IfSome}
 use Rattle.hk_model.specs.declared.lines.Line.{Line}
 use Rattle.hk_model.specs.Running.{AreStepsOf, after_lines, opened, step}
 use Rattle.hk_program.proofs.Machines.{IsLonger, steps_snoc}
-use Rattle.trials_told.proofs.histories.steps.Goals as goal
+use Rattle.trials_told.proofs.histories.first_steps.Goals as goal
 
 -- one step more: the lines are steps still, and lead to the machine behind it
 pub loop-preserved : goal.loop-preserved
