@@ -11,4 +11,5 @@ pub mod InstructionsGood
 pub mod PartsGood
 pub mod SyntaxGood
 pub mod NamesKept
+pub mod VerbLengths
 pub mod ProgressLemmas

@@ -7,57 +7,89 @@ ghost use Rattle.hk_format.specs.Verbs.{verb_word, all_verbs};
 
 use hk_format::Verb;
 
-const VERBS: [Verb; 41] = [
-    Verb::Hydra,
-    Verb::Limit,
+/// The verbs whose words have one letter.
+const ONE_LETTER: [Verb; 2] = [Verb::P, Verb::V];
+
+/// The verbs whose words have three letters.
+const THREE_LETTERS: [Verb; 4] = [Verb::End, Verb::Cap, Verb::Set, Verb::Add];
+
+/// Those whose words have four.
+const FOUR_LETTERS: [Verb; 10] = [
     Verb::Type,
-    Verb::Object,
-    Verb::Semaphore,
-    Verb::Procedure,
     Verb::Code,
-    Verb::Process,
-    Verb::End,
-    Verb::Words,
-    Verb::Empty,
-    Verb::Cap,
-    Verb::Amplify,
-    Verb::Create,
-    Verb::Param,
-    Verb::Label,
-    Verb::GetData,
-    Verb::PutData,
-    Verb::AddData,
-    Verb::Length,
     Verb::Load,
-    Verb::Store,
-    Verb::Append,
-    Verb::Erase,
     Verb::Drop,
-    Verb::Restrict,
     Verb::Look,
-    Verb::Template,
-    Verb::Merge,
     Verb::Copy,
     Verb::Call,
-    Verb::Return,
-    Verb::P,
-    Verb::V,
-    Verb::Yield,
-    Verb::Set,
-    Verb::Add,
     Verb::Goto,
     Verb::IfEq,
     Verb::IfLess,
-    Verb::IfDenied,
 ];
+
+/// Those whose words have five.
+const FIVE_LETTERS: [Verb; 10] = [
+    Verb::Hydra,
+    Verb::Limit,
+    Verb::Words,
+    Verb::Empty,
+    Verb::Param,
+    Verb::Label,
+    Verb::Store,
+    Verb::Erase,
+    Verb::Merge,
+    Verb::Yield,
+];
+
+/// Those whose words have six.
+const SIX_LETTERS: [Verb; 5] = [
+    Verb::Object,
+    Verb::Create,
+    Verb::Length,
+    Verb::Append,
+    Verb::Return,
+];
+
+/// Those whose words have seven.
+const SEVEN_LETTERS: [Verb; 5] = [
+    Verb::Process,
+    Verb::Amplify,
+    Verb::GetData,
+    Verb::PutData,
+    Verb::AddData,
+];
+
+/// Those whose words have eight.
+const EIGHT_LETTERS: [Verb; 3] = [Verb::Restrict, Verb::Template, Verb::IfDenied];
+
+/// Those whose words have nine.
+const NINE_LETTERS: [Verb; 2] = [Verb::Semaphore, Verb::Procedure];
 
 /// The verb that these letters are the word of, in scripts and in audit lines. None exactly where there
 /// is none (`docs/FORMATS.md`, "Grammar").
-#[tactic(auto, unfolding(hk_format::specs::Verbs::all_verbs))]
 pub fn verb_of(word: &[u8]) -> Option<Verb>
     ensures { result ≡ find (λ v. same_text word.now (verb_word v)) all_verbs }
 {
-    verb_in(&VERBS, word)
+    let length = word.len();
+    if length == 1 {
+        verb_in(&ONE_LETTER, word)
+    } else if length == 3 {
+        verb_in(&THREE_LETTERS, word)
+    } else if length == 4 {
+        verb_in(&FOUR_LETTERS, word)
+    } else if length == 5 {
+        verb_in(&FIVE_LETTERS, word)
+    } else if length == 6 {
+        verb_in(&SIX_LETTERS, word)
+    } else if length == 7 {
+        verb_in(&SEVEN_LETTERS, word)
+    } else if length == 8 {
+        verb_in(&EIGHT_LETTERS, word)
+    } else if length == 9 {
+        verb_in(&NINE_LETTERS, word)
+    } else {
+        None
+    }
 }
 
 /// The first of the verbs whose word it is.

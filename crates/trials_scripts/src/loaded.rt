@@ -1,10 +1,14 @@
 // Scripts whose names and labels become numbers, and bytes that each of the three passes refuses.
 
+ghost use Rattle.std.specs.Prelude.{◌<◌, ◌^◌, length};
+
 use crate::worlds::{read, world};
 use hk_format::{Cause, LoadCause, ParseCause, TextCause};
-use hk_load::WorldError;
+use hk_load::{WorldError, load};
 use hk_model::{Cap, Entry, Instr, Kind, Name, Template, World};
 use hk_rights::Rights;
+use hk_script::parse_source;
+use std::alloc::Global;
 use std::marker::PhantomData;
 use std::test::Fail;
 
@@ -43,6 +47,22 @@ fn slot(world: &World, at: usize) -> Option<Entry> {
 fn held(name: u64, rights: Rights) -> Entry {
     let name = Name(name);
     Entry::Held(Cap { name, rights })
+}
+
+/// How many objects the world of a script has, which is kept, and how many items the script.
+#[tactic(auto, using(hk_text::proofs::LineCount::lines_few))]
+fn kept(alloc: Global, script: &[u8]) -> Option<(usize, usize)>
+    requires { length script.now < 2 ^ 31 }
+{
+    let syntax = parse_source(alloc, script).ok()?;
+    let world = load(alloc, &syntax).ok()?;
+    Some((world.objects().len(), syntax.items().len()))
+}
+
+#[test]
+fn keeps_a_script(rt: HostRuntime) -> Result<(), Fail> {
+    assert_eq!(rt; kept(rt.alloc(), SCRIPT), Some((2, 5)));
+    Ok(())
 }
 
 #[test]
