@@ -20,10 +20,11 @@ use Rattle.hk_program.specs.Machines.{IsSound}
 use Rattle.hk_program.proofs.Machines.{steps_snoc}
 use Rattle.hk_top.specs.declared.served.DueText.{DueText}
 use Rattle.hk_report.specs.declared.replay.Retelling.{Retelling}
-use Rattle.hk_report.specs.Retold.{IsRetold}
-use Rattle.hk_report.proofs.Retold.{retold_count}
-use Rattle.hk_top.specs.Follows.{IsFollowed, IsFollowedTold}
-use Rattle.hk_top.specs.Outputs.{IsChecked, legal}
+use Rattle.hk_report.specs.Retold.{IsRetold, IsToldMore}
+use Rattle.hk_report.proofs.NextLines.{step_moves}
+use Rattle.hk_report.proofs.Retold.{retold_count, retold_more}
+use Rattle.hk_top.specs.Follows.{AreDue, IsFollowed, IsFollowedTold}
+use Rattle.hk_top.specs.Outputs.{IsChecked, TellsChanges, legal}
 use Rattle.hk_top.proofs.WrittenRuns.{lawful}
 
 -- these lines were read from the record, and lead to the machine
@@ -88,31 +89,37 @@ way_ends_by w first left m (Some end) world h ends whole = (h.0, way_ends w firs
 -- ---- lines that are told as they come
 
 -- the lines that were read lead to the machine, and were told
-pub record IsToldWay (w : WorldValue) (first left : List ℕ) (m : Machine) (r : Retelling) : Type 0 where
+pub record IsToldWay {K : Type 0} (w : WorldValue) (first left : List ℕ) (r : Retelling K) : Type 0 where
   pub lines : List Line
-  pub way : IsOnWay w first left lines m
+  pub way : IsOnWay w first left lines r.machine
   pub told : IsRetold w lines r
 
-pub told_way_begins : (w : WorldValue) (first : List ℕ) (m : Machine) (r : Retelling) → m ≡ opened w → IsRetold w [] r → IsToldWay w first first m r
-told_way_begins w first m r is told = record { lines = []; way = way_begins w first [] m refl is; told = told }
+pub told_way_begins : {K : Type 0} (w : WorldValue) (first : List ℕ) (r : Retelling K) → r.machine ≡ opened w → IsRetold w [] r → IsToldWay w first first r
+told_way_begins w first r is told = record { lines = []; way = way_begins w first [] r.machine refl is; told = told }
 
-pub told_sound : (w : WorldValue) (first left : List ℕ) (m : Machine) (r : Retelling) → IsSound w m → IsToldWay w first left m r → IsSound w r.machine
-told_sound w first left m r sound h = subst (IsSound w) (h.way.is ∙ sym h.told.machine) sound
+pub told_few : {K : Type 0} (w : WorldValue) (first left : List ℕ) (r : Retelling K) → IsSound w r.machine → IsToldWay w first left r → r.count + 1 < 2 ^ 32
+told_few w first left r sound h = retold_count w h.lines r sound.world h.told
 
-pub told_few : (w : WorldValue) (first left : List ℕ) (m : Machine) (r : Retelling) → IsSound w m → IsToldWay w first left m r → r.count + 1 < 2 ^ 32
-told_few w first left m r sound h = retold_count w h.lines r sound.world h.told
+pub told_way_goes_on : {K : Type 0} (w : WorldValue) (first left new : List ℕ) (cpu : Cpu) (line : Line) (old more : Retelling K) → IsToldWay w first left old
+    → step w old.machine cpu ≡ Some (line, more.machine) → IsToldMore old more line → IsLine line × (left ≡ line_text line ++ new) → IsToldWay w first new more
+told_way_goes_on w first left new cpu line old more h made tells taken =
+    let way = way_goes_on w first left new h.lines old.machine more.machine cpu line h.way made taken in
+    record {
+      lines = h.lines ++ line ∷ [];
+      way = way;
+      told = retold_more w h.lines line old more h.told way.steps (step_moves w old.machine cpu line more.machine made) tells;
+    }
 
-pub told_way_goes_on : (w : WorldValue) (first left new : List ℕ) (m after : Machine) (cpu : Cpu) (line : Line) (old more : Retelling) → (h : IsToldWay w first left m old)
-    → step w m cpu ≡ Some (line, after) → IsLine line × (left ≡ line_text line ++ new)
-    → (AreStepsOf w (h.lines ++ line ∷ []) → IsRetold w (h.lines ++ line ∷ []) more) → IsToldWay w first new after more
-told_way_goes_on w first left new m after cpu line old more h made taken tells =
-    let way = way_goes_on w first left new h.lines m after cpu line h.way made taken in
-    record { lines = h.lines ++ line ∷ []; way = way; told = tells way.steps }
-
-pub told_way_ends : (w : WorldValue) (first left : List ℕ) (m : Machine) (r : Retelling) (end : End) → IsWorld w → IsToldWay w first left m r → end_word m.state ≡ Some end
+pub told_way_ends : {K : Type 0} (w : WorldValue) (first left : List ℕ) (r : Retelling K) (end : End) → IsWorld w → IsToldWay w first left r
+    → end_word r.machine.state ≡ Some end
     → ((bytes : List ℕ) (v : WorldValue) (told : List Line) → IsReadTo bytes v told left → audit bytes ≡ Ok (audited v (events told end))) → IsFollowedTold w first r
-told_way_ends w first left m r end world h ends whole =
-    record { lines = h.lines; end = end; followed = way_ends w first left h.lines m end world h.way ends whole; told = h.told }
+told_way_ends w first left r end world h ends whole =
+    record { lines = h.lines; end = end; followed = way_ends w first left h.lines r.machine end world h.way ends whole; told = h.told }
+
+-- the changes of such lines are due
+pub changes_are_due : {K : Type 0} (w : WorldValue) (left : List ℕ) (r : Retelling K) (due : DueText) → IsFollowedTold w left r
+    → (due.status ≡ 0) × ((lines : List Line) → IsRetold w lines r → TellsChanges w lines due.text) → AreDue w left due
+changes_are_due w left r due f h = record { lines = f.lines; end = f.end; followed = f.followed; status_is = h.0; tells = h.1 f.lines f.told }
 
 -- what is told of a record that was followed
 pub followed_due : (w : WorldValue) (left : List ℕ) (lines : List Line) (end : End) (Told : WorldValue → List Line → List ℕ → Type 0) (r : Result DueText NoMemory)
@@ -120,9 +127,3 @@ pub followed_due : (w : WorldValue) (left : List ℕ) (lines : List Line) (end :
     → IfOk r (λ due. IsChecked (audited w (events lines end)) Told due.status due.text)
 followed_due w left lines end Told (Ok due) f h = rw h.0 (legal due.text f.legal f.laws h.1)
 followed_due w left lines end Told (Err error) f h = tt
-
--- the same, of lines that were told
-pub told_due : (w : WorldValue) (lines : List Line) (Told : WorldValue → List Line → List ℕ → Type 0) (r : Retelling) (due : Result DueText NoMemory) → IsRetold w lines r
-    → IfOk due (λ due. (due.status ≡ 0) × ((told : List Line) → IsRetold w told r → Told w told due.text)) → IfOk due (λ due. (due.status ≡ 0) × Told w lines due.text)
-told_due w lines Told r (Ok due) t h = (h.0, h.1 lines t)
-told_due w lines Told r (Err error) t h = tt

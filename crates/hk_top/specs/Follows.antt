@@ -8,7 +8,8 @@ use Rattle.hk_format.specs.Audits.{audit, audited, events}
 use Rattle.hk_audit.specs.Followed.{IsReadTo}
 use Rattle.hk_report.specs.declared.replay.Retelling.{Retelling}
 use Rattle.hk_report.specs.Retold.{IsRetold}
-use Rattle.hk_top.specs.Outputs.{IsLawful}
+use Rattle.hk_top.specs.declared.served.DueText.{DueText}
+use Rattle.hk_top.specs.Outputs.{IsLawful, TellsChanges}
 
 -- the bytes of which these are left behind the line `record` tell these lines and this end word, which are legal, and the laws
 -- hold of the lines
@@ -18,8 +19,16 @@ pub record IsFollowed (w : WorldValue) (left : List ℕ) (lines : List Line) (en
   pub laws : IsLawful w lines
 
 -- the same of lines that were told as they came
-pub record IsFollowedTold (w : WorldValue) (left : List ℕ) (r : Retelling) : Type 0 where
+pub record IsFollowedTold {K : Type 0} (w : WorldValue) (left : List ℕ) (r : Retelling K) : Type 0 where
   pub lines : List Line
   pub end : End
   pub followed : IsFollowed w left lines end
   pub told : IsRetold w lines r
+
+-- the changes of such lines are due
+pub record AreDue (w : WorldValue) (left : List ℕ) (due : DueText) : Type 0 where
+  pub lines : List Line
+  pub end : End
+  pub followed : IsFollowed w left lines end
+  pub status_is : due.status ≡ 0
+  pub tells : TellsChanges w lines due.text

@@ -5,10 +5,10 @@ ghost use Rattle.hk_model.specs.Opening.{opening};
 ghost use Rattle.hk_top.specs.Outputs.{IsCountedRun};
 
 use crate::running::FIRST_PROCESSOR;
-use hk_model::{Cpu, End, Kernel, NoMemory, World};
+use crate::showing::open_table;
+use hk_model::{End, Kernel, NoMemory, World};
 use hk_program::{Machine, blank_line};
-use hk_report::Counting;
-use hk_table::Table;
+use hk_report::{Counting, Shows};
 use std::alloc::Global;
 
 /// A run: how many changes there are under confined calls, how it ended, and the kernel behind it.
@@ -17,22 +17,6 @@ pub struct CountedRun<K: Kernel> {
     pub changes: u64,
     pub end: End,
     pub kernel: K,
-}
-
-/// A kernel that tells whether the call is confined that a processor runs.
-pub(crate) trait TellsConfined: Kernel {
-    ghost use Rattle.std.specs.Prelude.{◌≡◌};
-    ghost use Rattle.hk_report.specs.Counts.{confined_on};
-
-    /// Whether the call is confined that the processor runs. False where it runs nothing.
-    fn runs_confined(&self, cpu: Cpu) -> bool
-        ensures { result ≡ confined_on (Self.state self.now) cpu };
-}
-
-impl TellsConfined for Table {
-    fn runs_confined(&self, cpu: Cpu) -> bool {
-        Table::runs_confined(self, cpu)
-    }
 }
 
 /// Runs a world on processor 0 and a kernel that has opened it, until the processor has no step, and counts the
@@ -45,13 +29,13 @@ pub(crate) fn run_counted<K: Kernel>(
     requires { K.state kernel ≡ opening world.now }
     ensures { IfOk result (λ run. IsCountedRun world.now run.changes run.end (K.state run.kernel)) }
 {
-    let table = Table::new(alloc, world)?;
-    count_run(alloc, world, kernel, table)
+    let beside = open_table(alloc, world)?;
+    count_run(alloc, world, kernel, beside)
 }
 
 /// The same, where another kernel, which has opened the world too, makes the same steps and tells which calls are
 /// confined.
-fn count_run<K: Kernel, T: TellsConfined>(
+fn count_run<K: Kernel, T: Shows>(
     alloc: Global,
     world: &World,
     kernel: K,

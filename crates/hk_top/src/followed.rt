@@ -1,6 +1,6 @@
 //! Records that are followed step by step (`docs/FORMATS.md`, "Legal records").
 
-ghost use Rattle.std.specs.Prelude.{◌≡◌, ◌++◌, true, ℕ, List, Ok, Some, IfOk, IfSome};
+ghost use Rattle.std.specs.Prelude.{◌≡◌, ◌+◌, ◌<◌, ◌^◌, ◌++◌, true, ℕ, List, Ok, Some, IfOk, IfSome};
 ghost use Rattle.hk_model.specs.declared.lines.Line.{Line};
 ghost use Rattle.hk_model.specs.declared.lines.End.{End};
 ghost use Rattle.hk_model.specs.WorldValue.{WorldValue};
@@ -12,13 +12,14 @@ ghost use Rattle.hk_format.specs.Audits.{audit, audited, events};
 ghost use Rattle.hk_format.specs.LineRanges.{IsLine};
 ghost use Rattle.hk_audit.specs.Followed.{IsReadTo};
 ghost use Rattle.hk_program.specs.Machines.{IsSound};
+ghost use Rattle.hk_report.specs.Retold.{IsToldMore};
 ghost use Rattle.hk_top.specs.Follows.{IsFollowed, IsFollowedTold};
 
 use crate::running::FIRST_PROCESSOR;
 use hk_audit::Reader;
 use hk_model::{Cpu, End, Items, Kernel, Line, NoMemory, World};
 use hk_program::{Machine, blank_line};
-use hk_report::Retelling;
+use hk_report::{Retelling, Shows};
 use std::alloc::Global;
 
 /// The end word of a legal record, whose world and reader these are. It makes the step of the processor of
@@ -73,26 +74,24 @@ pub(crate) fn follow_lines<K: Kernel>(
 
 /// What the lines of a legal record tell, followed in the same way: each is told as it comes, and none is kept.
 /// None where it finds a difference. NoMemory is want of memory.
-pub(crate) fn follow_told<K: Kernel>(
+pub(crate) fn follow_told<K: Shows>(
     alloc: Global,
     world: &World,
     reader: Reader<'_>,
     kernel: K,
-) -> Result<Option<Retelling>, NoMemory>
+) -> Result<Option<Retelling<K>>, NoMemory>
     requires { K.state kernel ≡ opening world.now }
     ensures { IfOk result (λ found. IfSome found (λ told. IsFollowedTold world.now reader.entry told)) }
 {
     let mut reader = reader;
-    let mut machine = Machine::open(alloc, world, kernel)?;
-    let mut told = Retelling::begin(alloc, world)?;
+    let mut told = Retelling::begin(alloc, world, kernel)?;
     let mut line = blank_line(FIRST_PROCESSOR);
     while let Some(cpu) = reader.cpu() {
-        if !takes_step(alloc, world, &mut machine, &mut reader, cpu, &mut line)? {
+        if !tells_step(alloc, world, &mut told, &mut reader, cpu, &mut line)? {
             return Ok(None);
         }
-        told.add(alloc, world, &line)?;
     }
-    match end_reached(world, &machine, &reader) {
+    match end_reached(world, &told.machine, &reader) {
         Some(_end) => Ok(Some(told)),
         None => Ok(None),
     }
@@ -118,6 +117,29 @@ fn takes_step<K: Kernel>(
         return Ok(false);
     }
     Ok(reader.take(line)?)
+}
+
+/// The same of a machine whose lines are told: where the step has that text it was made, told and read.
+fn tells_step<K: Shows>(
+    alloc: Global,
+    world: &World,
+    told: &mut Retelling<K>,
+    reader: &mut Reader<'_>,
+    cpu: Cpu,
+    line: &mut Line,
+) -> Result<bool, NoMemory>
+    requires sound { IsSound world.now told.old.machine }
+    requires few { told.old.count + 1 < 2 ^ 32 }
+    ensures made { IfOk result (λ taken. taken ≡ true → step world.now told.old.machine cpu ≡ Some (line.new, told.new.machine)) }
+    ensures told { IfOk result (λ taken. taken ≡ true → IsToldMore told.old told.new line.new) }
+    ensures read { IfOk result (λ taken. taken ≡ true → IsLine line.new × (reader.old ≡ line_text line.new ++ reader.new)) }
+    ensures sound { IsSound world.now told.new.machine }
+{
+    if !told.step_into(alloc, world, cpu, line)? {
+        return Ok(false);
+    }
+    let taken = reader.take(line)?;
+    Ok(taken)
 }
 
 /// The end word with which a record ends here, where the machine's state has it.

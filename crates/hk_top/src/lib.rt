@@ -13,6 +13,7 @@ mod printed;
 mod processors;
 mod running;
 mod served;
+mod showing;
 pub mod status;
 mod sure;
 mod words;

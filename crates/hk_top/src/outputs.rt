@@ -1,7 +1,7 @@
 //! The status and the text that are due to what a command read (`docs/FORMATS.md`, "Statuses and
 //! outputs").
 
-ghost use Rattle.std.specs.Prelude.{◌≡◌, ◌≢◌, ◌≤◌, ◌-◌, IfOk, List, None, length};
+ghost use Rattle.std.specs.Prelude.{◌≡◌, ◌≢◌, ◌≤◌, ◌-◌, IfOk, IfSome, List, None, length};
 ghost use Rattle.hk_model.specs.declared.lines.Line.{Line};
 ghost use Rattle.hk_report.specs.Retold.{IsRetold};
 ghost use Rattle.hk_format.specs.CauseTexts.{cause_name, refusal_text, too_long_text, verdict_text};
@@ -17,6 +17,7 @@ ghost use Rattle.hk_model.specs.declared.verdicts.Verdict.TheVariants.{Legal};
 ghost use Rattle.hk_top.specs.Words.{words_of, byte_limit, IsInRange, MayTakeBack, MayTrace, ReadsAlone, json_bytes};
 ghost use Rattle.hk_top.specs.BoundTexts.{AreTold};
 ghost use Rattle.hk_top.specs.Outputs.{DueTo, IsChecked, IsRecord, TellsChains, TellsChanges, TellsLegal, TellsState, bad_json_text};
+ghost use Rattle.hk_top.specs.Follows.{AreDue};
 ghost use Rattle.hk_top.specs.Served.{IsDueTo, Records};
 
 use crate::bounds::bounds_text;
@@ -25,6 +26,7 @@ use crate::followed::{follow, follow_lines, follow_told};
 use crate::maker::Maker;
 use crate::running::laws;
 use crate::served::{DueText, Served};
+use crate::showing::open_table;
 use crate::status;
 use crate::words::Command;
 use crate::written::write_run;
@@ -36,7 +38,7 @@ use hk_json::{JsonError, json_text, read_json};
 use hk_load::{WorldError, read_world};
 use hk_model::{End, Kernel, Line, NoMemory, Snapshot, Text, Verdict, World};
 use hk_print::script_text;
-use hk_report::{Retelling, report_text};
+use hk_report::{Retelling, Shows, report_text};
 use hk_trace::{chains_text, trace};
 use hk_undo::state_text;
 use std::alloc::Global;
@@ -212,9 +214,8 @@ fn confine_record<M: Maker>(alloc: Global, bytes: &[u8], kernels: &M) -> Result<
 {
     match Reader::open(alloc, bytes) {
         Ok((world, reader)) => {
-            let kernel = kernels.make(alloc, &world)?;
-            match follow_told(alloc, &world, reader, kernel)? {
-                Some(told) => changes_told(alloc, &world, told),
+            match follow_changes(alloc, &world, reader)? {
+                Some(due) => Ok(due),
                 None => confine_read(alloc, bytes, kernels),
             }
         }
@@ -453,8 +454,44 @@ fn changes(alloc: Global, world: &World, lines: &[Line]) -> Result<DueText, NoMe
     })
 }
 
+/// What is due to `confine` and a legal record, whose world and reader these are: the record is followed step by step on
+/// a table, and each line told as it comes. None where that finds a difference.
+fn follow_changes(
+    alloc: Global,
+    world: &World,
+    reader: Reader<'_>,
+) -> Result<Option<DueText>, NoMemory>
+    ensures { IfOk result (λ found. IfSome found (λ due. AreDue world.now reader.entry due)) }
+{
+    let kernel = open_table(alloc, world)?;
+    follow_changes_on(alloc, world, reader, kernel)
+}
+
+/// The same, on a kernel that has opened the world and shows by what changes are told.
+fn follow_changes_on<K: Shows>(
+    alloc: Global,
+    world: &World,
+    reader: Reader<'_>,
+    kernel: K,
+) -> Result<Option<DueText>, NoMemory>
+    requires { K.state kernel ≡ opening world.now }
+    ensures { IfOk result (λ found. IfSome found (λ due. AreDue world.now reader.entry due)) }
+{
+    match follow_told(alloc, world, reader, kernel)? {
+        Some(told) => {
+            let due = changes_told(alloc, world, told)?;
+            Ok(Some(due))
+        }
+        None => Ok(None),
+    }
+}
+
 /// The changes under confined calls of lines that were told as they came, as a text.
-fn changes_told(alloc: Global, world: &World, told: Retelling) -> Result<DueText, NoMemory>
+fn changes_told<K: Shows>(
+    alloc: Global,
+    world: &World,
+    told: Retelling<K>,
+) -> Result<DueText, NoMemory>
     requires { (lines : List Line) × IsRetold world.now lines told }
     ensures { IfOk result (λ due. (due.status ≡ 0) × ((lines : List Line) → IsRetold world.now lines told → TellsChanges world.now lines due.text)) }
 {
