@@ -16,7 +16,6 @@ pub mod LoadGood
 pub mod ItemsLoaded
 pub mod WorldLoaded
 pub mod WorldValid
-pub mod HeadsApart
 pub mod StepCalls
 pub mod ExactForms
 pub mod ExactReaders
