@@ -2,12 +2,13 @@
 //! "Changes and their reasons").
 //!
 //! `changes_under` tells each change with the confined call that it was made under, by one run of
-//! the history; `report` with its reason besides, `changes_text` is the list as text, and a `Retelling` writes that text
-//! without the list, of lines that are told to it one by one. `counting` counts the changes as the lines of a run come. `naming` has
-//! what a path names, `doings` what each line did, `replay` the lines of a history once more,
-//! `families` the confined calls that each incarnation is under, `histories` what has stood in lists,
-//! `holders` which of that holds an object, `hops` the hops over it, `searching` the search for the
-//! least reach, `reasons` each change with its reason.
+//! the history; `report` with its reason besides, `changes_text` is the list as text, and a `Retelling`
+//! writes that text without the list: it makes the steps of a history on a kernel of its own and tells
+//! each as it is made. `counting` counts the changes as the lines of a run come. `shows` has what a
+//! kernel has to show for that, `naming` what a path names, `doings` what each line did, `replay` the
+//! lines of a history once more, `families` the confined calls that each incarnation is under,
+//! `histories` what has stood in lists, `holders` which of that holds an object, `hops` the hops over
+//! it, `searching` the search for the least reach, `reasons` each change with its reason.
 #![tactic(auto)]
 
 mod counting;
