@@ -1,5 +1,5 @@
 -- How the names and the free slots of a table stand in lists of cells.
-use Rattle.std.specs.Prelude.{◌≡◌, ℕ, ◌<◌, ◌%◌, ◌==◌, ◌↔◌, Bool, true, List, length, Option, Some, None, IsSome, slice_index_or}
+use Rattle.std.specs.Prelude.{◌≡◌, ℕ, ◌<◌, ◌%◌, ◌==◌, ◌||◌, ◌↔◌, Bool, true, false, List, length, Option, Some, None, IsSome, slice_index_or}
 use Rattle.std.specs.List.{list_any, IsDistinct}
 use Rattle.hk_model.specs.declared.names.Name.{Name}
 use Rattle.hk_objects.specs.declared.body.Body.{Body}
@@ -15,12 +15,26 @@ has slots slot = list_any (λ x. slot == x) slots
 abbrev pub named_at : List (Option Name) → ℕ → Option Name
 named_at names slot = slice_index_or names slot None
 
--- each slot with a name is in the list of the name's remainder, and each cell of a list is a slot with a name
-pub record IsIndexed (names : List (Option Name)) (c : Chained) : Type 0 where
+-- a remainder leads to a slot
+abbrev pub is_led_to : List (Option ℕ) → ℕ → ℕ → Bool
+is_led_to places rest slot = elim (slice_index_or places rest None) [ None ↦ false | Some place ↦ place == slot ]
+
+-- a remainder leads to a slot that has a name of this remainder
+abbrev pub leads : List (Option Name) → List (Option ℕ) → ℕ → Bool
+leads names places rest = elim (slice_index_or places rest None) [
+  | None ↦ false
+  | Some place ↦ elim (named_at names place) [ None ↦ false | Some name ↦ name.0 % 65536 == rest ]
+]
+
+-- each slot with a name is the one of the name's remainder, or the one that this leads to, or in the list for it, and each cell of a
+-- list is a slot with a name
+pub record IsIndexed (names : List (Option Name)) (places : List (Option ℕ)) (c : Chained) : Type 0 where
   pub room : length names ≡ 65536
+  pub leading : length places ≡ 65536
   pub cells : c.cells ≡ 65536
   pub size : length c.lists ≡ 65536
-  pub there : (slot : ℕ) (name : Name) → named_at names slot ≡ Some name → in_list c.lists (name.0 % 65536) slot ≡ true
+  pub there : (slot : ℕ) (name : Name) → named_at names slot ≡ Some name
+      → ((slot == name.0 % 65536) || is_led_to places (name.0 % 65536) slot) || in_list c.lists (name.0 % 65536) slot ≡ true
   pub named : (l slot : ℕ) → l < 65536 → in_list c.lists l slot ≡ true → IsSome (named_at names slot)
 
 -- slots of the table, each once

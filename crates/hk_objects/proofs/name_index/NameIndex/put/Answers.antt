@@ -1,11 +1,11 @@
-use Rattle.std.proofs.Common.{◌≡◌, Option, None, List, sym, subst}
-use Rattle.hk_model.specs.declared.names.Name.{Name}
-use Rattle.hk_objects.specs.Indexed.{named_at}
-use Rattle.hk_objects.proofs.Indexing.{index_put}
+use Rattle.std.proofs.Common.{◌≡◌, ◌%◌, ℕ, [], ◌∷◌, ◌++◌, set, subst}
+use Rattle.hk_links.specs.Chained.{Chained, listed}
+use Rattle.hk_objects.proofs.Indexing.{put_listed}
 use Rattle.hk_objects.proofs.name_index.NameIndex.put.Goals as goal
 
-pub invariant_of-self : goal.invariant_of-self
-invariant_of-self c =
-    rw c.put.ensures
-    (index_put _ _ _ _ _ c.self.invariant c.requires.slot
-    (subst (λ (v : List (Option Name)). named_at v c.args.slot ≡ None) (sym c.self.view_is) c.requires.free) c.push_back.ensures)
+pub invariant_of-self-then-is_needed : goal.invariant_of-self-then-is_needed
+invariant_of-self-then-is_needed c =
+    let was : Chained = c.self.inside.chains in
+    let put : c.push_back.new.self ≡ record { cells = was.cells; lists = set was.lists (c.args.name.0 % 65536) (listed was.lists (c.args.name.0 % 65536) ++ c.args.slot ∷ []) } =
+    subst (λ (r : ℕ). c.push_back.new.self ≡ record { cells = was.cells; lists = set was.lists r (listed was.lists r ++ c.args.slot ∷ []) }) c.remainder-rest.ensures c.push_back.ensures in
+    rw c.put.ensures (put_listed _ _ _ _ _ _ c.self.invariant c.requires.slot put)
