@@ -101,6 +101,7 @@ pub fn write_with_making<A: AsPiece>(
 }
 
 /// Writes a space and a piece.
+#[inline(always)]
 fn write_next<A: AsPiece>(out: &mut String, piece: &A) -> Result<(), NoMemory>
     requires { A.has_piece piece.now }
     ensures { OnOk result (string_bytes out.new ≡ string_bytes out.old ++ 32 ∷ spell (A.piece piece.now)) }

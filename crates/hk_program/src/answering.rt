@@ -18,6 +18,7 @@ use hk_model::{Acted, Call, Frame, Instr, Reply, World};
 /// The context must fit the world; an entered code must be one of the world, and there must be room
 /// for its frame. It still fits afterwards. A context without a frame stays so. It takes no memory.
 #[tactic(auto, unfolding(hk_model::specs::Control::after))]
+#[inline(always)]
 pub fn after(context: &mut Context, world: &World, call: &Call, acted: &Acted)
     requires fits { AreFrames world.now context.old }
     requires code { IfSome acted.now.code (λ code. code < length world.now.codes) }
@@ -46,6 +47,7 @@ fn is_return(call: &Call, reply: &Reply) -> bool
 }
 
 /// Puts a frame behind its answered call (`docs/RULES.md`, "Control of a process").
+#[inline(always)]
 pub(crate) fn go_behind(world: &World, frame: &mut Frame, reply: &Reply)
     requires { IsFrame world.now frame.old }
     ensures value { frame.new ≡ control.behind world.now frame.old reply.now }

@@ -70,6 +70,7 @@ pub fn blank_line(cpu: Cpu) -> Line
 
 /// The same for the processor of a line, which then tells what was done, and the reply. It gives whether
 /// the process now waits, has yielded or has ended.
+#[inline(always)]
 pub(crate) fn carry_into<K: Kernel>(
     alloc: Global,
     kernel: &mut K,

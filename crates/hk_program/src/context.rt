@@ -53,6 +53,7 @@ impl Context {
     /// Writes what is next in the current frame, which keeps what its local instructions changed
     /// (`docs/RULES.md`, "Control of a process"). A context without a frame is halted.
     #[tactic(auto, unfolding(hk_model::specs::Control::next))]
+    #[inline(always)]
     pub(crate) fn run_top(&mut self, world: &World, todo: &mut Todo)
         requires { AreFrames world.now self.old }
         ensures value { (todo.new, self.new) ≡ control.next world.now self.old }
@@ -68,6 +69,7 @@ impl Context {
 
     /// Puts the current frame behind its answered call, and says whether there is one
     /// (`docs/RULES.md`, "Control of a process").
+    #[inline(always)]
     pub(crate) fn answer_top(&mut self, world: &World, reply: &Reply) -> bool
         requires { AreFrames world.now self.old }
         ensures some { IsTrue result ↔ (0 < length self.old) }

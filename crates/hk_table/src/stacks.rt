@@ -84,6 +84,7 @@ fn put_top_of(all: &mut Vec<Stack>, at: usize, slot: Slot, entry: Entry)
 }
 
 /// Puts a frame on top of the stack of a process.
+#[inline(always)]
 fn push_on(all: &mut Vec<Stack>, at: usize, frame: StackFrame) -> Result<(), NoMemory>
     requires at { at < length all.old.items }
     requires depth { length (slice_index_or all.old.items at []) < 64 }
@@ -95,6 +96,7 @@ fn push_on(all: &mut Vec<Stack>, at: usize, frame: StackFrame) -> Result<(), NoM
 }
 
 /// Takes the top frame of a process: the slot below that takes what it returns. None exactly where there is none.
+#[inline(always)]
 fn pop_off(all: &mut Vec<Stack>, at: usize) -> Option<Slot>
     ensures { Pops all.old.items at result all.new.items }
 {
@@ -218,6 +220,7 @@ impl Stacks {
     }
 
     /// Puts a frame with the next number on top of the stack of a process. NoMemory is want of memory, and changes nothing.
+    #[inline(always)]
     pub(crate) fn push(&mut self, proc: Proc, frame: StackFrame) -> Result<(), NoMemory>
         requires proc { proc.0 < length self.old.stacks }
         requires depth { length (slice_index_or self.old.stacks proc.0 []) < 64 }
@@ -234,6 +237,7 @@ impl Stacks {
 
     /// Takes the top frame of a process: the slot below that takes what it returns. None exactly where there is none; then
     /// nothing changes.
+    #[inline(always)]
     pub(crate) fn pop(&mut self, proc: Proc) -> Option<Slot>
         ensures popped { Pops self.old.stacks proc.0 result self.new.stacks }
         ensures next { self.new.next ≡ self.old.next }
