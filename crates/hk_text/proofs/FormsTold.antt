@@ -1,9 +1,8 @@
 -- The kind of a piece, by the forms that have no point and by points.
-use Rattle.std.proofs.Common.{◌≡◌, ℕ, ◌+◌, ◌-◌, ◌<◌, ◌≤◌, Bool, true, false, cond, eqb, leb, ltb, List, [], ◌∷◌, length, min, refl, sym, ap, ◌∙◌, arith, ◌&&◌, ◌||◌, not, Result, Ok, Err, Option, Some, None}
+use Rattle.std.proofs.Common.{◌≡◌, ℕ, Bool, true, false, cond, eqb, leb, ltb, List, [], ◌∷◌, length, refl, sym, ap, ◌∙◌, arith, ◌&&◌, ◌||◌, not, Ok, Err}
 use Rattle.std.specs.List.{list_all, list_any, slice_split}
 use Rattle.std.proofs.lemmas.Bool.{and_parts, false≢true}
 use Rattle.std.proofs.lemmas.Bool.Decides.{nat_tests}
-use Rattle.hk_format.specs.declared.causes.TextCause.{TextCause}
 use Rattle.hk_format.specs.declared.causes.TextCause.TheVariants.{BadToken, NumberTooLarge}
 use Rattle.hk_model.specs.Labels.{is_digit, is_lower, is_capital, is_word, is_word_byte, first}
 use Rattle.hk_format.specs.Pieces.{Piece, Word, Upper, Dash, Number, is_names, is_upper, is_dash, value, number_of, formed, plain_of, pointed_of, piece_of}

@@ -1,18 +1,16 @@
 -- A text of digits, as `parse` reads it.
-use Rattle.std.proofs.Common.{◌≡◌, ℕ, ◌<◌, ◌^◌, Bool, true, false, ltb, List, [], ◌∷◌, length, refl, arith, ◌&&◌, Ok, Err, Option, Some, None, cond, not}
+use Rattle.std.proofs.Common.{◌≡◌, ℕ, Bool, true, false, ltb, List, [], ◌∷◌, length, refl, arith, Option, Some, None, cond, not}
 use Rattle.std.specs.List.{list_all, position_or_len}
 use Rattle.std.specs.Prelude.{MatchOption}
 use Rattle.std.specs.Str.{IsUtf8}
-use Rattle.std.specs.Str.Parse.{ParsesUnsigned, without_leading_plus}
-use Rattle.std.proofs.lemmas.Str.Parse.{IsNumeralModel, numerals_by_value, without_leading_plus_none}
+use Rattle.std.proofs.lemmas.Str.Parse.{IsNumeralModel, numerals_by_value}
 use Rattle.std.proofs.lemmas.Fmt.{IsAscii-from_digits}
 use Rattle.std.proofs.lemmas.List.Sums.{prefix_len-le-length}
 use Rattle.std.proofs.lemmas.Str.{IsUtf8-from_ascii}
-use Rattle.std.proofs.lemmas.Bool.{and_parts, and_from, false≢true, lt-ltb, ltb-false}
+use Rattle.std.proofs.lemmas.Bool.{and_parts, and_from, false≢true, ltb-false}
 use Rattle.std.proofs.lemmas.Bool.Decides.{nat_tests}
-use Rattle.hk_format.specs.declared.causes.TextCause.TheVariants as causes
-use Rattle.hk_model.specs.Labels.{is_digit, first}
-use Rattle.hk_format.specs.Pieces.{Number, is_number, is_too_large, number_of, value}
+use Rattle.hk_model.specs.Labels.{is_digit}
+use Rattle.hk_format.specs.Pieces.{is_number, value}
 
 -- digits, by their value
 pub digits_model : IsNumeralModel (λ ds. list_all is_digit ds ≡ true) value

@@ -1,4 +1,4 @@
-use Rattle.std.proofs.Common.{◌≡◌, ◌∷◌, [], List, length, rules, arith, sym, ap, subst, ◌∙◌}
+use Rattle.std.proofs.Common.{◌≡◌, ◌∷◌, [], length, rules, arith, sym, ap, subst, ◌∙◌}
 use Rattle.std.specs.List.{AllByRecursion}
 use Rattle.std.specs.Vec.Iter.{into_iter_items}
 use Rattle.std.proofs.lemmas.Grind.{common_steps}
@@ -10,12 +10,9 @@ use Rattle.hk_load.specs.Jumping.{HasNewLabels}
 use Rattle.hk_load.specs.Building.{Built, built_of, counts_of, finished, added, after}
 use Rattle.hk_load.proofs.Buildings.{front_turn, first_items, no_item}
 use Rattle.hk_load.proofs.Parts.{all_new}
+use Rattle.hk_load.proofs.Lefts.{nothing_left}
 use Rattle.hk_load.proofs.Outcomes.{item_stops, item_goes}
-use Rattle.hk_load.proofs.loading.load_each_with.Goals as goal
-
-nothing_left : {X : Type 0} (xs : List X) → length xs ≡ 0 → xs ≡ []
-nothing_left [] h = cc
-nothing_left (x ∷ xs) h = absurd (omega arith)
+use Rattle.hk_load.proofs.loading.load_with.Goals as goal
 
 pub loop-item-init : goal.loop-item-init
 loop-item-init c =
@@ -29,7 +26,7 @@ loop-item-init c =
 pub add-requires : goal.add-requires
 add-requires c =
     let all = subst (λ is. AllByRecursion (λ (i : Item). HasNewLabels [] i.parts) is) c.in-Some.ensures.steps.0 c.loop-item.invariant.new in
-    rw c.as_slice.ensures all.0
+    all.0
 
 pub loop-item-preserved : goal.loop-item-preserved
 loop-item-preserved c =
@@ -40,7 +37,7 @@ loop-item-preserved c =
       new = (subst (λ is. AllByRecursion (λ (i : Item). HasNewLabels [] i.parts) is) steps c.loop-item.invariant.new).1;
       all =
           item_goes (added c.args.declared.now (built_of c.loop-item.loaded) at.line at.parts at.head) (built_of c.add.new.self)
-          (λ (d : Built). after d (items_of c.args.declared.now (counts_of d) rest)) (load c.args.items.items) (rw c.as_slice.ensures at c.in_ok-add.ensures)
+          (λ (d : Built). after d (items_of c.args.declared.now (counts_of d) rest)) (load c.args.items.items) c.in_ok-add.ensures
           (sym c.loop-item.invariant.all ∙ ap (λ is. after (built_of c.loop-item.loaded) (items_of c.args.declared.now (counts_of (built_of c.loop-item.loaded)) is)) steps
           ∙ front_turn c.args.declared.now (built_of c.loop-item.loaded) at rest);
       left =
@@ -54,7 +51,7 @@ returns-in_err-add c =
     let steps : into_iter_items c.loop-item.item-iterator ≡ at ∷ rest = c.in-Some.ensures.steps.0 in
     let p = err_from_is_err_and c.from_residual.result c.from_residual.ensures.1 in
     rw (p.1, p.2) (item_stops c.in_err-add.field-0.0 (added c.args.declared.now (built_of c.loop-item.loaded) at.line at.parts at.head)
-    (λ (d : Built). after d (items_of c.args.declared.now (counts_of d) rest)) (load c.args.items.items) (rw c.as_slice.ensures at c.in_err-add.ensures)
+    (λ (d : Built). after d (items_of c.args.declared.now (counts_of d) rest)) (load c.args.items.items) c.in_err-add.ensures
     (sym c.loop-item.invariant.all ∙ ap (λ is. after (built_of c.loop-item.loaded) (items_of c.args.declared.now (counts_of (built_of c.loop-item.loaded)) is)) steps
     ∙ front_turn c.args.declared.now (built_of c.loop-item.loaded) at rest))
 

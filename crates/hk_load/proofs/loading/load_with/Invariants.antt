@@ -5,7 +5,7 @@ use Rattle.hk_format.specs.declared.syntax.Item.{Item}
 use Rattle.hk_format.specs.Loading.{items_of, load}
 use Rattle.hk_load.specs.Jumping.{HasNewLabels}
 use Rattle.hk_load.specs.Building.{built_of, counts_of, after}
-use Rattle.hk_load.proofs.loading.load_each_with.Given as goal
+use Rattle.hk_load.proofs.loading.load_with.Given as goal
 
 abbrev pub invariant-loop-item : goal.invariant-loop-item
 invariant-loop-item l = record {

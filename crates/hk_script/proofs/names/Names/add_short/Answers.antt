@@ -1,5 +1,5 @@
 use Rattle.std.proofs.Common.{◌≡◌, ◌+◌, rules, sym, ap, not}
-use Rattle.hk_script.proofs.NameLists.{Known, short_found}
+use Rattle.hk_script.proofs.NameLists.{short_found}
 use Rattle.hk_script.proofs.names.Names.add_short.Goals as goal
 
 pub returns-then-found-self-clause-found : goal.returns-then-found-self-clause-found

@@ -1,4 +1,4 @@
-use Rattle.std.proofs.Common.{arith, rules, sym, ap, ◌∙◌, ◌+◌}
+use Rattle.std.proofs.Common.{arith, rules, ap, ◌∙◌, ◌+◌}
 use Rattle.hk_script.specs.Shelves.{shelf_of}
 use Rattle.hk_script.proofs.ShelfLists.{Behind, shelf_behind}
 use Rattle.hk_script.proofs.shelves.Shelves.number.Goals as goal

@@ -1,4 +1,4 @@
-use Rattle.std.proofs.Common.{arith, sym, ap, ◌∙◌, ◌+◌}
+use Rattle.std.proofs.Common.{arith, ap, ◌∙◌, ◌+◌}
 use Rattle.hk_script.specs.Shelves.{shelf_of}
 use Rattle.hk_script.proofs.ShelfLists.{Behind, shelf_behind, put_behind, kept_behind}
 use Rattle.hk_script.proofs.shelves.Shelves.number_or.Goals as goal
