@@ -1,6 +1,6 @@
 -- What the items of a script give, one after another.
-use Rattle.std.proofs.Common.{◌≡◌, ℕ, ◌+◌, ◌<◌, ◌≤◌, ◌==◌, not, map, Bool, true, false, ltb, List, [], ◌∷◌, ◌++◌, length, drop, get_or, refl, sym, ap, ◌∙◌, Ok, Err, Result, None}
-use Rattle.std.proofs.lemmas.List.{at_drop_more, at_drop_all, length-append}
+use Rattle.std.proofs.Common.{◌≡◌, ℕ, ◌+◌, ◌==◌, not, map, Bool, true, false, ltb, List, [], ◌∷◌, ◌++◌, length, refl, sym, ap, ◌∙◌, Ok, Err, Result, None}
+use Rattle.std.proofs.lemmas.List.{length-append}
 use mathlib.Core.List.{append_assoc, append-nil}
 use Rattle.hk_format.specs.declared.causes.LoadCause.TheVariants.{TooMany}
 use Rattle.hk_model.specs.declared.entries.Entry.{Entry}
@@ -119,14 +119,6 @@ item_onto names b line parts (CodeIs name) rest = code_onto b line name rest (lt
 item_onto names b line parts (ProcessIs name code) rest =
     task_onto b name rest (at_line line (limited (ltb (length b.tasks) 256) (code_named names code))) (contents_of names (room true 64) (used 0 0 0) parts)
 
--- the next item, with those behind it
-pub item_turn : (names : Names) (b : Built) (items : List Item) (at : ℕ) (i : Item) → at < length items → i ≡ get_or items at i
-    → after b (items_of names (counts_of b) (drop at items)) ≡ (added names b i.line i.parts i.head >>= (λ d. after d (items_of names (counts_of d) (drop (at + 1) items))))
-item_turn names b items at i more e =
-    at_drop_more (λ is. after b (items_of names (counts_of b) is)) items at i more
-    ∙ ap (λ (x : Item). after b (items_of names (counts_of b) (x ∷ drop (at + 1) items))) (sym e)
-    ∙ item_onto names b i.line i.parts i.head (λ n. items_of names n (drop (at + 1) items))
-
 -- the first of some items, with those behind it
 pub front_turn : (names : Names) (b : Built) (i : Item) (is : List Item)
     → after b (items_of names (counts_of b) (i ∷ is)) ≡ (added names b i.line i.parts i.head >>= (λ d. after d (items_of names (counts_of d) is)))
@@ -150,8 +142,3 @@ first_items names b items e f =
     ap (λ (x : Built). after x (items_of names (counts_of x) items)) e
     ∙ ap (λ (n : Names). after (built None [] [] []) (items_of n (counts 0 0 0) items)) f
     ∙ after_nothing (load items)
-
--- behind all items
-pub last_items : (names : Names) (b : Built) (items : List Item) (at : ℕ) → length items ≤ at → after b (items_of names (counts_of b) (drop at items)) ≡ load items
-    → load items ≡ Ok (finished b)
-last_items names b items at low h = sym h ∙ at_drop_all (λ is. after b (items_of names (counts_of b) is)) items at low ∙ no_item b

@@ -4,7 +4,7 @@ use Rattle.std.proofs.Common.{suc, Option, Ok, Err, Result, Some}
 use Rattle.std.specs.Prelude.{IsTrue, option_map}
 use Rattle.std.specs.List.{find, position_from}
 use Rattle.std.proofs.lemmas.Iterator.Adapters.{position_from-zero}
-use Rattle.std.proofs.lemmas.List.{at_drop_more, length-append, map-append}
+use Rattle.std.proofs.lemmas.List.{append-nil, at_drop_more, length-append, map-append}
 use mathlib.Core.List.{append_assoc}
 use Rattle.hk_format.specs.declared.causes.LoadCause.{LoadCause}
 use Rattle.hk_format.specs.declared.causes.LoadCause.TheVariants.{UnknownName}
@@ -153,9 +153,15 @@ step_onto labels steps line (CreateEntry of give) rest = refl
 step_onto labels steps line (ParamIs kind check give) rest = refl
 
 -- the next line, with those behind it
-pub step_turn : (labels : List Label) (steps : List Instr) (parts : List Part) (at : ℕ) (p : Part) → at < length parts → p ≡ get_or parts at p
-    → after_steps steps (instrs_of labels (length steps) (drop at parts)) ≡ (at_line p.line (step_added labels steps p.body) >>=
-    (λ s. after_steps s (instrs_of labels (length s) (drop (at + 1) parts))))
-step_turn labels steps parts at p more e =
-    at_part (λ ps. after_steps steps (instrs_of labels (length steps) ps)) parts at p more e
-    ∙ step_onto labels steps p.line p.body (λ next. instrs_of labels next (drop (at + 1) parts))
+pub step_turn : (labels : List Label) (steps : List Instr) (p : Part) (parts : List Part)
+    → after_steps steps (instrs_of labels (length steps) (p ∷ parts)) ≡ (at_line p.line (step_added labels steps p.body) >>=
+    (λ s. after_steps s (instrs_of labels (length s) parts)))
+step_turn labels steps p parts = step_onto labels steps p.line p.body (λ next. instrs_of labels next parts)
+
+-- before the first line, and behind the last
+pub no_step : (r : Result (List Instr) Refused) → after_steps [] r ≡ r
+no_step (Ok more) = refl
+no_step (Err refused) = refl
+
+pub last_step : (labels : List Label) (steps : List Instr) → after_steps steps (instrs_of labels (length steps) []) ≡ Ok steps
+last_step labels steps = ap (λ x. Ok x) (append-nil steps)

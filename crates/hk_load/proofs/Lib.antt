@@ -6,4 +6,5 @@ pub mod Outcomes
 pub mod Jumps
 pub mod Buildings
 pub mod Parts
+pub mod Lefts
 pub mod Passes

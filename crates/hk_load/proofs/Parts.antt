@@ -1,7 +1,6 @@
 -- The items of a script: the labels of each code stand once.
-use Rattle.std.proofs.Common.{◌≡◌, ℕ, ◌+◌, ◌<◌, sym, List, [], ◌∷◌, length, drop, get_or, subst}
+use Rattle.std.proofs.Common.{ℕ, List, [], ◌∷◌}
 use Rattle.std.specs.List.{AllByRecursion}
-use Rattle.std.proofs.lemmas.List.{at_drop_more}
 use Rattle.hk_format.specs.declared.syntax.Head.{Head}
 use Rattle.hk_format.specs.declared.syntax.Item.{Item}
 use Rattle.hk_format.specs.declared.syntax.Part.{Part}
@@ -20,10 +19,3 @@ items_new seen (i ∷ is) h = (parts_new i.head [] i.parts h.2, items_new (noted
 -- of all items
 pub all_new : (is : List Item) → IsSyntax is → AllByRecursion (λ (i : Item). HasNewLabels [] i.parts) is
 all_new is h = items_new nothing_seen is h
-
--- of the next item, and of those behind it
-pub next_new : (items : List Item) (at : ℕ) (i : Item) → at < length items → i ≡ get_or items at i → AllByRecursion (λ (i : Item). HasNewLabels [] i.parts) (drop at items)
-    → HasNewLabels [] i.parts × AllByRecursion (λ (i : Item). HasNewLabels [] i.parts) (drop (at + 1) items)
-next_new items at i more e h =
-    let both = subst (λ is. AllByRecursion (λ (i : Item). HasNewLabels [] i.parts) is) (at_drop_more (λ is. is) items at i more) h in
-    (subst (λ (x : Item). HasNewLabels [] x.parts) (sym e) both.0, both.1)

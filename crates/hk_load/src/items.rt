@@ -62,10 +62,10 @@ impl Loaded {
         declared: &Declared,
         line: u32,
         head: Head,
-        parts: &[Part],
+        parts: Items<Part>,
     ) -> Result<(), LoadError>
-        requires { HasNewLabels [] parts.now }
-        ensures { BecomesAll result (built_of self.new) (added declared.now (built_of self.old) line parts.now head) }
+        requires { HasNewLabels [] parts }
+        ensures { BecomesAll result (built_of self.new) (added declared.now (built_of self.old) line parts head) }
     {
         match head {
             Head::LimitIs(limit) => {
@@ -73,16 +73,33 @@ impl Loaded {
                 Ok(())
             }
             Head::TypeIs { name } => self.add_single(line, name, Kind::TypeObject),
-            Head::ObjectIs { name, of } => self.add_object(alloc, declared, line, parts, name, &of),
+            Head::ObjectIs { name, of } => self.add_object(
+                alloc,
+                declared,
+                line,
+                parts.as_slice(),
+                name,
+                &of,
+            ),
             Head::SemaphoreIs { name, count } => {
                 self.add_single(line, name, Kind::Semaphore { count })
             }
             Head::ProcedureIs { name, code } => self.add_procedure(
-                alloc, declared, line, parts, name, &code,
+                alloc,
+                declared,
+                line,
+                parts.as_slice(),
+                name,
+                &code,
             ),
             Head::CodeIs { name } => self.add_code(alloc, line, parts, name),
             Head::ProcessIs { name, code } => self.add_task(
-                alloc, declared, line, parts, name, &code,
+                alloc,
+                declared,
+                line,
+                parts.as_slice(),
+                name,
+                &code,
             ),
         }
     }
@@ -154,11 +171,11 @@ impl Loaded {
         &mut self,
         alloc: Global,
         line: u32,
-        parts: &[Part],
+        parts: Items<Part>,
         name: Text,
     ) -> Result<(), LoadError>
-        requires { HasNewLabels [] parts.now }
-        ensures { (names : Names) → BecomesAll result (built_of self.new) (added names (built_of self.old) line parts.now (CodeIs name)) }
+        requires { HasNewLabels [] parts }
+        ensures { (names : Names) → BecomesAll result (built_of self.new) (added names (built_of self.old) line parts (CodeIs name)) }
     {
         if self.codes.len() >= CODE_LIMIT {
             let cause = LoadCause::TooMany;
@@ -321,35 +338,4 @@ fn procedure_kind(code: u16, contents: Contents) -> Kind
         params,
         entries,
     }
-}
-
-/// An equal head.
-pub fn head_copy(alloc: Global, head: &Head) -> Result<Head, AllocError>
-    ensures { IfOk result (λ h. h ≡ head.now) }
-{
-    Ok(match head {
-        Head::LimitIs(limit) => Head::LimitIs(*limit),
-        Head::TypeIs { name } => Head::TypeIs {
-            name: name.copy(alloc)?,
-        },
-        Head::ObjectIs { name, of } => Head::ObjectIs {
-            name: name.copy(alloc)?,
-            of: of.copy(alloc)?,
-        },
-        Head::SemaphoreIs { name, count } => Head::SemaphoreIs {
-            name: name.copy(alloc)?,
-            count: *count,
-        },
-        Head::ProcedureIs { name, code } => Head::ProcedureIs {
-            name: name.copy(alloc)?,
-            code: code.copy(alloc)?,
-        },
-        Head::CodeIs { name } => Head::CodeIs {
-            name: name.copy(alloc)?,
-        },
-        Head::ProcessIs { name, code } => Head::ProcessIs {
-            name: name.copy(alloc)?,
-            code: code.copy(alloc)?,
-        },
-    })
 }

@@ -5,6 +5,7 @@
 #![tactic(auto)]
 
 mod contents;
+mod copies;
 mod entries;
 mod errors;
 mod instructions;

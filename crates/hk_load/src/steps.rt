@@ -12,40 +12,36 @@ use hk_model::limits::CODE_LIMIT;
 use hk_model::{Instr, Items};
 use std::alloc::Global;
 
-/// The instructions of a code with these lines. A line's UnknownName and BadRights come from the left,
-/// then TooMany.
-pub fn steps(alloc: Global, parts: &[Part]) -> Result<Items<Instr>, LoadError>
-    requires { HasNewLabels [] parts.now }
-    ensures { GivesAll (λ x. x) result (instrs_of (labels_from 0 parts.now) 0 parts.now) }
+/// The instructions of a code with these lines, which are used up. A line's UnknownName and BadRights
+/// come from the left, then TooMany.
+pub fn steps(alloc: Global, parts: Items<Part>) -> Result<Items<Instr>, LoadError>
+    requires { HasNewLabels [] parts }
+    ensures { GivesAll (λ x. x) result (instrs_of (labels_from 0 parts) 0 parts) }
 {
-    let labels = Labels::of(alloc, parts)?;
-    steps_with(alloc, &labels, parts)
+    let labels = Labels::of(alloc, parts.as_slice())?;
+    steps_with(alloc, &labels, parts.into_vec())
 }
 
 /// The instructions of these lines, whose jumps go to these labels.
-fn steps_with(alloc: Global, labels: &Labels, parts: &[Part]) -> Result<Items<Instr>, LoadError>
-    ensures { GivesAll (λ x. x) result (instrs_of labels.now 0 parts.now) }
+fn steps_with(alloc: Global, labels: &Labels, parts: Vec<Part>) -> Result<Items<Instr>, LoadError>
+    ensures { GivesAll (λ x. x) result (instrs_of labels.now 0 parts.items) }
 {
-    let mut steps = Items::new(alloc);
+    let mut steps = Items::from_vec(Vec::with_capacity(alloc, parts.len())?);
     for part in parts {
-        if let Err(error) = add_step(alloc, labels, &mut steps, &part.body) {
-            return Err(error.on_line(part.line));
+        let Part { line, body } = part;
+        if let Err(error) = add_step(labels, &mut steps, body) {
+            return Err(error.on_line(line));
         }
     }
     Ok(steps)
 }
 
 /// Adds the instruction of a line. A label is none.
-fn add_step(
-    alloc: Global,
-    labels: &Labels,
-    steps: &mut Items<Instr>,
-    body: &Body,
-) -> Result<(), LineError>
-    ensures { Becomes result steps.new (step_added labels.now steps.old body.now) }
+fn add_step(labels: &Labels, steps: &mut Items<Instr>, body: Body) -> Result<(), LineError>
+    ensures { Becomes result steps.new (step_added labels.now steps.old body) }
 {
     if let Body::StepIs(written) = body {
-        let step = labels.instruction(alloc, written)?;
+        let step = labels.instruction(written)?;
         if steps.len() >= CODE_LIMIT {
             return Err(LineError::Bad(LoadCause::TooMany));
         }

@@ -1,4 +1,5 @@
 pub mod ShortKeys
+pub mod ShelfLists
 pub mod NameLists
 pub mod TextBytes
 pub mod Routes
@@ -11,5 +12,5 @@ pub mod InstructionsGood
 pub mod PartsGood
 pub mod SyntaxGood
 pub mod NamesKept
-pub mod VerbLengths
+pub mod VerbLetters
 pub mod ProgressLemmas

@@ -1,14 +1,14 @@
 -- Names by their numbers.
-use Rattle.std.proofs.Common.{◌≡◌, ℕ, suc, zero, ◌+◌, ◌<◌, Bool, true, false, cond, ◌||◌, eqb, List, [], ◌∷◌, ◌++◌, length, map, refl, sym, ap, ◌∙◌, Some, None, Option, String, Global, string_bytes, arith}
-use Rattle.std.specs.Prelude.{is_some, unwrap_or, not, if◌then◌else◌}
-use Rattle.std.specs.List.{list_any, position_from, range_with_len}
+use Rattle.std.proofs.Common.{◌≡◌, ℕ, suc, zero, ◌+◌, ◌<◌, Bool, true, false, cond, ◌||◌, eqb, List, [], ◌∷◌, ◌++◌, length, set, map, refl, sym, ap, ◌∙◌, Some, None, Option, String, Global, string_bytes, arith}
+use Rattle.std.specs.Prelude.{is_some, unwrap_or}
+use Rattle.std.specs.List.{list_any, position_from, range_with_len, AllByRecursion}
 use Rattle.std.specs.declared.cmp.Ordering.{Ordering}
 use Rattle.std.specs.declared.cmp.Ordering.TheVariants.{Less, Equal, Greater}
 use Rattle.std.specs.Ordering.{match_ordering, is_eq, nat_cmp}
 use Rattle.std.specs.String.{string_cmp}
 use Rattle.std.specs.Map.{lookup}
 use Rattle.std.specs.Cmp.Lexicographic.{slice_cmp}
-use Rattle.std.specs.BTreeMap.{insert_entry, is_at, get, get_by_text, Updates}
+use Rattle.std.specs.BTreeMap.{insert_entry, is_at, get_by_text, Updates}
 use Rattle.std.specs.Str.{bytes_eq}
 use Rattle.std.proofs.lemmas.Bool.Decides.{nat_tests}
 use Rattle.std.proofs.lemmas.List.{append-nil}
@@ -20,8 +20,10 @@ use Rattle.hk_model.specs.Labels.{same_text}
 use Rattle.hk_format.specs.Grammar.{is_among}
 use Rattle.hk_format.specs.Loading.{place}
 use Rattle.hk_script.specs.Keys.{short_key, key_text}
-use Rattle.hk_script.specs.Numbered.{Short, Long, text_numbered, name_count, name_numbered, names_numbered, number_by, AreBelow, IsNumbered}
+use Rattle.hk_script.specs.Shelves.{Shelf, shelf_of, shelf_with, number_on, with_number}
+use Rattle.hk_script.specs.Numbered.{Short, Long, text_numbered, short_numbered, name_numbered, names_numbered, number_by, AreBelow, IsNumbered}
 use Rattle.hk_script.proofs.ShortKeys.{key_text_is, keys_apart}
+use Rattle.hk_script.proofs.ShelfLists.{flat_map-set, flat_map-set_alone, all_set, all_at, number_on_more}
 
 -- where a text stands, and whether it does
 
@@ -108,8 +110,22 @@ none_of : {X : Type 0} (o : Option X) → is_some o ≡ false → o ≡ None
 none_of None h = refl
 none_of (Some x) h = absurd (let clash : true ≡ false = h in cc)
 
-length-names_numbered : (short : Short) (long : Long) → length (names_numbered short long) ≡ name_count short long
-length-names_numbered short long = length-map-range_with_len (name_numbered short long) 0 (name_count short long)
+-- numbers on all shelves that are below one are below the next
+rising_all : (n : ℕ) (short : Short) → AllByRecursion (AreBelow n) short → AllByRecursion (AreBelow (n + 1)) short
+rising_all n [] h = tt
+rising_all n (shelf ∷ shelves) h = (rising n shelf h.0, rising_all n shelves h.1)
+
+-- no short name has a number that all are below
+no_texts : (n : ℕ) (short : Short) → AllByRecursion (AreBelow n) short → AllByRecursion (λ (shelf : Shelf). text_numbered key_text shelf n ≡ []) short
+no_texts n [] h = tt
+no_texts n (shelf ∷ shelves) h = (not_yet key_text n shelf h.0, no_texts n shelves h.1)
+
+no_short : (n : ℕ) (short : Short) → AllByRecursion (AreBelow n) short → short_numbered short n ≡ []
+no_short n [] h = refl
+no_short n (shelf ∷ shelves) h = rw (not_yet key_text n shelf h.0) (no_short n shelves h.1)
+
+length-names_numbered : (n : ℕ) (short : Short) (long : Long) → length (names_numbered n short long) ≡ n
+length-names_numbered n short long = length-map-range_with_len (name_numbered short long) 0 n
 
 same_either_way : (t q : List ℕ) → bytes_eq t q ≡ same_text q t
 same_either_way t q = by (bytes_eq t q) (same_text q t) refl refl
@@ -121,45 +137,40 @@ same_either_way t q = by (bytes_eq t q) (same_text q t) refl refl
     by false true e f = absurd (let same : q ≡ t = (bytes_eq-Decides q t).0 f in let no : true ≡ false = sym ((bytes_eq-Decides t q).1 (sym same)) ∙ e in cc)
 
 -- a name that is not there has no number
-missing : (short : Short) (long : Long) (t : List ℕ) → IsNumbered short long → is_among (names_numbered short long) t ≡ false → number_by (short_key t) short long t ≡ None
-missing short long t numbered absent = none_of (number_by (short_key t) short long t) (ap is_some (numbered.2 t) ∙ place_among (names_numbered short long) t ∙ absent)
+missing : (n : ℕ) (short : Short) (long : Long) (t : List ℕ) → IsNumbered n short long → is_among (names_numbered n short long) t ≡ false → number_by (short_key t) short long t ≡ None
+missing n short long t numbered absent = none_of (number_by (short_key t) short long t) (ap is_some (numbered.2 t) ∙ place_among (names_numbered n short long) t ∙ absent)
 
--- the maps after a name was put at the end of those before
-record Grown (short new_short : Short) (long new_long : Long) (t : List ℕ) : Type 0 where
-  count : name_count new_short new_long ≡ name_count short long + 1
-  below : AreBelow (name_count short long + 1) new_short.entries × AreBelow (name_count short long + 1) new_long.entries
-  others : (j : ℕ) → j < name_count short long → name_numbered new_short new_long j ≡ name_numbered short long j
-  last : name_numbered new_short new_long (name_count short long) ≡ t
-  found : (q : List ℕ) → number_by (short_key q) new_short new_long q ≡ cond (same_text q t) (Some (name_count short long)) (number_by (short_key q) short long q)
+-- the names after one was put at the end of those before
+record Grown (n : ℕ) (short new_short : Short) (long new_long : Long) (t : List ℕ) : Type 0 where
+  below : AllByRecursion (AreBelow (n + 1)) new_short × AreBelow (n + 1) new_long.entries
+  others : (j : ℕ) → j < n → name_numbered new_short new_long j ≡ name_numbered short long j
+  last : name_numbered new_short new_long n ≡ t
+  found : (q : List ℕ) → number_by (short_key q) new_short new_long q ≡ cond (same_text q t) (Some n) (number_by (short_key q) short long q)
 
-module _ (short new_short : Short) (long new_long : Long) (t : List ℕ) (grown : Grown short new_short long new_long t) where
+module _ (n : ℕ) (short new_short : Short) (long new_long : Long) (t : List ℕ) (grown : Grown n short new_short long new_long t) where
   -- the names, with the new one at the end
-  names_more : names_numbered new_short new_long ≡ names_numbered short long ++ t ∷ []
+  names_more : names_numbered (n + 1) new_short new_long ≡ names_numbered n short long ++ t ∷ []
   names_more =
-      let n : ℕ = name_count short long in
-      rw grown.count (map-range_with_len_more (name_numbered new_short new_long) 0 n n (omega arith)
+      map-range_with_len_more (name_numbered new_short new_long) 0 n n (omega arith)
       ∙ ap (λ (ts : List (List ℕ)). ts ++ name_numbered new_short new_long n ∷ []) (same_below (name_numbered new_short new_long) (name_numbered short long) 0 n
       (λ j low. grown.others j (omega (arith, low))))
-      ∙ ap (λ (u : List ℕ). map (name_numbered short long) (range_with_len 0 n) ++ u ∷ []) grown.last)
+      ∙ ap (λ (u : List ℕ). map (name_numbered short long) (range_with_len 0 n) ++ u ∷ []) grown.last
 
   -- each name has the number of its place, once more
-  numbered_more : IsNumbered short long → is_among (names_numbered short long) t ≡ false → IsNumbered new_short new_long
-  numbered_more numbered absent = (rw grown.count grown.below.0, rw grown.count grown.below.1, λ q. place_of q)
+  numbered_more : IsNumbered n short long → is_among (names_numbered n short long) t ≡ false → IsNumbered (n + 1) new_short new_long
+  numbered_more numbered absent = (grown.below.0, grown.below.1, λ q. place_of q)
     where
-      n : ℕ
-      n = name_count short long
-
       ts : List (List ℕ)
-      ts = names_numbered short long
+      ts = names_numbered n short long
 
       by : (q : List ℕ) (same among : Bool) → is_some (place ts q) ≡ among → (same ≡ true → place ts q ≡ None)
           → cond same (Some n) (place ts q) ≡ cond among (place ts q) (cond same (Some (length ts)) None)
       by q true true some none = absurd (let no : is_some (place ts q) ≡ false = ap is_some (none refl) in let clash = sym some ∙ no in cc)
-      by q true false some none = ap Some (sym (length-names_numbered short long))
+      by q true false some none = ap Some (sym (length-names_numbered n short long))
       by q false true some none = refl
       by q false false some none = none_of (place ts q) some
 
-      place_of : (q : List ℕ) → number_by (short_key q) new_short new_long q ≡ place (names_numbered new_short new_long) q
+      place_of : (q : List ℕ) → number_by (short_key q) new_short new_long q ≡ place (names_numbered (n + 1) new_short new_long) q
       place_of q =
           grown.found q
           ∙ ap (λ (o : Option ℕ). cond (same_text q t) (Some n) o) (numbered.2 q)
@@ -184,129 +195,79 @@ short_apart t q key e f = by (same_text q t) refl
     by true h = absurd (let same : q ≡ t = (bytes_eq-Decides q t).0 h in let clash = sym f ∙ ap short_key same ∙ e in cc)
 
 -- a short name at the end
-module _ (short new : Short) (long : Long) (t : List ℕ) (key : ℕ) where
-  -- how many come before it
-  abbrev n : ℕ
-  n = name_count short long
+module _ (n : ℕ) (short : Short) (long : Long) (t : List ℕ) (key : ℕ) where
+  -- the shelf of the key, with the name on it
+  abbrev shelf_more : Shelf
+  shelf_more = insert_entry nat_cmp (shelf_with short key) key n
 
-  short_grown : short_key t ≡ Some key → IsNumbered short long → get nat_cmp short key ≡ None → new.entries ≡ insert_entry nat_cmp short.entries key n
-      → length new.entries ≡ length short.entries + 1 → Updates nat_cmp short new key (Some n) → Grown short new long long t
-  short_grown is numbered none e len updates = record {
-    count = omega (arith, len);
-    below = (rw e put.1, rising n long.entries numbered.1);
+  -- the shelves with it
+  abbrev short_more : Short
+  short_more = set short (shelf_of key (length short)) shelf_more
+
+  short_grown : short_key t ≡ Some key → IsNumbered n short long → number_on short key ≡ None → shelf_of key (length short) < length short → Grown n short short_more long long t
+  short_grown is numbered none within = record {
+    below = (all_set (AreBelow (n + 1)) short (shelf_of key (length short)) shelf_more (rising_all n short numbered.0) put.1, rising n long.entries numbered.1);
     others =
-        λ j low. rw e (ap (λ (u : List ℕ). u ++ text_numbered string_bytes long.entries j)
-        (kept key_text nat_cmp key short.entries n j none (let h : j < n = low in grind (arith, nat_tests))));
+        λ j low. ap (λ (u : List ℕ). u ++ text_numbered string_bytes long.entries j)
+        (flat_map-set (λ (shelf : Shelf). text_numbered key_text shelf j) short (shelf_of key (length short)) shelf_more [] within
+        (kept key_text nat_cmp key (shelf_with short key) n j none (let h : j < n = low in grind (arith, nat_tests))));
     last =
-        rw e (ap (λ (u : List ℕ). u ++ text_numbered string_bytes long.entries n) put.0 ∙ ap (λ (u : List ℕ). key_text key ++ u) (not_yet string_bytes n long.entries numbered.1)
-        ∙ append-nil (key_text key) ∙ key_text_is t key is);
+        ap (λ (u : List ℕ). u ++ text_numbered string_bytes long.entries n)
+        (flat_map-set_alone (λ (shelf : Shelf). text_numbered key_text shelf n) short (shelf_of key (length short)) shelf_more within (no_texts n short numbered.0) ∙ put.0)
+        ∙ ap (λ (u : List ℕ). key_text key ++ u) (not_yet string_bytes n long.entries numbered.1)
+        ∙ append-nil (key_text key) ∙ key_text_is t key is;
     found = λ q. by q (short_key q) refl;
   }
     where
-      put : (text_numbered key_text (insert_entry nat_cmp short.entries key n) n ≡ key_text key) × AreBelow (n + 1) (insert_entry nat_cmp short.entries key n)
-      put = next key_text nat_cmp key short.entries n none numbered.0
+      put : (text_numbered key_text shelf_more n ≡ key_text key) × AreBelow (n + 1) shelf_more
+      put = next key_text nat_cmp key (shelf_with short key) n none (all_at (AreBelow n) short (shelf_of key (length short)) [] numbered.0 tt)
 
-      by : (q : List ℕ) (o : Option ℕ) → short_key q ≡ o → number_by o new long q ≡ cond (same_text q t) (Some n) (number_by o short long q)
-      by q (Some other) f = updates.0 other ∙ ap (λ (b : Bool). cond b (Some n) (get nat_cmp short other)) (keys_apart t q key other is f)
+      by : (q : List ℕ) (o : Option ℕ) → short_key q ≡ o → number_by o short_more long q ≡ cond (same_text q t) (Some n) (number_by o short long q)
+      by q (Some other) f =
+          number_on_more short key other n none within
+          ∙ ap (λ (b : Bool). cond b (Some n) (number_on short other)) (keys_apart t q key other is f)
       by q None f = sym (ap (λ (b : Bool). cond b (Some n) (get_by_text long q)) (other_text t q key is f))
 
 -- another name at the end
-module _ (short : Short) (long new : Long) (k : String Global) where
-  -- how many come before it
-  abbrev m : ℕ
-  m = name_count short long
-
-  long_grown : short_key (string_bytes k) ≡ None → IsNumbered short long → lookup (is_at (string_cmp k)) long.entries ≡ None
-      → new.entries ≡ insert_entry string_cmp long.entries k m → length new.entries ≡ length long.entries + 1 → Updates string_cmp long new k (Some m)
-      → Grown short short long new (string_bytes k)
-  long_grown is numbered none e len updates = record {
-    count = omega (arith, len);
-    below = (rising m short.entries numbered.0, rw e put.1);
+module _ (n : ℕ) (short : Short) (long new : Long) (k : String Global) where
+  long_grown : short_key (string_bytes k) ≡ None → IsNumbered n short long → lookup (is_at (string_cmp k)) long.entries ≡ None
+      → new.entries ≡ insert_entry string_cmp long.entries k n → Updates string_cmp long new k (Some n)
+      → Grown n short short long new (string_bytes k)
+  long_grown is numbered none e updates = record {
+    below = (rising_all n short numbered.0, rw e put.1);
     others =
-        λ j low. rw e (ap (λ (u : List ℕ). text_numbered key_text short.entries j ++ u)
-        (kept string_bytes string_cmp k long.entries m j none (let h : j < m = low in grind (arith, nat_tests))));
-    last = rw e (ap (λ (u : List ℕ). u ++ text_numbered string_bytes (insert_entry string_cmp long.entries k m) m) (not_yet key_text m short.entries numbered.0) ∙ put.0);
+        λ j low. rw e (ap (λ (u : List ℕ). short_numbered short j ++ u)
+        (kept string_bytes string_cmp k long.entries n j none (let h : j < n = low in grind (arith, nat_tests))));
+    last = rw e (ap (λ (u : List ℕ). u ++ text_numbered string_bytes (insert_entry string_cmp long.entries k n) n) (no_short n short numbered.0) ∙ put.0);
     found = λ q. by q (short_key q) refl;
   }
     where
-      put : (text_numbered string_bytes (insert_entry string_cmp long.entries k m) m ≡ string_bytes k) × AreBelow (m + 1) (insert_entry string_cmp long.entries k m)
-      put = next string_bytes string_cmp k long.entries m none numbered.1
+      put : (text_numbered string_bytes (insert_entry string_cmp long.entries k n) n ≡ string_bytes k) × AreBelow (n + 1) (insert_entry string_cmp long.entries k n)
+      put = next string_bytes string_cmp k long.entries n none numbered.1
 
-      by : (q : List ℕ) (o : Option ℕ) → short_key q ≡ o → number_by o short new q ≡ cond (same_text q (string_bytes k)) (Some m) (number_by o short long q)
-      by q (Some other) f = sym (ap (λ (b : Bool). cond b (Some m) (get nat_cmp short other)) (short_apart (string_bytes k) q other is f))
+      by : (q : List ℕ) (o : Option ℕ) → short_key q ≡ o → number_by o short new q ≡ cond (same_text q (string_bytes k)) (Some n) (number_by o short long q)
+      by q (Some other) f = sym (ap (λ (b : Bool). cond b (Some n) (number_on short other)) (short_apart (string_bytes k) q other is f))
       by q None f =
-          btree_map_updates_text (string_bytes k) long new (Some m) updates q
-          ∙ ap (λ (b : Bool). cond b (Some m) (get_by_text long q)) (same_either_way (string_bytes k) q)
+          btree_map_updates_text (string_bytes k) long new (Some n) updates q
+          ∙ ap (λ (b : Bool). cond b (Some n) (get_by_text long q)) (same_either_way (string_bytes k) q)
 
 -- whether a name is there, by a look-up
 pub known : (names : List (List ℕ)) (t : List ℕ) (found : Option ℕ) (is : Bool) → found ≡ place names t → is ≡ is_some found → is_among names t ≡ is
 known names t found is e f = sym (place_among names t) ∙ ap is_some (sym e) ∙ sym f
 
--- a short name that is not there is put at the end
-pub short_added : (short new : Short) (long : Long) (names : List (List ℕ)) (t : List ℕ) (key n : ℕ) (old : Option ℕ)
-    → IsNumbered short long → names_numbered short long ≡ names → is_among names t ≡ false → n ≡ name_count short long → Some key ≡ short_key t
-    → old ≡ lookup (is_at (nat_cmp key)) short.entries → length new.entries ≡ length short.entries + (if is_some old then 0 else 1)
-    → new.entries ≡ insert_entry nat_cmp short.entries key n → Updates nat_cmp short new key (Some n)
-    → IsNumbered new long × (names_numbered new long ≡ names ++ t ∷ [])
-short_added short new long names t key n old numbered v absent count is o len e updates =
-    let gone : is_among (names_numbered short long) t ≡ false = rw v absent in
-    let none : get nat_cmp short key ≡ None = rw (← is) at (missing short long t numbered gone) in
-    let longer : length new.entries ≡ length short.entries + 1 = rw (o, none) at len in
-    let grown = short_grown short new long t key (sym is) numbered none (rw count at e) longer (rw count at updates) in
-    (numbered_more short new long long t grown numbered gone, names_more short new long long t grown ∙ ap (λ (ts : List (List ℕ)). ts ++ t ∷ []) v)
-
--- another name that is not there is put at the end
-pub long_added : (short : Short) (long new : Long) (names : List (List ℕ)) (k : String Global) (t : List ℕ) (n : ℕ) (old : Option ℕ)
-    → IsNumbered short long → names_numbered short long ≡ names → is_among names t ≡ false → n ≡ name_count short long → None ≡ short_key t → string_bytes k ≡ t
-    → old ≡ lookup (is_at (string_cmp k)) long.entries → length new.entries ≡ length long.entries + (if is_some old then 0 else 1)
-    → new.entries ≡ insert_entry string_cmp long.entries k n → Updates string_cmp long new k (Some n)
-    → IsNumbered short new × (names_numbered short new ≡ names ++ t ∷ [])
-long_added short long new names k t n old numbered v absent count is same o len e updates =
-    let gone : is_among (names_numbered short long) (string_bytes k) ≡ false = rw (v, same) absent in
-    let other : short_key (string_bytes k) ≡ None = rw same (sym is) in
-    let none : lookup (is_at (string_cmp k)) long.entries ≡ None = rw other at (missing short long (string_bytes k) numbered gone) in
-    let longer : length new.entries ≡ length long.entries + 1 = rw (o, none) at len in
-    let grown = long_grown short long new k other numbered none (rw count at e) longer (rw count at updates) in (
-      numbered_more short short long new (string_bytes k) grown numbered gone,
-      names_more short short long new (string_bytes k) grown ∙ ap (λ (ts : List (List ℕ)). ts ++ string_bytes k ∷ []) v ∙ ap (λ (u : List ℕ). names ++ u ∷ []) same,
-    )
-
--- nothing is put where the map stays
-pub short_stays : (short new : Short) (long : Long) → new.entries ≡ short.entries → IsNumbered short long → IsNumbered new long
-short_stays short new long e numbered = (rw e numbered.0, rw e numbered.1, λ t. same t (short_key t) ∙ numbered.2 t ∙ ap (named t) (sym e))
+-- no name, on empty shelves
+pub none_numbered : (short : Short) (long : Long) → AllByRecursion (λ (shelf : Shelf). shelf ≡ []) short → long.entries ≡ [] → IsNumbered 0 short long
+none_numbered short long empty none = (below short empty, rw none tt, λ t. nowhere t (short_key t))
   where
-    named : List ℕ → List (ℕ × ℕ) → Option ℕ
-    named t es = place (map (λ n. text_numbered key_text es n ++ text_numbered string_bytes long.entries n) (range_with_len 0 (length es + length long.entries))) t
+    below : (ss : Short) → AllByRecursion (λ (shelf : Shelf). shelf ≡ []) ss → AllByRecursion (AreBelow 0) ss
+    below [] h = tt
+    below (s ∷ ss) h = (rw h.0 tt, below ss h.1)
 
-    same : (t : List ℕ) (o : Option ℕ) → number_by o new long t ≡ number_by o short long t
-    same t (Some key) = ap (lookup (is_at (nat_cmp key))) e
-    same t None = refl
-
-pub long_stays : (short : Short) (long new : Long) → new.entries ≡ long.entries → IsNumbered short long → IsNumbered short new
-long_stays short long new e numbered = (rw e numbered.0, rw e numbered.1, λ t. same t (short_key t) ∙ numbered.2 t ∙ ap (named t) (sym e))
-  where
-    named : List ℕ → List (String Global × ℕ) → Option ℕ
-    named t es = place (map (λ n. text_numbered key_text short.entries n ++ text_numbered string_bytes es n) (range_with_len 0 (length short.entries + length es))) t
-
-    same : (t : List ℕ) (o : Option ℕ) → number_by o short new t ≡ number_by o short long t
-    same t (Some key) = refl
-    same t None = ap (lookup (is_at (λ k. slice_cmp nat_cmp t (string_bytes k)))) e
-
--- a short name by one look-up
-
--- a name that is put over itself with its own number
-over_itself : {K : Type 0} (cmp : K → K → Ordering) (k : K) (old : ℕ) (es : List (K × ℕ)) → lookup (is_at (cmp k)) es ≡ Some old
-    → length (insert_entry cmp es k old) ≡ length es → insert_entry cmp es k old ≡ es
-over_itself {K = K} cmp k old [] h len = absurd (let no : None ≡ Some old = h in cc)
-over_itself {K = K} cmp k old (e ∷ es) h len = by (cmp k e.0) h len (over_itself cmp k old es)
-  where
-    by : (o : Ordering) → cond (is_eq o) (Some e.1) (lookup (is_at (cmp k)) es) ≡ Some old
-        → length (match_ordering o ((k, old) ∷ e ∷ es) ((e.0, old) ∷ es) (e ∷ insert_entry cmp es k old)) ≡ length (e ∷ es)
-        → (lookup (is_at (cmp k)) es ≡ Some old → length (insert_entry cmp es k old) ≡ length es → insert_entry cmp es k old ≡ es)
-        → match_ordering o ((k, old) ∷ e ∷ es) ((e.0, old) ∷ es) (e ∷ insert_entry cmp es k old) ≡ e ∷ es
-    by Less h len later = absurd (omega (arith, len))
-    by Equal h len later = let same : e.1 ≡ old = cc in ap (λ (n : ℕ). (e.0, n) ∷ es) (sym same)
-    by Greater h len later = ap (λ (xs : List (K × ℕ)). e ∷ xs) (later h (omega (arith, len)))
+    nowhere : (t : List ℕ) (o : Option ℕ) → number_by o short long t ≡ None
+    nowhere t (Some key) =
+        let e : shelf_with short key ≡ [] = all_at (λ (shelf : Shelf). shelf ≡ []) short (shelf_of key (length short)) [] empty refl in
+        ap (lookup (is_at (nat_cmp key))) e
+    nowhere t None = rw none refl
 
 -- the number of a name is below their count
 below_found : {K : Type 0} (cmp : K → Ordering) (bound old : ℕ) (es : List (K × ℕ)) → AreBelow bound es → lookup (is_at cmp) es ≡ Some old → old < bound
@@ -318,41 +279,61 @@ below_found cmp bound old (e ∷ es) below h = by (is_eq (cmp e.0)) h (below_fou
     by false h later = later h
 
 -- the names after a look-up that puts a name at the end where it is not there
-pub record Known (short new : Short) (long : Long) (names : List (List ℕ)) (t : List ℕ) (is_new : Bool) : Type 0 where
-  pub numbered : IsNumbered new long
-  pub is : is_new ≡ not (is_among names t)
-  pub all : names_numbered new long ≡ cond is_new (names ++ t ∷ []) names
+pub record Known (n : ℕ) (new : Short) (long : Long) (names : List (List ℕ)) (t : List ℕ) (found : ℕ) : Type 0 where
+  pub more : found ≡ n → (is_among names t ≡ false) × IsNumbered (n + 1) new long × (names_numbered (n + 1) new long ≡ names ++ t ∷ [])
+  pub same : (found ≡ n → ⊥) → (is_among names t ≡ true) × IsNumbered n new long × (names_numbered n new long ≡ names)
 
-pub short_found : (short new : Short) (long : Long) (names : List (List ℕ)) (t : List ℕ) (key n found : ℕ) → IsNumbered short long → names_numbered short long ≡ names
-    → n ≡ name_count short long → Some key ≡ short_key t → found ≡ unwrap_or (get nat_cmp short key) n
-    → length new.entries ≡ length short.entries + (if is_some (get nat_cmp short key) then 0 else 1)
-    → new.entries ≡ insert_entry nat_cmp short.entries key found → Updates nat_cmp short new key (Some found)
-    → Known short new long names t (eqb found n)
-short_found short new long names t key n found numbered v count is at len e updates = by (get nat_cmp short key) refl at len
+pub short_found : (short new : Short) (long : Long) (names : List (List ℕ)) (t : List ℕ) (key n found : ℕ) → IsNumbered n short long → names_numbered n short long ≡ names
+    → short_key t ≡ Some key → found ≡ unwrap_or (number_on short key) n → shelf_of key (length short) < length short → new ≡ with_number short key n
+    → Known n new long names t found
+short_found short new long names t key n found numbered v is at within e = by (number_on short key) refl at e
   where
-    placed : (o : Option ℕ) → get nat_cmp short key ≡ o → is_among names t ≡ is_some o
+    placed : (o : Option ℕ) → number_on short key ≡ o → is_among names t ≡ is_some o
     placed o h =
         sym (place_among names t) ∙ ap (λ (ts : List (List ℕ)). is_some (place ts t)) (sym v)
-        ∙ ap is_some (sym (numbered.2 t) ∙ ap (λ (k : Option ℕ). number_by k short long t) (sym is) ∙ h)
+        ∙ ap is_some (sym (numbered.2 t) ∙ ap (λ (k : Option ℕ). number_by k short long t) is ∙ h)
 
-    by : (o : Option ℕ) → get nat_cmp short key ≡ o → found ≡ unwrap_or o n → length new.entries ≡ length short.entries + (if is_some o then 0 else 1)
-        → Known short new long names t (eqb found n)
-    by None h at len =
+    by : (o : Option ℕ) → number_on short key ≡ o → found ≡ unwrap_or o n → new ≡ cond (is_some o) short (short_more n short long t key) → Known n new long names t found
+    by None h at put =
         let absent = placed None h in
-        let is_new : eqb found n ≡ true = grind (arith, nat_tests) in
-        let added = short_added short new long names t key found None numbered v absent (omega (arith, at, count)) is (sym h) len e updates in
-        record { numbered = added.0; is = rw (is_new, absent); all = rw is_new added.1 }
-    by (Some old) h at len =
-        let there = placed (Some old) h in
-        let low : old < n = rw count (below_found (nat_cmp key) (name_count short long) old short.entries numbered.0 h) in
-        let is_new : eqb found n ≡ false = grind (arith, nat_tests) in
-        let same : found ≡ old = at in
-        let put : new.entries ≡ insert_entry nat_cmp short.entries key old = rw same at e in
-        let stays : new.entries ≡ short.entries = put ∙ over_itself nat_cmp key old short.entries h (ap length (sym put) ∙ omega (arith, len)) in
+        let gone : is_among (names_numbered n short long) t ≡ false = rw v absent in
+        let grown = short_grown n short long t key is numbered h within in
         record {
-          numbered = short_stays short new long stays numbered;
-          is = rw (is_new, there);
-          all =
-              rw is_new (ap (λ (es : List (ℕ × ℕ)). map (λ i. text_numbered key_text es i ++ text_numbered string_bytes long.entries i) (range_with_len 0 (length es + length long.entries))) stays
-              ∙ v);
+          more =
+              λ _. (
+                absent,
+                rw put (numbered_more n short (short_more n short long t key) long long t grown numbered gone),
+                rw put (names_more n short (short_more n short long t key) long long t grown ∙ ap (λ (ts : List (List ℕ)). ts ++ t ∷ []) v),
+              );
+          same = λ no. absurd (no at);
         }
+    by (Some old) h at put =
+        let low : old < n = below_found (nat_cmp key) n old (shelf_with short key) (all_at (AreBelow n) short (shelf_of key (length short)) [] numbered.0 tt) h in
+        record {
+          more = λ yes. absurd (omega (arith, at, yes, low));
+          same = λ _. (placed (Some old) h, rw put numbered, rw put v);
+        }
+
+-- another name that is not there is put at the end
+pub long_added : (short : Short) (long new : Long) (names : List (List ℕ)) (k : String Global) (t : List ℕ) (n : ℕ) → IsNumbered n short long → names_numbered n short long ≡ names
+    → is_among names t ≡ false → short_key t ≡ None → string_bytes k ≡ t → new.entries ≡ insert_entry string_cmp long.entries k n → Updates string_cmp long new k (Some n)
+    → IsNumbered (n + 1) short new × (names_numbered (n + 1) short new ≡ names ++ t ∷ [])
+long_added short long new names k t n numbered v absent is same e updates =
+    let gone : is_among (names_numbered n short long) (string_bytes k) ≡ false = rw (v, same) absent in
+    let other : short_key (string_bytes k) ≡ None = rw same is in
+    let none : lookup (is_at (string_cmp k)) long.entries ≡ None = rw other at (missing n short long (string_bytes k) numbered gone) in
+    let grown = long_grown n short long new k other numbered none e updates in (
+      numbered_more n short short long new (string_bytes k) grown numbered gone,
+      names_more n short short long new (string_bytes k) grown ∙ ap (λ (ts : List (List ℕ)). ts ++ string_bytes k ∷ []) v ∙ ap (λ (u : List ℕ). names ++ u ∷ []) same,
+    )
+
+-- nothing is put where the map stays
+pub long_stays : (n : ℕ) (short : Short) (long new : Long) → new.entries ≡ long.entries → IsNumbered n short long → IsNumbered n short new
+long_stays n short long new e numbered = (numbered.0, rw e numbered.1, λ t. same t (short_key t) ∙ numbered.2 t ∙ ap (named t) (sym e))
+  where
+    named : List ℕ → List (String Global × ℕ) → Option ℕ
+    named t es = place (map (λ j. short_numbered short j ++ text_numbered string_bytes es j) (range_with_len 0 n)) t
+
+    same : (t : List ℕ) (o : Option ℕ) → number_by o short new t ≡ number_by o short long t
+    same t (Some key) = refl
+    same t None = ap (lookup (is_at (λ k. slice_cmp nat_cmp t (string_bytes k)))) e

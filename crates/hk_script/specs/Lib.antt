@@ -5,4 +5,5 @@ pub mod Readings
 pub mod Progresses
 pub mod Paths
 pub mod Keys
+pub mod Shelves
 pub mod Numbered

@@ -14,6 +14,7 @@ mod parts;
 mod progress;
 mod reading;
 mod script;
+mod shelves;
 mod spelled;
 mod verbs;
 

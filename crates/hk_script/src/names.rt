@@ -1,20 +1,24 @@
 //! Names that were given, in the order of their lines.
 
-ghost use Rattle.std.specs.Prelude.{◌≡◌, ◌++◌, ◌∷◌, [], false, not, IfOk, OnErr, OnOk, if◌then◌else◌};
+ghost use Rattle.std.specs.Prelude.{◌≡◌, ◌++◌, ◌∷◌, [], false, not, Some, None, IfOk, OnErr, OnOk, if◌then◌else◌};
 ghost use Rattle.hk_format.specs.Grammar.{is_among};
 ghost use Rattle.hk_format.specs.Loading.{place};
+ghost use Rattle.hk_script.specs.Keys.{short_key};
 
 use crate::keys::short_key;
+use crate::shelves::Shelves;
 use std::alloc::{AllocError, Global};
 use std::collections::BTreeMap;
 use std::marker::Model;
 
-/// Names, each once, in the order in which they came. They stand in ordered maps, so that no choice of
-/// names makes a look-up slow, and short ones stand there as numbers. Contracts see the list of their texts.
+/// Names, each once, in the order in which they came. No choice of names makes a look-up slow, and short
+/// ones are compared as numbers. Contracts see the list of their texts.
 #[derive(Drop)]
 pub struct Names {
+    /// How many names there are.
+    count: usize,
     /// The number of each name that has a key, by its key: how many came before it.
-    short: BTreeMap<u64, usize>,
+    short: Shelves,
     /// The number of each other name.
     long: BTreeMap<String, usize>,
 }
@@ -25,9 +29,9 @@ impl Model for Names {
 
     ghost Value = { List (List ℕ) };
 
-    ghost view = { λ names. names_numbered names.short names.long };
+    ghost view = { λ names. names_numbered names.count names.short names.long };
 
-    ghost invariant = { λ names. IsNumbered names.short names.long };
+    ghost invariant = { λ names. IsNumbered names.count names.short names.long };
 }
 
 impl Names {
@@ -36,9 +40,22 @@ impl Names {
         ensures { result ≡ [] }
     {
         Names {
-            short: BTreeMap::new(alloc),
+            count: 0,
+            short: Shelves::new(alloc),
             long: BTreeMap::new(alloc),
         }
+    }
+
+    /// No name, with shelves for about so many times eight. The only error is want of memory.
+    pub fn with_shelves(alloc: Global, shelves: usize) -> Result<Names, AllocError>
+        ensures { IfOk result (λ names. names ≡ []) }
+    {
+        let short = Shelves::with_others(alloc, shelves)?;
+        Ok(Names {
+            count: 0,
+            short,
+            long: BTreeMap::new(alloc),
+        })
     }
 
     /// Puts a name at the end unless it is there already, and tells whether it is new. The only error is
@@ -48,24 +65,37 @@ impl Names {
         ensures names { IfOk result (λ new. self.new ≡ (if new then self.old ++ name.now ∷ [] else self.old)) }
     {
         match short_key(name.as_bytes()) {
-            Some(key) => {
-                let number = self.short.len() + self.long.len();
-                let found = *self.short.entry(key)?.or_insert(number);
-                Ok(found == number)
-            }
+            Some(key) => self.add_short(key, name),
             None => self.add_long(alloc, name),
         }
     }
 
+    /// Puts the name that has this key at the end unless it is there already.
+    fn add_short(&mut self, key: u64, name: &str) -> Result<bool, AllocError>
+        requires { short_key name.now ≡ Some key }
+        ensures found { IfOk result (λ new. new ≡ not (is_among self.old name.now)) }
+        ensures names { IfOk result (λ new. self.new ≡ (if new then self.old ++ name.now ∷ [] else self.old)) }
+        ensures memory { OnErr result (self.new ≡ self.old) }
+    {
+        let next = self.count.checked_add(1).ok_or(AllocError)?;
+        let found = self.short.number_or(key, self.count)?;
+        if found != self.count {
+            return Ok(false);
+        }
+        self.count = next;
+        Ok(true)
+    }
+
     /// Puts a name that has no key at the end unless it is there already.
     fn add_long(&mut self, alloc: Global, name: &str) -> Result<bool, AllocError>
+        requires { short_key name.now ≡ None }
         ensures found { IfOk result (λ new. new ≡ not (is_among self.old name.now)) }
         ensures names { IfOk result (λ new. self.new ≡ (if new then self.old ++ name.now ∷ [] else self.old)) }
     {
         if self.place(name).is_some() {
             return Ok(false);
         }
-        self.push(alloc, name)?;
+        self.push_long(alloc, name)?;
         Ok(true)
     }
 
@@ -75,16 +105,26 @@ impl Names {
         ensures names { OnOk result (self.new ≡ self.old ++ name.now ∷ []) }
         ensures memory { OnErr result (self.new ≡ self.old) }
     {
-        let number = self.short.len() + self.long.len();
         match short_key(name.as_bytes()) {
             Some(key) => {
-                self.short.insert(key, number)?;
+                self.add_short(key, name)?;
+                Ok(())
             }
-            None => {
-                let name = String::from_str(alloc, name)?;
-                self.long.insert(name, number)?;
-            }
+            None => self.push_long(alloc, name),
         }
+    }
+
+    /// Puts a new name that has no key at the end.
+    fn push_long(&mut self, alloc: Global, name: &str) -> Result<(), AllocError>
+        requires absent { is_among self.old name.now ≡ false }
+        requires long { short_key name.now ≡ None }
+        ensures names { OnOk result (self.new ≡ self.old ++ name.now ∷ []) }
+        ensures memory { OnErr result (self.new ≡ self.old) }
+    {
+        let next = self.count.checked_add(1).ok_or(AllocError)?;
+        let name = String::from_str(alloc, name)?;
+        self.long.insert(name, self.count)?;
+        self.count = next;
         Ok(())
     }
 
@@ -93,7 +133,7 @@ impl Names {
         ensures { result ≡ place self.now name.now }
     {
         match short_key(name.as_bytes()) {
-            Some(key) => self.short.get(&key).copied(),
+            Some(key) => self.short.number(key),
             None => self.long.get(name).copied(),
         }
     }

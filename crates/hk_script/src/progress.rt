@@ -38,14 +38,15 @@ pub struct Progress {
 }
 
 impl Progress {
-    /// Before the first line.
-    pub fn new(alloc: Global) -> Progress
+    /// Before the first line. The names are to be none yet.
+    pub fn new(alloc: Global, names: Names) -> Progress
+        requires { names ≡ [] }
         ensures items { (lines : Lines) → items_after result lines ≡ script lines }
         ensures names { KeepsNames result }
     {
         Progress {
             begun: false,
-            reading: Reading::new(alloc),
+            reading: Reading::new(alloc, names),
             refused: None,
         }
     }

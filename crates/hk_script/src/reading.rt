@@ -60,13 +60,14 @@ pub struct Reading {
 }
 
 impl Reading {
-    /// Before the first item.
-    pub fn new(alloc: Global) -> Reading
+    /// Before the first item. The names are to be none yet.
+    pub fn new(alloc: Global, names: Names) -> Reading
+        requires { names ≡ [] }
         ensures { read_of result ≡ between_items [] nothing_seen }
     {
         Reading {
             items: Items::new(alloc),
-            names: Names::new(alloc),
+            names,
             limited: false,
             unclosed: None,
         }

@@ -1,94 +1,59 @@
 //! The words that lines begin with (`docs/FORMATS.md`, "Grammar").
 
-ghost use Rattle.std.specs.Prelude.{◌≡◌};
-ghost use Rattle.std.specs.List.{find};
-ghost use Rattle.hk_model.specs.Labels.{same_text};
+ghost use Rattle.std.specs.Prelude.{◌≡◌, ◌==◌};
+ghost use Rattle.std.specs.List.{find, filter};
+ghost use Rattle.hk_model.specs.Labels.{same_text, first};
 ghost use Rattle.hk_format.specs.Verbs.{verb_word, all_verbs};
 
 use hk_format::Verb;
-
-/// The verbs whose words have one letter.
-const ONE_LETTER: [Verb; 2] = [Verb::P, Verb::V];
-
-/// The verbs whose words have three letters.
-const THREE_LETTERS: [Verb; 4] = [Verb::End, Verb::Cap, Verb::Set, Verb::Add];
-
-/// Those whose words have four.
-const FOUR_LETTERS: [Verb; 10] = [
-    Verb::Type,
-    Verb::Code,
-    Verb::Load,
-    Verb::Drop,
-    Verb::Look,
-    Verb::Copy,
-    Verb::Call,
-    Verb::Goto,
-    Verb::IfEq,
-    Verb::IfLess,
-];
-
-/// Those whose words have five.
-const FIVE_LETTERS: [Verb; 10] = [
-    Verb::Hydra,
-    Verb::Limit,
-    Verb::Words,
-    Verb::Empty,
-    Verb::Param,
-    Verb::Label,
-    Verb::Store,
-    Verb::Erase,
-    Verb::Merge,
-    Verb::Yield,
-];
-
-/// Those whose words have six.
-const SIX_LETTERS: [Verb; 5] = [
-    Verb::Object,
-    Verb::Create,
-    Verb::Length,
-    Verb::Append,
-    Verb::Return,
-];
-
-/// Those whose words have seven.
-const SEVEN_LETTERS: [Verb; 5] = [
-    Verb::Process,
-    Verb::Amplify,
-    Verb::GetData,
-    Verb::PutData,
-    Verb::AddData,
-];
-
-/// Those whose words have eight.
-const EIGHT_LETTERS: [Verb; 3] = [Verb::Restrict, Verb::Template, Verb::IfDenied];
-
-/// Those whose words have nine.
-const NINE_LETTERS: [Verb; 2] = [Verb::Semaphore, Verb::Procedure];
 
 /// The verb that these letters are the word of, in scripts and in audit lines. None exactly where there
 /// is none (`docs/FORMATS.md`, "Grammar").
 pub fn verb_of(word: &[u8]) -> Option<Verb>
     ensures { result ≡ find (λ v. same_text word.now (verb_word v)) all_verbs }
 {
-    let length = word.len();
-    if length == 1 {
-        verb_in(&ONE_LETTER, word)
-    } else if length == 3 {
-        verb_in(&THREE_LETTERS, word)
-    } else if length == 4 {
-        verb_in(&FOUR_LETTERS, word)
-    } else if length == 5 {
-        verb_in(&FIVE_LETTERS, word)
-    } else if length == 6 {
-        verb_in(&SIX_LETTERS, word)
-    } else if length == 7 {
-        verb_in(&SEVEN_LETTERS, word)
-    } else if length == 8 {
-        verb_in(&EIGHT_LETTERS, word)
-    } else if length == 9 {
-        verb_in(&NINE_LETTERS, word)
-    } else {
-        None
+    if word.is_empty() {
+        return None;
+    }
+    verb_in(verbs_with(word[0]), word)
+}
+
+/// The verbs whose words begin with this letter.
+#[tactic(auto, unfolding(hk_format::specs::Verbs::all_verbs))]
+fn verbs_with(letter: u8) -> &'static [Verb]
+    ensures { result.now ≡ filter (λ v. first (verb_word v) == letter) all_verbs }
+{
+    match letter {
+        b'a' => &[Verb::Amplify, Verb::AddData, Verb::Append, Verb::Add],
+        b'c' => &[Verb::Code, Verb::Cap, Verb::Create, Verb::Copy, Verb::Call],
+        b'd' => &[Verb::Drop],
+        b'e' => &[Verb::End, Verb::Empty, Verb::Erase],
+        b'g' => &[Verb::GetData, Verb::Goto],
+        b'h' => &[Verb::Hydra],
+        b'i' => &[Verb::IfEq, Verb::IfLess, Verb::IfDenied],
+        b'l' => &[
+            Verb::Limit,
+            Verb::Label,
+            Verb::Length,
+            Verb::Load,
+            Verb::Look,
+        ],
+        b'm' => &[Verb::Merge],
+        b'o' => &[Verb::Object],
+        b'p' => &[
+            Verb::Procedure,
+            Verb::Process,
+            Verb::Param,
+            Verb::PutData,
+            Verb::P,
+        ],
+        b'r' => &[Verb::Restrict, Verb::Return],
+        b's' => &[Verb::Semaphore, Verb::Store, Verb::Set],
+        b't' => &[Verb::Type, Verb::Template],
+        b'v' => &[Verb::V],
+        b'w' => &[Verb::Words],
+        b'y' => &[Verb::Yield],
+        _ => &[],
     }
 }
 

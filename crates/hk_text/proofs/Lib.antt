@@ -1,5 +1,7 @@
 pub mod Numbers
 pub mod NumeralTexts
+pub mod Digits
+pub mod FormsTold
 pub mod Turns
 pub mod Spans
 pub mod LineCount

@@ -1,18 +1,16 @@
 -- A text of digits, as `parse` reads it.
-use Rattle.std.proofs.Common.{◌≡◌, ℕ, ◌<◌, ◌^◌, Bool, true, false, ltb, List, [], ◌∷◌, length, refl, arith, ◌&&◌, Ok, Err, Option, Some, None, cond, not}
+use Rattle.std.proofs.Common.{◌≡◌, ℕ, Bool, true, false, ltb, List, [], ◌∷◌, length, refl, arith, Option, Some, None, cond, not}
 use Rattle.std.specs.List.{list_all, position_or_len}
 use Rattle.std.specs.Prelude.{MatchOption}
 use Rattle.std.specs.Str.{IsUtf8}
-use Rattle.std.specs.Str.Parse.{ParsesUnsigned, without_leading_plus}
-use Rattle.std.proofs.lemmas.Str.Parse.{IsNumeralModel, numerals_by_value, without_leading_plus_none}
+use Rattle.std.proofs.lemmas.Str.Parse.{IsNumeralModel, numerals_by_value}
 use Rattle.std.proofs.lemmas.Fmt.{IsAscii-from_digits}
 use Rattle.std.proofs.lemmas.List.Sums.{prefix_len-le-length}
 use Rattle.std.proofs.lemmas.Str.{IsUtf8-from_ascii}
-use Rattle.std.proofs.lemmas.Bool.{and_parts, and_from, false≢true, lt-ltb, ltb-false}
+use Rattle.std.proofs.lemmas.Bool.{and_parts, and_from, false≢true, ltb-false}
 use Rattle.std.proofs.lemmas.Bool.Decides.{nat_tests}
-use Rattle.hk_format.specs.declared.causes.TextCause.TheVariants as causes
-use Rattle.hk_model.specs.Labels.{is_digit, first}
-use Rattle.hk_format.specs.Pieces.{Number, is_number, is_too_large, number_of, value}
+use Rattle.hk_model.specs.Labels.{is_digit}
+use Rattle.hk_format.specs.Pieces.{is_number, value}
 
 -- digits, by their value
 pub digits_model : IsNumeralModel (λ ds. list_all is_digit ds ≡ true) value
@@ -25,31 +23,6 @@ digits_model = numerals_by_value (λ ds. list_all is_digit ds ≡ true) (record 
 pub number_utf8 : (t : List ℕ) → is_number t ≡ true → IsUtf8 t
 number_utf8 [] h = absurd (false≢true h)
 number_utf8 (d ∷ ds) h = IsUtf8-from_ascii (d ∷ ds) (IsAscii-from_digits (d ∷ ds) (digits_model.to (d ∷ ds) (and_parts (is_digit d) (list_all is_digit (d ∷ ds)) h).1))
-
--- digits that are no number of 32 bits
-pub too_large : {E : Type 0} (t : List ℕ) (e : E) → is_number t ≡ true → ParsesUnsigned {E = E} 32 10 t (Err e) → is_too_large t ≡ true
-too_large [] e h k = absurd (false≢true h)
-too_large (d ∷ ds) e h k =
-    let parts = and_parts (is_digit d) (list_all is_digit (d ∷ ds)) h in
-    let plus : without_leading_plus (d ∷ ds) ≡ d ∷ ds = without_leading_plus_none (d ∷ ds) (λ same. grind (arith, nat_tests)) in
-    let large : (value (d ∷ ds) < 2 ^ 32) → ⊥ = λ small. k (rw plus ((omega arith, digits_model.to (d ∷ ds) parts.1), small)) in
-    let test : ltb 0xffffffff (value (d ∷ ds)) ≡ true = lt-ltb _ _ (omega arith) in
-    and_from (is_number (d ∷ ds)) (ltb 0xffffffff (value (d ∷ ds))) h test
-
--- digits as a piece, by their value
-pub number_by_value : (t : List ℕ) (o : Option ℕ) → is_number t ≡ true → o ≡ cond (is_too_large t) None (Some (value t))
-    → MatchOption o (number_of t ≡ Err causes.NumberTooLarge) (λ n. number_of t ≡ Ok (Number n))
-number_by_value t o h k =
-    let digits = (and_parts (is_digit (first t)) (list_all is_digit t) h).1 in
-    go (is_number t) (list_all is_digit t) (ltb 0xffffffff (value t)) h digits o k
-  where
-    go : (number digits large : Bool) → number ≡ true → digits ≡ true → (o : Option ℕ) → o ≡ cond (number && large) None (Some (value t))
-        → MatchOption o (cond (not digits) (Err causes.BadToken) (cond large (Err causes.NumberTooLarge) (Ok (Number (value t)))) ≡ Err causes.NumberTooLarge)
-        (λ n. cond (not digits) (Err causes.BadToken) (cond large (Err causes.NumberTooLarge) (Ok (Number (value t)))) ≡ Ok (Number n))
-    go true true true h k o e = rw e refl
-    go true true false h k o e = rw e refl
-    go false digits large h k o e = absurd (false≢true h)
-    go true false large h k o e = absurd (false≢true k)
 
 pub found_place : {X : Type 0} (p : X → Bool) (xs : List X) (r : Option ℕ) → r ≡ cond (ltb (position_or_len p xs) (length xs)) (Some (position_or_len p xs)) None
     → MatchOption r (length xs ≡ position_or_len p xs) (λ i. i ≡ position_or_len p xs)

@@ -59,7 +59,10 @@ pub fn has_no_text(line: &[u8]) -> bool
 fn is_no_text(byte: u8) -> bool
     ensures { result ≡ is_no_text byte }
 {
-    byte > 126 || byte < 32 && byte != b'\t' && byte != b'\r'
+    if 32 <= byte && byte <= 126 {
+        return false;
+    }
+    byte != b'\t' && byte != b'\r'
 }
 
 /// Whether some byte is a point.
@@ -73,7 +76,7 @@ pub fn has_point(text: &[u8]) -> bool
 fn is_blank(byte: u8) -> bool
     ensures { result ≡ is_blank byte }
 {
-    byte == b' ' || byte == b'\t' || byte == b'\r'
+    byte <= b' ' && (byte == b' ' || byte == b'\t' || byte == b'\r')
 }
 
 /// The place of the first blank, or the length.

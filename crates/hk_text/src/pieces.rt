@@ -1,7 +1,9 @@
 //! The forms of a piece (`docs/FORMATS.md`, "Pieces").
 
-ghost use Rattle.std.specs.Prelude.{◌≡◌, ◌<◌, ◌==◌, length, IsTrue, Some, None, if◌then◌else◌};
+ghost use Rattle.std.specs.Prelude.{◌≡◌, ◌<◌, ◌==◌, length, min, IsTrue, Some, None, if◌then◌else◌};
 ghost use Rattle.std.specs.List.{slice_split, list_all, list_any};
+ghost use Rattle.hk_model.specs.Labels.{is_digit};
+ghost use Rattle.hk_model.specs.Limits.{word_bound};
 ghost use Rattle.hk_format.specs.Pieces.{is_number, is_upper, is_index_text, is_too_large, value, number_of, plain_of, pointed_of, piece_of};
 ghost use Rattle.hk_text.specs.Views.{kind_piece};
 ghost use Rattle.hk_text.specs.Outcomes.{GivesOrCause};
@@ -10,6 +12,9 @@ use crate::bytes::{
     are_digits, are_word_bytes, has_point, is_capital, is_digit, is_lower, is_register,
 };
 use hk_format::TextCause;
+
+/// The least number that no piece can be.
+const TOO_LARGE: u64 = 1 << 32;
 
 /// What a piece is.
 #[derive(Clone, Copy, PartialEq, Eq, Debug)]
@@ -34,16 +39,21 @@ pub struct Piece {
     pub kind: PieceKind,
 }
 
-/// What the text is as a piece, or why it is none.
-#[tactic(auto, unfolding(hk_format::specs::Pieces::piece_of))]
+/// What the text is as a piece, or why it is none. No text with a point has another form than that of a
+/// path, so points are looked for only where it has no other form.
 pub fn kind_of(text: &[u8]) -> Result<PieceKind, TextCause>
     requires { 0 < length text.now }
     ensures { GivesOrCause (λ kind. kind_piece kind text.now) result (piece_of text.now) }
 {
-    if has_point(text) {
-        path(text)
-    } else {
-        plain(text)
+    match plain(text) {
+        Ok(kind) => Ok(kind),
+        Err(cause) => {
+            if has_point(text) {
+                path(text)
+            } else {
+                Err(cause)
+            }
+        }
     }
 }
 
@@ -54,9 +64,6 @@ fn plain(text: &[u8]) -> Result<PieceKind, TextCause>
 {
     let first = text[0];
     if is_digit(first) {
-        if !are_digits(text) {
-            return Err(TextCause::BadToken);
-        }
         return number(text);
     }
     if is_lower(first) {
@@ -77,14 +84,14 @@ fn plain(text: &[u8]) -> Result<PieceKind, TextCause>
     Err(TextCause::BadToken)
 }
 
-/// The number that digits stand for, as a piece.
+/// The number that a text stands for, as a piece, or why it is none.
 fn number(text: &[u8]) -> Result<PieceKind, TextCause>
-    requires { IsTrue (is_number text.now) }
     ensures { GivesOrCause (λ kind. kind_piece kind text.now) result (number_of text.now) }
 {
-    match value(text) {
-        Some(n) => Ok(PieceKind::Number(n)),
-        None => Err(TextCause::NumberTooLarge),
+    match digits(text) {
+        Some(n) if n < TOO_LARGE => Ok(PieceKind::Number(n as u32)),
+        Some(_) => Err(TextCause::NumberTooLarge),
+        None => Err(TextCause::BadToken),
     }
 }
 
@@ -93,13 +100,24 @@ pub fn value(text: &[u8]) -> Option<u32>
     requires { IsTrue (is_number text.now) }
     ensures { result ≡ (if is_too_large text.now then None else Some (value text.now)) }
 {
-    match std::str::from_utf8(text) {
-        Ok(digits) => match digits.parse::<u32>() {
-            Ok(n) => Some(n),
-            Err(_) => None,
-        },
-        Err(_) => None,
+    match digits(text) {
+        Some(n) if n < TOO_LARGE => Some(n as u32),
+        _ => None,
     }
+}
+
+/// The value of digits, or 2^32 where it is more. None where some byte is no digit.
+fn digits(text: &[u8]) -> Option<u64>
+    ensures { result ≡ (if list_all is_digit text.now then Some (min (value text.now) word_bound) else None) }
+{
+    let mut n: u64 = 0;
+    for byte in text {
+        if !is_digit(*byte) {
+            return None;
+        }
+        n = (n * 10 + (*byte - b'0') as u64).min(TOO_LARGE);
+    }
+    Some(n)
 }
 
 /// Whether the text is names that `+` joins.
@@ -173,11 +191,8 @@ fn is_index(text: &[u8]) -> bool
 fn is_too_large(text: &[u8]) -> bool
     ensures { result ≡ is_too_large text.now }
 {
-    if text.is_empty() || !is_digit(text[0]) || !are_digits(text) {
-        return false;
-    }
-    match value(text) {
-        Some(_) => false,
-        None => true,
+    match digits(text) {
+        Some(n) => n == TOO_LARGE,
+        None => false,
     }
 }
