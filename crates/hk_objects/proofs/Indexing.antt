@@ -56,14 +56,14 @@ none_named ns ps c n h home led none s named =
     (λ is. let same : s ≡ n.0 % 65536 = grind (arith, nat_tests) in home (subst (λ (t : ℕ). named_at ns t ≡ Some n) same named))
     (λ is. led s is named)
     (λ is. among (listed c.lists (n.0 % 65536)) none is)
-    where
-  among : (xs : List ℕ) → ((k t : ℕ) → slice_get xs k ≡ Some t → named_at ns t ≡ Some n → ⊥) → list_any (λ x. s == x) xs ≡ true → ⊥
-  among [] none any = cc
-  among (x ∷ xs) none any =
-      ⊎_elim
-      (λ (same : s ≡ x). none zero s (ap (λ (y : ℕ). let o : Option ℕ = Some y in o) (sym same)) named)
-      (λ (other : s ≢ x). among xs (λ k. none (suc k)) (grind (arith, nat_tests)))
-      (cases_eq s x)
+  where
+    among : (xs : List ℕ) → ((k t : ℕ) → slice_get xs k ≡ Some t → named_at ns t ≡ Some n → ⊥) → list_any (λ x. s == x) xs ≡ true → ⊥
+    among [] none any = cc
+    among (x ∷ xs) none any =
+        ⊎_elim
+        (λ (same : s ≡ x). none zero s (ap (λ (y : ℕ). let o : Option ℕ = Some y in o) (sym same)) named)
+        (λ (other : s ≢ x). among xs (λ k. none (suc k)) (grind (arith, nat_tests)))
+        (cases_eq s x)
 
 pub past_end : (xs : List ℕ) (k : ℕ) → None ≡ slice_get xs k → length xs ≤ k
 past_end [] k e = omega arith
