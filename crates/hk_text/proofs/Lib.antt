@@ -2,6 +2,7 @@ pub mod Numbers
 pub mod NumeralTexts
 pub mod Digits
 pub mod FormsTold
+pub mod Cleans
 pub mod Turns
 pub mod Spans
 pub mod LineCount

@@ -48,14 +48,7 @@ pub fn is_register(text: &[u8]) -> bool
     text.len() == 2 && text[0] == b'r' && b'0' <= text[1] && text[1] <= b'7'
 }
 
-/// Whether some byte may not stand in a script.
-pub fn has_no_text(line: &[u8]) -> bool
-    ensures { result ≡ list_any is_no_text line.now }
-{
-    line.iter().any(|byte| is_no_text(*byte))
-}
-
-/// Whether the byte may not stand in a script.
+/// Whether the byte may not stand in a line.
 fn is_no_text(byte: u8) -> bool
     ensures { result ≡ is_no_text byte }
 {
@@ -96,6 +89,17 @@ pub fn first_of(text: &[u8], byte: u8) -> usize
     ensures within { result ≤ length text.now }
 {
     match text.iter().position(|b| *b == byte) {
+        Some(at) => at,
+        None => text.len(),
+    }
+}
+
+/// The place of the first byte that may not stand in a line, as a line feed, or the length.
+pub fn first_no_text(text: &[u8]) -> usize
+    ensures place { result ≡ position_or_len is_no_text text.now }
+    ensures within { result ≤ length text.now }
+{
+    match text.iter().position(|byte| is_no_text(*byte)) {
         Some(at) => at,
         None => text.len(),
     }

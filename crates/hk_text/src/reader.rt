@@ -8,10 +8,9 @@ ghost use Rattle.hk_format.specs.Texts.{lines_of, text, line_onto};
 ghost use Rattle.hk_format.specs.Outcomes.{IsRefused};
 ghost use Rattle.hk_text.specs.Ahead.{lines_ahead, bytes_ahead, pieces_read, HasNumbers};
 
-use crate::bytes::first_of;
 use crate::errors::TextError;
 use crate::pieces::Piece;
-use crate::text::cut_line;
+use crate::text::{cut_line, line_len};
 use std::alloc::Global;
 
 /// A source whose lines are read one after another, each in the place of the one before, so that no
@@ -66,7 +65,10 @@ impl<'a> LineReader<'a> {
     {
         let number = self.number;
         let start = self.start;
-        let len = first_of(&self.source[start..], b'\n');
+        let len = match line_len(&self.source[start..]) {
+            Ok(len) => len,
+            Err(error) => return Err(error.on_line(number)),
+        };
         if let Err(error) = cut_line(&mut self.pieces, self.source, start, start + len) {
             return Err(error.on_line(number));
         }

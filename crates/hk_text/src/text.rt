@@ -1,12 +1,13 @@
 //! Bytes as lines, and lines as pieces (`docs/FORMATS.md`, "Text").
 
-ghost use Rattle.std.specs.Prelude.{◌≡◌, ℕ, ◌<◌, ◌≤◌, ◌^◌, ◌-◌, length, map, Ok, Err, IfOk, OnOk};
-ghost use Rattle.std.specs.List.{slice_range, flat_map};
-ghost use Rattle.hk_format.specs.Texts.{lines_of, text, text_line, pieces_of};
+ghost use Rattle.std.specs.Prelude.{◌≡◌, ℕ, ◌<◌, ◌≤◌, ◌^◌, ◌-◌, false, length, map, Ok, Err, IfOk, OnOk};
+ghost use Rattle.std.specs.List.{slice_range, flat_map, list_any};
+ghost use Rattle.hk_format.specs.Texts.{lines_of, text, text_line, pieces_of, is_no_text};
 ghost use Rattle.hk_text.specs.Views.{seen, line_seen, line_pieces, texts_of, LieBetween};
 ghost use Rattle.hk_format.specs.Outcomes.{Gives, Becomes, IsRefused};
+ghost use Rattle.hk_text.specs.Outcomes.{FindsLine};
 
-use crate::bytes::{first_blank, first_of, has_no_text};
+use crate::bytes::{first_blank, first_no_text, first_of};
 use crate::errors::{LineError, TextError};
 use crate::pieces::{Piece, kind_of};
 use hk_format::TextCause;
@@ -38,7 +39,10 @@ pub fn lines(alloc: Global, bytes: &[u8]) -> Result<Vec<TextLine>, TextError>
     let mut number = 1;
     let mut start = 0;
     while start < bytes.len() {
-        let len = first_of(&bytes[start..], b'\n');
+        let len = match line_len(&bytes[start..]) {
+            Ok(len) => len,
+            Err(error) => return Err(error.on_line(number)),
+        };
         match pieces_of_line(alloc, &mut scratch, bytes, start, start + len) {
             Ok(pieces) => {
                 if !pieces.as_slice().is_empty() {
@@ -53,8 +57,23 @@ pub fn lines(alloc: Global, bytes: &[u8]) -> Result<Vec<TextLine>, TextError>
     Ok(lines.into_vec())
 }
 
-/// The pieces of the line that begins and ends at these places. They are put together in `scratch`, so
-/// that a line takes no more memory than its pieces need.
+/// The length of the first line, in which each byte may stand in a script; else NotAscii.
+pub(crate) fn line_len(text: &[u8]) -> Result<usize, LineError>
+    ensures line { FindsLine result text.now }
+    ensures within { IfOk result (λ len. len ≤ length text.now) }
+{
+    let len = first_no_text(text);
+    if len == text.len() {
+        return Ok(len);
+    }
+    if text[len] == b'\n' {
+        return Ok(len);
+    }
+    Err(LineError::Bad(TextCause::NotAscii))
+}
+
+/// The pieces of the line that begins and ends at these places, in which each byte may stand. They are put
+/// together in `scratch`, so that a line takes no more memory than its pieces need.
 fn pieces_of_line(
     alloc: Global,
     scratch: &mut Vec<Piece>,
@@ -64,6 +83,7 @@ fn pieces_of_line(
 ) -> Result<Items<Piece>, LineError>
     requires order { start ≤ end }
     requires inside { end ≤ length source.now }
+    requires clean { list_any is_no_text (slice_range source.now start end) ≡ false }
     ensures value { Gives (λ v. map (seen source.now) v) result (text_line (slice_range source.now start end)) }
     ensures spans { IfOk result (λ v. LieBetween start end v) }
 {
@@ -71,7 +91,8 @@ fn pieces_of_line(
     Ok(Items::from_vec(Vec::from_slice(alloc, scratch.as_slice())?))
 }
 
-/// Puts the pieces of the line that begins and ends at these places in the place of others.
+/// Puts the pieces of the line that begins and ends at these places, in which each byte may stand, in the
+/// place of others.
 pub(crate) fn cut_line(
     pieces: &mut Vec<Piece>,
     source: &[u8],
@@ -80,13 +101,11 @@ pub(crate) fn cut_line(
 ) -> Result<(), LineError>
     requires order { start ≤ end }
     requires inside { end ≤ length source.now }
+    requires clean { list_any is_no_text (slice_range source.now start end) ≡ false }
     ensures value { Becomes result (map (seen source.now) pieces.new.items) (text_line (slice_range source.now start end)) }
     ensures spans { OnOk result (LieBetween start end pieces.new.items) }
 {
     let line = &source[start..end];
-    if has_no_text(line) {
-        return Err(LineError::Bad(TextCause::NotAscii));
-    }
     if line.len() > LINE_BYTES {
         return Err(LineError::Bad(TextCause::LongLine));
     }
