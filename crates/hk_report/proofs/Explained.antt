@@ -39,15 +39,17 @@ use Rattle.hk_report.specs.declared.families.BareChange.{BareChange}
 use Rattle.hk_report.specs.declared.histories.History.{History}
 use Rattle.hk_report.specs.Doings.{before_line, doings, given_params, params_given}
 use Rattle.hk_report.specs.Families.{told_call, told_change, change_under, changes_by, changes_from, families_by, families_after}
-use Rattle.hk_report.specs.Histories.{told_histories}
+use Rattle.hk_report.specs.Histories.{history_of, told_histories}
 use Rattle.hk_report.specs.Hops.{is_made}
+use Rattle.hk_report.specs.Runs.{AreRearranged}
 use Rattle.hk_report.specs.Searches.{direct_param, IsFoundBy, IsFound}
 use Rattle.hk_report.specs.Reasons.{params_at, IsReasonedBy, IsTold, AreTold, AreFew}
 use Rattle.hk_report.proofs.Listed.{changer_lives, live_numbered, changes_found, doings_few}
-use Rattle.hk_report.proofs.Spans.{has_all}
+use Rattle.hk_report.proofs.Spans.{has_all, SpansTell}
 use Rattle.hk_report.proofs.Found.{found_direct, found_behind}
 use Rattle.hk_report.proofs.Replays.{spans_told}
 use Rattle.hk_report.proofs.Makers.{made_is}
+use Rattle.hk_report.proofs.Rearranged.{tells_after, made_after}
 
 -- ---- the parameters of a call
 
@@ -144,13 +146,10 @@ module _ (w : WorldValue) (lines : List Line) (steps : AreStepsOf w lines) where
             let high = up.1 in
             true≢false (sym g.under ∙ earlier_out w lines steps k call c g.line.inc (omega (arith, number, high, same)))
 
-    -- ---- the reason of a change
+    -- ---- the reason of a change, found in lists that tell what stood in them in whatever order
 
     abbrev F : List (List Begun)
     F = families_after 0 (doings w (opened w) lines) (replicate (opened w).state.next_inc.0 [])
-
-    abbrev H : List History
-    H = told_histories w lines
 
     abbrev P : List (List Entry)
     P = params_given w (opened w) lines
@@ -166,7 +165,7 @@ module _ (w : WorldValue) (lines : List Line) (steps : AreStepsOf w lines) where
     within_lines (x ∷ xs) zero line h = omega arith
     within_lines (x ∷ xs) (suc n) line h = let l = within_lines xs n line h in omega (arith, l)
 
-    module _ (b : changes.BareChange) (known : IsListed b) where
+    module _ (H : List History) (same : AreRearranged (told_histories w lines) H) (b : changes.BareChange) (known : IsListed b) where
       abbrev test : Name → Bool
       test = is_made F (told_call b.under) H
 
@@ -174,7 +173,10 @@ module _ (w : WorldValue) (lines : List Line) (steps : AreStepsOf w lines) where
       made = is_made_under w lines b.under.moment b.under.call
 
       test_is : (x : Name) → test x ≡ made x
-      test_is = made_is w lines steps b.under known.listed known.call.is
+      test_is x = made_after (told_histories w lines) H same F (told_call b.under) x ∙ made_is w lines steps b.under known.listed known.call.is x
+
+      tells : (x : Name) → SpansTell (state_at w lines) (length lines) x (history_of H x).spans
+      tells = tells_after (told_histories w lines) H same (state_at w lines) (length lines) (spans_told w lines steps)
 
       by_end : b.moment ≤ length lines
       by_end = let l = within_lines lines b.moment known.change.line known.change.is in omega (arith, l)
@@ -195,13 +197,13 @@ module _ (w : WorldValue) (lines : List Line) (steps : AreStepsOf w lines) where
           by (Some arg) e g =
               subst IsLeast (sym g) (
                 none,
-                found_direct (state_at w lines) made test test_is H (length lines) (spans_told w lines steps) listed_named b.object b.moment by_end b.under.moment begun params
+                found_direct (state_at w lines) made test test_is H (length lines) tells listed_named b.object b.moment by_end b.under.moment begun params
                     (params_stand b.under.moment b.under.call) arg e,
               )
           by None e g =
               subst IsLeast (sym g.is) (
                 none,
-                found_behind (state_at w lines) made test test_is H (length lines) (spans_told w lines steps) listed_named b.object b.moment by_end b.under.moment begun params
+                found_behind (state_at w lines) made test test_is H (length lines) tells listed_named b.object b.moment by_end b.under.moment begun params
                     (params_stand b.under.moment b.under.call) e reach g,
               )
 
@@ -214,11 +216,12 @@ module _ (w : WorldValue) (lines : List Line) (steps : AreStepsOf w lines) where
       explained_one : (change : Change) → IsTold F H P (told_change b) change → IsExplained w lines b change
       explained_one change h = record { line = h.line; under = h.under; object = h.object; reason = reason_is change.reach (test b.object) refl h.reason }
 
-    explained_each : (bares : List changes.BareChange) (all : List Change) → All IsListed bares → AreTold F H P (map told_change bares) all → AreExplained w lines bares all
-    explained_each [] [] known h = tt
-    explained_each [] (change ∷ all) known h = absurd h
-    explained_each (b ∷ bares) [] known h = absurd h
-    explained_each (b ∷ bares) (change ∷ all) known h = (explained_one b known.0 change h.0, explained_each bares all known.1 h.1)
+    explained_each : (H : List History) → AreRearranged (told_histories w lines) H → (bares : List changes.BareChange) (all : List Change) → All IsListed bares
+        → AreTold F H P (map told_change bares) all → AreExplained w lines bares all
+    explained_each H same [] [] known h = tt
+    explained_each H same [] (change ∷ all) known h = absurd h
+    explained_each H same (b ∷ bares) [] known h = absurd h
+    explained_each H same (b ∷ bares) (change ∷ all) known h = (explained_one H same b known.0 change h.0, explained_each H same bares all known.1 h.1)
 
     -- ---- the changes that are listed
 
@@ -284,19 +287,18 @@ few_told w lines found world steps h =
     few_changes (replicate (opened w).state.next_inc.0 []) (doings w (opened w) lines) found (doings_few w lines (doings w (opened w) lines) world steps refl) h
 
 -- what was found is the list of the definitions
-pub report_is : (w : WorldValue) (lines : List Line) (histories : List History) (params : List (List Entry)) (families : List (List Begun))
+pub report_is : (w : WorldValue) (lines : List Line) (told histories : List History) (params : List (List Entry)) (families : List (List Begun))
     (found : List BareChange) (all : List Change) → IsWorld w → AreStepsOf w lines
-    → histories ≡ told_histories w lines → params ≡ params_given w (opened w) lines
+    → told ≡ told_histories w lines → AreRearranged told histories → params ≡ params_given w (opened w) lines
     → families ≡ families_after 0 (doings w (opened w) lines) (replicate (opened w).state.next_inc.0 [])
     → found ≡ changes_from 0 (replicate (opened w).state.next_inc.0 []) (doings w (opened w) lines)
     → AreTold families histories params found all → AreExplained w lines (bare_changes w lines) all
-report_is w lines histories params families found all world steps h p g c told =
+report_is w lines told histories params families found all world steps h same p g c is =
     let bares : found ≡ map told_change (bare_changes w lines)
     = changes_found w lines (opened w).state.next_inc (doings w (opened w) lines) found steps refl refl c in
-    explained_each w lines steps world (bare_changes w lines) all (all_listed w lines steps world)
+    explained_each w lines steps world histories (subst (λ (x : List History). AreRearranged x histories) h same) (bare_changes w lines) all (all_listed w lines steps world)
     (subst (λ (x : List BareChange).
-    AreTold (families_after 0 (doings w (opened w) lines) (replicate (opened w).state.next_inc.0 [])) (told_histories w lines) (params_given w (opened w) lines) x all)
+    AreTold (families_after 0 (doings w (opened w) lines) (replicate (opened w).state.next_inc.0 [])) histories (params_given w (opened w) lines) x all)
     bares
-    (subst (λ (x : List (List Entry)). AreTold (families_after 0 (doings w (opened w) lines) (replicate (opened w).state.next_inc.0 [])) (told_histories w lines) x found all) p
-    (subst (λ (x : List History). AreTold (families_after 0 (doings w (opened w) lines) (replicate (opened w).state.next_inc.0 [])) x params found all) h
-    (subst (λ (x : List (List Begun)). AreTold x histories params found all) g told))))
+    (subst (λ (x : List (List Entry)). AreTold (families_after 0 (doings w (opened w) lines) (replicate (opened w).state.next_inc.0 [])) histories x found all) p
+    (subst (λ (x : List (List Begun)). AreTold x histories params found all) g is)))

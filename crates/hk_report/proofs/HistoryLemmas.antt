@@ -57,7 +57,7 @@ grown_at [] n i = none_at n i
 grown_at (x ∷ hs) n zero = refl
 grown_at (x ∷ hs) n (suc i) = grown_at hs n i
 
-beyond : (hs : List History) (i : ℕ) → length hs ≤ i → slice_index_or hs i no_history ≡ no_history
+pub beyond : (hs : List History) (i : ℕ) → length hs ≤ i → slice_index_or hs i no_history ≡ no_history
 beyond [] i l = refl
 beyond (x ∷ hs) zero l = absurd (omega (arith, l))
 beyond (x ∷ hs) (suc i) l = beyond hs i (omega (arith, l))

@@ -67,15 +67,15 @@ handed_last a b moments indices =
 -- ---- the first of the hops so far stays
 
 -- a hop, if it is there, is made at this moment
-abbrev IsAt : ℕ → Option Onward → Type 0
+abbrev pub IsAt : ℕ → Option Onward → Type 0
 IsAt moment None = Unit {0}
 IsAt moment (Some onward) = moment_of onward.hop ≡ moment
 
-made_at : (moment : ℕ) (b : Bool) (onward : Onward) → moment_of onward.hop ≡ moment → IsAt moment (cond b (Some onward) None)
+pub made_at : (moment : ℕ) (b : Bool) (onward : Onward) → moment_of onward.hop ≡ moment → IsAt moment (cond b (Some onward) None)
 made_at moment true onward e = e
 made_at moment false onward e = tt
 
-earlier_at : (moment : ℕ) (a b : Option Onward) → IsAt moment a → IsAt moment b → IsAt moment (earlier a b)
+pub earlier_at : (moment : ℕ) (a b : Option Onward) → IsAt moment a → IsAt moment b → IsAt moment (earlier a b)
 earlier_at moment None b h g = g
 earlier_at moment (Some a) None h g = h
 earlier_at moment (Some a) (Some b) h g = by (comes_before b.hop a.hop)
@@ -84,7 +84,7 @@ earlier_at moment (Some a) (Some b) h g = by (comes_before b.hop a.hop)
     by true = g
     by false = h
 
-first_stays : (moment : ℕ) (a : Onward) (o : Option Onward) → IsAt moment o → moment_of a.hop < moment → earlier (Some a) o ≡ Some a
+pub first_stays : (moment : ℕ) (a : Onward) (o : Option Onward) → IsAt moment o → moment_of a.hop < moment → earlier (Some a) o ≡ Some a
 first_stays moment a None h l = refl
 first_stays moment a (Some b) h l =
     ap (λ (o : Bool). cond o (Some b) (Some a))

@@ -9,6 +9,7 @@ mod HistoryLemmas
 mod Keys
 mod HopLemmas
 mod HolderLemmas
+mod Stretches
 mod Raising
 mod SearchLemmas
 mod Bounds
@@ -16,6 +17,9 @@ mod Spans
 mod Onwards
 mod Found
 mod Relists
+mod RunLemmas
+mod RunHops
+mod Rearranged
 mod Replays
 mod Makers
 mod ReasonLemmas

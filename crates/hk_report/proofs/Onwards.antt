@@ -44,7 +44,7 @@ Held P (Some x) = P x
 
 -- ---- tests
 
-and_yes : (a b : Bool) → a ≡ true → b ≡ true → (a && b) ≡ true
+pub and_yes : (a b : Bool) → a ≡ true → b ≡ true → (a && b) ≡ true
 and_yes true true h g = refl
 and_yes true false h g = absurd (true≢false (sym g))
 and_yes false b h g = absurd (true≢false (sym h))
@@ -80,14 +80,14 @@ chosen false x y h = absurd (cc)
 
 -- ---- moments
 
-later_first : (a b : ℕ) → a ≤ later a b
+pub later_first : (a b : ℕ) → a ≤ later a b
 later_first a b = by (nat_lt a b) refl
   where
     by : (o : Bool) → nat_lt a b ≡ o → a ≤ cond o b a
     by true e = let h = ltb-true a b e in omega (arith, h)
     by false e = omega arith
 
-later_second : (a b : ℕ) → b ≤ later a b
+pub later_second : (a b : ℕ) → b ≤ later a b
 later_second a b = by (nat_lt a b) refl
   where
     by : (o : Bool) → nat_lt a b ≡ o → b ≤ cond o b a
@@ -102,7 +102,7 @@ later_most a b m h g = by (nat_lt a b)
     by false = h
 
 -- what holds of both moments holds of the later one
-later_holds : (P : ℕ → Type 0) (a b : ℕ) → P a → P b → P (later a b)
+pub later_holds : (P : ℕ → Type 0) (a b : ℕ) → P a → P b → P (later a b)
 later_holds P a b h g = by (nat_lt a b)
   where
     by : (o : Bool) → P (cond o b a)
@@ -110,7 +110,7 @@ later_holds P a b h g = by (nat_lt a b)
     by false = h
 
 -- from an earlier moment no less can be made
-good_earlier : (modify unconf : Bool) (m n : ℕ) (latest : Latest) → m ≤ n
+pub good_earlier : (modify unconf : Bool) (m n : ℕ) (latest : Latest) → m ≤ n
     → ((modify && nat_lt n latest.modify) || (unconf && nat_lt n latest.unconf)) ≡ true
     → ((modify && nat_lt m latest.modify) || (unconf && nat_lt m latest.unconf)) ≡ true
 good_earlier modify unconf m n latest h g = by (or_cases (modify && nat_lt n latest.modify) (unconf && nat_lt n latest.unconf) g)

@@ -1,8 +1,8 @@
 -- The level of one hop more, by those that hold what a level has.
-use Rattle.std.proofs.Common.{◌≡◌, ℕ, zero, suc, ◌+◌, ◌<◌, ◌≤◌, List, [], ◌∷◌, map, Bool, true, false, Option, Some, None, refl, sym, ◌∙◌, ap, arith, cond, subst}
-use Rattle.std.specs.Prelude.{◌==◌, ◌&&◌, ◌||◌, ◌⊎◌, nat_lt, slice_index_or}
+use Rattle.std.proofs.Common.{◌≡◌, ℕ, suc, ◌-◌, ◌<◌, ◌≤◌, List, [], ◌∷◌, Bool, true, false, Option, Some, None, refl, sym, ◌∙◌, ap, arith, cond, subst}
+use Rattle.std.specs.Prelude.{◌==◌, ◌&&◌, ◌||◌, nat_lt}
 use mathlib.Core.Logic.{inl, inr}
-use Rattle.std.specs.List.{All}
+use Rattle.std.specs.List.{All, AllByRecursion, between}
 use Rattle.std.specs.Cmp.{ranked}
 use Rattle.std.specs.Ordering.{nat_cmp, is_eq, MatchOrdering}
 use Rattle.std.specs.declared.cmp.Ordering.{Ordering}
@@ -13,23 +13,26 @@ use Rattle.std.proofs.lemmas.Bool.{true≢false, eqb-true, eq-eqb, ne_eqb, ltb-t
 use Rattle.hk_model.specs.declared.names.Name.{Name}
 use Rattle.hk_model.specs.declared.reaches.Hop.TheVariants as hop_by
 use Rattle.hk_model.specs.State.{same_name}
-use Rattle.hk_model.proofs.Members.{Has, has_left, has_right, has_cases, has_filtered, has_filter, has_mapped, has_map}
+use Rattle.hk_model.specs.declared.entries.Cap.{Cap}
+use Rattle.hk_model.proofs.Members.{Has}
 use Rattle.hk_report.specs.declared.histories.Span.{Span}
 use Rattle.hk_report.specs.declared.histories.History.{History}
-use Rattle.hk_report.specs.declared.holders.Held.{Held}
+use Rattle.hk_report.specs.declared.holders.Stretch.{Stretch}
 use Rattle.hk_report.specs.declared.hops.Arrived.{Arrived}
 use Rattle.hk_report.specs.declared.hops.Latest.{Latest}
 use Rattle.hk_report.specs.declared.hops.Onward.{Onward}
-use Rattle.hk_report.specs.Histories.{no_history, history_of}
+use Rattle.hk_report.specs.Histories.{history_of}
 use Rattle.hk_report.specs.Hops.{later, arrived_by, arrived_whole, is_good, entry_onward, handed_onward, earlier, onward_over}
 use Rattle.hk_report.specs.Hops.{greater, from_on, entry_bound, handed_bound, no_latest, ends_before, latest_end, latest_from, next_latest}
-use Rattle.hk_report.specs.Holders.{held_by, spans_from, holds, holders_of, joined, latest_over, raised_at, raised_over}
+use Rattle.hk_report.specs.Runs.{AreRuns}
+use Rattle.hk_report.specs.Holders.{spans_in, held_at, HoldsAlone, AreHolders, joined, latest_over, latest_within, entry_most, handed_most, most_on, raised_at, raised_over}
+use Rattle.hk_report.proofs.Stretches.{all_each, alone_each, held_one, has_place, got_has, between_get, has_between}
 
 -- ---- what all that a level keeps gives
 
-abbrev pub raised_by : (Name → Bool) → (Name → List Held) → (Name → Latest) → List (Name × Latest) → Name → Latest
-raised_by made holders level [] = level
-raised_by made holders level (kept ∷ more) = raised_by made holders (raised_over kept.1 (made kept.0) level (holders kept.0)) more
+abbrev pub raised_by : (Name → Bool) → List History → (Name → List Stretch) → (Name → Latest) → List (Name × Latest) → Name → Latest
+raised_by made histories holders level [] = level
+raised_by made histories holders level (kept ∷ more) = raised_by made histories holders (raised_over histories kept.1 (made kept.0) level (holders kept.0)) more
 
 -- ---- bounds that are at most others
 
@@ -126,6 +129,57 @@ none_over span made =
     entry : entry_bound span no_latest ≡ 0
     entry = on _ (either _ _)
 
+-- ---- of all spans of a run, by the bounds that they share
+
+on_none : (span : Span) → from_on span 0 ≡ 0
+on_none span = by (nat_lt span.until 0) refl
+  where
+    by : (o : Bool) → nat_lt span.until 0 ≡ o → cond (nat_lt span.from (cond o span.until 0)) (cond o span.until 0) 0 ≡ 0
+    by true e = absurd (let l = ltb-true span.until 0 e in omega (arith, l))
+    by false e = ap (λ (b : Bool). cond b 0 0) (le-ltb span.from 0 (omega arith))
+
+handed_on : (span : Span) (latest : Latest) (made : Bool) → handed_bound span latest made ≡ from_on span (handed_most made latest)
+handed_on span latest true = refl
+handed_on span latest false = sym (on_none span)
+
+entry_on : (span : Span) (cap : Cap) (latest : Latest) → span.cap ≡ cap → entry_bound span latest ≡ from_on span (entry_most cap latest)
+entry_on span cap latest e = ap (λ (c : Cap). from_on span (entry_most c latest)) e
+
+abbrev pub bounds : ℕ → ℕ → Latest
+bounds modify unconf = record { modify = modify; unconf = unconf }
+
+pub latest_run : (run : List Span) (cap : Cap) (latest : Latest) (made : Bool) → AllByRecursion (λ (s : Span). s.cap ≡ cap) run
+    → bounds (most_on run (handed_most made latest)) (most_on run (entry_most cap latest)) ≡ latest_within run latest made
+latest_run [] cap latest made h = refl
+latest_run (s ∷ run) cap latest made h =
+    ap (λ (n : ℕ). bounds (greater n (most_on run (handed_most made latest))) (greater (from_on s (entry_most cap latest)) (most_on run (entry_most cap latest))))
+    (sym (handed_on s latest made))
+    ∙ ap (λ (n : ℕ). bounds (greater (handed_bound s latest made) (most_on run (handed_most made latest))) (greater n (most_on run (entry_most cap latest))))
+    (sym (entry_on s cap latest h.0))
+    ∙ ap (joined (latest_over s latest made)) (latest_run run cap latest made h.1)
+
+pub latest_by : (spans whole : List Span) (first end : ℕ) (cap : Cap) (latest : Latest) (made : Bool) (modify unconf by_modify by_unconf : ℕ) → spans ≡ whole
+    → AllByRecursion (λ (s : Span). s.cap ≡ cap) (between first end whole) → modify ≡ handed_most made latest → unconf ≡ entry_most cap latest
+    → by_modify ≡ most_on (between first end spans) modify → by_unconf ≡ most_on (between first end spans) unconf
+    → bounds by_modify by_unconf ≡ latest_within (between first end whole) latest made
+latest_by spans whole first end cap latest made modify unconf by_modify by_unconf e h m u x y =
+    ap (λ (n : ℕ). bounds n by_unconf) (x ∙ ap (λ (xs : List Span). most_on (between first end xs) modify) e ∙ ap (most_on (between first end whole)) m)
+    ∙ ap (λ (n : ℕ). bounds (most_on (between first end whole) (handed_most made latest)) n)
+    (y ∙ ap (λ (xs : List Span). most_on (between first end xs) unconf) e ∙ ap (most_on (between first end whole)) u)
+    ∙ latest_run (between first end whole) cap latest made h
+
+-- none can be gone over below no moment
+most_none : (run : List Span) → most_on run 0 ≡ 0
+most_none [] = refl
+most_none (s ∷ run) = ap (λ (n : ℕ). greater n (most_on run 0)) (on_none s) ∙ ap (λ (n : ℕ). greater 0 n) (most_none run)
+
+pub latest_off : (run : List Span) (cap : Cap) (latest : Latest) (made : Bool) (modify unconf : ℕ) → AllByRecursion (λ (s : Span). s.cap ≡ cap) run
+    → modify ≡ handed_most made latest → unconf ≡ entry_most cap latest → modify ≡ 0 → unconf ≡ 0 → bounds modify unconf ≡ latest_within run latest made
+latest_off run cap latest made modify unconf h m u x y =
+    ap (λ (n : ℕ). bounds n unconf) (x ∙ sym (most_none run) ∙ ap (most_on run) (sym x ∙ m))
+    ∙ ap (λ (n : ℕ). bounds (most_on run (handed_most made latest)) n) (y ∙ sym (most_none run) ∙ ap (most_on run) (sym y ∙ u))
+    ∙ latest_run run cap latest made h
+
 -- ---- of all spans of a list
 
 module _ (made : Name → Bool) (level : Name → Latest) where
@@ -178,98 +232,79 @@ at_least level name latest x most h g = by (name.0 == x.0) refl
     by true e = both_joined (level x) latest most h (g (name_is name x (eqb-true name.0 x.0 e)))
     by false e = h
 
-module _ (latest : Latest) (made : Bool) where
-  abbrev given : Held → Latest
-  given held = latest_over held.span latest made
+module _ (histories : List History) (latest : Latest) (made : Bool) where
+  abbrev given : Stretch → Latest
+  given held = latest_within (spans_in histories held) latest made
 
-  abbrev after : (Name → Latest) → Held → Name → Latest
+  abbrev after : (Name → Latest) → Stretch → Name → Latest
   after level held = raised_at level held.by (given held)
 
-  over_keeps : (helds : List Held) (level : Name → Latest) (x : Name) → AtMost (level x) (raised_over latest made level helds x)
+  over_keeps : (helds : List Stretch) (level : Name → Latest) (x : Name) → AtMost (level x) (raised_over histories latest made level helds x)
   over_keeps [] level x = at_most_same (level x)
   over_keeps (held ∷ helds) level x =
-      at_most_through (level x) (after level held x) (raised_over latest made (after level held) helds x) (at_other level held.by (given held) x)
+      at_most_through (level x) (after level held x) (raised_over histories latest made (after level held) helds x) (at_other level held.by (given held) x)
       (over_keeps helds (after level held) x)
 
-  over_has : (helds : List Held) (level : Name → Latest) (held : Held) → Has helds held → AtMost (given held) (raised_over latest made level helds held.by)
+  over_has : (helds : List Stretch) (level : Name → Latest) (held : Stretch) → Has helds held → AtMost (given held) (raised_over histories latest made level helds held.by)
   over_has [] level held h = absurd h
   over_has (first ∷ helds) level held (inl e) =
-      subst (λ (g : Held). AtMost (given g) (raised_over latest made (after level first) helds g.by)) e
-      (at_most_through (given first) (after level first first.by) (raised_over latest made (after level first) helds first.by) (at_same level first.by (given first))
+      subst (λ (g : Stretch). AtMost (given g) (raised_over histories latest made (after level first) helds g.by)) e
+      (at_most_through (given first) (after level first first.by) (raised_over histories latest made (after level first) helds first.by) (at_same level first.by (given first))
       (over_keeps helds (after level first) first.by))
   over_has (first ∷ helds) level held (inr h) = over_has helds (after level first) held h
 
-  over_least : (helds : List Held) (level : Name → Latest) (x : Name) (most : Latest) → AtMost (level x) most
-      → ((held : Held) → Has helds held → held.by ≡ x → AtMost (given held) most) → AtMost (raised_over latest made level helds x) most
+  over_least : (helds : List Stretch) (level : Name → Latest) (x : Name) (most : Latest) → AtMost (level x) most
+      → ((held : Stretch) → Has helds held → held.by ≡ x → AtMost (given held) most) → AtMost (raised_over histories latest made level helds x) most
   over_least [] level x most h each = h
   over_least (held ∷ helds) level x most h each =
       over_least helds (after level held) x most (at_least level held.by (given held) x most h (each held (inl refl))) (λ other g. each other (inr g))
 
 -- ---- of all that a level keeps
 
-module _ (made : Name → Bool) (holders : Name → List Held) where
+module _ (made : Name → Bool) (histories : List History) (holders : Name → List Stretch) where
   abbrev next : (Name → Latest) → Name × Latest → Name → Latest
-  next level kept = raised_over kept.1 (made kept.0) level (holders kept.0)
+  next level kept = raised_over histories kept.1 (made kept.0) level (holders kept.0)
 
-  by_keeps : (all : List (Name × Latest)) (level : Name → Latest) (x : Name) → AtMost (level x) (raised_by made holders level all x)
+  by_keeps : (all : List (Name × Latest)) (level : Name → Latest) (x : Name) → AtMost (level x) (raised_by made histories holders level all x)
   by_keeps [] level x = at_most_same (level x)
   by_keeps (kept ∷ all) level x =
-      at_most_through (level x) (next level kept x) (raised_by made holders (next level kept) all x) (over_keeps kept.1 (made kept.0) (holders kept.0) level x)
+      at_most_through (level x) (next level kept x) (raised_by made histories holders (next level kept) all x) (over_keeps histories kept.1 (made kept.0) (holders kept.0) level x)
       (by_keeps all (next level kept) x)
 
-  by_has : (all : List (Name × Latest)) (level : Name → Latest) (kept : Name × Latest) (held : Held) → Has all kept → Has (holders kept.0) held
-      → AtMost (latest_over held.span kept.1 (made kept.0)) (raised_by made holders level all held.by)
+  by_has : (all : List (Name × Latest)) (level : Name → Latest) (kept : Name × Latest) (held : Stretch) → Has all kept → Has (holders kept.0) held
+      → AtMost (latest_within (spans_in histories held) kept.1 (made kept.0)) (raised_by made histories holders level all held.by)
   by_has [] level kept held h g = absurd h
   by_has (first ∷ all) level kept held (inl e) g =
-      at_most_through (latest_over held.span kept.1 (made kept.0)) (next level first held.by) (raised_by made holders (next level first) all held.by)
-      (subst (λ (k : Name × Latest). AtMost (latest_over held.span kept.1 (made kept.0)) (next level k held.by)) (sym e)
-      (over_has kept.1 (made kept.0) (holders kept.0) level held g))
+      at_most_through (latest_within (spans_in histories held) kept.1 (made kept.0)) (next level first held.by) (raised_by made histories holders (next level first) all held.by)
+      (subst (λ (k : Name × Latest). AtMost (latest_within (spans_in histories held) kept.1 (made kept.0)) (next level k held.by)) (sym e)
+      (over_has histories kept.1 (made kept.0) (holders kept.0) level held g))
       (by_keeps all (next level first) held.by)
   by_has (first ∷ all) level kept held (inr h) g = by_has all (next level first) kept held h g
 
   by_least : (all : List (Name × Latest)) (level : Name → Latest) (x : Name) (most : Latest) → AtMost (level x) most
-      → ((kept : Name × Latest) (held : Held) → Has all kept → Has (holders kept.0) held → held.by ≡ x → AtMost (latest_over held.span kept.1 (made kept.0)) most)
-      → AtMost (raised_by made holders level all x) most
+      → ((kept : Name × Latest) (held : Stretch) → Has all kept → Has (holders kept.0) held → held.by ≡ x → AtMost (latest_within (spans_in histories held) kept.1 (made kept.0)) most)
+      → AtMost (raised_by made histories holders level all x) most
   by_least [] level x most h each = h
   by_least (kept ∷ all) level x most h each =
       by_least all (next level kept) x most
-      (over_least kept.1 (made kept.0) (holders kept.0) level x most h (λ held g e. each kept held (inl refl) g e))
+      (over_least histories kept.1 (made kept.0) (holders kept.0) level x most h (λ held g e. each kept held (inl refl) g e))
       (λ other held g. each other held (inr g))
 
--- ---- who holds what
+-- ---- of all spans of a run
 
-abbrev numbered : ℕ → Name
-numbered n = record { 0 = n }
+within_has : (spans : List Span) (latest : Latest) (made : Bool) (span : Span) → Has spans span → AtMost (latest_over span latest made) (latest_within spans latest made)
+within_has [] latest made span h = absurd h
+within_has (s ∷ spans) latest made span (inl e) =
+    subst (λ (x : Span). AtMost (latest_over x latest made) (latest_within (s ∷ spans) latest made)) e (left_joined (latest_over s latest made) (latest_within spans latest made))
+within_has (s ∷ spans) latest made span (inr h) =
+    at_most_through (latest_over span latest made) (latest_within spans latest made) (latest_within (s ∷ spans) latest made) (within_has spans latest made span h)
+    (right_joined (latest_over s latest made) (latest_within spans latest made))
 
--- the list that a span of all is of
-record OfList (n : ℕ) (hs : List History) (held : Held) : Type 0 where
-  place : ℕ
-  by_is : held.by.0 ≡ n + place
-  has : Has (slice_index_or hs place no_history).spans held.span
-
-held_from : (n : ℕ) (hs : List History) (held : Held) → Has (spans_from n hs) held → OfList n hs held
-held_from n [] held h = absurd h
-held_from n (first ∷ hs) held h = by (λ g. held_from (n + 1) hs held g) (has_cases (map (held_by (numbered n)) first.spans) (spans_from (n + 1) hs) held h)
-  where
-    by : (Has (spans_from (n + 1) hs) held → OfList (n + 1) hs held) → Has (map (held_by (numbered n)) first.spans) held ⊎ Has (spans_from (n + 1) hs) held
-        → OfList n (first ∷ hs) held
-    by later (inl g) =
-        let m = has_mapped (held_by (numbered n)) first.spans held g in
-        let number = ap (λ (k : Held). k.by.0) m.1.1 in
-        record { place = 0; by_is = omega (arith, number); has = subst (λ (k : Held). Has first.spans k.span) m.1.1 m.1.0 }
-    by later (inr g) =
-        let rest = later g in
-        let number = rest.by_is in
-        record { place = suc rest.place; by_is = omega (arith, number); has = rest.has }
-
-from_held : (n : ℕ) (hs : List History) (i : ℕ) (x : Name) (span : Span) → x.0 ≡ n + i → Has (slice_index_or hs i no_history).spans span → Has (spans_from n hs) (held_by x span)
-from_held n [] i x span e h = absurd h
-from_held n (first ∷ hs) zero x span e h =
-    let same : numbered n ≡ x = name_is (numbered n) x (omega (arith, e)) in
-    has_left (map (held_by (numbered n)) first.spans) (spans_from (n + 1) hs) (held_by x span)
-    (subst (λ (y : Name). Has (map (held_by (numbered n)) first.spans) (held_by y span)) same (has_map (held_by (numbered n)) first.spans span h))
-from_held n (first ∷ hs) (suc i) x span e h =
-    has_right (map (held_by (numbered n)) first.spans) (spans_from (n + 1) hs) (held_by x span) (from_held (n + 1) hs i x span (omega (arith, e)) h)
+within_least : (spans : List Span) (latest : Latest) (made : Bool) (most : Latest) → ((span : Span) → Has spans span → AtMost (latest_over span latest made) most)
+    → AtMost (latest_within spans latest made) most
+within_least [] latest made most f = none_at_most most
+within_least (s ∷ spans) latest made most f =
+    both_joined (latest_over s latest made) (latest_within spans latest made) most (f s (inl refl)) (within_least spans latest made most (λ x h. f x (inr h)))
 
 -- ---- the level of one hop more
 
@@ -290,31 +325,34 @@ all_has P [] x h all = absurd h
 all_has P (y ∷ xs) x (inl e) all = subst P e (all 0 y (omega arith))
 all_has P (y ∷ xs) x (inr h) all = all_has P xs x h (λ k d l. all (suc k) d (omega (arith, l)))
 
-module _ (made : Name → Bool) (histories : List History) (all : List (Name × Latest))
-    (kept_at : (kept : Name × Latest) → Has all kept → lookup (same_name kept.0) all ≡ Some kept.1) where
+module _ (made : Name → Bool) (histories : List History) (runs : List (List ℕ)) (cut : AreRuns histories runs) (holders : List (List Stretch))
+    (are : AreHolders histories runs holders) (all : List (Name × Latest)) (kept_at : (kept : Name × Latest) → Has all kept → lookup (same_name kept.0) all ≡ Some kept.1) where
   abbrev level : Name → Latest
   level name = unwrap_or (lookup (same_name name) all) no_latest
 
   abbrev raised_all : Name → Latest
-  raised_all = raised_by made (holders_of histories) (λ name. no_latest) all
+  raised_all = raised_by made histories (held_at holders) (λ name. no_latest) all
 
   above : (x : Name) → AtMost (raised_all x) (next_latest made histories level x)
-  above x = by_least made (holders_of histories) all (λ name. no_latest) x (next_latest made histories level x) (none_at_most (next_latest made histories level x)) each
+  above x = by_least made histories (held_at holders) all (λ name. no_latest) x (next_latest made histories level x) (none_at_most (next_latest made histories level x)) each
     where
-      each : (kept : Name × Latest) (held : Held) → Has all kept → Has (holders_of histories kept.0) held → held.by ≡ x
-          → AtMost (latest_over held.span kept.1 (made kept.0)) (next_latest made histories level x)
-      each kept held h g e =
-          let found = has_filtered (holds kept.0) (spans_from 0 histories) held g in
-          let of_list = held_from 0 histories held found.0 in
-          let number = of_list.by_is in
-          let place : of_list.place ≡ held.by.0 = omega (arith, number) in
-          let same : held.span.cap.name ≡ kept.0 = name_is held.span.cap.name kept.0 (eqb-true held.span.cap.name.0 kept.0.0 found.1) in
-          let here : Has (history_of histories held.by).spans held.span = subst (λ (n : ℕ). Has (slice_index_or histories n no_history).spans held.span) place of_list.has in
-          let there : Has (history_of histories x).spans held.span = subst (λ (y : Name). Has (history_of histories y).spans held.span) e here in
-          let is : level kept.0 ≡ kept.1 = ap (λ (o : Option Latest). unwrap_or o no_latest) (kept_at kept h) in
-          subst (λ (l : Latest). AtMost (latest_over held.span l (made kept.0)) (next_latest made histories level x)) is
-          (subst (λ (y : Name). AtMost (latest_over held.span (level y) (made y)) (next_latest made histories level x)) same
-          (from_has made level (history_of histories x).spans no_latest held.span there))
+      each : (kept : Name × Latest) (held : Stretch) → Has all kept → Has (held_at holders kept.0) held → held.by ≡ x
+          → AtMost (latest_within (spans_in histories held) kept.1 (made kept.0)) (next_latest made histories level x)
+      each kept held h g e = within_least (spans_in histories held) kept.1 (made kept.0) (next_latest made histories level x) span
+        where
+          alone : HoldsAlone histories kept.0 held
+          alone = alone_each histories runs cut holders are kept.0 held g
+
+          span : (s : Span) → Has (spans_in histories held) s → AtMost (latest_over s kept.1 (made kept.0)) (next_latest made histories level x)
+          span s f =
+              let cap = all_each (λ (y : Span). y.cap ≡ held.cap) (spans_in histories held) s alone.alike f in
+              let same : s.cap.name ≡ kept.0 = ap (λ (c : Cap). c.name) cap ∙ alone.name_is in
+              let there : Has (history_of histories x).spans s =
+              subst (λ (y : Name). Has (history_of histories y).spans s) e (has_between (history_of histories held.by).spans held.first held.end s f) in
+              let is : level kept.0 ≡ kept.1 = ap (λ (o : Option Latest). unwrap_or o no_latest) (kept_at kept h) in
+              subst (λ (l : Latest). AtMost (latest_over s l (made kept.0)) (next_latest made histories level x)) is
+              (subst (λ (y : Name). AtMost (latest_over s (level y) (made y)) (next_latest made histories level x)) same
+              (from_has made level (history_of histories x).spans no_latest s there))
 
   below : (x : Name) → AtMost (next_latest made histories level x) (raised_all x)
   below x = from_least made level (history_of histories x).spans no_latest (raised_all x) (none_at_most (raised_all x)) each
@@ -327,19 +365,26 @@ module _ (made : Name → Bool) (histories : List History) (all : List (Name × 
           by (Some latest) e =
               let found = looked_up (same_name span.cap.name) all latest e in
               let same : span.cap.name ≡ found.0 = name_is span.cap.name found.0 (same_number span.cap.name.0 found.0.0 found.1.1) in
-              let here : Has (holders_of histories span.cap.name) (held_by x span) =
-              has_filter (holds span.cap.name) (spans_from 0 histories) (held_by x span) (from_held 0 histories x.0 x span (omega arith) h)
-              (eq-eqb span.cap.name.0 span.cap.name.0 refl) in
               let there : Has all (span.cap.name, latest) = subst (λ (y : Name). Has all (y, latest)) (sym same) found.1.0 in
-              by_has made (holders_of histories) all (λ name. no_latest) (span.cap.name, latest) (held_by x span) there here
+              let place = has_place (history_of histories x).spans span h in
+              let held = held_one histories runs cut holders are x place.0 span place.1 in
+              let here : Has (spans_in histories held.stretch) span =
+              subst (λ (y : Name). Has (between held.stretch.first held.stretch.end (history_of histories y).spans) span) (sym held.by_is)
+              (got_has (between held.stretch.first held.stretch.end (history_of histories x).spans) (place.0 - held.stretch.first) span
+              (between_get (history_of histories x).spans held.stretch.first held.stretch.end place.0 span held.from held.until place.1)) in
+              at_most_through (latest_over span latest (made span.cap.name)) (latest_within (spans_in histories held.stretch) latest (made span.cap.name)) (raised_all x)
+              (within_has (spans_in histories held.stretch) latest (made span.cap.name) span here)
+              (subst (λ (y : Name). AtMost (latest_within (spans_in histories held.stretch) latest (made span.cap.name)) (raised_all y)) held.by_is
+              (by_has made histories (held_at holders) all (λ name. no_latest) (span.cap.name, latest) held.stretch there held.kept))
 
   level_is : raised_all ≡ next_latest made histories level
   level_is = λ i x. both_ways (raised_all x) (next_latest made histories level x) (above x) (below x) i
 
-pub level_next : (made : Name → Bool) (histories : List History) (all : List (Name × Latest)) → All (λ kept. lookup (same_name kept.0) all ≡ Some kept.1) all
-    → raised_by made (holders_of histories) (λ name. no_latest) all ≡ next_latest made histories (λ name. unwrap_or (lookup (same_name name) all) no_latest)
-level_next made histories all found =
-    level_is made histories all (λ kept h. all_has (λ (k : Name × Latest). lookup (same_name k.0) all ≡ Some k.1) all kept h found)
+pub level_next : (made : Name → Bool) (histories : List History) (runs : List (List ℕ)) (holders : List (List Stretch)) (all : List (Name × Latest)) → AreRuns histories runs
+    → AreHolders histories runs holders → All (λ kept. lookup (same_name kept.0) all ≡ Some kept.1) all
+    → raised_by made histories (held_at holders) (λ name. no_latest) all ≡ next_latest made histories (λ name. unwrap_or (lookup (same_name name) all) no_latest)
+level_next made histories runs holders all cut are found =
+    level_is made histories runs cut holders are all (λ kept h. all_has (λ (k : Name × Latest). lookup (same_name k.0) all ≡ Some k.1) all kept h found)
 
 -- ---- a level that is raised at one object
 

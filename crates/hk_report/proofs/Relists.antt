@@ -147,7 +147,7 @@ spans_relisted moment maker entries h i span g =
 
 -- ---- what stands and what has ended
 
-cap_is : (a b : Cap) → same_cap a b ≡ true → a ≡ b
+pub cap_is : (a b : Cap) → same_cap a b ≡ true → a ≡ b
 cap_is a b h =
     let names = eqb-true a.name.0 b.name.0 (first_so (a.name.0 == b.name.0) (a.rights == b.rights) h) in
     let rights = eqb-true a.rights b.rights (second_so (a.name.0 == b.name.0) (a.rights == b.rights) h) in

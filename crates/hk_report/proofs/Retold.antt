@@ -19,6 +19,7 @@ use Rattle.hk_report.specs.Families.{changes_by, changes_from, families_after, f
 use Rattle.hk_report.specs.Histories.{finished_below, histories_after, noted, opened_below}
 use Rattle.hk_report.specs.Reasons.{AreFew}
 use Rattle.hk_report.specs.Retold.{IsRetold, IsToldMore}
+use Rattle.hk_report.specs.Runs.{AreRearranged}
 use Rattle.hk_report.specs.Written.{AreWritten, IsReport}
 use Rattle.hk_report.proofs.Lengths.{lines_few}
 use Rattle.hk_report.proofs.Explained.{few_told}
@@ -162,14 +163,14 @@ pub retold_few : {K : Type 0} (w : WorldValue) (lines : List Line) (r : Retellin
 retold_few w lines r world h = few_told w lines r.telling.families.changes.items world h.steps h.changes
 
 -- the text of what was told
-pub retold : {K : Type 0} (r : Retelling K) (histories : List History) (params : List (List Entry)) (families : List (List Begun)) (found : List BareChange)
-    (none mid text : List ℕ)
-    → histories ≡ finished_below (r.count + 1) (length r.telling.histories.items) r.telling.histories.items → params ≡ r.telling.params.items
+pub retold : {K : Type 0} (r : Retelling K) (told histories : List History) (params : List (List Entry)) (families : List (List Begun)) (found : List BareChange)
+    (count : ℕ) (none mid text : List ℕ)
+    → told ≡ finished_below (r.count + 1) (length r.telling.histories.items) r.telling.histories.items → AreRearranged told histories → params ≡ r.telling.params.items
     → families ≡ r.telling.families.calls.items → found ≡ r.telling.families.changes.items
-    → none ≡ [] → AreWritten families histories params found none mid → text ≡ mid ++ ended_line (codes "changes " ++ decimal (length found))
+    → count ≡ length found → none ≡ [] → AreWritten families histories params found none mid → text ≡ mid ++ ended_line (codes "changes " ++ decimal count)
     → (w : WorldValue) → (lines : List Line) → IsWorld w → IsRetold w lines r → IsReport w lines text
-retold r histories params families found none mid text h p f c n told e w lines world t =
-    reported w lines histories params families found none mid text world t.steps
+retold r told histories params families found count none mid text h same p f c many n is e w lines world t =
+    reported w lines told histories params families found count none mid text world t.steps
     (h ∙ ap (λ (k : ℕ). finished_below (k + 1) (length r.telling.histories.items) r.telling.histories.items) t.count
     ∙ ap (λ (hs : List History). finished_below (length lines + 1) (length hs) hs) t.histories)
-    (p ∙ t.params) (f ∙ t.calls) (c ∙ t.changes) n told e
+    same (p ∙ t.params) (f ∙ t.calls) (c ∙ t.changes) many n is e

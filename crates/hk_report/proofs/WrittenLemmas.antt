@@ -1,5 +1,5 @@
 -- Changes that are written one after another.
-use Rattle.std.proofs.Common.{◌≡◌, ℕ, suc, ◌+◌, ◌<◌, List, [], ◌∷◌, ◌++◌, length, replicate, take, refl, sym, ap, ◌∙◌, subst, append_assoc}
+use Rattle.std.proofs.Common.{◌≡◌, ℕ, suc, ◌+◌, ◌<◌, List, [], ◌∷◌, ◌++◌, length, replicate, take, refl, sym, ap, ◌∙◌, arith, subst, append_assoc}
 use Rattle.std.specs.Prelude.{codes, slice_index_or}
 use Rattle.std.specs.Fmt.{decimal}
 use Rattle.std.specs.List.{flat_map}
@@ -17,6 +17,7 @@ use Rattle.hk_report.specs.ChangeTexts.{change_text}
 use Rattle.hk_report.specs.Doings.{doings, params_given}
 use Rattle.hk_report.specs.Families.{changes_from, families_after}
 use Rattle.hk_report.specs.Histories.{told_histories}
+use Rattle.hk_report.specs.Runs.{AreRearranged}
 use Rattle.hk_report.specs.Reasons.{IsTold, AreTold}
 use Rattle.hk_report.specs.Written.{AreWritten, IsReport}
 use Rattle.hk_report.proofs.ReasonLemmas.{told_none, told_more}
@@ -56,17 +57,28 @@ module _ (families : List (List Begun)) (histories : List History) (params : Lis
   told_many (b ∷ bares) [] h = absurd h
   told_many (b ∷ bares) (c ∷ changes) h = ap suc (told_many bares changes h.1)
 
+-- of no changes none is written
+pub written_empty : (families : List (List Begun)) (histories : List History) (params : List (List Entry)) (bares : List BareChange) (before : List ℕ) → length bares ≡ 0
+    → AreWritten families histories params bares before before
+written_empty families histories params [] before e = written_none families histories params [] before
+written_empty families histories params (b ∷ bares) before e = absurd (omega (arith, e))
+
+pub told_empty : (families : List (List Begun)) (histories : List History) (params : List (List Entry)) (bares : List BareChange) (changes : List Change) → length bares ≡ 0
+    → changes ≡ [] → AreTold families histories params bares changes
+told_empty families histories params [] changes e h = told_none families histories params [] changes h
+told_empty families histories params (b ∷ bares) changes e h = absurd (omega (arith, e))
+
 -- the whole text
-pub reported : (w : WorldValue) (lines : List Line) (histories : List History) (params : List (List Entry)) (families : List (List Begun)) (found : List BareChange)
-    (none mid text : List ℕ) → IsWorld w → AreStepsOf w lines
-    → histories ≡ told_histories w lines → params ≡ params_given w (opened w) lines
+pub reported : (w : WorldValue) (lines : List Line) (told histories : List History) (params : List (List Entry)) (families : List (List Begun)) (found : List BareChange)
+    (count : ℕ) (none mid text : List ℕ) → IsWorld w → AreStepsOf w lines
+    → told ≡ told_histories w lines → AreRearranged told histories → params ≡ params_given w (opened w) lines
     → families ≡ families_after 0 (doings w (opened w) lines) (replicate (opened w).state.next_inc.0 [])
     → found ≡ changes_from 0 (replicate (opened w).state.next_inc.0 []) (doings w (opened w) lines)
-    → none ≡ [] → AreWritten families histories params found none mid → text ≡ mid ++ ended_line (codes "changes " ++ decimal (length found)) → IsReport w lines text
-reported w lines histories params families found none mid text world steps h p g c n told e = (
-  told.changes,
-  report_is w lines histories params families found told.changes world steps h p g c told.told,
+    → count ≡ length found → none ≡ [] → AreWritten families histories params found none mid → text ≡ mid ++ ended_line (codes "changes " ++ decimal count) → IsReport w lines text
+reported w lines told histories params families found count none mid text world steps h same p g c many n is e = (
+  is.changes,
+  report_is w lines told histories params families found is.changes world steps h same p g c is.told,
   e
-      ∙ ap (λ (xs : List ℕ). xs ++ ended_line (codes "changes " ++ decimal (length found))) (told.text_is ∙ ap (λ (xs : List ℕ). xs ++ flat_map change_text told.changes) n)
-      ∙ ap (λ (k : ℕ). flat_map change_text told.changes ++ ended_line (codes "changes " ++ decimal k)) (sym (told_many families histories params found told.changes told.told)),
+      ∙ ap (λ (xs : List ℕ). xs ++ ended_line (codes "changes " ++ decimal count)) (is.text_is ∙ ap (λ (xs : List ℕ). xs ++ flat_map change_text is.changes) n)
+      ∙ ap (λ (k : ℕ). flat_map change_text is.changes ++ ended_line (codes "changes " ++ decimal k)) (many ∙ sym (told_many families histories params found is.changes is.told)),
 )

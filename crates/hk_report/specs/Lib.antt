@@ -3,6 +3,7 @@ pub mod Doings
 pub mod Histories
 pub mod Families
 pub mod Hops
+pub mod Runs
 pub mod Holders
 pub mod Searches
 pub mod Reasons

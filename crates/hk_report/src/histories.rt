@@ -56,7 +56,7 @@ fn cap_at(entries: &[Entry], index: usize) -> Option<Cap>
 }
 
 /// Whether two capabilities are the same.
-fn same_cap(a: Cap, b: Cap) -> bool
+pub(crate) fn same_cap(a: Cap, b: Cap) -> bool
     ensures { result ≡ same_cap a b }
 {
     a.name.0 == b.name.0 && a.rights.bits() == b.rights.bits()

@@ -6,12 +6,14 @@ ghost use Rattle.std.specs.Ordering.{nat_cmp, is_lt};
 ghost use Rattle.hk_model.specs.Reaches.{index_of, moment_of};
 ghost use Rattle.hk_model.specs.Changes.{hop_key};
 ghost use Rattle.hk_report.specs.Histories.{history_of};
-ghost use Rattle.hk_report.specs.Hops.{same_begun, has_begun, is_made, next_latest, later, greater, lesser, arrived_by, arrived_whole, latest_at, latest_end, is_good, entry_onward, handed_onward, earlier, onward_over, first_from, from_on, entry_bound, handed_bound};
-ghost use Rattle.hk_report.specs.Holders.{AreHolders, holders_of, joined, latest_over, raised_at, raised_over};
+ghost use Rattle.hk_report.specs.Runs.{IsRun, AreRuns, AreRuns-prop};
+ghost use Rattle.hk_report.specs.Hops.{same_begun, has_begun, is_made, next_latest, later, greater, lesser, arrived_by, arrived_whole, latest_at, latest_end, is_good, entry_onward, handed_onward, earlier, onward_over, first_from, from_on};
+ghost use Rattle.hk_report.specs.Holders.{AreHolders, HoldsAlone, held_at, spans_in, joined, latest_within, entry_most, handed_most, most_on, raised_at, raised_over};
 
 use crate::families::{Begun, calls_over};
 use crate::histories::{History, Span};
-use crate::holders::Held;
+use crate::holders::Stretch;
+use crate::runs::{ends_at, first_open, spans_at};
 use hk_model::{Cap, Hop, Items, Name, NoMemory};
 use hk_rights::Right;
 use std::alloc::Global;
@@ -66,9 +68,12 @@ pub(crate) struct Ground<'a> {
     pub families: &'a [Items<Begun>],
     /// The confined call that makes the hops.
     pub begun: Begun,
-    /// The spans that hold each object, by its name.
-    pub holders: &'a [Items<Held>],
-    ghost held: { AreHolders histories.now holders.now },
+    /// The places at which the runs of each list end, by the name of its object.
+    pub runs: &'a [Items<usize>],
+    /// The runs that hold each object, by its name.
+    pub holders: &'a [Items<Stretch>],
+    ghost cut: { AreRuns histories.now runs.now } by { AreRuns-prop histories.now runs.now },
+    ghost held: { AreHolders histories.now runs.now holders.now },
 }
 
 /// Whether two calls are the same.
@@ -240,32 +245,53 @@ fn greater(a: u32, b: u32) -> u32
     if a < b { b } else { a }
 }
 
-/// From which moments a hop by the entry can be made.
-fn entry_bound(span: &Span, latest: Latest) -> u32
-    ensures { result ≡ entry_bound span.now latest }
+/// Below which moment a hop by the entry has to be made, with a capability after which the rest can be made below these.
+fn entry_most(cap: Cap, latest: Latest) -> u32
+    ensures { result ≡ entry_most cap latest }
 {
-    let modify = if span.cap.rights.has(Right::MODIFY) {
+    let modify = if cap.rights.has(Right::MODIFY) {
         latest.modify
     } else {
         0
     };
-    let unconf = if span.cap.rights.has(Right::UNCONF) {
+    let unconf = if cap.rights.has(Right::UNCONF) {
         latest.unconf
     } else {
         0
     };
-    from_on(span, greater(modify, unconf))
+    greater(modify, unconf)
 }
 
-/// From which moments it can be made to what was made under the call.
-fn handed_bound(span: &Span, latest: Latest, made: bool) -> u32
-    ensures { result ≡ handed_bound span.now latest made }
+/// Below which moment one to what was made under the call has to be made.
+fn handed_most(made: bool, latest: Latest) -> u32
+    ensures { result ≡ handed_most made latest }
 {
     if made {
-        from_on(span, greater(latest.modify, latest.unconf))
+        greater(latest.modify, latest.unconf)
     } else {
         0
     }
+}
+
+/// From which moments a hop over some span of a run can be made below a moment: over the last that has begun by then.
+#[tactic(auto, using(crate::proofs::RunLemmas::on_nothing, crate::proofs::RunLemmas::none_begun))]
+fn most_on(run: &[Span], bound: u32) -> u32
+    requires { IsRun run.now }
+    ensures { result ≡ most_on run.now bound }
+{
+    if bound == 0 {
+        return 0;
+    }
+    if let Some(span) = run.last() {
+        if span.from < bound {
+            return from_on(span, bound);
+        }
+    }
+    let begun = run.partition_point(|span| span.from < bound);
+    if begun == 0 {
+        return 0;
+    }
+    from_on(&run[begun - 1], bound)
 }
 
 /// The greater bounds of two.
@@ -275,16 +301,6 @@ fn joined(a: Latest, b: Latest) -> Latest
     Latest {
         modify: greater(a.modify, b.modify),
         unconf: greater(a.unconf, b.unconf),
-    }
-}
-
-/// From which moments a hop over a span can be made, and the rest after it.
-fn latest_over(span: &Span, latest: Latest, made: bool) -> Latest
-    ensures { result ≡ latest_over span.now latest made }
-{
-    Latest {
-        modify: handed_bound(span, latest, made),
-        unconf: entry_bound(span, latest),
     }
 }
 
@@ -371,16 +387,6 @@ impl<'a> Ground<'a> {
         }
     }
 
-    /// The spans of an object's list.
-    fn spans_of(&self, name: Name) -> &[Span]
-        ensures { result.now ≡ (history_of self.now.histories.now name).spans }
-    {
-        match self.histories.get(name.0 as usize) {
-            Some(history) => history.spans.as_slice(),
-            None => &[],
-        }
-    }
-
     /// The first hop over a span after which the rest can be made.
     #[tactic(auto, using(crate::proofs::Raising::none_onward))]
     fn onward_over(&self, level: &Level, from: &Arrived, span: &Span) -> Option<Onward>
@@ -416,33 +422,54 @@ impl<'a> Ground<'a> {
         earlier(first, self.onward_over(level, from, span))
     }
 
-    /// The first hop after which the rest can be made.
+    /// The first hop after which the rest can be made. Of a run it can go over the first span alone that has not ended.
     pub(crate) fn first_onward(&self, level: &Level, from: &Arrived) -> Option<Onward>
         ensures { result ≡ first_from (is_made self.now.families.now self.now.begun self.now.histories.now) (latest_at level.now) from.now None (history_of self.now.histories.now from.now.name).spans }
     {
-        let spans = self.spans_of(from.name);
+        let spans = spans_at(self.histories, from.name);
         let mut first = None;
-        for span in spans {
-            first = self.earlier_over(level, from, span, first);
+        let mut start = 0;
+        for end in ends_at(self.runs, from.name) {
+            if let Some(span) = first_open(&spans[start..*end], from.moment) {
+                first = self.earlier_over(level, from, span, first);
+            }
+            start = *end;
         }
         first
     }
 
-    /// The spans that hold an object.
-    fn holders_of(&self, name: Name) -> &[Held]
-        ensures { result.now ≡ holders_of self.now.histories.now name }
+    /// The runs that hold an object.
+    fn holders_of(&self, name: Name) -> &[Stretch]
+        ensures { result.now ≡ held_at self.now.holders.now name }
     {
         match self.holders.get(name.0 as usize) {
-            Some(helds) => helds.as_slice(),
+            Some(held) => held.as_slice(),
             None => &[],
         }
     }
 
-    /// What is kept for an object gives to those that held it. The spans of one list stand together, so a list is
+    /// From which moments a hop over a run can be made, and the rest after it.
+    fn latest_over(&self, held: &Stretch, latest: Latest, made: bool) -> Latest
+        requires { (name : Name) × HoldsAlone self.now.histories.now name held.now }
+        ensures { result ≡ latest_within (spans_in self.now.histories.now held.now) latest made }
+    {
+        let modify = handed_most(made, latest);
+        let unconf = entry_most(held.cap, latest);
+        if modify == 0 && unconf == 0 {
+            return Latest { modify, unconf };
+        }
+        let run = &spans_at(self.histories, held.by)[held.first..held.end];
+        Latest {
+            modify: most_on(run, modify),
+            unconf: most_on(run, unconf),
+        }
+    }
+
+    /// What is kept for an object gives to those that held it. The runs of one list stand together, so a list is
     /// looked up once.
     #[tactic(auto, using(crate::proofs::Raising::nothing_raised))]
     fn raise_holders(&self, next: &mut Level, name: Name, latest: Latest) -> Result<(), NoMemory>
-        ensures { OnOk result (latest_at next.new ≡ raised_over latest (is_made self.now.families.now self.now.begun self.now.histories.now name) (latest_at next.old) (holders_of self.now.histories.now name)) }
+        ensures { OnOk result (latest_at next.new ≡ raised_over self.now.histories.now latest (is_made self.now.families.now self.now.begun self.now.histories.now name) (latest_at next.old) (held_at self.now.holders.now name)) }
     {
         let made = self.is_made(name);
         let mut waiting = Raise {
@@ -453,7 +480,7 @@ impl<'a> Ground<'a> {
             },
         };
         for held in self.holders_of(name) {
-            let over = latest_over(&held.span, latest, made);
+            let over = self.latest_over(held, latest, made);
             next.raise_later(&mut waiting, held.by, over)?;
         }
         next.raise(waiting.name, waiting.latest)

@@ -7,8 +7,9 @@
 //! each as it is made. `counting` counts the changes as the lines of a run come. `shows` has what a
 //! kernel has to show for that, `naming` what a path names, `doings` what each line did, `replay` the
 //! lines of a history once more, `families` the confined calls that each incarnation is under,
-//! `histories` what has stood in lists, `holders` which of that holds an object, `hops` the hops over
-//! it, `searching` the search for the least reach, `reasons` each change with its reason.
+//! `histories` what has stood in lists, `runs` how that is put in order, `holders` which runs hold an
+//! object, `hops` the hops over it, `searching` the search for the least reach, `reasons` each change
+//! with its reason.
 #![tactic(auto)]
 
 mod counting;
@@ -21,6 +22,7 @@ mod naming;
 mod reasons;
 mod replay;
 mod reporting;
+mod runs;
 mod searching;
 mod shows;
 mod texts;

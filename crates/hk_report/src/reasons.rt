@@ -1,19 +1,30 @@
 //! Why a change under a confined call could be made (`docs/RULES.md`, "Changes and their reasons").
 
-ghost use Rattle.std.specs.Prelude.{◌≡◌, ◌<◌, ◌≤◌, ◌^◌, ◌+◌, length, IfOk, OnOk, string_bytes};
+ghost use Rattle.std.specs.Prelude.{◌≡◌, ◌<◌, ◌≤◌, ◌^◌, ◌+◌, length, vec_len, IfOk, OnOk, string_bytes};
+ghost use Rattle.hk_report.specs.Runs.{AreRuns, AreRuns-prop, AreRearranged};
 ghost use Rattle.hk_report.specs.Holders.{AreHolders};
 ghost use Rattle.hk_report.specs.Reasons.{params_at, IsReasoned, IsTold, AreFew, AreTold};
 ghost use Rattle.hk_report.specs.Written.{AreWritten};
 
 use crate::families::{BareChange, Begun};
 use crate::histories::History;
-use crate::holders::Held;
+use crate::holders::{Stretch, holders};
 use crate::hops::Ground;
 use crate::replay::{GivenParams, Telling};
+use crate::runs::{all_ends, rearrange_all};
 use crate::searching::Search;
 use crate::texts::write_change;
 use hk_model::{Change, Entry, Items, NoMemory, Reach};
 use std::alloc::Global;
+
+/// The runs of what has stood in lists.
+#[derive(Drop)]
+pub(crate) struct Runs {
+    /// The places at which those of each list end, by the name of its object.
+    pub ends: Vec<Items<usize>>,
+    /// Those that hold each object, by its name.
+    pub holders: Vec<Items<Stretch>>,
+}
 
 /// What the reasons of changes are found in.
 #[derive(Clone, Copy)]
@@ -24,15 +35,19 @@ pub(crate) struct Grounds<'a> {
     pub families: &'a [Items<Begun>],
     /// The merged parameters of the call that each line has begun.
     pub params: &'a [GivenParams],
-    /// The spans that hold each object, by its name.
-    pub holders: &'a [Items<Held>],
-    ghost held: { AreHolders histories.now holders.now },
+    /// The places at which the runs of each list end, by the name of its object.
+    pub runs: &'a [Items<usize>],
+    /// The runs that hold each object, by its name.
+    pub holders: &'a [Items<Stretch>],
+    ghost cut: { AreRuns histories.now runs.now } by { AreRuns-prop histories.now runs.now },
+    ghost held: { AreHolders histories.now runs.now holders.now },
 }
 
 impl<'a> Grounds<'a> {
-    /// What lines have told, with the spans that hold each object.
-    pub(crate) fn of(telling: &'a Telling, holders: &'a [Items<Held>]) -> Grounds<'a>
-        requires { AreHolders telling.now.histories.items holders.now }
+    /// What lines have told, with the runs of it.
+    fn of(telling: &'a Telling, runs: &'a Runs) -> Grounds<'a>
+        requires cut { AreRuns telling.now.histories.items runs.now.ends.items }
+        requires held { AreHolders telling.now.histories.items runs.now.ends.items runs.now.holders.items }
         ensures histories { result.histories.now ≡ telling.now.histories.items }
         ensures families { result.families.now ≡ telling.now.families.calls.items }
         ensures params { result.params.now ≡ telling.now.params.items }
@@ -41,7 +56,8 @@ impl<'a> Grounds<'a> {
             histories: telling.histories.as_slice(),
             families: telling.families.calls.as_slice(),
             params: telling.params.as_slice(),
-            holders,
+            runs: runs.ends.as_slice(),
+            holders: runs.holders.as_slice(),
         }
     }
 
@@ -65,6 +81,7 @@ impl<'a> Grounds<'a> {
             histories: self.histories,
             families: self.families,
             begun: bare.under,
+            runs: self.runs,
             holders: self.holders,
         };
         if ground.is_made(bare.object) {
@@ -95,11 +112,7 @@ impl<'a> Grounds<'a> {
 
     /// These changes, each with its reason. NoMemory is want of memory.
     #[tactic(auto, using(crate::proofs::ReasonLemmas::few_at, crate::proofs::ReasonLemmas::told_none, crate::proofs::ReasonLemmas::told_all))]
-    pub(crate) fn explain_all(
-        &self,
-        alloc: Global,
-        bares: &[BareChange],
-    ) -> Result<Vec<Change>, NoMemory>
+    fn explain_all(&self, alloc: Global, bares: &[BareChange]) -> Result<Vec<Change>, NoMemory>
         requires { AreFew bares.now }
         ensures { IfOk result (λ changes. AreTold self.now.families.now self.now.histories.now self.now.params.now bares.now changes.items) }
     {
@@ -112,7 +125,7 @@ impl<'a> Grounds<'a> {
 
     /// Writes these changes, each with its reason. NoMemory is want of memory.
     #[tactic(auto, using(crate::proofs::WrittenLemmas::written_none, crate::proofs::WrittenLemmas::written_all, crate::proofs::ReasonLemmas::few_at))]
-    pub(crate) fn write_all(
+    fn write_all(
         &self,
         alloc: Global,
         out: &mut String,
@@ -126,5 +139,52 @@ impl<'a> Grounds<'a> {
             write_change(out, &change)?;
         }
         Ok(())
+    }
+}
+
+impl Telling {
+    /// Puts what has stood in each list in order, and finds the runs of it.
+    fn order(&mut self, alloc: Global) -> Result<Runs, NoMemory>
+        ensures same { AreRearranged self.old.histories.items self.new.histories.items }
+        ensures families { self.new.families ≡ self.old.families }
+        ensures params { self.new.params ≡ self.old.params }
+        ensures cut { IfOk result (λ runs. AreRuns self.new.histories.items runs.ends.items) }
+        ensures held { IfOk result (λ runs. AreHolders self.new.histories.items runs.ends.items runs.holders.items) }
+    {
+        rearrange_all(alloc, &mut self.histories);
+        let histories = self.histories.as_slice();
+        let ends = all_ends(alloc, histories)?;
+        let holders = holders(alloc, histories, ends.as_slice())?;
+        Ok(Runs { ends, holders })
+    }
+
+    /// The changes that were told, each with its reason. What has stood in a list is put in order for it, where there is a
+    /// change. NoMemory is want of memory.
+    pub(crate) fn explain(&mut self, alloc: Global) -> Result<Vec<Change>, NoMemory>
+        requires { AreFew self.old.families.changes.items }
+        ensures same { AreRearranged self.old.histories.items self.new.histories.items }
+        ensures told { IfOk result (λ changes. AreTold self.old.families.calls.items self.new.histories.items self.old.params.items self.old.families.changes.items changes.items) }
+    {
+        if self.families.changes.is_empty() {
+            return Ok(Vec::new(alloc));
+        }
+        let runs = self.order(alloc)?;
+        let grounds = Grounds::of(self, &runs);
+        grounds.explain_all(alloc, self.families.changes.as_slice())
+    }
+
+    /// Writes them. NoMemory is want of memory.
+    pub(crate) fn write(&mut self, alloc: Global, out: &mut String) -> Result<(), NoMemory>
+        requires { AreFew self.old.families.changes.items }
+        ensures same { AreRearranged self.old.histories.items self.new.histories.items }
+        ensures count { vec_len self.new.families.changes ≡ length self.old.families.changes.items }
+        ensures written { OnOk result (AreWritten self.old.families.calls.items self.new.histories.items self.old.params.items self.old.families.changes.items (string_bytes out.old) (string_bytes out.new)) }
+    {
+        if self.families.changes.is_empty() {
+            return Ok(());
+        }
+        let runs = self.order(alloc)?;
+        let grounds = Grounds::of(self, &runs);
+        grounds.write_all(alloc, out, self.families.changes.as_slice())
     }
 }

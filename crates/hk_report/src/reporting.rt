@@ -11,8 +11,6 @@ ghost use Rattle.hk_report.specs.Retold.{IsRetold};
 ghost use Rattle.hk_report.specs.Written.{IsReport};
 
 use crate::families::{BareChange, changes_of};
-use crate::holders::holders;
-use crate::reasons::Grounds;
 use crate::replay::{Retelling, replayed, told};
 use crate::shows::Shows;
 use crate::texts::write_count;
@@ -45,16 +43,14 @@ pub fn changes_under(
 /// by rising number of the call.
 ///
 /// `lines` are steps of `world` from its opening on, in the order of the history. NoMemory is want of memory, and nothing else.
-#[tactic(auto, using(crate::proofs::Lengths::lines_few, crate::proofs::Explained::few_told, crate::proofs::Explained::report_is))]
+#[tactic(auto, using(crate::proofs::Lengths::lines_few, crate::proofs::Explained::few_told))]
 pub fn report(alloc: Global, world: &World, lines: &[Line]) -> Result<Vec<Change>, NoMemory>
     requires { AreStepsOf world.now lines.now }
     ensures { IfOk result (λ changes. AreChanges world.now lines.now changes.items) }
 {
     let _limit = world.limit();
-    let told = told(alloc, world, lines)?;
-    let holders = holders(alloc, told.histories.as_slice())?;
-    let grounds = Grounds::of(&told, holders.as_slice());
-    let changes = grounds.explain_all(alloc, told.families.changes.as_slice())?;
+    let mut told = told(alloc, world, lines)?;
+    let changes = told.explain(alloc)?;
     Ok(changes)
 }
 
@@ -67,13 +63,10 @@ impl<K: Shows> Retelling<K> {
         requires few { AreFew self.telling.families.changes.items }
         ensures { IfOk result (λ text. (w : WorldValue) → (lines : List Line) → IsWorld w → IsRetold w lines self → IsReport w lines text) }
     {
-        let told = self.end(alloc)?;
-        let holders = holders(alloc, told.histories.as_slice())?;
-        let grounds = Grounds::of(&told, holders.as_slice());
-        let bares = told.families.changes.as_slice();
+        let mut told = self.end(alloc)?;
         let mut out = String::new(alloc);
-        grounds.write_all(alloc, &mut out, bares)?;
-        write_count(&mut out, bares.len())?;
+        told.write(alloc, &mut out)?;
+        write_count(&mut out, told.families.changes.len())?;
         Ok(Text::from_string(out))
     }
 }
@@ -88,12 +81,9 @@ pub fn report_text(alloc: Global, world: &World, lines: &[Line]) -> Result<Text,
     ensures { IfOk result (λ text. IsReport world.now lines.now text) }
 {
     let _limit = world.limit();
-    let told = told(alloc, world, lines)?;
-    let holders = holders(alloc, told.histories.as_slice())?;
-    let grounds = Grounds::of(&told, holders.as_slice());
-    let bares = told.families.changes.as_slice();
+    let mut told = told(alloc, world, lines)?;
     let mut out = String::new(alloc);
-    grounds.write_all(alloc, &mut out, bares)?;
-    write_count(&mut out, bares.len())?;
+    told.write(alloc, &mut out)?;
+    write_count(&mut out, told.families.changes.len())?;
     Ok(Text::from_string(out))
 }

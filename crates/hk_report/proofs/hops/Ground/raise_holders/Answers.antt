@@ -1,0 +1,11 @@
+use Rattle.hk_report.proofs.Stretches.{alone_at}
+use Rattle.hk_report.proofs.hops.Ground.raise_holders.Goals as goal
+
+pub latest_over-over-requires : goal.latest_over-over-requires
+latest_over-over-requires c =
+    let s = c.args.self.now in
+    let name = c.args.name in (
+      name,
+      alone_at s.histories.now s.runs.now s.cut s.holders.now s.held name c.holders_of-held-items.result.now c.loop-held.held-index c.held-item.result
+          c.holders_of-held-items.ensures c.loop-held-test.true c.held-item.is,
+    )

@@ -1,0 +1,113 @@
+//! The runs in which one capability has stood at one index of a list again and again (`docs/RULES.md`, "Reaches").
+//!
+//! The spans of a run are disjoint, so of a run one span alone can matter to a hop, and halving finds it.
+
+ghost use Rattle.std.specs.Prelude.{◌≡◌, IfOk, option_copied};
+ghost use Rattle.std.specs.List.{find};
+ghost use Rattle.hk_report.specs.Histories.{history_of};
+ghost use Rattle.hk_report.specs.Runs.{precedes, IsRun, AreCut, ends_at, AreRuns, is_open, IsRearranged, AreRearranged};
+
+use crate::histories::{History, Span, same_cap};
+use hk_model::{Items, Name, NoMemory};
+use std::alloc::Global;
+use std::mem;
+
+/// Whether a span can stand before another in a run: the same capability stood at the same index, and was gone before
+/// it stood there again.
+fn precedes(a: &Span, b: &Span) -> bool
+    ensures { result ≡ precedes a.now b.now }
+{
+    a.index == b.index
+        && same_cap(a.cap, b.cap)
+        && a.from < a.until
+        && a.until <= b.from
+        && b.from < b.until
+}
+
+/// Puts what has stood in a list in order, by its index, its capability and its moment.
+fn rearrange(alloc: Global, history: &mut History)
+    ensures { IsRearranged history.old history.new }
+{
+    let mut spans = mem::replace(&mut history.spans, Items::new(alloc)).into_vec();
+    spans.sort_unstable_by_key(|span| {
+        (
+            span.index,
+            span.cap.name.0,
+            span.cap.rights.bits(),
+            span.from,
+        )
+    });
+    history.spans = Items::from_vec(spans);
+}
+
+/// Puts what has stood in each list in order, so that the spans of a run stand together.
+pub(crate) fn rearrange_all(alloc: Global, histories: &mut Vec<History>)
+    ensures { AreRearranged histories.old.items histories.new.items }
+{
+    for index in 0..histories.len() {
+        if let Some(history) = histories.get_mut(index) {
+            rearrange(alloc, history);
+        }
+    }
+}
+
+/// The places at which the runs of these spans end.
+fn ends_of(alloc: Global, spans: &[Span]) -> Result<Items<usize>, NoMemory>
+    ensures { IfOk result (λ ends. AreCut 0 ends spans.now) }
+{
+    let mut ends = Items::new(alloc);
+    for place in 1..spans.len() {
+        if !precedes(&spans[place - 1], &spans[place]) {
+            ends.push(place)?;
+        }
+    }
+    if !spans.is_empty() {
+        ends.push(spans.len())?;
+    }
+    Ok(ends)
+}
+
+/// The places at which the runs of each list end, by the name of its object. NoMemory is want of memory.
+pub(crate) fn all_ends(alloc: Global, histories: &[History]) -> Result<Vec<Items<usize>>, NoMemory>
+    ensures { IfOk result (λ all. AreRuns histories.now all.items) }
+{
+    let mut all = Vec::with_capacity(alloc, histories.len())?;
+    for history in histories {
+        all.push(ends_of(alloc, history.spans.as_slice())?)?;
+    }
+    Ok(all)
+}
+
+/// The places at which the runs of a list end.
+pub(crate) fn ends_at(all: &[Items<usize>], name: Name) -> &[usize]
+    ensures { result.now ≡ ends_at all.now name }
+{
+    match all.get(name.0 as usize) {
+        Some(ends) => ends.as_slice(),
+        None => &[],
+    }
+}
+
+/// What has stood in the list of an object.
+pub(crate) fn spans_at(histories: &[History], name: Name) -> &[Span]
+    ensures { result.now ≡ (history_of histories.now name).spans }
+{
+    match histories.get(name.0 as usize) {
+        Some(history) => history.spans.as_slice(),
+        None => &[],
+    }
+}
+
+/// The first span of a run that has not ended by a moment. Most runs are of one span, and most have not ended.
+pub(crate) fn first_open(run: &[Span], moment: u32) -> Option<&Span>
+    requires { IsRun run.now }
+    ensures { option_copied result ≡ find (is_open moment) run.now }
+{
+    if let Some(span) = run.first() {
+        if moment < span.until {
+            return Some(span);
+        }
+    }
+    let ended = run.partition_point(|span| span.until <= moment);
+    run.get(ended)
+}
