@@ -92,14 +92,15 @@ impl Shelves {
     }
 }
 
-/// The place of the shelf, of so many, that a key belongs on.
+/// The place of the shelf, of so many, that a key belongs on. Keys of names that differ in the last letter
+/// alone share one, since names that come one behind another often do.
 #[tactic(auto, unfolding(crate::specs::Shelves::shelf_of))]
 fn shelf_of(key: u64, count: usize) -> usize
     requires { 0 < count }
     ensures place { result ≡ shelf_of key count }
     ensures within { result < count }
 {
-    ((key.wrapping_mul(MIXER) >> 32) % count as u64) as usize
+    (((key >> 11).wrapping_mul(MIXER) >> 32) % count as u64) as usize
 }
 
 /// The number of a key on a shelf, which gets the one that is given where it is not there yet.
