@@ -35,10 +35,10 @@ new_apart ps t s k x n here new named opens same =
     let f : n.0 ≡ x.0 = ap (λ (m : Name). m.0) e in
     absurd (omega (arith, f, new, opens))
 
-named_once : (x : Name) → times x (x ∷ []) ≡ 1
+pub named_once : (x : Name) → times x (x ∷ []) ≡ 1
 named_once x = let z : times x [] ≡ 0 = times_none x in omega (arith, times_same x [], z)
 
-named_never : (n x : Name) → n ≢ x → times n (x ∷ []) ≡ 0
+pub named_never : (n x : Name) → n ≢ x → times n (x ∷ []) ≡ 0
 named_never n x ne = times_other n x [] ne ∙ times_none n
 
 -- a naming from outside more, of what stands and of what does not

@@ -10,21 +10,21 @@ use Rattle.hk_objects.specs.declared.body.Body.{Body}
 use Rattle.hk_objects.specs.Shelf.{Shelf, new_body}
 use Rattle.hk_objects.specs.Slots.{place, name_at, AreApart}
 use Rattle.hk_reclaim.specs.Naming.{times, named_in, names_in, namings}
-use Rattle.hk_reclaim.specs.Tally.{Tally, raised, lowered, released, due, owing}
+use Rattle.hk_reclaim.specs.Tally.{Tally, raised, due, owing}
 use Rattle.hk_reclaim.proofs.Counting.{times_none, times-cons}
-use Rattle.hk_reclaim.proofs.Keeping.{namings_set, made_counted, release_outside_counted}
+use Rattle.hk_reclaim.proofs.Keeping.{namings_set, made_counted}
 use Rattle.hk_spaces.specs.declared.stack.StackFrame.{StackFrame}
-use Rattle.hk_table.specs.Held.{AreHeld, CanHold, HoldsInside}
+use Rattle.hk_table.specs.Held.{AreHeld, CanHold, CanRelease, HoldsInside, Releases}
 use Rattle.hk_table.specs.Settled.{outside_namings}
 use Rattle.hk_table.specs.Small.{AreSmall}
 use Rattle.hk_table.specs.Told.{AreTold}
-use Rattle.hk_table.proofs.Holding.{Slots, owed_same}
+use Rattle.hk_table.proofs.Holding.{Slots, owed_same, named_once, named_never}
 use Rattle.hk_table.proofs.NameBounds.{names_are_few, one_name, entries_within}
 use Rattle.hk_queues.specs.Queued.{Queued}
 use Rattle.hk_table.specs.Stacked.{Stacked, AreNumbered}
 use Rattle.hk_table.specs.Told.{AllNamedStand}
 use Rattle.hk_table.proofs.Opens.{told}
-use Rattle.hk_table.proofs.Unnamed.{unnamed_outside, unnamed_inside}
+use Rattle.hk_table.proofs.Unnamed.{unnamed_outside, unnamed_inside, unopened}
 
 -- an object is made, in a free slot, whose name nothing names yet
 pub record IsMaking (o : Shelf) (stacks : List (List StackFrame)) (ps : List Process) (first : Name) (t : Tally) (s : ℕ) (n : Name) (entries : List Entry) : Type 0 where
@@ -34,6 +34,7 @@ pub record IsMaking (o : Shelf) (stacks : List (List StackFrame)) (ps : List Pro
   pub few : length entries ≤ 256
   pub unnamed : outside_namings n stacks ps ≡ 0
   pub unowed : namings o.slots n ≡ 0
+  pub late : first.0 ≤ n.0
   pub told : AreTold o stacks ps first t
 
 pub making : (o : Shelf) (q : Queued) (ps : List Process) (st : Stacked) (first : Name) (events limit : ℕ) (t : Tally) (s : ℕ) (entries : List Entry)
@@ -49,6 +50,7 @@ making o q ps st first events limit t s entries numbered h apart above low free 
       few = few;
       unnamed = unnamed_outside o q ps st first events limit t numbered h apart o.next absent named;
       unowed = unnamed_inside o q ps st first events limit t numbered h apart o.next absent named;
+      late = unopened o q ps st first events limit t numbered h apart o.next absent named;
       told = h;
     }
 
@@ -103,47 +105,55 @@ module _ (o : Shelf) (stacks : List (List StackFrame)) (ps : List Process) (firs
   made_other : (k : ℕ) → k ≢ s → name_at made k ≡ name_at o.slots k
   made_other k ne = ap (option_map (λ (e : Name × Body). e.0)) (get_or-set_other o.slots s k (Some new_one) None ne)
 
-  pub made_range_still : s < length (raised t.total s)
-  made_range_still = let e = length-set t.total s (get_or t.total s 0 + 1) in omega (arith, e, made_range)
+  this_name : (m : Name) → name_at made s ≡ Some m → m ≡ n
+  this_name m named = let e : Some n ≡ Some m = sym made_name ∙ named in cc
 
-  pub made_some : 0 < get_or (raised t.outside s) s 0
-  made_some =
+  counted_here : get_or (raised t.outside s) s 0 ≡ 1
+  counted_here =
       let lowo : s < length t.outside = omega (arith, made_range, h.held.counted.sizes) in
-      let e = get_or-set_same t.outside s (get_or t.outside s 0 + 1) 0 lowo in
-      omega (arith, e)
+      get_or-set_same t.outside s (get_or t.outside s 0 + 1) 0 lowo ∙ (let z = h.held.free s no_name in omega (arith, z))
 
-  made_settled : AreApart made → AreHeld made (λ m. outside_namings m stacks ps) (namings o.slots) (record (released raised_there s n) { outside = lowered (raised t.outside s) s })
-  made_settled apart =
-      let lowo : s < length t.outside = omega (arith, made_range, h.held.counted.sizes) in
-      let up : get_or (raised t.outside s) s 0 ≡ get_or t.outside s 0 + 1 = get_or-set_same t.outside s (get_or t.outside s 0 + 1) 0 lowo in
-      let still : s < length (raised t.outside s) = let l = length-set t.outside s (get_or t.outside s 0 + 1) in omega (arith, l, lowo) in
-      let down : get_or (lowered (raised t.outside s) s) s 0 ≡ 0 =
-      get_or-set_same (raised t.outside s) s (get_or (raised t.outside s) s 0 - 1) 0 still ∙ (let z = h.held.free s no_name in omega (arith, up, z)) in
-      record {
-        counted = release_outside_counted made (namings o.slots) raised_there s n made_name made_range_still made_some
-            (made_counted o.slots (namings o.slots) t s n (new_body of words entries) low made_range free unowed h.held.counted);
-        outside = λ k m named new. ⊎_elim
-            (λ (same : k ≡ s).
-            let e : Some n ≡ Some m = sym made_name ∙ ap (name_at made) (sym same) ∙ named in
-            let f : m ≡ n = cc in
-            let out : outside_namings m stacks ps ≡ 0 = ap (λ (x : Name). outside_namings x stacks ps) f ∙ unnamed in
-            ap (λ (j : ℕ). get_or (lowered (raised t.outside s) s) j 0) same ∙ down ∙ sym out)
-            (λ (ne : k ≢ s). elsewhere k ne ∙ h.held.outside k m (sym (made_other k ne) ∙ named) new)
-            (cases_eq k s);
-        opening = λ k m named opens. ⊎_elim
-            (λ (same : k ≡ s). ap (λ (j : ℕ). get_or (lowered (raised t.outside s) s) j 0) same ∙ down)
-            (λ (ne : k ≢ s). elsewhere k ne ∙ h.held.opening k m (sym (made_other k ne) ∙ named) opens)
-            (cases_eq k s);
-        free = λ k none. ⊎_elim
-            (λ (same : k ≡ s). ap (λ (j : ℕ). get_or (lowered (raised t.outside s) s) j 0) same ∙ down)
-            (λ (ne : k ≢ s). elsewhere k ne ∙ h.held.free k (sym (made_other k ne) ∙ none))
-            (cases_eq k s);
-        room = length-set (raised t.total s) s (get_or (raised t.total s) s 0 - 1) ∙ length-set t.total s (get_or t.total s 0 + 1) ∙ h.held.room;
-      } where
-        elsewhere : (k : ℕ) → k ≢ s → get_or (lowered (raised t.outside s) s) k 0 ≡ get_or t.outside k 0
-        elsewhere k ne =
-            get_or-set_other (raised t.outside s) s k (get_or (raised t.outside s) s 0 - 1) 0 ne
-            ∙ get_or-set_other t.outside s k (get_or t.outside s 0 + 1) 0 ne
+  -- counted as often as frames and processes name it, and once more: the capability for it is to come
+  abbrev named_too : Name → ℕ
+  named_too = owing (λ m. outside_namings m stacks ps) (n ∷ [])
+
+  too_here : (m : Name) → m ≡ n → named_too m ≡ 1
+  too_here m same =
+      let none : outside_namings m stacks ps ≡ 0 = ap (λ (x : Name). outside_namings x stacks ps) same ∙ unnamed in
+      let once : times m (n ∷ []) ≡ 1 = ap (λ (x : Name). times x (n ∷ [])) same ∙ named_once n in
+      omega (arith, none, once)
+
+  too_there : (k : ℕ) (m : Name) → name_at o.slots k ≡ Some m → named_too m ≡ outside_namings m stacks ps
+  too_there k m named =
+      let never : times m (n ∷ []) ≡ 0 = named_never m n (λ e. absent k (named ∙ ap (λ (x : Name). Some x) e)) in
+      omega (arith, never)
+
+  made_held : AreHeld made named_too (namings o.slots) raised_there
+  made_held = record {
+    counted = made_counted o.slots (namings o.slots) t s n (new_body of words entries) low made_range free unowed h.held.counted;
+    outside = λ k m named new. ⊎_elim
+        (λ (same : k ≡ s).
+        ap (λ (j : ℕ). get_or (raised t.outside s) j 0) same ∙ counted_here
+        ∙ sym (too_here m (this_name m (ap (name_at made) (sym same) ∙ named))))
+        (λ (ne : k ≢ s).
+        let was : name_at o.slots k ≡ Some m = sym (made_other k ne) ∙ named in
+        elsewhere k ne ∙ h.held.outside k m was new ∙ sym (too_there k m was))
+        (cases_eq k s);
+    opening = λ k m named opens. ⊎_elim
+        (λ (same : k ≡ s).
+        let f : m.0 ≡ n.0 = ap (λ (x : Name). x.0) (this_name m (ap (name_at made) (sym same) ∙ named)) in
+        let first_is : t.first_new.0 ≡ first.0 = ap (λ (x : Name). x.0) h.begins in
+        absurd (omega (arith, f, first_is, opens, making.late)))
+        (λ (ne : k ≢ s). elsewhere k ne ∙ h.held.opening k m (sym (made_other k ne) ∙ named) opens)
+        (cases_eq k s);
+    free = λ k none. ⊎_elim
+        (λ (same : k ≡ s). let e : Some n ≡ None = sym made_name ∙ ap (name_at made) (sym same) ∙ none in absurd (cc))
+        (λ (ne : k ≢ s). elsewhere k ne ∙ h.held.free k (sym (made_other k ne) ∙ none))
+        (cases_eq k s);
+    room = length-set t.total s (get_or t.total s 0 + 1) ∙ h.held.room;
+  } where
+    elsewhere : (k : ℕ) → k ≢ s → get_or (raised t.outside s) k 0 ≡ get_or t.outside k 0
+    elsewhere k ne = get_or-set_other t.outside s k (get_or t.outside s 0 + 1) 0 ne
 
   made_namings : (m : Name) → owing (owing (namings o.slots) (of ∷ [])) (named_in entries) m ≡ namings made m
   made_namings m =
@@ -180,43 +190,52 @@ module _ (o : Shelf) (stacks : List (List StackFrame)) (ps : List Process) (firs
   pub made_read : (new : Slots) → new ≡ made → (es : List Entry) → IfSome (place new s) (λ e. es ≡ e.1.entries) → es ≡ entries
   made_read new is es read = subst (λ (p : Option (Name × Body)). IfSome p (λ e. es ≡ e.1.entries)) (made_there new is) read
 
-  module _ (new : Shelf) (is : new.slots ≡ made) (apart : AreApart new.slots) (u : Tally)
-      (settled : u ≡ record (released raised_there s n) { outside = lowered (raised t.outside s) s }) where
-    made_ready : AreHeld new.slots (λ m. outside_namings m stacks ps) (namings o.slots) u
+  module _ (new : Shelf) (is : new.slots ≡ made) (u : Tally) (raised' : u ≡ raised_there) where
+    made_ready : AreHeld new.slots named_too (namings o.slots) u
     made_ready =
-        subst (λ (v : Tally). AreHeld new.slots (λ m. outside_namings m stacks ps) (namings o.slots) v) (sym settled)
-        (subst (λ (v : Slots). AreHeld v (λ m. outside_namings m stacks ps) (namings o.slots) (record (released raised_there s n) { outside = lowered (raised t.outside s) s }))
-        (sym is)
-        (made_settled (subst (λ (v : Slots). AreApart v) is apart)))
+        subst (λ (v : Tally). AreHeld new.slots named_too (namings o.slots) v) (sym raised')
+        (subst (λ (v : Slots). AreHeld v named_too (namings o.slots) raised_there) (sym is) made_held)
 
     pub made_can : CanHold new.slots (of ∷ []) u
     made_can = (
-      λ m. outside_namings m stacks ps,
+      named_too,
       namings o.slots,
       made_ready,
       λ m.
           let a = names_are_few m o.slots stacks ps h.small in
           let w : times m (of ∷ []) ≤ 1 = one_name m of in
-          omega (arith, a, w),
+          let z : times m (n ∷ []) ≤ 1 = one_name m n in
+          omega (arith, a, w, z),
     )
 
     pub made_can_more : (v : Tally) → HoldsInside new.slots (of ∷ []) u v → CanHold new.slots (named_in entries) v
     made_can_more v f = (
-      λ m. outside_namings m stacks ps,
+      named_too,
       owing (namings o.slots) (of ∷ []),
-      f.1 (λ m. outside_namings m stacks ps) (namings o.slots) made_ready,
+      f.1 named_too (namings o.slots) made_ready,
       λ m.
           let a = names_are_few m o.slots stacks ps h.small in
           let w : times m (of ∷ []) ≤ 1 = one_name m of in
+          let z : times m (n ∷ []) ≤ 1 = one_name m n in
           let l = entries_within m entries in
-          omega (arith, a, w, l, few),
+          omega (arith, a, w, z, l, few),
     )
 
-    pub made_told_all : (v x : Tally) → HoldsInside new.slots (of ∷ []) u v → HoldsInside new.slots (named_in entries) v x → AreTold new stacks ps first x
-    made_told_all v x f g = record {
-      held = owed_same new.slots (λ m. outside_namings m stacks ps) (owing (owing (namings o.slots) (of ∷ [])) (named_in entries)) (namings new.slots) x
-          (λ m. made_namings m ∙ ap (λ (qs : Slots). namings qs m) (sym is))
-          (g.1 (λ m. outside_namings m stacks ps) (owing (namings o.slots) (of ∷ [])) (f.1 (λ m. outside_namings m stacks ps) (namings o.slots) made_ready));
-      begins = g.0 ∙ f.0 ∙ ap (λ (v : Tally). v.first_new) settled ∙ h.begins;
-      small = subst (λ (qs : Slots). AreSmall qs stacks ps) (sym is) small_made;
-    }
+    module _ (v x : Tally) (f : HoldsInside new.slots (of ∷ []) u v) (g : HoldsInside new.slots (named_in entries) v x) where
+      pub made_all : AreHeld new.slots (owing (λ m. outside_namings m stacks ps) (n ∷ [])) (namings new.slots) x
+      made_all =
+          owed_same new.slots named_too (owing (owing (namings o.slots) (of ∷ [])) (named_in entries)) (namings new.slots) x
+          (λ m. made_namings m ∙ ap (λ (qs : Slots). namings qs m) (sym is)) (g.1 named_too (owing (namings o.slots) (of ∷ [])) (f.1 named_too (namings o.slots) made_ready))
+
+      pub made_begins : x.first_new ≡ first
+      made_begins = g.0 ∙ f.0 ∙ ap (λ (y : Tally). y.first_new) raised' ∙ h.begins
+
+      pub made_small : AreSmall new.slots stacks ps
+      made_small = subst (λ (qs : Slots). AreSmall qs stacks ps) (sym is) small_made
+
+      -- where no slot takes the capability, nothing names the object
+      pub made_lost_can : CanRelease new.slots (n ∷ []) x
+      made_lost_can = (λ m. outside_namings m stacks ps, namings new.slots, made_all)
+
+      pub made_lost : (y : Tally) → Releases new.slots (n ∷ []) x y → AreTold new stacks ps first y
+      made_lost y r = record { held = r.1 (λ m. outside_namings m stacks ps) (namings new.slots) made_all; begins = r.0 ∙ made_begins; small = made_small }

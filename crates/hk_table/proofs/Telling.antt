@@ -139,9 +139,9 @@ small_none = (omega arith, λ k f here. absurd (cc))
 
 -- ---- an entry in a slot of the top frame of a process
 
-module _ (o : Shelf) (stacks : List (List StackFrame)) (ps : List Process) (first : Name) (t u : Tally) (q slot : ℕ) (entry old : Entry)
+module _ (o : Shelf) (stacks : List (List StackFrame)) (ps : List Process) (first : Name) (u : Tally) (q slot : ℕ) (entry old : Entry)
     (low : slot < length (slots_of (top_of (slice_index_or stacks q [])))) (is : old ≡ slice_index_or (slots_of (top_of (slice_index_or stacks q []))) slot Empty)
-    (h : AreTold o stacks ps first t) (f : Holds o.slots (entry_names entry) t u) where
+    (held : AreHeld o.slots (owing (λ n. outside_namings n stacks ps) (entry_names entry)) (namings o.slots) u) where
   slot_halfway : AreHeld o.slots (owing (λ n. outside_namings n (with_top_of stacks q slot entry) ps) (entry_names old)) (namings o.slots) u
   slot_halfway =
       held_same o.slots (owing (λ n. outside_namings n stacks ps) (entry_names entry)) (owing (λ n. outside_namings n (with_top_of stacks q slot entry) ps) (entry_names old))
@@ -149,19 +149,25 @@ module _ (o : Shelf) (stacks : List (List StackFrame)) (ps : List Process) (firs
       let w = slot_written n stacks q slot entry low in
       let e : times n (entry_names old) ≡ times n (entry_names (slice_index_or (slots_of (top_of (slice_index_or stacks q []))) slot Empty)) = ap
       (λ (x : Entry). times n (entry_names x)) is in
-      omega (arith, w, e)) (f.1 (λ n. outside_namings n stacks ps) (namings o.slots) h.held)
+      omega (arith, w, e)) held
 
   pub slot_can : CanRelease o.slots (entry_names old) u
   slot_can = (λ n. outside_namings n (with_top_of stacks q slot entry) ps, namings o.slots, slot_halfway)
 
-  pub slot_counted : (v : Tally) (new : List (List StackFrame)) → Releases o.slots (entry_names old) u v → new ≡ with_top_of stacks q slot entry → AreTold o new ps first v
-  slot_counted v new g e =
+  pub slot_counted : u.first_new ≡ first → AreSmall o.slots stacks ps → (v : Tally) (new : List (List StackFrame)) → Releases o.slots (entry_names old) u v
+      → new ≡ with_top_of stacks q slot entry → AreTold o new ps first v
+  slot_counted begins small v new g e =
       subst (λ (s : List (List StackFrame)). AreTold o s ps first v) (sym e) (record {
         held = g.1 (λ n. outside_namings n (with_top_of stacks q slot entry) ps) (namings o.slots) slot_halfway;
-        begins = g.0 ∙ f.0 ∙ h.begins;
-        small = small_set o stacks ps h.small q (with_top (slice_index_or stacks q []) slot entry)
-            (small_top (slice_index_or stacks q []) slot entry (small_stack o stacks ps h.small q));
+        begins = g.0 ∙ begins;
+        small = small_set o stacks ps small q (with_top (slice_index_or stacks q []) slot entry)
+            (small_top (slice_index_or stacks q []) slot entry (small_stack o stacks ps small q));
       })
+
+-- what is to come is counted
+pub slot_held : (o : Shelf) (stacks : List (List StackFrame)) (ps : List Process) (first : Name) (t u : Tally) (names : List Name) → AreTold o stacks ps first t
+    → Holds o.slots names t u → AreHeld o.slots (owing (λ n. outside_namings n stacks ps) names) (namings o.slots) u
+slot_held o stacks ps first t u names h f = f.1 (λ n. outside_namings n stacks ps) (namings o.slots) h.held
 
 -- ---- a frame more
 

@@ -2,6 +2,7 @@
 use Rattle.std.proofs.Common.{◌≡◌, ℕ, ◌<◌, ◌≤◌, true, List, [], ◌∷◌, Option, Some, None, refl, sym, ap, ◌∙◌, subst, arith, ⊎_elim, option_map}
 use Rattle.std.specs.Prelude.{filter}
 use Rattle.std.proofs.lemmas.Bool.{cases_lt}
+use Rattle.std.proofs.lemmas.Bool.Decides.{nat_tests}
 use Rattle.std.proofs.lemmas.List.Folds.{list_any-append}
 use Rattle.hk_model.specs.declared.names.Name.{Name}
 use Rattle.hk_model.specs.declared.objects.Object.{Object}
@@ -47,6 +48,16 @@ module _ (o : Shelf) (q : Queued) (ps : List Process) (st : Stacked) (first : Na
 
   unsupported : are_supporting state state.objects n ≡ true → ⊥
   unsupported supported = let w = at_stands state o.slots q.waiting t apart tells n (named n supported) in absent w.0 w.1
+
+  -- nor is it a name of the opening, whose objects stand
+  pub unopened : first.0 ≤ n.0
+  unopened =
+      ⊎_elim
+      (λ (opens : n.0 < first.0).
+      let e : is_opening state n ≡ true = grind (arith, nat_tests) in
+      absurd (unsupported (or_left (is_opening state n) (is_among n (names_with state state.objects)) e)))
+      (λ (late : first.0 ≤ n.0). late)
+      (cases_lt n.0 first.0)
 
   pub unnamed_outside : outside_namings n st.stacks ps ≡ 0
   unnamed_outside =

@@ -122,9 +122,7 @@ impl Parts {
         ensures { Answers self.old (object_made_in_room self.old (process self.old proc).current slot (plain_object new.of new.words new.entries) rights) result self.new }
     {
         self.make_room()?;
-        let name = self.objects.next_name();
-        self.make(new.of, new.words, new.entries);
-        self.set_slot(proc, slot, Entry::Held(Cap { name, rights }));
+        self.make(proc, slot, new, rights);
         Ok(Answer::Done)
     }
 }
