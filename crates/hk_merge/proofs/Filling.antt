@@ -13,7 +13,7 @@ use Rattle.hk_model.specs.declared.calls.Refusal.TheVariants as refused
 use Rattle.hk_model.specs.declared.calls.What8.TheVariants as full
 use Rattle.hk_model.specs.Refusing.{◌>>=◌, ◌>>◌, unless}
 use Rattle.hk_model.specs.Merging.{inherited, call_slots, merged_arg, merged_all, name_space}
-use Rattle.hk_spaces.specs.Slots.{empty_slots}
+use Rattle.hk_spaces.specs.Spaces.{empty_slots}
 use Rattle.hk_merge.specs.NameSpaces.{overwritten, with_caps}
 
 -- entries written over others that stand behind some

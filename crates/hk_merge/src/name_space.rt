@@ -2,7 +2,7 @@
 
 ghost use Rattle.std.specs.Prelude.{◌≡◌, ◌≤◌, ◌<◌, ◌+◌, true, length, map, IfOk, IfErr, OnOk, Ok, Err};
 ghost use Rattle.hk_model.specs.Merging.{inherited, merged_arg, merged_all, name_space};
-ghost use Rattle.hk_spaces.specs.Slots.{empty_slots};
+ghost use Rattle.hk_spaces.specs.Spaces.{empty_slots};
 ghost use Rattle.hk_merge.specs.NameSpaces.{overwritten, with_caps};
 
 use crate::merging::merged;

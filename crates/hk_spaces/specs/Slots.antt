@@ -1,13 +1,7 @@
--- Name spaces and stacks of them. docs/RULES.md, "Objects, incarnations, processes".
-use Rattle.std.specs.Prelude.{ℕ, ◌-◌, List, length, Option, Some, None, replicate, slice_get, slice_set}
+-- The frames of stacks, as slots are written. docs/RULES.md, "Objects, incarnations, processes".
+use Rattle.std.specs.Prelude.{ℕ, ◌-◌, List, length, Option, Some, None, slice_get, slice_set}
 use Rattle.hk_model.specs.declared.entries.Entry.{Entry}
-use Rattle.hk_model.specs.declared.entries.Entry.TheVariants.{Empty}
-use Rattle.hk_model.specs.Limits.{slot_limit}
 use Rattle.hk_spaces.specs.declared.stack.StackFrame.{StackFrame}
-
--- 64 slots in which nothing stands
-unfoldable pub empty_slots : List Entry
-empty_slots = replicate slot_limit Empty
 
 -- the frame with an entry in a slot
 abbrev pub with_slot : StackFrame → ℕ → Entry → StackFrame

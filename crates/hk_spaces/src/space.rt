@@ -1,35 +1,41 @@
 //! A local name space.
 
 ghost use Rattle.std.specs.Prelude.{◌≡◌, ◌<◌, ◌≤◌, ◌+◌, ◌++◌, drop, length, slice_get, slice_set, take, Some};
-ghost use Rattle.hk_spaces.specs.Slots.{empty_slots};
+ghost use Rattle.hk_spaces.specs.Spaces.{empty_slots, IsEmptyFrom};
 
 use hk_model::{Entry, Slot};
 use std::marker::Model;
 
 /// The 64 slots of a local name space, held in place (`docs/RULES.md`, "Objects, incarnations,
-/// processes"). Contracts see the list of their entries.
+/// processes"), and how many of the first ones may have been written. Contracts see the list of
+/// their entries.
 #[derive(Drop)]
 pub struct Space {
     slots: [Entry; 64],
+    written: usize,
 }
 
 impl Model for Space {
     ghost use Rattle.std.specs.Prelude.{List};
     ghost use Rattle.hk_model.specs.declared.entries.Entry.{Entry};
+    ghost use Rattle.hk_spaces.specs.Spaces.{IsWritten};
 
     ghost Value = { List Entry };
 
     ghost view = { λ space. space.slots };
+
+    ghost invariant = { λ space. IsWritten space.written space.slots };
 }
 
 impl Space {
     /// The name space in which nothing stands.
-    #[tactic(auto, unfolding(crate::specs::Slots::empty_slots))]
+    #[tactic(auto, using(crate::proofs::Emptiness::none_written), unfolding(crate::specs::Spaces::empty_slots))]
     pub fn empty() -> Space
         ensures { result ≡ empty_slots }
     {
         Space {
             slots: [Entry::Empty; 64],
+            written: 0,
         }
     }
 
@@ -48,7 +54,9 @@ impl Space {
         requires { slot.0 < 64 }
         ensures { self.new ≡ slice_set self.old slot.0 entry }
     {
-        self.slots[slot.0 as usize] = entry;
+        let at = slot.0 as usize;
+        self.slots[at] = entry;
+        self.written = self.written.max(at + 1);
     }
 
     /// Writes entries into the slots from `start` on, over what stood there.
@@ -58,8 +66,10 @@ impl Space {
         ensures all { length self.old ≡ 64 }
     {
         let from = start.0 as usize;
+        let end = from + entries.len();
         let slots = &mut self.slots[..];
-        slots[from..from + entries.len()].copy_from_slice(entries);
+        slots[from..end].copy_from_slice(entries);
+        self.written = self.written.max(end);
     }
 
     /// The 64 entries.
@@ -69,5 +79,14 @@ impl Space {
         ensures all { length result.now ≡ 64 }
     {
         &self.slots
+    }
+
+    /// The entries of the first slots, behind which nothing stands: as far as slots were written.
+    #[inline(always)]
+    pub fn written(&self) -> &[Entry]
+        ensures value { result.now ≡ take (length result.now) self.now }
+        ensures rest { IsEmptyFrom (length result.now) self.now }
+    {
+        &self.slots[..self.written]
     }
 }

@@ -13,7 +13,7 @@ use Rattle.hk_model.specs.declared.objects.Incarnation.{Incarnation}
 use Rattle.hk_model.specs.declared.world.Task.{Task}
 use Rattle.hk_model.specs.State.{inc_cmp}
 use Rattle.hk_model.specs.Opening.{bases, base_of}
-use Rattle.hk_spaces.specs.Slots.{empty_slots}
+use Rattle.hk_spaces.specs.Spaces.{empty_slots}
 use Rattle.hk_spaces.specs.declared.stack.StackFrame.{StackFrame}
 use Rattle.hk_table.specs.Stacked.{live_from, frame_at, AreNumbered, base_frame, base_stacks}
 

@@ -23,6 +23,7 @@ pub mod Makings
 pub mod Restricted
 pub mod KeptMeets
 pub mod Wanting
+pub mod WrittenSlots
 pub mod FrameNames
 pub mod FrameSums
 pub mod Holding

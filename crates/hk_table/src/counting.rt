@@ -10,7 +10,7 @@ use crate::finding::slot_of;
 use hk_model::{Entry, Name};
 use hk_objects::Objects;
 use hk_reclaim::{Counts, entry_name};
-use hk_spaces::Stack;
+use hk_spaces::{Space, Stack};
 
 /// A name comes from outside. Opening objects stay in any case, so they are not counted.
 #[inline(always)]
@@ -102,6 +102,22 @@ pub(crate) fn release_entries(objects: &Objects, counts: &mut Counts, entries: &
     }
 }
 
+/// What the slots of a name space name comes from outside. Nothing stands behind those that were written.
+pub(crate) fn hold_space(objects: &Objects, counts: &mut Counts, space: &Space)
+    requires { CanHold objects.now.slots (named_in space.now) counts.old }
+    ensures { Holds objects.now.slots (named_in space.now) counts.old counts.new }
+{
+    hold_entries(objects, counts, space.written());
+}
+
+/// What the slots of a name space named from outside goes.
+pub(crate) fn release_space(objects: &Objects, counts: &mut Counts, space: &Space)
+    requires { CanRelease objects.now.slots (named_in space.now) counts.old }
+    ensures { Releases objects.now.slots (named_in space.now) counts.old counts.new }
+{
+    release_entries(objects, counts, space.written());
+}
+
 /// An object names what an entry names.
 pub(crate) fn hold_entry_inside(objects: &Objects, counts: &mut Counts, entry: &Entry)
     requires { CanHold objects.now.slots (entry_names entry.now) counts.old }
@@ -148,7 +164,7 @@ pub(crate) fn hold_stack(objects: &Objects, counts: &mut Counts, stack: &Stack)
     ensures { Holds objects.now.slots (stack_names stack.now) counts.old counts.new }
 {
     for at in 0..stack.depth() {
-        hold_entries(objects, counts, stack.frame(at).space.as_slice());
+        hold_space(objects, counts, &stack.frame(at).space);
     }
 }
 
@@ -158,6 +174,6 @@ pub(crate) fn release_stack(objects: &Objects, counts: &mut Counts, stack: &Stac
     ensures { Releases objects.now.slots (stack_names stack.now) counts.old counts.new }
 {
     for at in 0..stack.depth() {
-        release_entries(objects, counts, stack.frame(at).space.as_slice());
+        release_space(objects, counts, &stack.frame(at).space);
     }
 }

@@ -4,11 +4,13 @@ ghost use Rattle.std.specs.Prelude.{◌≡◌, ◌<◌, ◌^◌, [], true, lengt
 ghost use Rattle.hk_model.specs.State.{incarnation, process};
 ghost use Rattle.hk_model.specs.Processors.{is_running, ended};
 ghost use Rattle.hk_model.specs.Rule.{depth, enter, called_incarnation};
-ghost use Rattle.hk_table.specs.Held.{CanRelease, Releases};
+ghost use Rattle.hk_reclaim.specs.Naming.{named_in};
+ghost use Rattle.hk_table.specs.Held.{CanHold, CanRelease, Holds, Releases};
 ghost use Rattle.hk_table.specs.Returns.{GoesBack};
 ghost use Rattle.hk_table.specs.Settled.{stack_names};
+ghost use Rattle.hk_table.specs.Stacked.{slots_of, top_of};
 
-use crate::counting::{hold_entries, release_entries, release_stack};
+use crate::counting::{hold_space, release_space, release_stack};
 use crate::parts::Parts;
 use crate::stacks::Stacks;
 use hk_model::{Inc, Name, NoMemory, Proc, ProcessState, Slot};
@@ -23,6 +25,28 @@ fn release_frames(objects: &Objects, counts: &mut Counts, stacks: &Stacks, proc:
 {
     if let Some(stack) = stacks.as_slice().get(proc.0 as usize) {
         release_stack(objects, counts, stack);
+    }
+}
+
+/// What the slots of the top frame of a process name comes from outside.
+#[inline(always)]
+fn hold_top(objects: &Objects, counts: &mut Counts, stacks: &Stacks, proc: Proc)
+    requires { CanHold objects.now.slots (named_in (slots_of (top_of (slice_index_or stacks.now.stacks proc.0 [])))) counts.old }
+    ensures { Holds objects.now.slots (named_in (slots_of (top_of (slice_index_or stacks.now.stacks proc.0 [])))) counts.old counts.new }
+{
+    if let Some(frame) = stacks.top(proc) {
+        hold_space(objects, counts, &frame.space);
+    }
+}
+
+/// What the slots of the top frame of a process named from outside goes.
+#[inline(always)]
+fn release_top(objects: &Objects, counts: &mut Counts, stacks: &Stacks, proc: Proc)
+    requires { CanRelease objects.now.slots (named_in (slots_of (top_of (slice_index_or stacks.now.stacks proc.0 [])))) counts.old }
+    ensures { Releases objects.now.slots (named_in (slots_of (top_of (slice_index_or stacks.now.stacks proc.0 [])))) counts.old counts.new }
+{
+    if let Some(frame) = stacks.top(proc) {
+        release_space(objects, counts, &frame.space);
     }
 }
 
@@ -70,7 +94,7 @@ impl Parts {
             procedure: Some(procedure),
         };
         self.stacks.push(proc, frame)?;
-        hold_entries(&self.objects, &mut self.counts, self.stacks.top_slots(proc));
+        hold_top(&self.objects, &mut self.counts, &self.stacks, proc);
         self.processes.set_current(proc, inc);
         Ok(())
     }
@@ -81,7 +105,7 @@ impl Parts {
         requires { is_running (process self.old proc).run ≡ true }
         ensures { GoesBack self.old proc (process self.old proc).current result self.new }
     {
-        release_entries(&self.objects, &mut self.counts, self.stacks.top_slots(proc));
+        release_top(&self.objects, &mut self.counts, &self.stacks, proc);
         let Some(into) = self.stacks.pop(proc) else {
             self.processes.set_run(proc, ProcessState::Ended);
             return None;

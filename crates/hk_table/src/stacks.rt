@@ -155,7 +155,7 @@ impl Stacks {
     }
 
     /// The top frame of a process. None exactly where it has no frame.
-    fn top(&self, proc: Proc) -> Option<&StackFrame>
+    pub(crate) fn top(&self, proc: Proc) -> Option<&StackFrame>
         ensures numbered { AreNumbered self.now.stacks self.now.next }
         ensures top { option_copied result ≡ top_of (slice_index_or self.now.stacks proc.0 []) }
     {

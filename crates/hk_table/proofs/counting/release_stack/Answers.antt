@@ -1,5 +1,4 @@
-use Rattle.std.proofs.Common.{List, arith, sym, subst}
-use Rattle.hk_model.specs.declared.entries.Entry.{Entry}
+use Rattle.std.proofs.Common.{arith}
 use Rattle.hk_reclaim.specs.Naming.{named_in}
 use Rattle.hk_spaces.specs.declared.stack.StackFrame.{StackFrame}
 use Rattle.hk_table.specs.Held.{CanRelease, Releases}
@@ -10,23 +9,20 @@ use Rattle.hk_table.proofs.counting.release_stack.Goals as goal
 pub loop-at-init : goal.loop-at-init
 loop-at-init c = record { can = c.requires; more = λ final done. done }
 
-pub release_entries-requires : goal.release_entries-requires
-release_entries-requires c =
-    subst (λ (es : List Entry). CanRelease c.args.objects.now.slots (named_in es) c.loop-at.counts) (sym c.as_slice.ensures.value)
-    (next_can (λ (g : StackFrame). named_in g.space) (λ names t. CanRelease c.args.objects.now.slots names t) (λ names t u. Releases c.args.objects.now.slots names t u)
-    (releasing c.args.objects.now.slots) c.args.stack.now c.loop-at.at c.frame.result.now c.loop-at.counts c.frame.ensures c.loop-at.invariant.can)
+pub release_space-requires : goal.release_space-requires
+release_space-requires c =
+    next_can (λ (g : StackFrame). named_in g.space) (λ names t. CanRelease c.args.objects.now.slots names t) (λ names t u. Releases c.args.objects.now.slots names t u)
+    (releasing c.args.objects.now.slots) c.args.stack.now c.loop-at.at c.frame.result.now c.loop-at.counts c.frame.ensures c.loop-at.invariant.can
 
 pub loop-at-preserved : goal.loop-at-preserved
 loop-at-preserved c =
-    let does : Releases c.args.objects.now.slots (named_in c.frame.result.now.space) c.loop-at.counts c.release_entries.new.counts =
-    subst (λ (es : List Entry). Releases c.args.objects.now.slots (named_in es) c.loop-at.counts c.release_entries.new.counts) c.as_slice.ensures.value c.release_entries.ensures in
     record {
       can = later_can (λ (g : StackFrame). named_in g.space) (λ names t. CanRelease c.args.objects.now.slots names t) (λ names t u. Releases c.args.objects.now.slots names t u)
-          (releasing c.args.objects.now.slots) c.args.stack.now c.loop-at.at c.frame.result.now c.loop-at.counts c.release_entries.new.counts c.frame.ensures does
+          (releasing c.args.objects.now.slots) c.args.stack.now c.loop-at.at c.frame.result.now c.loop-at.counts c.release_space.new.counts c.frame.ensures c.release_space.ensures
           c.loop-at.invariant.can;
       more = λ final later. c.loop-at.invariant.more final
           (later_done (λ (g : StackFrame). named_in g.space) (λ names t. CanRelease c.args.objects.now.slots names t) (λ names t u. Releases c.args.objects.now.slots names t u)
-          (releasing c.args.objects.now.slots) c.args.stack.now c.loop-at.at c.frame.result.now c.loop-at.counts c.release_entries.new.counts final c.frame.ensures does later);
+          (releasing c.args.objects.now.slots) c.args.stack.now c.loop-at.at c.frame.result.now c.loop-at.counts c.release_space.new.counts final c.frame.ensures c.release_space.ensures later);
     }
 
 pub returns : goal.returns

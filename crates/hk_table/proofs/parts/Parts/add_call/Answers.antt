@@ -1,8 +1,9 @@
-use Rattle.std.proofs.Common.{◌≡◌, ◌<◌, ◌≤◌, List, [], length, sym, ◌∙◌, subst, arith}
+use Rattle.std.proofs.Common.{◌≡◌, ◌<◌, ◌≤◌, List, [], length, refl, sym, subst, arith}
 use Rattle.std.specs.Prelude.{slice_index_or}
 use Rattle.hk_model.specs.declared.entries.Entry.{Entry}
 use Rattle.hk_model.specs.State.{State}
 use Rattle.hk_model.specs.Rule.{depth}
+use Rattle.hk_table.specs.Stacked.{slots_of, top_of}
 use Rattle.hk_table.proofs.FrameMoves.{depth_is}
 use Rattle.hk_table.proofs.CallMoves.{call_joined, call_told}
 use Rattle.hk_table.proofs.Telling.{can_hold_entries, top_pushed, frame_counted, current_counted}
@@ -13,14 +14,15 @@ push-requires-clause-depth c =
     subst (λ m. m < 64) (depth_is c.self.inside.stacks.stacks c.self.inside.stacks.next c.args.proc.0 c.depth-deep.ensures.numbered)
     (subst (λ (s : State). depth s c.args.proc < 64) (sym c.self.view_is) c.requires.depth)
 
-pub hold_entries-requires : goal.hold_entries-requires
-hold_entries-requires c =
+pub hold_top-requires : goal.hold_top-requires
+hold_top-requires c =
     let known : c.args.proc.0 < length c.self.inside.processes = subst (λ (s : State). c.args.proc.0 < length s.processes) (sym c.self.view_is) c.requires.known in
     let low : c.args.proc.0 < length c.self.inside.stacks.stacks = omega (arith, c.self.invariant.joined.stacked, known) in
     let few : length c.args.space ≤ 64 = subst (λ (es : List Entry). length es ≤ 64) c.as_slice-slots.ensures.value (omega (arith, c.as_slice-slots.ensures.all)) in
-    let is : c.top_slots.result.now ≡ c.args.space =
-    c.top_slots.ensures.value ∙ top_pushed c.self.inside.stacks c.push.new.self c.args.proc.0 _ low c.in_ok-push.ensures.ok in
-    can_hold_entries c.self.inside.objects c.self.inside.stacks.stacks c.self.inside.processes c.self.inside.first_new c.self.inside.counts c.top_slots.result.now
+    let is : slots_of (top_of (slice_index_or c.push.new.self.stacks c.args.proc.0 [])) ≡ c.args.space =
+    top_pushed c.self.inside.stacks c.push.new.self c.args.proc.0 _ low c.in_ok-push.ensures.ok in
+    can_hold_entries c.self.inside.objects c.self.inside.stacks.stacks c.self.inside.processes c.self.inside.first_new c.self.inside.counts
+    (slots_of (top_of (slice_index_or c.push.new.self.stacks c.args.proc.0 [])))
     c.self.invariant.told (subst (λ (es : List Entry). length es ≤ 256) (sym is) (omega (arith, few)))
 
 pub invariant_of-self-2 : goal.invariant_of-self-2
@@ -37,10 +39,10 @@ invariant_of-self-2 c =
           let room : length (slice_index_or c.self.inside.stacks.stacks c.args.proc.0 []) < 64 =
           subst (λ m. m < 64) (depth_is c.self.inside.stacks.stacks c.self.inside.stacks.next c.args.proc.0 c.depth-deep.ensures.numbered)
           (subst (λ (s : State). depth s c.args.proc < 64) (sym c.self.view_is) c.requires.depth) in
-          current_counted c.self.inside.objects c.push.new.self.stacks c.self.inside.processes c.set_current.new.self c.self.inside.first_new c.hold_entries.new.counts c.args.proc
+          current_counted c.self.inside.objects c.push.new.self.stacks c.self.inside.processes c.set_current.new.self c.self.inside.first_new c.hold_top.new.counts c.args.proc
           c.next-inc.result known
-          (frame_counted c.self.inside.objects c.self.inside.stacks c.push.new.self c.self.inside.processes c.self.inside.first_new c.self.inside.counts c.hold_entries.new.counts
-          c.args.proc.0 _ c.top_slots.result.now low room few c.self.invariant.told c.in_ok-push.ensures.ok c.top_slots.ensures.value c.hold_entries.ensures) c.set_current.ensures;
+          (frame_counted c.self.inside.objects c.self.inside.stacks c.push.new.self c.self.inside.processes c.self.inside.first_new c.self.inside.counts c.hold_top.new.counts
+          c.args.proc.0 _ (slots_of (top_of (slice_index_or c.push.new.self.stacks c.args.proc.0 []))) low room few c.self.invariant.told c.in_ok-push.ensures.ok refl c.hold_top.ensures) c.set_current.ensures;
     }
 
 pub returns-clause-ok : goal.returns-clause-ok

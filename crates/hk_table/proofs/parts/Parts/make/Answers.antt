@@ -143,16 +143,16 @@ invariant_of-self c =
       joined = slot_joined c.make-slot.new.objects c.self.inside.queues c.self.inside.processes c.self.inside.stacks c.set_top.new.self c.self.inside.walker c.args.proc c.args.at
           (Held (record { name = c.next_name-name.result; rights = c.args.rights }))
           (made_joined c.self.inside.objects c.make-slot.new.objects c.self.inside.queues c.self.inside.processes c.self.inside.stacks c.self.inside.walker c.make-slot.result.0
-      c.self.inside.objects.next (new_body c.args.new.of c.args.new.words c.args.new.entries) c.make-slot.ensures.free c.make-slot.ensures.slot fresh c.self.invariant.joined
-      (ap (λ (v : Shelf). v.slots) c.make-slot.ensures.made)) c.set_top.ensures.value;
+          c.self.inside.objects.next (new_body c.args.new.of c.args.new.words c.args.new.entries) c.make-slot.ensures.free c.make-slot.ensures.slot fresh c.self.invariant.joined
+          (ap (λ (v : Shelf). v.slots) c.make-slot.ensures.made)) c.set_top.ensures.value;
       told = slot_counted c.make-slot.new.objects c.self.inside.stacks.stacks c.self.inside.processes c.self.inside.first_new c.hold_entries_inside.new.counts c.args.proc.0 c.args.at
-    (Held (record { name = c.next_name-name.result; rights = c.args.rights })) c.in-Some.old c.in-Some.ensures.some.0 c.in-Some.ensures.some.1 held
+          (Held (record { name = c.next_name-name.result; rights = c.args.rights })) c.in-Some.old c.in-Some.ensures.some.0 c.in-Some.ensures.some.1 held
           (made_begins c.self.inside.objects c.self.inside.stacks.stacks c.self.inside.processes c.self.inside.first_new c.self.inside.counts c.make-slot.result.0
-    c.self.inside.objects.next c.args.new.of c.args.new.words c.args.new.entries m c.make-slot.new.objects (ap (λ (v : Shelf). v.slots) c.make-slot.ensures.made)
-    c.hold_outside.new.self c.hold_outside.ensures c.hold_name_inside.new.counts c.hold_entries_inside.new.counts c.hold_name_inside.ensures g)
+          c.self.inside.objects.next c.args.new.of c.args.new.words c.args.new.entries m c.make-slot.new.objects (ap (λ (v : Shelf). v.slots) c.make-slot.ensures.made)
+          c.hold_outside.new.self c.hold_outside.ensures c.hold_name_inside.new.counts c.hold_entries_inside.new.counts c.hold_name_inside.ensures g)
           (made_small c.self.inside.objects c.self.inside.stacks.stacks c.self.inside.processes c.self.inside.first_new c.self.inside.counts c.make-slot.result.0
-    c.self.inside.objects.next c.args.new.of c.args.new.words c.args.new.entries m c.make-slot.new.objects (ap (λ (v : Shelf). v.slots) c.make-slot.ensures.made)
-    c.hold_outside.new.self c.hold_outside.ensures c.hold_name_inside.new.counts c.hold_entries_inside.new.counts c.hold_name_inside.ensures g)
+          c.self.inside.objects.next c.args.new.of c.args.new.words c.args.new.entries m c.make-slot.new.objects (ap (λ (v : Shelf). v.slots) c.make-slot.ensures.made)
+          c.hold_outside.new.self c.hold_outside.ensures c.hold_name_inside.new.counts c.hold_entries_inside.new.counts c.hold_name_inside.ensures g)
           c.release_entry.new.counts c.set_top.new.self.stacks c.release_entry.ensures (ap (λ (s : Stacked). s.stacks) c.set_top.ensures.value);
     }
 
@@ -195,11 +195,11 @@ invariant_of-self-in-None c =
     λ k named. let a = c.make-slot.ensures.above k c.self.inside.objects.next named in omega (arith, a) in
     record {
       joined = made_joined c.self.inside.objects c.make-slot.new.objects c.self.inside.queues c.self.inside.processes c.self.inside.stacks c.self.inside.walker c.make-slot.result.0
-      c.self.inside.objects.next (new_body c.args.new.of c.args.new.words c.args.new.entries) c.make-slot.ensures.free c.make-slot.ensures.slot fresh c.self.invariant.joined
-      (ap (λ (v : Shelf). v.slots) c.make-slot.ensures.made);
+          c.self.inside.objects.next (new_body c.args.new.of c.args.new.words c.args.new.entries) c.make-slot.ensures.free c.make-slot.ensures.slot fresh c.self.invariant.joined
+          (ap (λ (v : Shelf). v.slots) c.make-slot.ensures.made);
       told = made_lost c.self.inside.objects c.self.inside.stacks.stacks c.self.inside.processes c.self.inside.first_new c.self.inside.counts c.make-slot.result.0
-    c.self.inside.objects.next c.args.new.of c.args.new.words c.args.new.entries m c.make-slot.new.objects (ap (λ (v : Shelf). v.slots) c.make-slot.ensures.made)
-    c.hold_outside.new.self c.hold_outside.ensures c.hold_name_inside.new.counts c.hold_entries_inside.new.counts c.hold_name_inside.ensures g
+          c.self.inside.objects.next c.args.new.of c.args.new.words c.args.new.entries m c.make-slot.new.objects (ap (λ (v : Shelf). v.slots) c.make-slot.ensures.made)
+          c.hold_outside.new.self c.hold_outside.ensures c.hold_name_inside.new.counts c.hold_entries_inside.new.counts c.hold_name_inside.ensures g
           c.release_name.new.counts
           (subst (λ (n : Name). Releases c.make-slot.new.objects.slots (n ∷ []) c.hold_entries_inside.new.counts c.release_name.new.counts) c.next_name-name.ensures.name
           c.release_name.ensures);
