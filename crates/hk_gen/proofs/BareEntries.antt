@@ -1,4 +1,4 @@
--- Where a world opens with no template, and with no capability that has ENV or UNCONF, none ever stands.
+-- Where no entry of a world is a template, and no capability has ENV or UNCONF, none ever comes.
 use Rattle.std.proofs.Common.{◌≡◌, ℕ, List, false, Option, Some, None, Ok, refl, sym, ◌∙◌, bit_and, subst}
 use Rattle.std.specs.Prelude.{IsTrue}
 use mathlib.Core.Logic.{inl, inr}

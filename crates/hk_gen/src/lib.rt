@@ -34,7 +34,7 @@ pub fn generate(alloc: Global, count: u32) -> Result<World, NoMemory>
 /// Each call of a generated world is confined (`docs/FORMATS.md`, "Generated worlds"), in every history of it,
 /// whichever processors made its lines.
 ///
-/// At its opening no template stands, and no capability has ENV or UNCONF; and where it is so, no call changes it.
+/// At its opening no entry is a template, and no capability has ENV or UNCONF; and where it is so, no call changes it.
 pub fn confined_calls_law(count: u32)
     ensures { AllCallsConfined (generate count) }
 {}
