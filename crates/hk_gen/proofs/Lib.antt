@@ -1,2 +1,4 @@
 pub mod Worlds
 mod Rows
+mod BareEntries
+pub mod ConfinedCalls

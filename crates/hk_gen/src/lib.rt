@@ -9,6 +9,7 @@ mod steps;
 ghost use Rattle.std.specs.Prelude.{◌≡◌, ◌<◌, ◌≤◌, IfOk};
 ghost use Rattle.hk_model.specs.Limits.{process_limit};
 ghost use Rattle.hk_model.specs.Generated.{generate};
+ghost use Rattle.hk_gen.specs.ConfinedCalls.{AllCallsConfined};
 
 use crate::contents::objects;
 use crate::processes::processes;
@@ -29,3 +30,11 @@ pub fn generate(alloc: Global, count: u32) -> Result<World, NoMemory>
     let processes = processes(alloc, count)?;
     Ok(World::new(EVENT_LIMIT, objects, codes, processes))
 }
+
+/// Each call of a generated world is confined (`docs/FORMATS.md`, "Generated worlds"), in every history of it,
+/// whichever processors made its lines.
+///
+/// At its opening no entry is a template, and no capability has ENV or UNCONF; and where it is so, no call changes it.
+pub fn confined_calls_law(count: u32)
+    ensures { AllCallsConfined (generate count) }
+{}

@@ -1,16 +1,25 @@
 -- The changes of a run, counted as its lines come.
-use Rattle.std.proofs.Common.{◌≡◌, ◌≢◌, ℕ, ◌-◌, ◌<◌, List, [], ◌∷◌, ◌++◌, length, Bool, Option, Some, None, refl, ap, ◌∙◌, sym}
+use Rattle.std.proofs.Common.{◌≡◌, ◌≢◌, ℕ, suc, ◌+◌, ◌-◌, ◌<◌, List, [], ◌∷◌, ◌++◌, length, Bool, true, false, Option, Some, None, refl, ap, ◌∙◌, sym, subst}
+use Rattle.std.specs.Prelude.{option_map, slice_get, slice_index_or, take}
+use Rattle.hk_model.specs.declared.names.Inc.{Inc}
+use Rattle.hk_model.specs.declared.names.Proc.{Proc}
 use Rattle.hk_model.specs.declared.lines.Line.{Line}
 use Rattle.hk_model.specs.declared.lines.End.{End}
 use Rattle.hk_model.specs.WorldValue.{WorldValue, IsWorld}
-use Rattle.hk_model.specs.State.{State}
+use Rattle.hk_model.specs.State.{State, incarnation}
+use Rattle.hk_model.specs.Processors.{running_on}
+use Rattle.hk_model.specs.Lines.{done_call, enters_call}
+use Rattle.hk_model.specs.Under.{IsCall}
 use Rattle.hk_model.specs.Legal.{end_word}
 use Rattle.hk_model.specs.Changes.{bare_changes}
 use Rattle.hk_model.specs.Generated.{generate}
-use Rattle.hk_model.specs.Running.{Machine, AreStepsOf, opened, state_after, step}
+use Rattle.hk_model.specs.Running.{Machine, AreStepsOf, line_of, moved, opened, state_after, step}
+use Rattle.hk_model.proofs.Steps.{moved_holds}
 use Rattle.hk_model.proofs.EventCounts.{events_are}
-use Rattle.hk_report.specs.Counts.{Counted, confined_on, counted, counted_by}
-use Rattle.hk_report.proofs.Counts.{counted_more}
+use Rattle.hk_gen.specs.ConfinedCalls.{AllCallsConfined}
+use Rattle.hk_report.specs.Counts.{Counted, changes_more, confined_on, counted, counted_by, depth_entered}
+use Rattle.hk_report.proofs.Counts.{RunsNew, counted_more, runs_each}
+use Rattle.hk_report.proofs.NextLines.{confined_run, step_line, step_moves}
 use Rattle.hk_top.specs.Outputs.{first_processor, status_of, IsCountedRun, IsSummed}
 use Rattle.hk_top.specs.Summaries.{summed_text}
 use Rattle.hk_top.proofs.Histories.{IsHistory, begins, grows_by, last}
@@ -40,23 +49,73 @@ counting_more w c new m line after s confined t made at b h =
       counted_is = counted_more w t.lines line s confined c new (ap (λ (x : Machine). x.state) g.machine ∙ sym at) t.counted_is b h;
     }
 
--- one line more by two machines that stand alike: the one tells of the other
-pub counting_beside : (w : WorldValue) (c new : Counted) (m other : Machine) (line also : Line) (after beside : Machine) (s : State) (confined : Bool)
-    → IsCounting w c m → other ≡ m → step w m first_processor ≡ Some (line, after) → step w other first_processor ≡ Some (also, beside)
-    → s ≡ beside.state → confined ≡ confined_on s also.cpu → new ≡ counted_by also confined c → IsCounting w new after × (beside ≡ after)
-counting_beside w c new m other line also after beside s confined t same made told at b h =
-    let both : (also, beside) ≡ (line, after) = cc in
-    let e : also ≡ line = ap (λ (p : Line × Machine). p.0) both in
-    let f : beside ≡ after = ap (λ (p : Line × Machine). p.1) both in (
-      counting_more w c new m line after s confined t made (at ∙ ap (λ (x : Machine). x.state) f) (b ∙ ap (λ (x : Line). confined_on s x.cpu) e)
-          (h ∙ ap (λ (x : Line). counted_by x confined c) e),
-      f,
-    )
+-- the call that the last line of a history has entered
 
--- machines that stand alike have a step together
-pub steps_beside : (w : WorldValue) (m other : Machine) (line : Line) (after : Machine) → other ≡ m → step w m first_processor ≡ Some (line, after)
-    → step w other first_processor ≡ None → ⊥
-steps_beside w m other line after same made none = cc
+front : (lines : List Line) (line : Line) → take (length lines) (lines ++ line ∷ []) ≡ lines
+front [] line = refl
+front (x ∷ lines) line = ap (λ (ls : List Line). x ∷ ls) (front lines line)
+
+whole : (lines : List Line) (line : Line) → take (suc (length lines)) (lines ++ line ∷ []) ≡ lines ++ line ∷ []
+whole [] line = refl
+whole (x ∷ lines) line = ap (λ (ls : List Line). x ∷ ls) (whole lines line)
+
+line_last : (lines : List Line) (line : Line) → slice_get (lines ++ line ∷ []) (length lines) ≡ Some line
+line_last [] line = refl
+line_last (x ∷ lines) line = line_last lines line
+
+entered_last : (w : WorldValue) (lines : List Line) (line : Line) → AllCallsConfined w → AreStepsOf w (lines ++ line ∷ []) → enters_call (done_call line) ≡ true
+    → (incarnation (state_after w (lines ++ line ∷ [])) (state_after w lines).next_inc).confined ≡ true
+entered_last w lines line all steps e =
+    let is : IsCall w (lines ++ line ∷ []) (suc (length lines)) (state_after w lines).next_inc = record {
+      earlier = length lines;
+      moment = refl;
+      line = line;
+      is = line_last lines line;
+      enters = e;
+      made = ap (λ (ls : List Line). (state_after w ls).next_inc) (sym (front lines line));
+    } in
+    ap (λ (ls : List Line). (incarnation (state_after w ls) (state_after w lines).next_inc).confined) (sym (whole lines line))
+    ∙ (all (lines ++ line ∷ []) steps (suc (length lines)) (state_after w lines).next_inc is).confined
+
+-- where a line has entered nothing, it does not matter what its processor runs
+unentered : (line : Line) (c : Counted) (a b : Bool) → enters_call (done_call line) ≡ false → counted_by line a c ≡ counted_by line b c
+unentered line c a b e =
+    subst (λ (enters : Bool). ◌≡◌ {A = Counted} (counted_where line c enters a) (counted_where line c enters b)) (sym e) refl
+  where
+    counted_where : Line → Counted → Bool → Bool → Counted
+    counted_where line c enters confined = record {
+      depths = elim enters [ true ↦ c.depths ++ depth_entered confined (slice_index_or c.depths line.inc.0 0) ∷ [] | false ↦ c.depths ];
+      changes = c.changes + changes_more line c.depths;
+    }
+
+-- one line more, where every call is confined
+pub counting_confined : (w : WorldValue) (c new : Counted) (m : Machine) (line : Line) (after : Machine) → AllCallsConfined w → IsCounting w c m
+    → step w m first_processor ≡ Some (line, after) → new ≡ counted_by line true c → IsCounting w new after
+counting_confined w c new m line after all t made h =
+    counting_more w c new m line after after.state (confined_on after.state line.cpu) t made refl refl (h ∙ by (enters_call (done_call line)) refl)
+  where
+    tells : line_of w m line.cpu ≡ Some line
+    tells = step_line w m first_processor line after made
+
+    moves : after ≡ moved w m line.cpu
+    moves = step_moves w m first_processor line after made
+
+    grown : IsHistory w (t.lines ++ line ∷ []) after
+    grown = (grows_by w t.lines m (Some line) line after t.history made refl).history
+
+    runs : enters_call (done_call line) ≡ true → running_on after.state line.cpu ≡ Some (line.proc, m.state.next_inc)
+    runs e = ap (λ (x : Machine). running_on x.state line.cpu) moves ∙ moved_holds RunsNew runs_each w m line tells e
+
+    is_confined : enters_call (done_call line) ≡ true → confined_on after.state line.cpu ≡ true
+    is_confined e =
+        confined_run after.state line.cpu m.state.next_inc (ap (λ (o : Option (Proc × Inc)). option_map (λ (x : Proc × Inc). x.1) o) (runs e))
+        ∙ sym (ap (λ (x : Machine). (incarnation x.state m.state.next_inc).confined) grown.machine)
+        ∙ sym (ap (λ (x : Machine). (incarnation (state_after w (t.lines ++ line ∷ [])) x.state.next_inc).confined) t.history.machine)
+        ∙ entered_last w t.lines line all grown.steps e
+
+    by : (b : Bool) → enters_call (done_call line) ≡ b → counted_by line true c ≡ counted_by line (confined_on after.state line.cpu) c
+    by true e = ap (λ (confined : Bool). counted_by line confined c) (sym (is_confined e))
+    by false e = unentered line c true (confined_on after.state line.cpu) e
 
 -- where the run stops
 pub record IsCounted (w : WorldValue) (c : Counted) (s : State) (word : Option End) : Type 0 where

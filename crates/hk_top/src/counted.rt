@@ -2,13 +2,13 @@
 
 ghost use Rattle.std.specs.Prelude.{◌≡◌, IfOk};
 ghost use Rattle.hk_model.specs.Opening.{opening};
+ghost use Rattle.hk_gen.specs.ConfinedCalls.{AllCallsConfined};
 ghost use Rattle.hk_top.specs.Outputs.{IsCountedRun};
 
 use crate::running::FIRST_PROCESSOR;
-use crate::showing::open_table;
 use hk_model::{End, Kernel, NoMemory, World};
 use hk_program::{Machine, blank_line};
-use hk_report::{Counting, Shows};
+use hk_report::Counting;
 use std::alloc::Global;
 
 /// A run: how many changes there are under confined calls, how it ended, and the kernel behind it.
@@ -19,42 +19,22 @@ pub struct CountedRun<K: Kernel> {
     pub kernel: K,
 }
 
-/// Runs a world on processor 0 and a kernel that has opened it, until the processor has no step, and counts the
-/// changes of each line as it comes. NoMemory is want of memory.
+/// Runs a world of which every call is confined on processor 0 and a kernel that has opened it, until the processor
+/// has no step, and counts the changes of each line as it comes. NoMemory is want of memory.
 pub(crate) fn run_counted<K: Kernel>(
     alloc: Global,
     world: &World,
     kernel: K,
 ) -> Result<CountedRun<K>, NoMemory>
-    requires { K.state kernel ≡ opening world.now }
-    ensures { IfOk result (λ run. IsCountedRun world.now run.changes run.end (K.state run.kernel)) }
-{
-    let beside = open_table(alloc, world)?;
-    count_run(alloc, world, kernel, beside)
-}
-
-/// The same, where another kernel, which has opened the world too, makes the same steps and tells which calls are
-/// confined.
-fn count_run<K: Kernel, T: Shows>(
-    alloc: Global,
-    world: &World,
-    kernel: K,
-    beside: T,
-) -> Result<CountedRun<K>, NoMemory>
-    requires kernel { K.state kernel ≡ opening world.now }
-    requires beside { T.state beside ≡ opening world.now }
+    requires opened { K.state kernel ≡ opening world.now }
+    requires confined { AllCallsConfined world.now }
     ensures { IfOk result (λ run. IsCountedRun world.now run.changes run.end (K.state run.kernel)) }
 {
     let mut machine = Machine::open(alloc, world, kernel)?;
-    let mut teller = Machine::open(alloc, world, beside)?;
     let mut counting = Counting::new(alloc, world)?;
     let mut line = blank_line(FIRST_PROCESSOR);
     while machine.step_into(alloc, world, FIRST_PROCESSOR, &mut line)? {
-        if !teller.step_into(alloc, world, FIRST_PROCESSOR, &mut line)? {
-            unreachable!()
-        }
-        let confined = teller.kernel().runs_confined(line.cpu);
-        counting.add(&line, confined)?;
+        counting.add(&line, true)?;
     }
     let Some(end) = machine.end_word(world) else {
         unreachable!()

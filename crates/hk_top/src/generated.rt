@@ -10,7 +10,7 @@ use crate::counted::{CountedRun, run_counted};
 use crate::maker::Maker;
 use crate::served::{DueText, Served};
 use crate::status;
-use hk_gen::generate;
+use hk_gen::{confined_calls_law, generate};
 use hk_model::{End, Kernel, NoMemory, Text};
 use std::alloc::Global;
 
@@ -27,6 +27,7 @@ pub(crate) fn run_generated<M: Maker>(
 {
     let world = generate(alloc, count)?;
     let kernel = kernels.make(alloc, &world)?;
+    confined_calls_law(count);
     let run = run_counted(alloc, &world, kernel)?;
     Ok(Served {
         due: DueText {
