@@ -19,4 +19,4 @@ mod Ways
 mod Sorted
 mod Exact
 mod Handed
-mod Settled
+mod Merges

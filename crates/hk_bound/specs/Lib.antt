@@ -5,7 +5,7 @@ pub mod Columns
 pub mod Forms
 pub mod Rules
 pub mod Weights
-pub mod Settled
+pub mod Merges
 pub mod Handed
 pub mod Filled
 pub mod Listed

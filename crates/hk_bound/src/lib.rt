@@ -7,6 +7,7 @@ mod closing;
 mod forms;
 mod gaps;
 mod handing;
+mod merging;
 mod opening;
 mod rows;
 mod spreading;
