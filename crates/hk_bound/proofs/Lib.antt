@@ -19,4 +19,5 @@ mod Ways
 mod Sorted
 mod Exact
 mod Handed
+mod Copies
 mod Merges

@@ -5,6 +5,7 @@ pub mod Columns
 pub mod Forms
 pub mod Rules
 pub mod Weights
+pub mod Copies
 pub mod Merges
 pub mod Handed
 pub mod Filled

@@ -122,7 +122,7 @@ fn take_up(
         kinds,
         rows: &*rows,
     };
-    table.take_up(cell, stretches, batch, ways, &mut gaps)?;
+    table.take_up(alloc, cell, stretches, batch, ways, &mut gaps)?;
     fill_all(world, forms, rows, &gaps, grown)?;
     Ok(())
 }

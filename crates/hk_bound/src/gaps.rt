@@ -51,7 +51,7 @@ pub(crate) struct Taking {
 }
 
 /// What is obtained through a capability with the rights `by`.
-fn reduced_rights(by: Rights, rights: Rights) -> Rights
+pub(crate) fn reduced_rights(by: Rights, rights: Rights) -> Rights
     ensures { result ≡ reduced_rights by rights }
 {
     let kept = if by.has(Right::UNCONF) {
@@ -125,7 +125,7 @@ impl<'a> Table<'a> {
     }
 
     /// The column that an entry counts for, and its rights there.
-    fn held(&self, entry: &Entry) -> Option<(usize, Rights)>
+    pub(crate) fn held(&self, entry: &Entry) -> Option<(usize, Rights)>
         requires sorted { AreSorted self.now.forms.now }
         requires there { IfSome (entry_form entry.now) (Holds self.now.forms.now) }
         ensures { IsHeldAs self.now.world.now self.now.forms.now entry.now result }
@@ -199,92 +199,6 @@ impl<'a> Table<'a> {
     {
         if !covers(self.rows.get(gap.process, gap.column), gap.rights) {
             gaps.push(gap)?;
-        }
-        Ok(())
-    }
-
-    /// Whether an opening entry of an object has ENV for a column.
-    fn opens_with_env(&self, name: usize, column: usize) -> bool
-        requires known { IsKnown self.now.world.now self.now.forms.now self.now.rows.now }
-        requires name { name < object_count self.now.world.now }
-        ensures { IsTrue result ↔ OpensWithEnv self.now.world.now self.now.forms.now name column }
-    {
-        for entry in entries_of(self.world, name) {
-            if let Some((at, rights)) = self.held(entry) {
-                if at == column && rights.has(Right::ENV) {
-                    return true;
-                }
-            }
-        }
-        false
-    }
-
-    /// Whether a process may store something with ENV for a column into the list of an object.
-    fn stored_with_env(&self, name: usize, column: usize) -> bool
-        ensures { IsTrue result ↔ StoredWithEnv self.now.world.now self.now.rows.now name column }
-    {
-        for process in 0..self.world.tasks().len() {
-            if self.stores(process, name) && self.has_env(process, column) {
-                return true;
-            }
-        }
-        false
-    }
-
-    /// Whether what the list of an object has for a column is taken.
-    fn takes(&self, taking: &Taking, name: usize, column: usize) -> bool
-        requires known { IsKnown self.now.world.now self.now.forms.now self.now.rows.now }
-        requires name { name < object_count self.now.world.now }
-        ensures { IsTrue result ↔ ((taking.now.copied ≡ false) ⊎ ListedWithEnv self.now.world.now self.now.forms.now self.now.rows.now name column) }
-    {
-        !taking.copied || self.opens_with_env(name, column) || self.stored_with_env(name, column)
-    }
-
-    /// What a process takes of one entry in the list of an object.
-    fn take_entry(
-        &self,
-        process: usize,
-        name: usize,
-        taking: &Taking,
-        entry: &Entry,
-        gaps: &mut Vec<Gap>,
-    ) -> Result<(), NoMemory>
-        requires known { IsKnown self.now.world.now self.now.forms.now self.now.rows.now }
-        requires process { process < length self.now.world.now.tasks }
-        requires name { name < object_count self.now.world.now }
-        requires takes { taking_of (type_of self.now.world.now (name_at name)) (cell self.now.rows.now process name) ≡ Some taking.now }
-        requires among { Among (opening_entries self.now.world.now name) entry.now }
-        ensures { OnOk result (Finds self.now.world.now self.now.forms.now self.now.rows.now (EntryRule self.now.world.now self.now.forms.now self.now.rows.now process name taking.now entry.now) gaps.old.items gaps.new.items) }
-    {
-        let Some(held) = self.held(entry) else {
-            return Ok(());
-        };
-        if self.takes(taking, name, held.0) {
-            let rights = reduced_rights(taking.by, held.1);
-            self.offer(
-                Gap {
-                    process,
-                    column: held.0,
-                    rights,
-                },
-                gaps,
-            )?;
-        }
-        Ok(())
-    }
-
-    /// What a process takes of the opening entries of an object.
-    fn take_entries(&self, process: usize, name: usize, gaps: &mut Vec<Gap>) -> Result<(), NoMemory>
-        requires known { IsKnown self.now.world.now self.now.forms.now self.now.rows.now }
-        requires process { process < length self.now.world.now.tasks }
-        requires name { name < object_count self.now.world.now }
-        ensures { OnOk result (Finds self.now.world.now self.now.forms.now self.now.rows.now (EntriesRule self.now.world.now self.now.forms.now self.now.rows.now process name) gaps.old.items gaps.new.items) }
-    {
-        let Some(taking) = self.taking(process, name) else {
-            return Ok(());
-        };
-        for entry in entries_of(self.world, name) {
-            self.take_entry(process, name, &taking, entry, gaps)?;
         }
         Ok(())
     }
@@ -382,6 +296,7 @@ impl<'a> Table<'a> {
     /// nothing.
     pub(crate) fn object_gaps(
         &self,
+        alloc: Global,
         process: usize,
         name: usize,
         stretches: &[Stretch],
@@ -394,7 +309,7 @@ impl<'a> Table<'a> {
         requires stretches { Each (IsStretch self.now.forms.now) stretches.now }
         ensures { OnOk result (Finds self.now.world.now self.now.forms.now self.now.rows.now (SettledRule self.now.world.now self.now.forms.now self.now.rows.now process settled.old.sets.items settled.new.sets.items (ObjectRule self.now.world.now self.now.forms.now self.now.rows.now process name)) gaps.old.items gaps.new.items) }
     {
-        self.take_entries(process, name, gaps)?;
+        self.take_entries(alloc, process, name, gaps)?;
         let Some(by) = self.rows.get(process, name) else {
             return Ok(());
         };
@@ -647,7 +562,7 @@ impl<'a> Table<'a> {
     {
         let mut settled = SettledSets::new(alloc, self.forms.len())?;
         for name in 0..object_count(self.world) {
-            self.object_gaps(process, name, stretches, &mut settled, gaps)?;
+            self.object_gaps(alloc, process, name, stretches, &mut settled, gaps)?;
         }
         Ok(())
     }

@@ -4,6 +4,7 @@
 
 mod bounding;
 mod closing;
+mod copying;
 mod forms;
 mod gaps;
 mod handing;

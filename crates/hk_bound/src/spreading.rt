@@ -440,6 +440,7 @@ impl<'a> Table<'a> {
     /// What comes of more rights for an object of the opening.
     fn take_up_object(
         &self,
+        alloc: Global,
         process: usize,
         name: usize,
         stretches: &[Stretch],
@@ -455,7 +456,7 @@ impl<'a> Table<'a> {
         ensures ways { OnOk result (AreWays self.now.world.now self.now.forms.now ways.new.known) }
         ensures gaps { OnOk result (Gains self.now.world.now self.now.forms.now self.now.rows.now gaps.old.items gaps.new.items) }
     {
-        self.object_gaps(process, name, stretches, &mut batch.settled, gaps)?;
+        self.object_gaps(alloc, process, name, stretches, &mut batch.settled, gaps)?;
         self.meet(process, name, ways, gaps)?;
         Ok(())
     }
@@ -585,6 +586,7 @@ impl<'a> Table<'a> {
     /// What comes of a cell that has grown for its process, and through new ways for others.
     pub(crate) fn take_up(
         &self,
+        alloc: Global,
         grown: &Grown,
         stretches: &[Stretch],
         batch: &mut Batch,
@@ -603,7 +605,7 @@ impl<'a> Table<'a> {
         let objects = object_count(self.world);
         let things = self.thing_count();
         if column < objects {
-            self.take_up_object(process, column, stretches, batch, ways, gaps)?;
+            self.take_up_object(alloc, process, column, stretches, batch, ways, gaps)?;
             return Ok(());
         }
         if column < things {
