@@ -1,6 +1,6 @@
 -- The columns for which the list of an object has ENV, found entry by entry and process by process.
 use Rattle.std.proofs.Common.{◌≡◌, ◌∙◌, ℕ, zero, suc, ◌+◌, ◌<◌, ◌≤◌, List, [], ◌∷◌, ◌++◌, length, Bool, true, false, Option, Some, None, refl, sym, ap, subst, arith}
-use Rattle.std.specs.Prelude.{IsTrue, ◌⊎◌, slice_get, if◌then◌else◌}
+use Rattle.std.specs.Prelude.{IsTrue, slice_get, if◌then◌else◌}
 use mathlib.Core.Logic.{inl, inr}
 use Rattle.std.proofs.lemmas.Bool.{true≢false}
 use Rattle.hk_rights.specs.Rights.{has, env_right}
@@ -10,7 +10,7 @@ use Rattle.hk_bound.specs.declared.forms.Form.{Form}
 use Rattle.hk_bound.specs.Taking.{type_of}
 use Rattle.hk_bound.specs.Each.{Each, EachBelow, Among}
 use Rattle.hk_bound.specs.Columns.{name_at, cell, opening_entries}
-use Rattle.hk_bound.specs.Rules.{IsHeld, OpensWithEnv, StoredWithEnv, ListedWithEnv, env_in, stores_in}
+use Rattle.hk_bound.specs.Rules.{IsHeld, OpensWithEnv, StoredWithEnv, stores_in}
 use Rattle.hk_bound.specs.Copies.{added, IsEnvColumn, AreOpened, storer_in, AreStorers, SomeHasEnv}
 use Rattle.hk_bound.proofs.EachLemmas.{each_more, each_none, each_all, each_weaker, below_or_last}
 use Rattle.hk_bound.proofs.Exact.{push_keeps, push_last}

@@ -1,10 +1,10 @@
 -- Merges that give nothing: with templates that stand one behind another, and for any object of a type with the same rights.
 use Rattle.std.proofs.Common.{◌≡◌, ℕ, ◌+◌, ◌<◌, ◌≤◌, List, [], ◌∷◌, ◌++◌, Bool, false, Option, Some, None, ◌∙◌, ap, subst, sym, refl, true, arith, bit_and, bit_or}
-use Rattle.std.specs.Prelude.{IfSome, IsTrue, ◌⊎◌, ◌||◌, slice_get}
+use Rattle.std.specs.Prelude.{IfSome, ◌⊎◌, ◌||◌, slice_get}
 use mathlib.Core.Logic.{inl, inr}
 use Rattle.std.proofs.lemmas.Bool.{false≢true}
 use Rattle.std.proofs.lemmas.Option.{slice_get_within}
-use Rattle.hk_rights.specs.Rights.{has, HasAll, IsRightsWord, all_rights, all_but, minus, special_rights}
+use Rattle.hk_rights.specs.Rights.{has, HasAll, IsRightsWord, all_but, minus, special_rights}
 use Rattle.hk_rights.proofs.Sets.{has-bit_and_left, has-bit_and_right, has-bit_or, HasAll-bit_or, HasAll-bit_and_right, or_right}
 use Rattle.hk_model.specs.WorldValue.{WorldValue}
 use Rattle.hk_model.specs.Merging.{merged_rights}

@@ -345,7 +345,14 @@ pub(crate) fn closed_rows(alloc: Global, world: &World, forms: &[Form]) -> Resul
         }
         fill_all(world, forms, &mut rows, &gaps, &mut grown)?;
         take_up_all(
-            alloc, world, forms, &kinds, stretches.as_slice(), &mut rows, &mut ways, &mut grown,
+            alloc,
+            world,
+            forms,
+            &kinds,
+            stretches.as_slice(),
+            &mut rows,
+            &mut ways,
+            &mut grown,
         )?;
     }
 }

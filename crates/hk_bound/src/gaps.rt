@@ -8,7 +8,6 @@ ghost use Rattle.hk_bound.specs.Taking.{Slots, Old, MadeBy, Has, Right as RightO
 ghost use Rattle.hk_bound.specs.Each.{Among, Each};
 ghost use Rattle.hk_bound.specs.Columns.{name_at, proc_at, opening_entries, opening_params, object_count, thing_count, width_of, cell, covers, CellFollows, Finds};
 ghost use Rattle.hk_bound.specs.Forms.{entry_form, Holds, IsFirst, AreSorted};
-
 ghost use Rattle.hk_bound.specs.Merges.{IsStretch, SettledRule};
 ghost use Rattle.hk_bound.specs.Rules.{IsKnown, IsHeldAs, env_in, stores_in, taking_of, OpensWithEnv, StoredWithEnv, ListedWithEnv, Offered, EntryRule, EntriesRule, FormRule, ParamRule, ParamsRule, TypeRule, MergeRule, MergesRule, ObjectRule, Passes, share_made, HasTakings, through_in, joined_cells, CellRule, PassedRule, AreStored, passes_all, OpensWith, SlotRule, MadeRule, OwnRule};
 

@@ -8,7 +8,6 @@ ghost use Rattle.hk_model.specs.declared.names.Name.{Name as NameOf};
 ghost use Rattle.hk_bound.specs.declared.forms.Form.{Form as FormOf};
 ghost use Rattle.hk_bound.specs.Each.{Among, Each};
 ghost use Rattle.hk_bound.specs.Columns.{object_count, cell, Finds};
-
 ghost use Rattle.hk_bound.specs.Merges.{IsIdle, IsStretch, MergesFrom, settled_at, SettledRule, AddsSettled};
 ghost use Rattle.hk_bound.specs.Rules.{IsKnown, MergeRule, MergesRule};
 

@@ -54,7 +54,11 @@ pub(crate) struct Batch {
 impl Batch {
     /// So many cells, of so many templates in all.
     pub(crate) fn new(alloc: Global, cells: usize, forms: usize) -> Result<Batch, NoMemory> {
-        let types_left = if cells >= 64 && cells >= forms / 16 { 16 } else { 0 };
+        let types_left = if cells >= 64 && cells >= forms / 16 {
+            16
+        } else {
+            0
+        };
         Ok(Batch {
             settled: SettledSets::new(alloc, cells)?,
             types_left,

@@ -1,4 +1,4 @@
-use Rattle.std.proofs.Common.{◌<◌, ◌≤◌, ℕ}
+use Rattle.std.proofs.Common.{◌≤◌, ℕ}
 use Rattle.hk_bound.specs.Taking.{type_of}
 use Rattle.hk_bound.specs.Columns.{Finds, name_at}
 use Rattle.hk_bound.specs.Forms.{IsStart}

@@ -1,4 +1,3 @@
-use Rattle.std.proofs.Common.{◌<◌, ◌≤◌, ℕ}
 use Rattle.hk_bound.specs.Columns.{Finds}
 use Rattle.hk_bound.specs.Merges.{MergesFrom}
 use Rattle.hk_bound.proofs.gaps.Table.merge_between.Given as goal

@@ -8,8 +8,7 @@ pub returns-then-is_among : goal.returns-then-is_among
 returns-then-is_among c =
     let w = c.args.self.now.world.now in
     let forms = c.args.self.now.forms.now in
-    let rows = c.args.self.now.rows.now in
-    (
+    let rows = c.args.self.now.rows.now in (
       λ yes. inr (inl (opens w forms rows c.args.name c.args.column c.args.opened.now c.args.storers.now (c.requires.opened c.if-not-taking.false)
           (c.is_among.ensures.0 c.if-is_among.true))),
       λ h. refl,
@@ -20,8 +19,7 @@ returns c =
     let w = c.args.self.now.world.now in
     let forms = c.args.self.now.forms.now in
     let rows = c.args.self.now.rows.now in
-    let copied = c.if-not-taking.false in
-    (
+    let copied = c.if-not-taking.false in (
       λ yes. inr (inr (stored w forms rows c.args.name c.args.column c.args.opened.now c.args.storers.now (c.requires.storers copied) (c.some_has_env.ensures.0 yes))),
       λ h. elim h [
         | inl all ↦ absurd (true≢false (sym copied ∙ all))
