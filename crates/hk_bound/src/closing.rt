@@ -336,7 +336,7 @@ pub(crate) fn closed_rows(alloc: Global, world: &World, forms: &[Form]) -> Resul
     let kinds = kinds(alloc, world)?;
     let stretches = all_stretches(alloc, forms)?;
     let mut rows = Rows::new(alloc, count, object_count(world) + count + forms.len())?;
-    let mut ways = Ways::new(alloc, count, object_count(world))?;
+    let mut ways = Ways::new(alloc, count, world)?;
     let mut grown = Vec::new(alloc);
     'looks: loop {
         let gaps = look(alloc, world, forms, &kinds, stretches.as_slice(), &rows)?;

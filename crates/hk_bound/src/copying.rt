@@ -10,10 +10,93 @@ ghost use Rattle.hk_bound.specs.Copies.{added, IsEnvColumn, AreOpened, storer_in
 ghost use Rattle.hk_bound.specs.Rules.{IsKnown, taking_of, ListedWithEnv, EntryRule, EntriesRule};
 
 use crate::gaps::{Gap, Table, Taking, reduced_rights};
-use crate::opening::entries_of;
-use hk_model::{Entry, NoMemory};
+use crate::opening::{entries_of, object_count};
+use hk_model::{Entry, NoMemory, World};
 use hk_rights::{Right, Rights};
 use std::alloc::Global;
+
+/// In which lists objects stand without ENV at the opening.
+#[derive(Drop)]
+pub(crate) struct Bare {
+    /// For each object the lists.
+    pub lists: Vec<Vec<usize>>,
+    /// For each of these whether a process is known to store the object there with ENV.
+    pub stored: Vec<Vec<bool>>,
+}
+
+impl Bare {
+    /// All that stand so in a world.
+    pub(crate) fn new(alloc: Global, world: &World) -> Result<Bare, NoMemory> {
+        let mut lists: Vec<Vec<usize>> = Vec::new(alloc);
+        let mut stored: Vec<Vec<bool>> = Vec::new(alloc);
+        for _ in 0..object_count(world) {
+            lists.push(Vec::new(alloc))?;
+            stored.push(Vec::new(alloc))?;
+        }
+        let mut bare = Bare { lists, stored };
+        for list in 0..object_count(world) {
+            bare.add_list(world, list)?;
+        }
+        Ok(bare)
+    }
+
+    /// Adds what stands without ENV in a list.
+    fn add_list(&mut self, world: &World, list: usize) -> Result<(), NoMemory> {
+        for entry in entries_of(world, list) {
+            self.add(list, entry)?;
+        }
+        Ok(())
+    }
+
+    /// Adds an entry of a list, if it is without ENV.
+    fn add(&mut self, list: usize, entry: &Entry) -> Result<(), NoMemory> {
+        let Entry::Held(cap) = entry else {
+            return Ok(());
+        };
+        if cap.rights.has(Right::ENV) {
+            return Ok(());
+        }
+        let column = cap.name.0 as usize;
+        if let Some(lists) = self.lists.get_mut(column) {
+            lists.push(list)?;
+        }
+        if let Some(stored) = self.stored.get_mut(column) {
+            stored.push(false)?;
+        }
+        Ok(())
+    }
+
+    /// In how many lists an object stands without ENV.
+    pub(crate) fn count(&self, column: usize) -> usize {
+        match self.lists.get(column) {
+            None => 0,
+            Some(lists) => lists.len(),
+        }
+    }
+
+    /// One of these lists.
+    pub(crate) fn list(&self, column: usize, at: usize) -> Option<usize> {
+        match self.lists.get(column) {
+            None => None,
+            Some(lists) => lists.get(at).copied(),
+        }
+    }
+
+    /// Notes that a process stores the object into one of these lists with ENV. Whether it is the first.
+    pub(crate) fn is_stored_first(&mut self, column: usize, at: usize) -> bool {
+        let Some(stored) = self.stored.get_mut(column) else {
+            return false;
+        };
+        match stored.get_mut(at) {
+            None => false,
+            Some(known) => {
+                let first = !*known;
+                *known = true;
+                first
+            }
+        }
+    }
+}
 
 /// Adds a number, if there is one.
 fn add(numbers: &mut Vec<usize>, number: Option<usize>) -> Result<(), NoMemory>

@@ -7,13 +7,14 @@ ghost use Rattle.hk_bound.specs.Each.{Each};
 ghost use Rattle.hk_bound.specs.Filled.{IsWithin, AreWays, Gains};
 ghost use Rattle.hk_bound.specs.Merges.{IsStretch};
 
+use crate::copying::Bare;
 use crate::forms::Form;
 use crate::gaps::{Gap, Table, passes_all};
 use crate::handing::passing_rights;
 use crate::merging::{SettledSets, Stretch};
 use crate::opening::{is_listed, object_count, type_of};
 use crate::rows::{Rows, covers};
-use hk_model::{Name, NoMemory};
+use hk_model::{Name, NoMemory, World};
 use hk_rights::Rights;
 use std::alloc::Global;
 
@@ -38,6 +39,8 @@ pub(crate) struct Ways {
     pub hubs: Vec<Option<usize>>,
     /// For each process and object whether others were looked for that take what this one puts into its list.
     pub given: Vec<Vec<bool>>,
+    /// In which lists objects stand without ENV.
+    pub bare: Bare,
 }
 
 /// What is known while cells of one process are taken up together.
@@ -86,10 +89,11 @@ impl Batch {
 }
 
 impl Ways {
-    /// No ways among so many processes, through so many objects.
-    pub(crate) fn new(alloc: Global, count: usize, objects: usize) -> Result<Ways, NoMemory>
+    /// No ways among so many processes of a world.
+    pub(crate) fn new(alloc: Global, count: usize, world: &World) -> Result<Ways, NoMemory>
         ensures { IfOk result (λ ways. ways.known ≡ empty_rows count count) }
     {
+        let objects = object_count(world);
         let known = Rows::new(alloc, count, count)?;
         let mut takers: Vec<Vec<usize>> = Vec::new(alloc);
         let mut given: Vec<Vec<bool>> = Vec::new(alloc);
@@ -98,11 +102,13 @@ impl Ways {
             given.push(vec![in alloc; false; objects]?)?;
         }
         let hubs = vec![in alloc; None; objects]?;
+        let bare = Bare::new(alloc, world)?;
         Ok(Ways {
             known,
             takers,
             hubs,
             given,
+            bare,
         })
     }
 
@@ -441,6 +447,95 @@ impl<'a> Table<'a> {
         Ok(())
     }
 
+    /// What a process copies of a list, if it does.
+    fn copy_again(
+        &self,
+        alloc: Global,
+        process: usize,
+        list: usize,
+        gaps: &mut Vec<Gap>,
+    ) -> Result<(), NoMemory>
+        requires known { IsKnown self.now.world.now self.now.forms.now self.now.rows.now }
+        requires process { process < length self.now.world.now.tasks }
+        requires list { list < object_count self.now.world.now }
+        ensures { OnOk result (Gains self.now.world.now self.now.forms.now self.now.rows.now gaps.old.items gaps.new.items) }
+    {
+        let Some(taking) = self.taking(process, list) else {
+            return Ok(());
+        };
+        if !taking.copied {
+            return Ok(());
+        }
+        self.take_entries(alloc, process, list, gaps)?;
+        Ok(())
+    }
+
+    /// What processes copy of a list in which more has come to have ENV.
+    fn all_copy_again(
+        &self,
+        alloc: Global,
+        list: usize,
+        gaps: &mut Vec<Gap>,
+    ) -> Result<(), NoMemory>
+        requires known { IsKnown self.now.world.now self.now.forms.now self.now.rows.now }
+        ensures { OnOk result (Gains self.now.world.now self.now.forms.now self.now.rows.now gaps.old.items gaps.new.items) }
+    {
+        if list >= object_count(self.world) {
+            return Ok(());
+        }
+        for process in 0..self.world.tasks().len() {
+            self.copy_again(alloc, process, list, gaps)?;
+        }
+        Ok(())
+    }
+
+    /// What comes of it if a process stores an object with ENV into one of the lists in which it stands without.
+    fn store_into(
+        &self,
+        alloc: Global,
+        process: usize,
+        name: usize,
+        at: usize,
+        bare: &mut Bare,
+        gaps: &mut Vec<Gap>,
+    ) -> Result<(), NoMemory>
+        requires known { IsKnown self.now.world.now self.now.forms.now self.now.rows.now }
+        ensures { OnOk result (Gains self.now.world.now self.now.forms.now self.now.rows.now gaps.old.items gaps.new.items) }
+    {
+        let Some(list) = bare.list(name, at) else {
+            return Ok(());
+        };
+        if !self.stores(process, list) {
+            return Ok(());
+        }
+        if !bare.is_stored_first(name, at) {
+            return Ok(());
+        }
+        self.all_copy_again(alloc, list, gaps)?;
+        Ok(())
+    }
+
+    /// What comes of it if a process stores an object with ENV into the lists in which it stands without.
+    fn store_all(
+        &self,
+        alloc: Global,
+        process: usize,
+        name: usize,
+        bare: &mut Bare,
+        gaps: &mut Vec<Gap>,
+    ) -> Result<(), NoMemory>
+        requires known { IsKnown self.now.world.now self.now.forms.now self.now.rows.now }
+        ensures { OnOk result (Gains self.now.world.now self.now.forms.now self.now.rows.now gaps.old.items gaps.new.items) }
+    {
+        if !self.has_env(process, name) {
+            return Ok(());
+        }
+        for at in 0..bare.count(name) {
+            self.store_into(alloc, process, name, at, bare, gaps)?;
+        }
+        Ok(())
+    }
+
     /// What comes of more rights for an object of the opening.
     fn take_up_object(
         &self,
@@ -462,6 +557,7 @@ impl<'a> Table<'a> {
     {
         self.object_gaps(alloc, process, name, stretches, &mut batch.settled, gaps)?;
         self.meet(process, name, ways, gaps)?;
+        self.store_all(alloc, process, name, &mut ways.bare, gaps)?;
         Ok(())
     }
 
