@@ -82,6 +82,14 @@ impl Bare {
         }
     }
 
+    /// Which of these lists one is, if it is.
+    pub(crate) fn place(&self, column: usize, list: usize) -> Option<usize> {
+        match self.lists.get(column) {
+            None => None,
+            Some(lists) => lists.binary_search(&list).ok(),
+        }
+    }
+
     /// Notes that a process stores the object into one of these lists with ENV. Whether it is the first.
     pub(crate) fn is_stored_first(&mut self, column: usize, at: usize) -> bool {
         let Some(stored) = self.stored.get_mut(column) else {

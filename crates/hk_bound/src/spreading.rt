@@ -12,10 +12,10 @@ use crate::forms::Form;
 use crate::gaps::{Gap, Table, passes_all};
 use crate::handing::passing_rights;
 use crate::merging::{SettledSets, Stretch};
-use crate::opening::{is_listed, object_count, type_of};
+use crate::opening::{entries_of, is_listed, object_count, type_of};
 use crate::rows::{Rows, covers};
-use hk_model::{Name, NoMemory, World};
-use hk_rights::Rights;
+use hk_model::{Entry, Name, NoMemory, World};
+use hk_rights::{Right, Rights};
 use std::alloc::Global;
 
 /// A cell that has grown, with the rights that it then had.
@@ -536,6 +536,54 @@ impl<'a> Table<'a> {
         Ok(())
     }
 
+    /// What comes of it if a process stores into a list the object of an entry, with ENV.
+    fn store_over(
+        &self,
+        alloc: Global,
+        process: usize,
+        list: usize,
+        entry: &Entry,
+        bare: &mut Bare,
+        gaps: &mut Vec<Gap>,
+    ) -> Result<(), NoMemory>
+        requires known { IsKnown self.now.world.now self.now.forms.now self.now.rows.now }
+        ensures { OnOk result (Gains self.now.world.now self.now.forms.now self.now.rows.now gaps.old.items gaps.new.items) }
+    {
+        let Entry::Held(cap) = entry else {
+            return Ok(());
+        };
+        let name = cap.name.0 as usize;
+        if cap.rights.has(Right::ENV) || !self.has_env(process, name) {
+            return Ok(());
+        }
+        let Some(at) = bare.place(name, list) else {
+            return Ok(());
+        };
+        self.store_into(alloc, process, name, at, bare, gaps)?;
+        Ok(())
+    }
+
+    /// What comes of it if a process stores into a list whatever it has with ENV of what stands there.
+    fn store_list(
+        &self,
+        alloc: Global,
+        process: usize,
+        list: usize,
+        bare: &mut Bare,
+        gaps: &mut Vec<Gap>,
+    ) -> Result<(), NoMemory>
+        requires known { IsKnown self.now.world.now self.now.forms.now self.now.rows.now }
+        ensures { OnOk result (Gains self.now.world.now self.now.forms.now self.now.rows.now gaps.old.items gaps.new.items) }
+    {
+        if !self.stores(process, list) {
+            return Ok(());
+        }
+        for entry in entries_of(self.world, list) {
+            self.store_over(alloc, process, list, entry, bare, gaps)?;
+        }
+        Ok(())
+    }
+
     /// What comes of more rights for an object of the opening.
     fn take_up_object(
         &self,
@@ -558,6 +606,7 @@ impl<'a> Table<'a> {
         self.object_gaps(alloc, process, name, stretches, &mut batch.settled, gaps)?;
         self.meet(process, name, ways, gaps)?;
         self.store_all(alloc, process, name, &mut ways.bare, gaps)?;
+        self.store_list(alloc, process, name, &mut ways.bare, gaps)?;
         Ok(())
     }
 
