@@ -14,7 +14,7 @@ use Rattle.hk_bound.specs.Forms.{Holds, KeepsForms, HaveEntryForms, HaveParamFor
 same_item : {A : Type 0} {x y : A} → ◌≡◌ {A = Option A} (Some x) (Some y) → x ≡ y
 same_item e = cc
 
-below_or_last : (k n : ℕ) → k < n + 1 → (k < n) ⊎ (k ≡ n)
+pub below_or_last : (k n : ℕ) → k < n + 1 → (k < n) ⊎ (k ≡ n)
 below_or_last k n h = grind arith
 
 -- one item more

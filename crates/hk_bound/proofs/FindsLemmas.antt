@@ -9,7 +9,7 @@ use Rattle.hk_bound.specs.Each.{Each, EachBelow}
 use Rattle.hk_bound.specs.Columns.{IsGap, Finds}
 use Rattle.hk_bound.proofs.EachLemmas.{each_more, each_none, each_all}
 
-push_cases : {A : Type 0} (xs : List A) (y x : A) (k : ℕ) → slice_get (xs ++ y ∷ []) k ≡ Some x → (slice_get xs k ≡ Some x) ⊎ (y ≡ x)
+pub push_cases : {A : Type 0} (xs : List A) (y x : A) (k : ℕ) → slice_get (xs ++ y ∷ []) k ≡ Some x → (slice_get xs k ≡ Some x) ⊎ (y ≡ x)
 push_cases [] y x zero e = inr (let same : y ≡ x = cc in same)
 push_cases [] y x (suc zero) e = absurd (cc)
 push_cases [] y x (suc (suc k)) e = absurd (cc)

@@ -23,7 +23,7 @@ pub covers_all : (o : Option ℕ) (s : ℕ) → covers o s ≡ true → (r : ℕ
 covers_all None s h = absurd (false≢true h)
 covers_all (Some r) s h = let e : bit_and r s ≡ s = grind (arith, nat_tests, h) in (r, refl, HasAll-from_bit_and r s e)
 
-all_covers : (r s : ℕ) → HasAll r s → covers (Some r) s ≡ true
+pub all_covers : (r s : ℕ) → HasAll r s → covers (Some r) s ≡ true
 all_covers r s h = let e = bit_and-from_HasAll r s h in grind (arith, nat_tests, e)
 
 -- ---- what is left of more rights, and through rights that reach as far

@@ -19,4 +19,5 @@ mod Ways
 mod Sorted
 mod Exact
 mod Handed
-mod Settled
+mod Copies
+mod Merges

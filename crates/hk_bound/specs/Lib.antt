@@ -5,7 +5,8 @@ pub mod Columns
 pub mod Forms
 pub mod Rules
 pub mod Weights
-pub mod Settled
+pub mod Copies
+pub mod Merges
 pub mod Handed
 pub mod Filled
 pub mod Listed

@@ -10,13 +10,15 @@ ghost use Rattle.hk_bound.specs.Weights.{rows_weight};
 ghost use Rattle.hk_bound.specs.Each.{Each};
 ghost use Rattle.hk_bound.specs.Filled.{IsWithin, AreFilling, AreWays, Fills, FillsAll};
 ghost use Rattle.hk_bound.specs.Listed.{AreExact};
+ghost use Rattle.hk_bound.specs.Merges.{IsStretch};
 
 use crate::forms::Form;
-use crate::gaps::{Gap, Settled, Table};
+use crate::gaps::{Gap, Table};
 use crate::handing::all_stored_gaps;
+use crate::merging::{Stretch, all_stretches};
 use crate::opening::{object_count, type_of};
 use crate::rows::{Rows, covers};
-use crate::spreading::{Grown, Ways};
+use crate::spreading::{Batch, Grown, Ways};
 use hk_model::{NoMemory, World};
 use hk_rights::Rights;
 use std::alloc::Global;
@@ -95,13 +97,15 @@ fn take_up(
     forms: &[Form],
     kinds: &[Vec<usize>],
     cell: &Grown,
-    settled: Option<Settled>,
+    stretches: &[Stretch],
+    batch: &mut Batch,
     rows: &mut Rows,
     ways: &mut Ways,
     grown: &mut Vec<Grown>,
-) -> Result<Option<Settled>, NoMemory>
+) -> Result<(), NoMemory>
     requires world { IsWorld world.now }
     requires forms { AreForms world.now forms.now }
+    requires stretches { Each (IsStretch forms.now) stretches.now }
     requires cell { IsWithin world.now forms.now cell.now }
     requires filling { AreFilling world.now forms.now rows.old grown.old.items }
     requires ways { AreWays world.now forms.now ways.old.known }
@@ -109,7 +113,7 @@ fn take_up(
     ensures ways { OnOk result (AreWays world.now forms.now ways.new.known) }
 {
     if !is_latest(rows.get(cell.process, cell.column), cell.rights) {
-        return Ok(settled);
+        return Ok(());
     }
     let mut gaps = Vec::new(alloc);
     let table = Table {
@@ -118,9 +122,9 @@ fn take_up(
         kinds,
         rows: &*rows,
     };
-    let next = table.take_up(cell, settled, ways, &mut gaps)?;
+    table.take_up(alloc, cell, stretches, batch, ways, &mut gaps)?;
     fill_all(world, forms, rows, &gaps, grown)?;
-    Ok(next)
+    Ok(())
 }
 
 /// Gives another process what it takes of the cells of a process that have grown.
@@ -196,22 +200,25 @@ fn take_up_cells(
     forms: &[Form],
     kinds: &[Vec<usize>],
     cells: &[Grown],
+    stretches: &[Stretch],
     rows: &mut Rows,
     ways: &mut Ways,
     grown: &mut Vec<Grown>,
 ) -> Result<(), NoMemory>
     requires world { IsWorld world.now }
     requires forms { AreForms world.now forms.now }
+    requires stretches { Each (IsStretch forms.now) stretches.now }
     requires cells { Each (IsWithin world.now forms.now) cells.now }
     requires filling { AreFilling world.now forms.now rows.old grown.old.items }
     requires ways { AreWays world.now forms.now ways.old.known }
     ensures filled { OnOk result (FillsAll world.now forms.now rows.old rows.new grown.old.items grown.new.items) }
     ensures ways { OnOk result (AreWays world.now forms.now ways.new.known) }
 {
-    let mut settled = None;
+    let mut batch = Batch::new(alloc, cells.len(), forms.len())?;
     for cell in cells {
-        let next = take_up(alloc, world, forms, kinds, cell, settled, rows, ways, grown)?;
-        settled = next;
+        take_up(
+            alloc, world, forms, kinds, cell, stretches, &mut batch, rows, ways, grown,
+        )?;
     }
     Ok(())
 }
@@ -239,12 +246,14 @@ fn take_up_all(
     world: &World,
     forms: &[Form],
     kinds: &[Vec<usize>],
+    stretches: &[Stretch],
     rows: &mut Rows,
     ways: &mut Ways,
     grown: &mut Vec<Grown>,
 ) -> Result<(), NoMemory>
     requires world { IsWorld world.now }
     requires forms { AreForms world.now forms.now }
+    requires stretches { Each (IsStretch forms.now) stretches.now }
     requires filling { AreFilling world.now forms.now rows.old grown.old.items }
     requires ways { AreWays world.now forms.now ways.old.known }
     ensures filling { OnOk result (AreFilling world.now forms.now rows.new grown.new.items) }
@@ -258,29 +267,38 @@ fn take_up_all(
         pass_on(
             alloc, world, forms, kinds, process, &cells, rows, ways, grown,
         )?;
-        take_up_cells(alloc, world, forms, kinds, &cells, rows, ways, grown)?;
+        take_up_cells(
+            alloc, world, forms, kinds, &cells, stretches, rows, ways, grown,
+        )?;
     }
     Ok(())
 }
 
 /// What processes get by what they have themselves.
-fn all_own_gaps(table: &Table, gaps: &mut Vec<Gap>) -> Result<(), NoMemory>
+fn all_own_gaps(
+    alloc: Global,
+    table: &Table,
+    stretches: &[Stretch],
+    gaps: &mut Vec<Gap>,
+) -> Result<(), NoMemory>
     requires known { IsKnown table.now.world.now table.now.forms.now table.now.rows.now }
+    requires stretches { Each (IsStretch table.now.forms.now) stretches.now }
     ensures { OnOk result (Finds table.now.world.now table.now.forms.now table.now.rows.now (OwnRules table.now.world.now table.now.forms.now table.now.rows.now) gaps.old.items gaps.new.items) }
 {
     for (process, task) in table.world.tasks().iter().enumerate() {
-        table.own_gaps(process, task, gaps)?;
+        table.own_gaps(alloc, process, task, stretches, gaps)?;
     }
     Ok(())
 }
 
 /// All that the rules give and the rows lack, of all processes.
-fn missing(alloc: Global, table: &Table) -> Result<Vec<Gap>, NoMemory>
+fn missing(alloc: Global, table: &Table, stretches: &[Stretch]) -> Result<Vec<Gap>, NoMemory>
     requires known { IsKnown table.now.world.now table.now.forms.now table.now.rows.now }
+    requires stretches { Each (IsStretch table.now.forms.now) stretches.now }
     ensures { IfOk result (λ gaps. Finds table.now.world.now table.now.forms.now table.now.rows.now (AllRules table.now.world.now table.now.forms.now table.now.rows.now) [] gaps.items) }
 {
     let mut gaps = Vec::new(alloc);
-    all_own_gaps(table, &mut gaps)?;
+    all_own_gaps(alloc, table, stretches, &mut gaps)?;
     all_stored_gaps(alloc, table, &mut gaps)?;
     Ok(gaps)
 }
@@ -291,9 +309,11 @@ fn look(
     world: &World,
     forms: &[Form],
     kinds: &[Vec<usize>],
+    stretches: &[Stretch],
     rows: &Rows,
 ) -> Result<Vec<Gap>, NoMemory>
     requires known { IsKnown world.now forms.now rows.now }
+    requires stretches { Each (IsStretch forms.now) stretches.now }
     ensures { IfOk result (λ gaps. Finds world.now forms.now rows.now (AllRules world.now forms.now rows.now) [] gaps.items) }
 {
     let table = Table {
@@ -302,7 +322,7 @@ fn look(
         kinds,
         rows,
     };
-    missing(alloc, &table)
+    missing(alloc, &table, stretches)
 }
 
 /// All that the processes can come to have. The first look finds what they open with. Each cell that
@@ -314,17 +334,25 @@ pub(crate) fn closed_rows(alloc: Global, world: &World, forms: &[Form]) -> Resul
 {
     let count = world.tasks().len();
     let kinds = kinds(alloc, world)?;
+    let stretches = all_stretches(alloc, forms)?;
     let mut rows = Rows::new(alloc, count, object_count(world) + count + forms.len())?;
-    let mut ways = Ways::new(alloc, count)?;
+    let mut ways = Ways::new(alloc, count, world)?;
     let mut grown = Vec::new(alloc);
     'looks: loop {
-        let gaps = look(alloc, world, forms, &kinds, &rows)?;
+        let gaps = look(alloc, world, forms, &kinds, stretches.as_slice(), &rows)?;
         if gaps.is_empty() {
             return Ok(rows);
         }
         fill_all(world, forms, &mut rows, &gaps, &mut grown)?;
         take_up_all(
-            alloc, world, forms, &kinds, &mut rows, &mut ways, &mut grown,
+            alloc,
+            world,
+            forms,
+            &kinds,
+            stretches.as_slice(),
+            &mut rows,
+            &mut ways,
+            &mut grown,
         )?;
     }
 }

@@ -1,23 +1,23 @@
 // What the rules give to processes, and the rows do not have.
 
 ghost use Rattle.std.specs.Prelude.{◌≡◌, ◌⊎◌, false, ◌↔◌, IsTrue, ◌<◌, ◌+◌, ◌^◌, ℕ, true, Some, IfSome, IsSome, IfOk, OnOk, is_some, length, slice_get, slice_index_or, []};
-ghost use Rattle.hk_rights.specs.Rights.{HasAll, IsRightsWord, all_rights, has, env_right, a0_right};
+ghost use Rattle.hk_rights.specs.Rights.{all_rights, has, env_right, a0_right};
 ghost use Rattle.hk_model.specs.Walking.{reduced_rights};
-ghost use Rattle.hk_model.specs.Merging.{merged_rights};
 ghost use Rattle.hk_model.specs.Targets.{PROCEDURE};
-ghost use Rattle.hk_model.specs.declared.names.Name.{Name as NameOf};
 ghost use Rattle.hk_bound.specs.Taking.{Slots, Old, MadeBy, Has, Right as RightOf, Amplifies, Follows, type_of};
 ghost use Rattle.hk_bound.specs.Each.{Among, Each};
 ghost use Rattle.hk_bound.specs.Columns.{name_at, proc_at, opening_entries, opening_params, object_count, thing_count, width_of, cell, covers, CellFollows, Finds};
 ghost use Rattle.hk_bound.specs.Forms.{entry_form, Holds, IsFirst, AreSorted};
-ghost use Rattle.hk_bound.specs.Settled.{settled_at, SettledRule};
+ghost use Rattle.hk_bound.specs.Merges.{IsStretch, SettledRule};
 ghost use Rattle.hk_bound.specs.Rules.{IsKnown, IsHeldAs, env_in, stores_in, taking_of, OpensWithEnv, StoredWithEnv, ListedWithEnv, Offered, EntryRule, EntriesRule, FormRule, ParamRule, ParamsRule, TypeRule, MergeRule, MergesRule, ObjectRule, Passes, share_made, HasTakings, through_in, joined_cells, CellRule, PassedRule, AreStored, passes_all, OpensWith, SlotRule, MadeRule, OwnRule};
 
-use crate::forms::{Form, entry_form, made_form, param_form, place_of, start_of};
+use crate::forms::{Form, entry_form, made_form, param_form, place_of};
+use crate::merging::{SettledSets, Stretch};
 use crate::opening::{entries_of, is_general, is_listed, object_count, params_of, type_of};
 use crate::rows::{Rows, cell_at, covers, joined};
 use hk_model::{Entry, Name, NoMemory, Param, Task, World};
 use hk_rights::{Right, Rights};
+use std::alloc::Global;
 
 /// Rights that the rules give to a process, and that its row lacks.
 #[derive(Clone, Copy, Drop, Debug)]
@@ -40,13 +40,6 @@ pub(crate) struct Table<'a> {
     pub rows: &'a Rows,
 }
 
-/// A type, and rights of a process for objects of it for which merges give it nothing that it lacks.
-#[derive(Clone, Copy, PartialEq, Eq, Debug)]
-pub(crate) struct Settled {
-    pub of: Name,
-    pub rights: Rights,
-}
-
 /// How a process takes from the list of an object.
 #[derive(Clone, Copy, Debug)]
 pub(crate) struct Taking {
@@ -57,7 +50,7 @@ pub(crate) struct Taking {
 }
 
 /// What is obtained through a capability with the rights `by`.
-fn reduced_rights(by: Rights, rights: Rights) -> Rights
+pub(crate) fn reduced_rights(by: Rights, rights: Rights) -> Rights
     ensures { result ≡ reduced_rights by rights }
 {
     let kept = if by.has(Right::UNCONF) {
@@ -70,22 +63,6 @@ fn reduced_rights(by: Rights, rights: Rights) -> Rights
     } else {
         kept.without(Rights::ENV)
     }
-}
-
-/// Whether all of some rights are there.
-fn has_rights(by: Rights, check: Rights) -> bool
-    ensures value { IsTrue result ↔ HasAll by check }
-    ensures word { IsRightsWord check }
-{
-    by.contains(check)
-}
-
-/// What a merge gives: the rights of `give`, but of the special rights those alone that were there.
-fn merged_rights(by: Rights, give: Rights) -> Rights
-    ensures { (of : NameOf) → result ≡ merged_rights by (Some of) give }
-{
-    let special = give.intersection(Rights::SPECIAL).intersection(by);
-    give.without(Rights::SPECIAL).union(special)
 }
 
 /// Whether nothing more passes through more rights: what passes asks for no others than these.
@@ -105,16 +82,6 @@ fn is_passed(mine: Option<Rights>, theirs: Option<Rights>, by: Rights) -> bool
     match theirs {
         None => true,
         Some(rights) => !rights.has(Right::ENV) || covers(mine, reduced_rights(by, rights)),
-    }
-}
-
-/// Whether these rights for objects of a type are those that are settled.
-fn is_settled(settled: &Option<Settled>, of: Name, rights: Rights) -> bool
-    ensures { result ≡ true → settled.now ≡ Some (settled_at of rights) }
-{
-    match settled {
-        None => false,
-        Some(old) => old.of.0 == of.0 && old.rights.bits() == rights.bits(),
     }
 }
 
@@ -157,7 +124,7 @@ impl<'a> Table<'a> {
     }
 
     /// The column that an entry counts for, and its rights there.
-    fn held(&self, entry: &Entry) -> Option<(usize, Rights)>
+    pub(crate) fn held(&self, entry: &Entry) -> Option<(usize, Rights)>
         requires sorted { AreSorted self.now.forms.now }
         requires there { IfSome (entry_form entry.now) (Holds self.now.forms.now) }
         ensures { IsHeldAs self.now.world.now self.now.forms.now entry.now result }
@@ -199,7 +166,7 @@ impl<'a> Table<'a> {
     }
 
     /// How a process takes from the list of an object, if it does.
-    fn taking(&self, process: usize, name: usize) -> Option<Taking>
+    pub(crate) fn taking(&self, process: usize, name: usize) -> Option<Taking>
         ensures { result ≡ taking_of (type_of self.now.world.now (name_at name)) (cell self.now.rows.now process name) }
     {
         let of = type_of(self.world, name);
@@ -223,7 +190,7 @@ impl<'a> Table<'a> {
     }
 
     /// Adds a gap, if it is one.
-    fn offer(&self, gap: Gap, gaps: &mut Vec<Gap>) -> Result<(), NoMemory>
+    pub(crate) fn offer(&self, gap: Gap, gaps: &mut Vec<Gap>) -> Result<(), NoMemory>
         requires follows { CellFollows self.now.world.now self.now.forms.now (Slots (proc_at gap.process)) gap.column gap.rights }
         requires process { gap.process < length self.now.world.now.tasks }
         requires column { gap.column < width_of self.now.world.now self.now.forms.now }
@@ -231,92 +198,6 @@ impl<'a> Table<'a> {
     {
         if !covers(self.rows.get(gap.process, gap.column), gap.rights) {
             gaps.push(gap)?;
-        }
-        Ok(())
-    }
-
-    /// Whether an opening entry of an object has ENV for a column.
-    fn opens_with_env(&self, name: usize, column: usize) -> bool
-        requires known { IsKnown self.now.world.now self.now.forms.now self.now.rows.now }
-        requires name { name < object_count self.now.world.now }
-        ensures { IsTrue result ↔ OpensWithEnv self.now.world.now self.now.forms.now name column }
-    {
-        for entry in entries_of(self.world, name) {
-            if let Some((at, rights)) = self.held(entry) {
-                if at == column && rights.has(Right::ENV) {
-                    return true;
-                }
-            }
-        }
-        false
-    }
-
-    /// Whether a process may store something with ENV for a column into the list of an object.
-    fn stored_with_env(&self, name: usize, column: usize) -> bool
-        ensures { IsTrue result ↔ StoredWithEnv self.now.world.now self.now.rows.now name column }
-    {
-        for process in 0..self.world.tasks().len() {
-            if self.stores(process, name) && self.has_env(process, column) {
-                return true;
-            }
-        }
-        false
-    }
-
-    /// Whether what the list of an object has for a column is taken.
-    fn takes(&self, taking: &Taking, name: usize, column: usize) -> bool
-        requires known { IsKnown self.now.world.now self.now.forms.now self.now.rows.now }
-        requires name { name < object_count self.now.world.now }
-        ensures { IsTrue result ↔ ((taking.now.copied ≡ false) ⊎ ListedWithEnv self.now.world.now self.now.forms.now self.now.rows.now name column) }
-    {
-        !taking.copied || self.opens_with_env(name, column) || self.stored_with_env(name, column)
-    }
-
-    /// What a process takes of one entry in the list of an object.
-    fn take_entry(
-        &self,
-        process: usize,
-        name: usize,
-        taking: &Taking,
-        entry: &Entry,
-        gaps: &mut Vec<Gap>,
-    ) -> Result<(), NoMemory>
-        requires known { IsKnown self.now.world.now self.now.forms.now self.now.rows.now }
-        requires process { process < length self.now.world.now.tasks }
-        requires name { name < object_count self.now.world.now }
-        requires takes { taking_of (type_of self.now.world.now (name_at name)) (cell self.now.rows.now process name) ≡ Some taking.now }
-        requires among { Among (opening_entries self.now.world.now name) entry.now }
-        ensures { OnOk result (Finds self.now.world.now self.now.forms.now self.now.rows.now (EntryRule self.now.world.now self.now.forms.now self.now.rows.now process name taking.now entry.now) gaps.old.items gaps.new.items) }
-    {
-        let Some(held) = self.held(entry) else {
-            return Ok(());
-        };
-        if self.takes(taking, name, held.0) {
-            let rights = reduced_rights(taking.by, held.1);
-            self.offer(
-                Gap {
-                    process,
-                    column: held.0,
-                    rights,
-                },
-                gaps,
-            )?;
-        }
-        Ok(())
-    }
-
-    /// What a process takes of the opening entries of an object.
-    fn take_entries(&self, process: usize, name: usize, gaps: &mut Vec<Gap>) -> Result<(), NoMemory>
-        requires known { IsKnown self.now.world.now self.now.forms.now self.now.rows.now }
-        requires process { process < length self.now.world.now.tasks }
-        requires name { name < object_count self.now.world.now }
-        ensures { OnOk result (Finds self.now.world.now self.now.forms.now self.now.rows.now (EntriesRule self.now.world.now self.now.forms.now self.now.rows.now process name) gaps.old.items gaps.new.items) }
-    {
-        let Some(taking) = self.taking(process, name) else {
-            return Ok(());
-        };
-        for entry in entries_of(self.world, name) {
-            self.take_entry(process, name, &taking, entry, gaps)?;
         }
         Ok(())
     }
@@ -410,118 +291,31 @@ impl<'a> Table<'a> {
         Ok(())
     }
 
-    /// What a merge with one template gives to a process for an object.
-    pub(crate) fn merge(
-        &self,
-        process: usize,
-        name: usize,
-        by: Rights,
-        place: usize,
-        gaps: &mut Vec<Gap>,
-    ) -> Result<(), NoMemory>
-        requires known { IsKnown self.now.world.now self.now.forms.now self.now.rows.now }
-        requires process { process < length self.now.world.now.tasks }
-        requires name { name < object_count self.now.world.now }
-        requires cell { cell self.now.rows.now process name ≡ Some by }
-        requires place { place < length self.now.forms.now }
-        ensures { OnOk result (Finds self.now.world.now self.now.forms.now self.now.rows.now (MergeRule self.now.world.now self.now.forms.now self.now.rows.now process name by place) gaps.old.items gaps.new.items) }
-    {
-        let form = &self.forms[place];
-        if form.of != type_of(self.world, name) {
-            return Ok(());
-        }
-        if !has_rights(by, form.check) {
-            return Ok(());
-        }
-        if !self.has_env(process, self.thing_count() + place) {
-            return Ok(());
-        }
-        let rights = merged_rights(by, form.give);
-        self.offer(
-            Gap {
-                process,
-                column: name,
-                rights,
-            },
-            gaps,
-        )?;
-        Ok(())
-    }
-
-    /// What merges give to a process for an object.
-    fn merge_all(
-        &self,
-        process: usize,
-        name: usize,
-        by: Rights,
-        gaps: &mut Vec<Gap>,
-    ) -> Result<(), NoMemory>
-        requires known { IsKnown self.now.world.now self.now.forms.now self.now.rows.now }
-        requires process { process < length self.now.world.now.tasks }
-        requires name { name < object_count self.now.world.now }
-        requires cell { cell self.now.rows.now process name ≡ Some by }
-        ensures { OnOk result (Finds self.now.world.now self.now.forms.now self.now.rows.now (MergesRule self.now.world.now self.now.forms.now self.now.rows.now process name by) gaps.old.items gaps.new.items) }
-    {
-        let of = type_of(self.world, name);
-        for place in start_of(self.forms, of)..self.forms.len() {
-            if self.forms[place].of != of {
-                return Ok(());
-            }
-            self.merge(process, name, by, place, gaps)?;
-        }
-        Ok(())
-    }
-
-    /// What merges give to a process for an object, unless they are known to give nothing where it has these
-    /// rights for an object of this type. Gives what is known then.
-    fn merge_unsettled(
-        &self,
-        process: usize,
-        name: usize,
-        by: Rights,
-        settled: Option<Settled>,
-        gaps: &mut Vec<Gap>,
-    ) -> Result<Option<Settled>, NoMemory>
-        requires known { IsKnown self.now.world.now self.now.forms.now self.now.rows.now }
-        requires process { process < length self.now.world.now.tasks }
-        requires name { name < object_count self.now.world.now }
-        requires cell { cell self.now.rows.now process name ≡ Some by }
-        ensures { IfOk result (λ next. Finds self.now.world.now self.now.forms.now self.now.rows.now (SettledRule self.now.world.now self.now.forms.now self.now.rows.now process settled next (MergesRule self.now.world.now self.now.forms.now self.now.rows.now process name by)) gaps.old.items gaps.new.items) }
-    {
-        let of = type_of(self.world, name);
-        if is_settled(&settled, of, by) {
-            return Ok(settled);
-        }
-        let before = gaps.len();
-        self.merge_all(process, name, by, gaps)?;
-        if gaps.len() != before {
-            return Ok(settled);
-        }
-        Ok(Some(Settled { of, rights: by }))
-    }
-
-    /// All that a process gets by what it has for one object of the opening. Takes and gives for which rights
-    /// merges are known to give nothing.
+    /// All that a process gets by what it has for one object of the opening. Notes for which rights merges give
+    /// nothing.
     pub(crate) fn object_gaps(
         &self,
+        alloc: Global,
         process: usize,
         name: usize,
-        settled: Option<Settled>,
+        stretches: &[Stretch],
+        settled: &mut SettledSets,
         gaps: &mut Vec<Gap>,
-    ) -> Result<Option<Settled>, NoMemory>
+    ) -> Result<(), NoMemory>
         requires known { IsKnown self.now.world.now self.now.forms.now self.now.rows.now }
         requires process { process < length self.now.world.now.tasks }
         requires name { name < object_count self.now.world.now }
-        ensures { IfOk result (λ next. Finds self.now.world.now self.now.forms.now self.now.rows.now (SettledRule self.now.world.now self.now.forms.now self.now.rows.now process settled next (ObjectRule self.now.world.now self.now.forms.now self.now.rows.now process name)) gaps.old.items gaps.new.items) }
+        requires stretches { Each (IsStretch self.now.forms.now) stretches.now }
+        ensures { OnOk result (Finds self.now.world.now self.now.forms.now self.now.rows.now (SettledRule self.now.world.now self.now.forms.now self.now.rows.now process settled.old.sets.items settled.new.sets.items (ObjectRule self.now.world.now self.now.forms.now self.now.rows.now process name)) gaps.old.items gaps.new.items) }
     {
-        self.take_entries(process, name, gaps)?;
+        self.take_entries(alloc, process, name, gaps)?;
         let Some(by) = self.rows.get(process, name) else {
-            return Ok(settled);
+            return Ok(());
         };
         self.take_params(process, name, by, gaps)?;
         self.make_form(process, name, by, gaps)?;
-        let next = self.merge_unsettled(process, name, by, settled, gaps)?;
-        Ok(next)
+        self.merge_unsettled(process, name, by, stretches, settled, gaps)?;
+        Ok(())
     }
 
     /// Whether one of two processes has what the other makes.
@@ -753,15 +547,21 @@ impl<'a> Table<'a> {
     }
 
     /// What a process gets by what it has for objects of the opening.
-    fn objects_gaps(&self, process: usize, gaps: &mut Vec<Gap>) -> Result<(), NoMemory>
+    fn objects_gaps(
+        &self,
+        alloc: Global,
+        process: usize,
+        stretches: &[Stretch],
+        gaps: &mut Vec<Gap>,
+    ) -> Result<(), NoMemory>
         requires known { IsKnown self.now.world.now self.now.forms.now self.now.rows.now }
         requires process { process < length self.now.world.now.tasks }
+        requires stretches { Each (IsStretch self.now.forms.now) stretches.now }
         ensures { OnOk result (Finds self.now.world.now self.now.forms.now self.now.rows.now ((name : ℕ) → name < object_count self.now.world.now → ObjectRule self.now.world.now self.now.forms.now self.now.rows.now process name) gaps.old.items gaps.new.items) }
     {
-        let mut settled = None;
+        let mut settled = SettledSets::new(alloc, self.forms.len())?;
         for name in 0..object_count(self.world) {
-            let next = self.object_gaps(process, name, settled, gaps)?;
-            settled = next;
+            self.object_gaps(alloc, process, name, stretches, &mut settled, gaps)?;
         }
         Ok(())
     }
@@ -769,18 +569,21 @@ impl<'a> Table<'a> {
     /// All gaps of a process by what it has itself.
     pub(crate) fn own_gaps(
         &self,
+        alloc: Global,
         process: usize,
         task: &Task,
+        stretches: &[Stretch],
         gaps: &mut Vec<Gap>,
     ) -> Result<(), NoMemory>
         requires known { IsKnown self.now.world.now self.now.forms.now self.now.rows.now }
         requires process { process < length self.now.world.now.tasks }
+        requires stretches { Each (IsStretch self.now.forms.now) stretches.now }
         requires task { slice_get self.now.world.now.tasks process ≡ Some task.now }
         ensures { OnOk result (Finds self.now.world.now self.now.forms.now self.now.rows.now (OwnRule self.now.world.now self.now.forms.now self.now.rows.now process) gaps.old.items gaps.new.items) }
     {
         self.opening_gaps(process, task, gaps)?;
         self.made_gaps(process, gaps)?;
-        self.objects_gaps(process, gaps)?;
+        self.objects_gaps(alloc, process, stretches, gaps)?;
         Ok(())
     }
 }

@@ -4,9 +4,11 @@
 
 mod bounding;
 mod closing;
+mod copying;
 mod forms;
 mod gaps;
 mod handing;
+mod merging;
 mod opening;
 mod rows;
 mod spreading;

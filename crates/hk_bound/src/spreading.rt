@@ -3,14 +3,19 @@
 ghost use Rattle.std.specs.Prelude.{◌≡◌, ◌<◌, true, IfOk, OnOk, IfSome, length};
 ghost use Rattle.hk_bound.specs.Columns.{object_count, width_of, empty_rows};
 ghost use Rattle.hk_bound.specs.Rules.{IsKnown, Passes};
+ghost use Rattle.hk_bound.specs.Each.{Each};
 ghost use Rattle.hk_bound.specs.Filled.{IsWithin, AreWays, Gains};
+ghost use Rattle.hk_bound.specs.Merges.{IsStretch};
 
-use crate::gaps::{Gap, Settled, Table, passes_all};
+use crate::copying::Bare;
+use crate::forms::Form;
+use crate::gaps::{Gap, Table, passes_all};
 use crate::handing::passing_rights;
-use crate::opening::{is_listed, object_count, type_of};
+use crate::merging::{SettledSets, Stretch};
+use crate::opening::{entries_of, is_listed, object_count, type_of};
 use crate::rows::{Rows, covers};
-use hk_model::NoMemory;
-use hk_rights::Rights;
+use hk_model::{Entry, Name, NoMemory, World};
+use hk_rights::{Right, Rights};
 use std::alloc::Global;
 
 /// A cell that has grown, with the rights that it then had.
@@ -29,19 +34,119 @@ pub(crate) struct Ways {
     pub known: Rows,
     /// For each process those that take from it themselves.
     pub takers: Vec<Vec<usize>>,
+    /// For each object a process that puts entries into its list and takes all that others put there, if one
+    /// was seen: whatever goes through the list comes by way of it.
+    pub hubs: Vec<Option<usize>>,
+    /// For each process and object whether others were looked for that take what this one puts into its list.
+    pub given: Vec<Vec<bool>>,
+    /// In which lists objects stand without ENV.
+    pub bare: Bare,
+}
+
+/// What is known while cells of one process are taken up together.
+#[derive(Drop)]
+pub(crate) struct Batch {
+    /// For which rights merges gave nothing.
+    pub settled: SettledSets,
+    /// For how many types more all templates are merged with all objects, in place of each new template.
+    pub types_left: usize,
+    /// The type for which that was done last.
+    pub merged: Option<Name>,
+}
+
+impl Batch {
+    /// So many cells, of so many templates in all.
+    pub(crate) fn new(alloc: Global, cells: usize, forms: usize) -> Result<Batch, NoMemory> {
+        let types_left = if cells >= 64 && cells >= forms / 16 {
+            16
+        } else {
+            0
+        };
+        Ok(Batch {
+            settled: SettledSets::new(alloc, cells)?,
+            types_left,
+            merged: None,
+        })
+    }
+
+    /// Whether all templates of a type are merged with all objects of it, in place of each new template.
+    fn takes_type(&mut self, of: Name) -> bool {
+        if self.types_left == 0 {
+            return false;
+        }
+        self.types_left -= 1;
+        self.merged = Some(of);
+        true
+    }
+
+    /// Whether all templates of a type were merged with all objects of it last.
+    fn has_merged(&self, of: Name) -> bool {
+        match self.merged {
+            None => false,
+            Some(last) => last.0 == of.0,
+        }
+    }
 }
 
 impl Ways {
-    /// No ways among so many processes.
-    pub(crate) fn new(alloc: Global, count: usize) -> Result<Ways, NoMemory>
+    /// No ways among so many processes of a world.
+    pub(crate) fn new(alloc: Global, count: usize, world: &World) -> Result<Ways, NoMemory>
         ensures { IfOk result (λ ways. ways.known ≡ empty_rows count count) }
     {
+        let objects = object_count(world);
         let known = Rows::new(alloc, count, count)?;
         let mut takers: Vec<Vec<usize>> = Vec::new(alloc);
+        let mut given: Vec<Vec<bool>> = Vec::new(alloc);
         for _ in 0..count {
             takers.push(Vec::new(alloc))?;
+            given.push(vec![in alloc; false; objects]?)?;
         }
-        Ok(Ways { known, takers })
+        let hubs = vec![in alloc; None; objects]?;
+        let bare = Bare::new(alloc, world)?;
+        Ok(Ways {
+            known,
+            takers,
+            hubs,
+            given,
+            bare,
+        })
+    }
+
+    /// The process that stands between all that put entries into the list of an object, if one was seen.
+    pub(crate) fn hub(&self, name: usize) -> Option<usize> {
+        match self.hubs.get(name) {
+            None => None,
+            Some(hub) => *hub,
+        }
+    }
+
+    /// Notes that a process stands between all that put entries into the list of an object.
+    pub(crate) fn note_hub(&mut self, name: usize, process: usize)
+        ensures { self.new.known ≡ self.old.known }
+    {
+        if let Some(hub) = self.hubs.get_mut(name) {
+            if hub.is_none() {
+                *hub = Some(process);
+            }
+        }
+    }
+
+    /// Whether others are still to be looked for that take what a process puts into the list of an object. They
+    /// are then as good as looked for.
+    pub(crate) fn gives_first(&mut self, process: usize, name: usize) -> bool
+        ensures { self.new.known ≡ self.old.known }
+    {
+        let Some(objects) = self.given.get_mut(process) else {
+            return true;
+        };
+        match objects.get_mut(name) {
+            None => true,
+            Some(given) => {
+                let first = !*given;
+                *given = true;
+                first
+            }
+        }
     }
 
     /// Those that take from a process themselves.
@@ -153,17 +258,100 @@ impl<'a> Table<'a> {
         Ok(())
     }
 
-    /// The first process that puts entries into the list of an object and takes all that others put there, if
-    /// there is one: whatever goes through the list comes by way of it.
-    fn hub(&self, name: usize) -> Option<usize>
-        ensures { IfSome result (λ hub. hub < length self.now.world.now.tasks) }
+    /// What a process comes to take of another by what both have for an object, unless it is known to take as much.
+    fn take_unless_passed(
+        &self,
+        process: usize,
+        other: usize,
+        name: usize,
+        passing: Rights,
+        ways: &mut Ways,
+        gaps: &mut Vec<Gap>,
+    ) -> Result<(), NoMemory>
+        requires known { IsKnown self.now.world.now self.now.forms.now self.now.rows.now }
+        requires process { process < length self.now.world.now.tasks }
+        requires name { name < object_count self.now.world.now }
+        requires ways { AreWays self.now.world.now self.now.forms.now ways.old.known }
+        ensures ways { OnOk result (AreWays self.now.world.now self.now.forms.now ways.new.known) }
+        ensures gaps { OnOk result (Gains self.now.world.now self.now.forms.now self.now.rows.now gaps.old.items gaps.new.items) }
     {
-        for process in 0..self.world.tasks().len() {
-            if passes_all(&self.through_object(process, process, name)) {
-                return Some(process);
-            }
+        if covers(ways.known.get(process, other), passing) {
+            return Ok(());
         }
-        None
+        self.take_through(process, other, name, ways, gaps)?;
+        Ok(())
+    }
+
+    /// What a process comes to take of all others through an object with a list.
+    fn take_from_all(
+        &self,
+        process: usize,
+        name: usize,
+        ways: &mut Ways,
+        gaps: &mut Vec<Gap>,
+    ) -> Result<(), NoMemory>
+        requires known { IsKnown self.now.world.now self.now.forms.now self.now.rows.now }
+        requires process { process < length self.now.world.now.tasks }
+        requires name { name < object_count self.now.world.now }
+        requires ways { AreWays self.now.world.now self.now.forms.now ways.old.known }
+        ensures ways { OnOk result (AreWays self.now.world.now self.now.forms.now ways.new.known) }
+        ensures gaps { OnOk result (Gains self.now.world.now self.now.forms.now self.now.rows.now gaps.old.items gaps.new.items) }
+    {
+        let Some(taking) = self.taking(process, name) else {
+            return Ok(());
+        };
+        let passing = passing_rights(taking.by);
+        for other in 0..self.world.tasks().len() {
+            self.take_unless_passed(process, other, name, passing, ways, gaps)?;
+        }
+        Ok(())
+    }
+
+    /// What all others come to take of a process through an object with a list.
+    fn give_to_all(
+        &self,
+        process: usize,
+        name: usize,
+        ways: &mut Ways,
+        gaps: &mut Vec<Gap>,
+    ) -> Result<(), NoMemory>
+        requires known { IsKnown self.now.world.now self.now.forms.now self.now.rows.now }
+        requires name { name < object_count self.now.world.now }
+        requires ways { AreWays self.now.world.now self.now.forms.now ways.old.known }
+        ensures ways { OnOk result (AreWays self.now.world.now self.now.forms.now ways.new.known) }
+        ensures gaps { OnOk result (Gains self.now.world.now self.now.forms.now self.now.rows.now gaps.old.items gaps.new.items) }
+    {
+        for other in 0..self.world.tasks().len() {
+            self.take_through(other, process, name, ways, gaps)?;
+        }
+        Ok(())
+    }
+
+    /// What processes come to take of one another through an object with a list, but for a process that stands
+    /// between all.
+    fn meet_all(
+        &self,
+        process: usize,
+        name: usize,
+        ways: &mut Ways,
+        gaps: &mut Vec<Gap>,
+    ) -> Result<(), NoMemory>
+        requires known { IsKnown self.now.world.now self.now.forms.now self.now.rows.now }
+        requires process { process < length self.now.world.now.tasks }
+        requires name { name < object_count self.now.world.now }
+        requires ways { AreWays self.now.world.now self.now.forms.now ways.old.known }
+        ensures ways { OnOk result (AreWays self.now.world.now self.now.forms.now ways.new.known) }
+        ensures gaps { OnOk result (Gains self.now.world.now self.now.forms.now self.now.rows.now gaps.old.items gaps.new.items) }
+    {
+        self.take_from_all(process, name, ways, gaps)?;
+        if !self.stores(process, name) {
+            return Ok(());
+        }
+        if !ways.gives_first(process, name) {
+            return Ok(());
+        }
+        self.give_to_all(process, name, ways, gaps)?;
+        Ok(())
     }
 
     /// What processes come to take of one another through an object with a list, for which this one has
@@ -185,15 +373,35 @@ impl<'a> Table<'a> {
         if !is_listed(type_of(self.world, name)) {
             return Ok(());
         }
-        if let Some(hub) = self.hub(name) {
-            if hub != process {
-                return self.exchange(process, hub, name, ways, gaps);
-            }
+        if passes_all(&self.through_object(process, process, name)) {
+            ways.note_hub(name, process);
         }
-        for other in 0..self.world.tasks().len() {
-            self.exchange(process, other, name, ways, gaps)?;
+        match ways.hub(name) {
+            None => self.meet_all(process, name, ways, gaps),
+            Some(hub) => self.meet_hub(process, hub, name, ways, gaps),
         }
-        Ok(())
+    }
+
+    /// The same, where a process stands between all.
+    fn meet_hub(
+        &self,
+        process: usize,
+        hub: usize,
+        name: usize,
+        ways: &mut Ways,
+        gaps: &mut Vec<Gap>,
+    ) -> Result<(), NoMemory>
+        requires known { IsKnown self.now.world.now self.now.forms.now self.now.rows.now }
+        requires process { process < length self.now.world.now.tasks }
+        requires name { name < object_count self.now.world.now }
+        requires ways { AreWays self.now.world.now self.now.forms.now ways.old.known }
+        ensures ways { OnOk result (AreWays self.now.world.now self.now.forms.now ways.new.known) }
+        ensures gaps { OnOk result (Gains self.now.world.now self.now.forms.now self.now.rows.now gaps.old.items gaps.new.items) }
+    {
+        if hub != process && hub < self.world.tasks().len() {
+            return self.exchange(process, hub, name, ways, gaps);
+        }
+        self.meet_all(process, name, ways, gaps)
     }
 
     /// What two processes come to take of one another where one has what the other makes.
@@ -239,33 +447,219 @@ impl<'a> Table<'a> {
         Ok(())
     }
 
+    /// What a process copies of a list, if it does.
+    fn copy_again(
+        &self,
+        alloc: Global,
+        process: usize,
+        list: usize,
+        gaps: &mut Vec<Gap>,
+    ) -> Result<(), NoMemory>
+        requires known { IsKnown self.now.world.now self.now.forms.now self.now.rows.now }
+        requires process { process < length self.now.world.now.tasks }
+        requires list { list < object_count self.now.world.now }
+        ensures { OnOk result (Gains self.now.world.now self.now.forms.now self.now.rows.now gaps.old.items gaps.new.items) }
+    {
+        let Some(taking) = self.taking(process, list) else {
+            return Ok(());
+        };
+        if !taking.copied {
+            return Ok(());
+        }
+        self.take_entries(alloc, process, list, gaps)?;
+        Ok(())
+    }
+
+    /// What processes copy of a list in which more has come to have ENV.
+    fn all_copy_again(
+        &self,
+        alloc: Global,
+        list: usize,
+        gaps: &mut Vec<Gap>,
+    ) -> Result<(), NoMemory>
+        requires known { IsKnown self.now.world.now self.now.forms.now self.now.rows.now }
+        ensures { OnOk result (Gains self.now.world.now self.now.forms.now self.now.rows.now gaps.old.items gaps.new.items) }
+    {
+        if list >= object_count(self.world) {
+            return Ok(());
+        }
+        for process in 0..self.world.tasks().len() {
+            self.copy_again(alloc, process, list, gaps)?;
+        }
+        Ok(())
+    }
+
+    /// What comes of it if a process stores an object with ENV into one of the lists in which it stands without.
+    fn store_into(
+        &self,
+        alloc: Global,
+        process: usize,
+        name: usize,
+        at: usize,
+        bare: &mut Bare,
+        gaps: &mut Vec<Gap>,
+    ) -> Result<(), NoMemory>
+        requires known { IsKnown self.now.world.now self.now.forms.now self.now.rows.now }
+        ensures { OnOk result (Gains self.now.world.now self.now.forms.now self.now.rows.now gaps.old.items gaps.new.items) }
+    {
+        let Some(list) = bare.list(name, at) else {
+            return Ok(());
+        };
+        if !self.stores(process, list) {
+            return Ok(());
+        }
+        if !bare.is_stored_first(name, at) {
+            return Ok(());
+        }
+        self.all_copy_again(alloc, list, gaps)?;
+        Ok(())
+    }
+
+    /// What comes of it if a process stores an object with ENV into the lists in which it stands without.
+    fn store_all(
+        &self,
+        alloc: Global,
+        process: usize,
+        name: usize,
+        bare: &mut Bare,
+        gaps: &mut Vec<Gap>,
+    ) -> Result<(), NoMemory>
+        requires known { IsKnown self.now.world.now self.now.forms.now self.now.rows.now }
+        ensures { OnOk result (Gains self.now.world.now self.now.forms.now self.now.rows.now gaps.old.items gaps.new.items) }
+    {
+        if !self.has_env(process, name) {
+            return Ok(());
+        }
+        for at in 0..bare.count(name) {
+            self.store_into(alloc, process, name, at, bare, gaps)?;
+        }
+        Ok(())
+    }
+
+    /// What comes of it if a process stores into a list the object of an entry, with ENV.
+    fn store_over(
+        &self,
+        alloc: Global,
+        process: usize,
+        list: usize,
+        entry: &Entry,
+        bare: &mut Bare,
+        gaps: &mut Vec<Gap>,
+    ) -> Result<(), NoMemory>
+        requires known { IsKnown self.now.world.now self.now.forms.now self.now.rows.now }
+        ensures { OnOk result (Gains self.now.world.now self.now.forms.now self.now.rows.now gaps.old.items gaps.new.items) }
+    {
+        let Entry::Held(cap) = entry else {
+            return Ok(());
+        };
+        let name = cap.name.0 as usize;
+        if cap.rights.has(Right::ENV) || !self.has_env(process, name) {
+            return Ok(());
+        }
+        let Some(at) = bare.place(name, list) else {
+            return Ok(());
+        };
+        self.store_into(alloc, process, name, at, bare, gaps)?;
+        Ok(())
+    }
+
+    /// What comes of it if a process stores into a list whatever it has with ENV of what stands there.
+    fn store_list(
+        &self,
+        alloc: Global,
+        process: usize,
+        list: usize,
+        bare: &mut Bare,
+        gaps: &mut Vec<Gap>,
+    ) -> Result<(), NoMemory>
+        requires known { IsKnown self.now.world.now self.now.forms.now self.now.rows.now }
+        ensures { OnOk result (Gains self.now.world.now self.now.forms.now self.now.rows.now gaps.old.items gaps.new.items) }
+    {
+        if !self.stores(process, list) {
+            return Ok(());
+        }
+        for entry in entries_of(self.world, list) {
+            self.store_over(alloc, process, list, entry, bare, gaps)?;
+        }
+        Ok(())
+    }
+
     /// What comes of more rights for an object of the opening.
     fn take_up_object(
         &self,
+        alloc: Global,
         process: usize,
         name: usize,
-        settled: Option<Settled>,
+        stretches: &[Stretch],
+        batch: &mut Batch,
         ways: &mut Ways,
         gaps: &mut Vec<Gap>,
-    ) -> Result<Option<Settled>, NoMemory>
+    ) -> Result<(), NoMemory>
         requires known { IsKnown self.now.world.now self.now.forms.now self.now.rows.now }
         requires process { process < length self.now.world.now.tasks }
         requires name { name < object_count self.now.world.now }
+        requires stretches { Each (IsStretch self.now.forms.now) stretches.now }
         requires ways { AreWays self.now.world.now self.now.forms.now ways.old.known }
         ensures ways { OnOk result (AreWays self.now.world.now self.now.forms.now ways.new.known) }
         ensures gaps { OnOk result (Gains self.now.world.now self.now.forms.now self.now.rows.now gaps.old.items gaps.new.items) }
     {
-        let next = self.object_gaps(process, name, settled, gaps)?;
+        self.object_gaps(alloc, process, name, stretches, &mut batch.settled, gaps)?;
         self.meet(process, name, ways, gaps)?;
-        Ok(next)
+        self.store_all(alloc, process, name, &mut ways.bare, gaps)?;
+        self.store_list(alloc, process, name, &mut ways.bare, gaps)?;
+        Ok(())
     }
 
-    /// What a merge with a template that gives these rights, but for the special ones, gives to a process for
-    /// an object, if it has that without them.
+    /// What merges give to a process for an object, if it has that.
+    fn merge_again(
+        &self,
+        process: usize,
+        name: usize,
+        stretches: &[Stretch],
+        settled: &mut SettledSets,
+        gaps: &mut Vec<Gap>,
+    ) -> Result<(), NoMemory>
+        requires known { IsKnown self.now.world.now self.now.forms.now self.now.rows.now }
+        requires process { process < length self.now.world.now.tasks }
+        requires stretches { Each (IsStretch self.now.forms.now) stretches.now }
+        ensures { OnOk result (Gains self.now.world.now self.now.forms.now self.now.rows.now gaps.old.items gaps.new.items) }
+    {
+        if name >= object_count(self.world) {
+            return Ok(());
+        }
+        if let Some(by) = self.rows.get(process, name) {
+            self.merge_unsettled(process, name, by, stretches, settled, gaps)?;
+        }
+        Ok(())
+    }
+
+    /// What merges give to a process for objects of a type.
+    fn merge_type(
+        &self,
+        process: usize,
+        names: &[usize],
+        stretches: &[Stretch],
+        settled: &mut SettledSets,
+        gaps: &mut Vec<Gap>,
+    ) -> Result<(), NoMemory>
+        requires known { IsKnown self.now.world.now self.now.forms.now self.now.rows.now }
+        requires process { process < length self.now.world.now.tasks }
+        requires stretches { Each (IsStretch self.now.forms.now) stretches.now }
+        ensures { OnOk result (Gains self.now.world.now self.now.forms.now self.now.rows.now gaps.old.items gaps.new.items) }
+    {
+        for name in names {
+            self.merge_again(process, *name, stretches, settled, gaps)?;
+        }
+        Ok(())
+    }
+
+    /// What a merge with a template that asks for some rights and gives some, but for the special ones, gives to
+    /// a process for an object, if it has that with the former and without the latter.
     fn merge_had(
         &self,
         process: usize,
         place: usize,
+        asks: Rights,
         gives: Rights,
         name: usize,
         gaps: &mut Vec<Gap>,
@@ -281,22 +675,46 @@ impl<'a> Table<'a> {
         let Some(by) = self.rows.get(process, name) else {
             return Ok(());
         };
-        if by.contains(gives) {
+        if by.contains(gives) || !by.contains(asks) {
             return Ok(());
         }
         self.merge(process, name, by, place, gaps)?;
         Ok(())
     }
 
-    /// What comes of a template: merges with it for the objects of its type.
-    fn take_up_form(
+    /// Merges with a template for objects.
+    fn merge_form(
         &self,
         process: usize,
         place: usize,
+        form: &Form,
+        names: &[usize],
         gaps: &mut Vec<Gap>,
     ) -> Result<(), NoMemory>
         requires known { IsKnown self.now.world.now self.now.forms.now self.now.rows.now }
         requires process { process < length self.now.world.now.tasks }
+        requires place { place < length self.now.forms.now }
+        ensures { OnOk result (Gains self.now.world.now self.now.forms.now self.now.rows.now gaps.old.items gaps.new.items) }
+    {
+        let gives = form.give.without(Rights::SPECIAL);
+        for name in names {
+            self.merge_had(process, place, form.check, gives, *name, gaps)?;
+        }
+        Ok(())
+    }
+
+    /// What comes of a template: merges with it for the objects of its type. Of many templates all are merged.
+    fn take_up_form(
+        &self,
+        process: usize,
+        place: usize,
+        stretches: &[Stretch],
+        batch: &mut Batch,
+        gaps: &mut Vec<Gap>,
+    ) -> Result<(), NoMemory>
+        requires known { IsKnown self.now.world.now self.now.forms.now self.now.rows.now }
+        requires process { process < length self.now.world.now.tasks }
+        requires stretches { Each (IsStretch self.now.forms.now) stretches.now }
         ensures { OnOk result (Gains self.now.world.now self.now.forms.now self.now.rows.now gaps.old.items gaps.new.items) }
     {
         let Some(form) = self.forms.get(place) else {
@@ -305,24 +723,28 @@ impl<'a> Table<'a> {
         let Some(names) = self.kinds.get(form.of.0 as usize) else {
             return Ok(());
         };
-        let gives = form.give.without(Rights::SPECIAL);
-        for name in names {
-            self.merge_had(process, place, gives, *name, gaps)?;
+        if batch.has_merged(form.of) {
+            return Ok(());
         }
-        Ok(())
+        if batch.takes_type(form.of) {
+            return self.merge_type(process, names, stretches, &mut batch.settled, gaps);
+        }
+        self.merge_form(process, place, form, names, gaps)
     }
 
-    /// What comes of a cell that has grown for its process, and through new ways for others. Takes and gives
-    /// for which rights merges are known to give its process nothing.
+    /// What comes of a cell that has grown for its process, and through new ways for others.
     pub(crate) fn take_up(
         &self,
+        alloc: Global,
         grown: &Grown,
-        settled: Option<Settled>,
+        stretches: &[Stretch],
+        batch: &mut Batch,
         ways: &mut Ways,
         gaps: &mut Vec<Gap>,
-    ) -> Result<Option<Settled>, NoMemory>
+    ) -> Result<(), NoMemory>
         requires known { IsKnown self.now.world.now self.now.forms.now self.now.rows.now }
         requires grown { IsWithin self.now.world.now self.now.forms.now grown.now }
+        requires stretches { Each (IsStretch self.now.forms.now) stretches.now }
         requires ways { AreWays self.now.world.now self.now.forms.now ways.old.known }
         ensures ways { OnOk result (AreWays self.now.world.now self.now.forms.now ways.new.known) }
         ensures gaps { OnOk result (Gains self.now.world.now self.now.forms.now self.now.rows.now gaps.old.items gaps.new.items) }
@@ -332,14 +754,14 @@ impl<'a> Table<'a> {
         let objects = object_count(self.world);
         let things = self.thing_count();
         if column < objects {
-            let next = self.take_up_object(process, column, settled, ways, gaps)?;
-            return Ok(next);
+            self.take_up_object(alloc, process, column, stretches, batch, ways, gaps)?;
+            return Ok(());
         }
         if column < things {
             self.take_up_made(process, column - objects, ways, gaps)?;
-            return Ok(settled);
+            return Ok(());
         }
-        self.take_up_form(process, column - things, gaps)?;
-        Ok(settled)
+        self.take_up_form(process, column - things, stretches, batch, gaps)?;
+        Ok(())
     }
 }

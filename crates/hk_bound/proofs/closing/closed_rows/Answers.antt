@@ -1,7 +1,9 @@
 use Rattle.std.proofs.Common.{◌≡◌, ◌<◌, ◌+◌, [], length, refl, ap, subst, sym, arith}
 use Rattle.std.proofs.lemmas.Bool.Decides.{nat_tests}
 use Rattle.hk_bound.specs.Columns.{AreGaps}
+use Rattle.hk_bound.specs.Each.{Each}
 use Rattle.hk_bound.specs.Filled.{AreWays}
+use Rattle.hk_bound.specs.Merges.{IsStretch}
 use Rattle.hk_bound.proofs.Filling.{no_gaps, smaller, filling_first}
 use Rattle.hk_bound.proofs.Ways.{ways_none}
 use Rattle.hk_bound.proofs.Exact.{exact}
@@ -48,3 +50,9 @@ looks-smaller c =
     let taken = c.in_ok-take_up_all.ensures {u = tt} in
     let more = taken.no_less in
     smaller c.args.world.now c.args.forms.now c.looks.rows c.take_up_all.new.rows taken.filling.are (omega (arith, grows, more))
+
+pub look-requires-clause-stretches : goal.look-requires-clause-stretches
+look-requires-clause-stretches c = subst (Each (IsStretch c.args.forms.now)) (sym c.as_slice.ensures.value) (c.in_ok-stretches.ensures {u = tt})
+
+pub take_up_all-requires-clause-stretches : goal.take_up_all-requires-clause-stretches
+take_up_all-requires-clause-stretches c = subst (Each (IsStretch c.args.forms.now)) (sym c.as_slice-in-looks.ensures.value) (c.in_ok-stretches.ensures {u = tt})

@@ -9,4 +9,4 @@ fill_all-requires-clause-gaps c =
     let forms = c.args.forms.now in
     let rows = c.args.rows.now in
     subst (AreGaps w forms rows) (sym c.deref.ensures.value)
-    ((c.in_ok-next.ensures {u = tt}).gaps (no_gaps w forms rows c.new-gaps.result.items c.new-gaps.ensures.items))
+    ((c.in_ok-take_up.ensures {u = tt}).gaps (no_gaps w forms rows c.new-gaps.result.items c.new-gaps.ensures.items))

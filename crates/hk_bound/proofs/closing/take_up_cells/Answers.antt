@@ -10,6 +10,6 @@ loop-cell-init c = record {
 pub loop-cell-preserved : goal.loop-cell-preserved
 loop-cell-preserved c = record {
   filled = fills_then c.args.world.now c.args.forms.now c.args.rows.now c.loop-cell.rows c.take_up.new.rows c.args.grown.now.items c.loop-cell.grown.items c.take_up.new.grown.items
-      c.loop-cell.invariant.filled (c.in_ok-next.ensures {u = tt}).filled;
-  ways = (c.in_ok-next.ensures {u = tt}).ways;
+      c.loop-cell.invariant.filled (c.in_ok-take_up.ensures {u = tt}).filled;
+  ways = (c.in_ok-take_up.ensures {u = tt}).ways;
 }

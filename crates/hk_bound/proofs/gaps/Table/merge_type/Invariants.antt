@@ -1,5 +1,5 @@
 use Rattle.hk_bound.specs.Filled.{Gains}
-use Rattle.hk_bound.proofs.gaps.Table.take_up_form.Given as goal
+use Rattle.hk_bound.proofs.gaps.Table.merge_type.Given as goal
 
 abbrev pub invariant-loop-name : goal.invariant-loop-name
 invariant-loop-name l = Gains l.self.world.now l.self.forms.now l.self.rows.now l.fn.gaps.items l.gaps.items

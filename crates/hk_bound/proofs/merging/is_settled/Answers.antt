@@ -1,7 +1,7 @@
 use Rattle.std.proofs.Common.{◌≡◌, ◌∙◌, Some, ap, sym, arith}
 use Rattle.std.proofs.lemmas.Bool.Decides.{nat_tests}
-use Rattle.hk_bound.proofs.Settled.{same_settled}
-use Rattle.hk_bound.proofs.gaps.is_settled.Goals as goal
+use Rattle.hk_bound.proofs.Merges.{same_settled}
+use Rattle.hk_bound.proofs.merging.is_settled.Goals as goal
 
 pub returns-then-old-of : goal.returns-then-old-of
 returns-then-old-of c same_bits =

@@ -1,5 +1,5 @@
 use Rattle.hk_bound.specs.Filled.{AreWays, Gains}
-use Rattle.hk_bound.proofs.gaps.Table.meet.Given as goal
+use Rattle.hk_bound.proofs.gaps.Table.give_to_all.Given as goal
 
 abbrev pub invariant-loop-other : goal.invariant-loop-other
 invariant-loop-other l = record {
