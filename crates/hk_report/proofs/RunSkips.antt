@@ -1,5 +1,5 @@
 -- Of a run whose object no rest can be made from, no hop is gone over.
-use Rattle.std.proofs.Common.{◌≡◌, ℕ, ◌+◌, ◌<◌, List, [], ◌∷◌, length, Bool, true, Option, Some, None, refl, sym, ◌∙◌, ap, subst, slice_get}
+use Rattle.std.proofs.Common.{◌≡◌, ℕ, ◌+◌, ◌<◌, List, [], ◌∷◌, length, Bool, true, Option, Some, refl, sym, ◌∙◌, ap, subst, slice_get}
 use Rattle.std.specs.Prelude.{drop, slice_index_or}
 use Rattle.std.specs.List.{AllByRecursion, between, find}
 use Rattle.std.proofs.lemmas.List.{get_or_default}
@@ -9,7 +9,7 @@ use Rattle.hk_report.specs.declared.histories.Span.{Span}
 use Rattle.hk_report.specs.declared.hops.Arrived.{Arrived}
 use Rattle.hk_report.specs.declared.hops.Latest.{Latest}
 use Rattle.hk_report.specs.declared.hops.Onward.{Onward}
-use Rattle.hk_report.specs.Hops.{no_latest, earlier, onward_over, first_from}
+use Rattle.hk_report.specs.Hops.{no_latest, earlier, first_from}
 use Rattle.hk_report.specs.Runs.{precedes, IsRun, AreCut, is_open}
 use Rattle.hk_report.proofs.HolderLemmas.{drop_more}
 use Rattle.hk_report.proofs.RunLemmas.{precedes_so}

@@ -1,5 +1,5 @@
 -- What was told of the lines that have come. docs/RULES.md, "Changes and their reasons".
-use Rattle.std.specs.Prelude.{◌≡◌, ◌+◌, List, [], ◌∷◌, ◌++◌, length, replicate, slice_index_or}
+use Rattle.std.specs.Prelude.{◌≡◌, ◌+◌, List, [], ◌++◌, length, replicate, slice_index_or}
 use Rattle.hk_model.specs.declared.lines.Line.{Line}
 use Rattle.hk_model.specs.WorldValue.{WorldValue}
 use Rattle.hk_model.specs.Running.{AreStepsOf, after_lines, opened}

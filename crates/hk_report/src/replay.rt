@@ -10,7 +10,9 @@ ghost use Rattle.hk_report.specs.Families.{changes_by, changes_from, families_af
 ghost use Rattle.hk_report.specs.Histories.{finished_below, noted, opened_below, told_histories};
 ghost use Rattle.hk_report.specs.Retold.{IsToldMore};
 
-use crate::doings::{Before, Doing, Entered, before_by, before_line, before_next, doing_behind, doing_on};
+use crate::doings::{
+    Before, Doing, Entered, before_by, before_line, before_next, doing_behind, doing_on,
+};
 use crate::families::Families;
 use crate::histories::{History, finish, note, opened_histories};
 use crate::shows::{Shows, slots_of};
