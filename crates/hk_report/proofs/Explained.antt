@@ -1,10 +1,11 @@
 -- What the search finds of each change is its reason.
 use Rattle.std.proofs.Common.{◌≡◌, ℕ, zero, suc, ◌+◌, ◌-◌, ◌<◌, ◌≤◌, ◌^◌, List, [], ◌∷◌, ◌++◌, length, map, replicate, Bool, true, false, Option, Some, None}
-use Rattle.std.proofs.Common.{refl, sym, ◌∙◌, ap, arith, subst, take, slice_get, option_and_then}
+use Rattle.std.proofs.Common.{refl, sym, ◌∙◌, ap, arith, subst, take, slice_get, option_and_then, option_map}
 use Rattle.std.specs.Prelude.{slice_index_or}
 use mathlib.Core.Logic.{inl, inr}
 use Rattle.std.specs.List.{Contains}
 use Rattle.std.proofs.lemmas.Bool.{true≢false, cases_lt}
+use Rattle.std.proofs.lemmas.List.{length-append}
 use Rattle.hk_model.specs.declared.names.Name.{Name}
 use Rattle.hk_model.specs.declared.names.Inc.{Inc}
 use Rattle.hk_model.specs.declared.entries.Cap.{Cap}
@@ -18,13 +19,13 @@ use Rattle.hk_model.specs.State.{State, object, incarnation}
 use Rattle.hk_model.specs.Keeping.{stands}
 use Rattle.hk_model.specs.Places.{SlotOf, EntryOf, standing, cap_of}
 use Rattle.hk_model.specs.Running.{Machine, opened, moved, after_lines, machine_at, state_at, AreStepsOf}
-use Rattle.hk_model.specs.Lines.{done_call, param_count, changed, line_before, told}
+use Rattle.hk_model.specs.Lines.{done_call, enters_call, param_count, changed, line_before, told}
 use Rattle.hk_model.specs.Under.{is_under, is_made_under, IsCall, parameters}
 use Rattle.hk_model.specs.Reaches.{listed_cap}
 use Rattle.hk_model.specs.Confinement.{IsConfinedCall, IsChange}
 use Rattle.hk_model.specs.Changes.{Beginning, confined_calls, calls_over, bare_changes_by, bare_changes, IsReason, IsExplained, AreExplained, IsLeastReach}
 use Rattle.hk_model.specs.Changes as changes
-use Rattle.hk_model.proofs.Steps.{EachStep, each_more, after_next}
+use Rattle.hk_model.proofs.Steps.{EachStep, each_more, after_next, first_steps}
 use Rattle.hk_model.proofs.KindsStay.{from_moment}
 use Rattle.hk_model.proofs.Members.{Has, has_filtered}
 use Rattle.hk_model.proofs.NamesStand.{All, all_append, all_map, Stands, InEntry, Within, standing_in, named_within}
@@ -34,17 +35,18 @@ use Rattle.hk_model.proofs.Histories.{Sound, LineKnown, known_each, sound_at}
 use Rattle.hk_confine.proofs.Settling.{turn_up}
 use Rattle.hk_confine.proofs.Begins.{earlier_out}
 use Rattle.hk_report.specs.declared.doings.Doing.{Doing}
+use Rattle.hk_report.specs.declared.doings.Entered.{Entered}
 use Rattle.hk_report.specs.declared.families.Begun.{Begun}
 use Rattle.hk_report.specs.declared.families.BareChange.{BareChange}
 use Rattle.hk_report.specs.declared.histories.History.{History}
-use Rattle.hk_report.specs.Doings.{before_line, doings, given_params, params_given}
-use Rattle.hk_report.specs.Families.{told_call, told_change, change_under, changes_by, changes_from, families_by, families_after}
+use Rattle.hk_report.specs.Doings.{before_line, doing, doings, given_params, kept_params, params_given}
+use Rattle.hk_report.specs.Families.{told_call, told_change, calls_entered, change_under, changes_by, changes_from, families_by, families_after}
 use Rattle.hk_report.specs.Histories.{history_of, told_histories}
 use Rattle.hk_report.specs.Hops.{is_made}
 use Rattle.hk_report.specs.Runs.{AreRearranged}
 use Rattle.hk_report.specs.Searches.{direct_param, IsFoundBy, IsFound}
 use Rattle.hk_report.specs.Reasons.{params_at, IsReasonedBy, IsTold, AreTold, AreFew}
-use Rattle.hk_report.proofs.Listed.{changer_lives, live_numbered, changes_found, doings_few}
+use Rattle.hk_report.proofs.Listed.{changer_lives, live_numbered, changes_found, families_end, doings_few}
 use Rattle.hk_report.proofs.Spans.{has_all, SpansTell}
 use Rattle.hk_report.proofs.Found.{found_direct, found_behind}
 use Rattle.hk_report.proofs.Replays.{spans_told}
@@ -56,19 +58,71 @@ use Rattle.hk_report.proofs.Rearranged.{tells_after, made_after}
 option_same : {X : Type 0} {x y : X} → Some x ≡ Some y → x ≡ y
 option_same h = cc
 
+-- those that a line gives, behind others
+given_behind : (o : Option Entered) (params : List Entry) (xs ys : List (List Entry))
+    → slice_index_or (kept_params o params ++ ys) (length (kept_params o params ++ xs)) [] ≡ slice_index_or ys (length xs) []
+given_behind None params xs ys = refl
+given_behind (Some entered) params xs ys = refl
+
 params_line : (w : WorldValue) (m : Machine) (lines : List Line) (n : ℕ) (line : Line) → slice_get lines n ≡ Some line
-    → slice_index_or (params_given w m lines) n []
+    → enters_call (done_call line) ≡ true
+    → slice_index_or (params_given w m lines) (length (params_given w m (take n lines))) []
     ≡ given_params line (before_line (after_lines w m (take n lines)).state line) (moved w (after_lines w m (take n lines)) line.cpu).state
-params_line w m [] n line e = absurd (cc)
-params_line w m (first ∷ lines) zero line e =
-    ap (λ (l : Line). given_params l (before_line m.state l) (moved w m l.cpu).state) (option_same e)
-params_line w m (first ∷ lines) (suc n) line e = params_line w (moved w m first.cpu) lines n line e
+params_line w m [] n line e f = absurd (cc)
+params_line w m (first ∷ lines) zero line e f =
+    ap (λ (l : Line). slice_index_or (params_given w m (l ∷ lines)) 0 []) (option_same e)
+    ∙ ap (λ (b : Bool). slice_index_or (kept_params (option_map (λ (inc : Inc). let x : Entered = record { inc = inc; confined = (incarnation (moved w m line.cpu).state inc).confined } in x)
+    (elim b as (λ x. Option Inc) [ true ↦ Some m.state.next_inc | false ↦ None ])) (given_params line (before_line m.state line) (moved w m line.cpu).state)
+    ++ params_given w (moved w m line.cpu) lines) 0 []) f
+params_line w m (first ∷ lines) (suc n) line e f =
+    given_behind (doing m.state first (moved w m first.cpu).state).entered (given_params first (before_line m.state first) (moved w m first.cpu).state)
+    (params_given w (moved w m first.cpu) (take n lines)) (params_given w (moved w m first.cpu) lines)
+    ∙ params_line w (moved w m first.cpu) lines n line e f
+
+-- there are as many families as incarnations of the opening, and calls whose parameters are kept
+one_more : (n : ℕ) (o : Option Entered) (inc : Inc) (families : List (List Begun)) (params : List Entry)
+    → length (elim o as (λ x. List (List Begun)) [ None ↦ families | Some new ↦ families ++ calls_entered n new (slice_index_or families inc.0 []) ∷ [] ])
+    ≡ length families + length (kept_params o params)
+one_more n None inc families params = omega arith
+one_more n (Some new) inc families params = length-append families (calls_entered n new (slice_index_or families inc.0 []) ∷ [])
+
+as_many : (w : WorldValue) (n : ℕ) (m : Machine) (lines : List Line) (families : List (List Begun))
+    → length (families_after n (doings w m lines) families) ≡ length families + length (params_given w m lines)
+as_many w n m [] families = omega arith
+as_many w n m (line ∷ lines) families =
+    as_many w (n + 1) (moved w m line.cpu) lines (families_by n d families) ∙ ap (λ (k : ℕ). k + length (params_given w (moved w m line.cpu) lines)) one ∙ all
+  where
+    d : Doing
+    d = doing m.state line (moved w m line.cpu).state
+
+    given : List Entry
+    given = given_params line (before_line m.state line) (moved w m line.cpu).state
+
+    one : length (families_by n d families) ≡ length families + length (kept_params d.entered given)
+    one = one_more n d.entered d.inc families given
+
+    all : (length families + length (kept_params d.entered given)) + length (params_given w (moved w m line.cpu) lines)
+        ≡ length families + length (kept_params d.entered given ++ params_given w (moved w m line.cpu) lines)
+    all = let a = length-append (kept_params d.entered given) (params_given w (moved w m line.cpu) lines) in omega (arith, a)
 
 module _ (w : WorldValue) (lines : List Line) (steps : AreStepsOf w lines) where
-  params_are : (k : ℕ) (call : Inc) → IsCall w lines k call → params_at (params_given w (opened w) lines) k ≡ parameters w lines k call
+  abbrev families_of : List Line → List (List Begun)
+  families_of some = families_after 0 (doings w (opened w) some) (replicate (opened w).state.next_inc.0 [])
+
+  -- a call has the number of its incarnation, behind those of the opening
+  params_number : (n : ℕ) → (after_lines w (opened w) (take n lines)).state.next_inc.0 - (length (families_of lines) - length (params_given w (opened w) lines))
+      ≡ length (params_given w (opened w) (take n lines))
+  params_number n =
+      let many = as_many w 0 (opened w) lines (replicate (opened w).state.next_inc.0 []) in
+      let before = as_many w 0 (opened w) (take n lines) (replicate (opened w).state.next_inc.0 []) in
+      let count = (families_end w (take n lines) (first_steps w (opened w) lines n steps)).fits.count in
+      omega (arith, many, before, count)
+
+  params_are : (k : ℕ) (call : Inc) → IsCall w lines k call → params_at (families_of lines) (params_given w (opened w) lines) call ≡ parameters w lines k call
   params_are k call c =
-      ap (λ (n : ℕ). slice_index_or (params_given w (opened w) lines) n []) number
-      ∙ params_line w (opened w) lines c.earlier c.line c.is
+      ap (λ (i : Inc). params_at (families_of lines) (params_given w (opened w) lines) i) c.made
+      ∙ ap (λ (n : ℕ). slice_index_or (params_given w (opened w) lines) n []) (params_number c.earlier)
+      ∙ params_line w (opened w) lines c.earlier c.line c.is c.enters
       ∙ ap (λ (b : Bool). elim (elim b as (λ x. Option Inc) [ true ↦ Some (state_at w lines c.earlier).next_inc | false ↦ None ]) as (λ x. List Entry) [
         | None ↦ []
         | Some inc ↦ take (param_count (done_call c.line)) (incarnation (moved w (machine_at w lines c.earlier) c.line.cpu).state inc).slots
@@ -77,9 +131,6 @@ module _ (w : WorldValue) (lines : List Line) (steps : AreStepsOf w lines) where
       ∙ ap (λ (m : Machine). take (param_count (done_call c.line)) (incarnation m.state call).slots) (sym (after_next w (opened w) lines c.earlier c.line c.is))
       ∙ ap (λ (o : Option Line). take (param_count (option_and_then done_call o)) (incarnation (state_at w lines (suc c.earlier)) call).slots) (sym c.is)
       ∙ ap (λ (n : ℕ). parameters w lines n call) (sym c.moment)
-    where
-      number : k - 1 ≡ c.earlier
-      number = let m = c.moment in omega (arith, m)
 
   -- ---- what is named stands
 

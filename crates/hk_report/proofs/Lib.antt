@@ -19,6 +19,7 @@ mod Found
 mod Relists
 mod RunLemmas
 mod RunHops
+mod RunSkips
 mod Rearranged
 mod Replays
 mod Makers

@@ -158,27 +158,38 @@ latest_run (s ∷ run) cap latest made h =
     (sym (entry_on s cap latest h.0))
     ∙ ap (joined (latest_over s latest made)) (latest_run run cap latest made h.1)
 
-pub latest_by : (spans whole : List Span) (first end : ℕ) (cap : Cap) (latest : Latest) (made : Bool) (modify unconf by_modify by_unconf : ℕ) → spans ≡ whole
-    → AllByRecursion (λ (s : Span). s.cap ≡ cap) (between first end whole) → modify ≡ handed_most made latest → unconf ≡ entry_most cap latest
-    → by_modify ≡ most_on (between first end spans) modify → by_unconf ≡ most_on (between first end spans) unconf
-    → bounds by_modify by_unconf ≡ latest_within (between first end whole) latest made
-latest_by spans whole first end cap latest made modify unconf by_modify by_unconf e h m u x y =
-    ap (λ (n : ℕ). bounds n by_unconf) (x ∙ ap (λ (xs : List Span). most_on (between first end xs) modify) e ∙ ap (most_on (between first end whole)) m)
-    ∙ ap (λ (n : ℕ). bounds (most_on (between first end whole) (handed_most made latest)) n)
-    (y ∙ ap (λ (xs : List Span). most_on (between first end xs) unconf) e ∙ ap (most_on (between first end whole)) u)
-    ∙ latest_run (between first end whole) cap latest made h
+pub over_on : (spans whole : List Span) (first end : ℕ) (most : Latest) (by_modify by_unconf : ℕ) → spans ≡ whole
+    → by_modify ≡ most_on (between first end spans) most.modify → by_unconf ≡ most_on (between first end spans) most.unconf
+    → bounds by_modify by_unconf ≡ bounds (most_on (between first end whole) most.modify) (most_on (between first end whole) most.unconf)
+over_on spans whole first end most by_modify by_unconf e x y =
+    ap (λ (n : ℕ). bounds n by_unconf) (x ∙ ap (λ (xs : List Span). most_on (between first end xs) most.modify) e)
+    ∙ ap (λ (n : ℕ). bounds (most_on (between first end whole) most.modify) n) (y ∙ ap (λ (xs : List Span). most_on (between first end xs) most.unconf) e)
 
 -- none can be gone over below no moment
 most_none : (run : List Span) → most_on run 0 ≡ 0
 most_none [] = refl
 most_none (s ∷ run) = ap (λ (n : ℕ). greater n (most_on run 0)) (on_none s) ∙ ap (λ (n : ℕ). greater 0 n) (most_none run)
 
-pub latest_off : (run : List Span) (cap : Cap) (latest : Latest) (made : Bool) (modify unconf : ℕ) → AllByRecursion (λ (s : Span). s.cap ≡ cap) run
-    → modify ≡ handed_most made latest → unconf ≡ entry_most cap latest → modify ≡ 0 → unconf ≡ 0 → bounds modify unconf ≡ latest_within run latest made
-latest_off run cap latest made modify unconf h m u x y =
-    ap (λ (n : ℕ). bounds n unconf) (x ∙ sym (most_none run) ∙ ap (most_on run) (sym x ∙ m))
-    ∙ ap (λ (n : ℕ). bounds (most_on run (handed_most made latest)) n) (y ∙ sym (most_none run) ∙ ap (most_on run) (sym y ∙ u))
-    ∙ latest_run run cap latest made h
+pub over_off : (run : List Span) (most : Latest) → most.modify ≡ 0 → most.unconf ≡ 0 → most ≡ bounds (most_on run most.modify) (most_on run most.unconf)
+over_off run most x y =
+    ap (λ (n : ℕ). bounds n most.unconf) (x ∙ sym (most_none run) ∙ ap (most_on run) (sym x))
+    ∙ ap (λ (n : ℕ). bounds (most_on run most.modify) n) (y ∙ sym (most_none run) ∙ ap (most_on run) (sym y))
+
+-- none can be gone over below more than a bound
+on_within : (span : Span) (bound : ℕ) → from_on span bound ≤ bound
+on_within span bound = by (nat_lt span.until bound) refl
+  where
+    kept : (k : ℕ) → k ≤ bound → (o : Bool) → cond o k 0 ≤ bound
+    kept k l true = l
+    kept k l false = omega arith
+
+    by : (o : Bool) → nat_lt span.until bound ≡ o → cond (nat_lt span.from (cond o span.until bound)) (cond o span.until bound) 0 ≤ bound
+    by true e = kept span.until (let l = ltb-true span.until bound e in omega (arith, l)) (nat_lt span.from span.until)
+    by false e = kept bound (omega arith) (nat_lt span.from bound)
+
+most_within : (run : List Span) (bound : ℕ) → most_on run bound ≤ bound
+most_within [] bound = omega arith
+most_within (s ∷ run) bound = both_within (from_on s bound) (most_on run bound) bound (on_within s bound) (most_within run bound)
 
 -- ---- of all spans of a list
 
@@ -423,7 +434,7 @@ stays_is level name latest e = λ i x. at x i
 never : (moment : ℕ) → nat_lt moment 0 ≡ false
 never moment = le-ltb moment 0 (omega arith)
 
-latest_none : (latest : Latest) → latest.modify ≡ 0 → latest.unconf ≡ 0 → latest ≡ no_latest
+pub latest_none : (latest : Latest) → latest.modify ≡ 0 → latest.unconf ≡ 0 → latest ≡ no_latest
 latest_none latest m u =
     ap (λ (k : ℕ). let l : Latest = record { modify = k; unconf = latest.unconf } in l) m ∙ ap (λ (k : ℕ). let l : Latest = record { modify = 0; unconf = k } in l) u
 
@@ -460,25 +471,56 @@ raised_twice level first second a b e = subst (λ (y : Name). raised_at level fi
         by true = sym (joined_more (level x) a b)
         by false = refl
 
--- the level of no hop
-pub end_is : (name : Name) (before : ℕ) → raised_at (λ x. no_latest) name (ends_before before) ≡ latest_end name before
-end_is name before = λ i x. at x i
+-- what is raised as far already is not raised by a run
+pub covered : (level : Name → Latest) (name by : Name) (wait most : Latest) (run : List Span) (cap : Cap) (latest : Latest) (made : Bool)
+    → AllByRecursion (λ (s : Span). s.cap ≡ cap) run → most ≡ bounds (handed_most made latest) (entry_most cap latest)
+    → name.0 ≡ by.0 → most.modify ≤ wait.modify → most.unconf ≤ wait.unconf
+    → raised_at level name wait ≡ raised_at (raised_at level name wait) by (latest_within run latest made)
+covered level name by wait most run cap latest made alike e same m u =
+    ap (raised_at level name) (sym stays) ∙ raised_twice level name by wait (latest_within run latest made) same
   where
-    above_none : (o : Bool) → nat_lt 0 before ≡ o → cond o before 0 ≡ before
-    above_none true e = refl
-    above_none false e = let l = ltb-false 0 before e in omega (arith, l)
+    within : AtMost (latest_within run latest made) wait
+    within = subst (λ (l : Latest). AtMost l wait) (latest_run run cap latest made alike) (record {
+      modify = let a = most_within run (handed_most made latest) in let b : most.modify ≡ handed_most made latest = ap (λ (l : Latest). l.modify) e in omega (arith, a, b, m);
+      unconf = let a = most_within run (entry_most cap latest) in let b : most.unconf ≡ entry_most cap latest = ap (λ (l : Latest). l.unconf) e in omega (arith, a, b, u);
+    })
 
-    whole : joined no_latest (ends_before before) ≡ ends_before before
-    whole = ap (λ (k : ℕ). ends_before k) (above_none (nat_lt 0 before) refl)
+    stays : joined wait (latest_within run latest made) ≡ wait
+    stays =
+        both_ways (joined wait (latest_within run latest made)) wait (both_joined wait (latest_within run latest made) wait (at_most_same wait) within)
+        (left_joined wait (latest_within run latest made))
 
-    at : (x : Name) → raised_at (λ y. no_latest) name (ends_before before) x ≡ latest_end name before x
-    at x = by (name.0 == x.0) refl (x.0 == name.0) refl
-      where
-        by : (b : Bool) → (name.0 == x.0) ≡ b → (c : Bool) → (x.0 == name.0) ≡ c → cond b (joined no_latest (ends_before before)) no_latest ≡ cond c (ends_before before) no_latest
-        by true e true f = whole
-        by false e false f = refl
-        by true e false f = absurd (true≢false (sym (eq-eqb x.0 name.0 (sym (eqb-true name.0 x.0 e))) ∙ f))
-        by false e true f = absurd (true≢false (sym (eq-eqb name.0 x.0 (sym (eqb-true x.0 name.0 f))) ∙ e))
+-- what a run gives below these bounds
+pub over_run : (run : List Span) (cap : Cap) (latest : Latest) (made : Bool) (most over : Latest) → AllByRecursion (λ (s : Span). s.cap ≡ cap) run
+    → most ≡ bounds (handed_most made latest) (entry_most cap latest) → over ≡ bounds (most_on run most.modify) (most_on run most.unconf)
+    → over ≡ latest_within run latest made
+over_run run cap latest made most over alike e f =
+    f ∙ ap (λ (l : Latest). bounds (most_on run l.modify) (most_on run l.unconf)) e ∙ latest_run run cap latest made alike
+
+-- the level of no hop, as it is kept for one object
+pub end_kept : (name x : Name) (before : ℕ) → unwrap_or (lookup (same_name x) ((name, ends_before before) ∷ [])) no_latest ≡ latest_end name before x
+end_kept name x before = ap (λ (b : Bool). unwrap_or (cond b (Some (ends_before before)) None) no_latest) (same_equal x.0 name.0) ∙ by (x.0 == name.0)
+  where
+    by : (b : Bool) → unwrap_or (cond b (Some (ends_before before)) None) no_latest ≡ cond b (ends_before before) no_latest
+    by true = refl
+    by false = refl
+
+pub end_next : (made : Name → Bool) (histories : List History) (runs : List (List ℕ)) (holders : List (List Stretch)) (name : Name) (before : ℕ) → AreRuns histories runs
+    → AreHolders histories runs holders
+    → raised_over histories (ends_before before) (made name) (λ x. no_latest) (held_at holders name) ≡ next_latest made histories (latest_end name before)
+end_next made histories runs holders name before cut are =
+    level_is made histories runs cut holders are ((name, ends_before before) ∷ []) kept
+    ∙ ap (next_latest made histories) (λ i x. end_kept name x before i)
+  where
+    alone : (b : Bool) → b ≡ true → cond b (Some (ends_before before)) None ≡ Some (ends_before before)
+    alone true e = refl
+    alone false e = absurd (true≢false (sym e))
+
+    kept : (k : Name × Latest) → Has ((name, ends_before before) ∷ []) k → lookup (same_name k.0) ((name, ends_before before) ∷ []) ≡ Some k.1
+    kept k (inl e) =
+        subst (λ (y : Name × Latest). lookup (same_name y.0) ((name, ends_before before) ∷ []) ≡ Some y.1) e
+        (alone (same_name name name) (same_equal name.0 name.0 ∙ eq-eqb name.0 name.0 refl))
+    kept k (inr h) = absurd h
 
 -- ---- where the rest cannot be made
 

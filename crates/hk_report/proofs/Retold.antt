@@ -7,6 +7,7 @@ use Rattle.hk_format.specs.Texts.{ended_line}
 use Rattle.hk_model.specs.declared.entries.Entry.{Entry}
 use Rattle.hk_model.specs.declared.lines.Line.{Line}
 use Rattle.hk_model.specs.WorldValue.{WorldValue, IsWorld}
+use Rattle.hk_model.specs.State.{State}
 use Rattle.hk_model.specs.Running.{Machine, opened, moved, after_lines, AreStepsOf}
 use Rattle.hk_report.specs.declared.doings.Before.{Before}
 use Rattle.hk_report.specs.declared.doings.Doing.{Doing}
@@ -14,7 +15,7 @@ use Rattle.hk_report.specs.declared.families.Begun.{Begun}
 use Rattle.hk_report.specs.declared.families.BareChange.{BareChange}
 use Rattle.hk_report.specs.declared.histories.History.{History}
 use Rattle.hk_report.specs.declared.replay.Retelling.{Retelling}
-use Rattle.hk_report.specs.Doings.{before_line, doing, doing_behind, doings, given_params, params_given}
+use Rattle.hk_report.specs.Doings.{before_line, doing, doing_behind, doings, given_params, kept_params, params_given}
 use Rattle.hk_report.specs.Families.{changes_by, changes_from, families_after, families_by}
 use Rattle.hk_report.specs.Histories.{finished_below, histories_after, noted, opened_below}
 use Rattle.hk_report.specs.Reasons.{AreFew}
@@ -36,12 +37,20 @@ doings_one : (w : WorldValue) (m : Machine) (lines : List Line) (line : Line)
 doings_one w m [] line = refl
 doings_one w m (x ∷ lines) line = ap (λ (ds : List Doing). doing m.state x (moved w m x.cpu).state ∷ ds) (doings_one w (moved w m x.cpu) lines line)
 
+-- the parameters that a line gives
+abbrev params_from : Line → State → State → List (List Entry)
+params_from line s t = kept_params (doing s line t).entered (given_params line (before_line s line) t)
+
+abbrev params_by : WorldValue → Machine → Line → List (List Entry)
+params_by w m line = params_from line m.state (moved w m line.cpu).state
+
 params_one : (w : WorldValue) (m : Machine) (lines : List Line) (line : Line)
     → params_given w m (lines ++ line ∷ [])
-    ≡ params_given w m lines ++ given_params line (before_line (after_lines w m lines).state line) (moved w (after_lines w m lines) line.cpu).state ∷ []
-params_one w m [] line = refl
+    ≡ params_given w m lines ++ params_by w (after_lines w m lines) line
+params_one w m [] line = append-nil (params_by w m line)
 params_one w m (x ∷ lines) line =
-    ap (λ (ps : List (List Entry)). given_params x (before_line m.state x) (moved w m x.cpu).state ∷ ps) (params_one w (moved w m x.cpu) lines line)
+    ap (λ (ps : List (List Entry)). params_by w m x ++ ps) (params_one w (moved w m x.cpu) lines line)
+    ∙ sym (append_assoc (params_by w m x) (params_given w (moved w m x.cpu) lines) (params_by w (after_lines w (moved w m x.cpu) lines) line))
 
 doings_as_many : (w : WorldValue) (m : Machine) (lines : List Line) → length (doings w m lines) ≡ length lines
 doings_as_many w m [] = refl
@@ -90,7 +99,7 @@ pub retold_more : {K : Type 0} (w : WorldValue) (lines : List Line) (line : Line
 retold_more w lines line old new r steps m told =
     let c = told.changes in
     let f = told.calls ∙ ap (λ (k : Machine). families_by old.count (doing old.machine.state line k.state) old.telling.families.calls.items) m in
-    let p = told.params ∙ ap (λ (k : Machine). old.telling.params.items ++ given_params line (before_line old.machine.state line) k.state ∷ []) m in
+    let p = told.params ∙ ap (λ (k : Machine). old.telling.params.items ++ params_from line old.machine.state k.state) m in
     let h = told.histories ∙ ap (λ (k : Machine). noted (old.count + 1) (doing old.machine.state line k.state) k.state old.telling.histories.items) m in
     let n = told.count in
     let many : old.count ≡ 0 + length (doings w (opened w) lines) = let a = r.count in let b = doings_as_many w (opened w) lines in omega (arith, a, b) in
@@ -118,8 +127,8 @@ retold_more w lines line old new r steps m told =
           ∙ families_one 0 old.count (replicate (opened w).state.next_inc.0 []) (doings w (opened w) lines) (d (after_lines w (opened w) lines)) many);
       params =
           p
-          ∙ ap (λ (ps : List (List Entry)). ps ++ given_params line (before_line old.machine.state line) (moved w old.machine line.cpu).state ∷ []) r.params
-          ∙ ap (λ (k : Machine). params_given w (opened w) lines ++ given_params line (before_line k.state line) (moved w k line.cpu).state ∷ []) r.machine
+          ∙ ap (λ (ps : List (List Entry)). ps ++ params_by w old.machine line) r.params
+          ∙ ap (λ (k : Machine). params_given w (opened w) lines ++ params_by w k line) r.machine
           ∙ sym (params_one w (opened w) lines line);
       histories =
           h
@@ -134,7 +143,7 @@ pub told_more : {K : Type 0} (old new : Retelling K) (line : Line) (t : Machine)
     → new.telling.families.changes.items ≡ old.telling.families.changes.items
     ++ changes_by old.count before.changed (slice_index_or old.telling.families.calls.items before.inc.0 [])
     → new.telling.families.calls.items ≡ families_by old.count (doing_behind before t.state) old.telling.families.calls.items
-    → new.telling.params.items ≡ old.telling.params.items ++ given_params line before t.state ∷ []
+    → new.telling.params.items ≡ old.telling.params.items ++ kept_params (doing_behind before t.state).entered (given_params line before t.state)
     → new.telling.histories.items ≡ noted (old.count + 1) (doing_behind before t.state) t.state old.telling.histories.items → IsToldMore old new line
 told_more old new line t before e m n c f p h = record {
   count = n;
@@ -147,8 +156,8 @@ told_more old new line t before e m n c f p h = record {
       ∙ ap (λ (k : Machine). families_by old.count (doing old.machine.state line k.state) old.telling.families.calls.items) (sym m);
   params =
       p
-      ∙ ap (λ (b : Before). old.telling.params.items ++ given_params line b t.state ∷ []) e
-      ∙ ap (λ (k : Machine). old.telling.params.items ++ given_params line (before_line old.machine.state line) k.state ∷ []) (sym m);
+      ∙ ap (λ (b : Before). old.telling.params.items ++ kept_params (doing_behind b t.state).entered (given_params line b t.state)) e
+      ∙ ap (λ (k : Machine). old.telling.params.items ++ params_from line old.machine.state k.state) (sym m);
   histories =
       h
       ∙ ap (λ (b : Before). noted (old.count + 1) (doing_behind b t.state) t.state old.telling.histories.items) e

@@ -54,7 +54,7 @@ soon_either moment false true x y e f h = record { onward = y; is = refl; soon =
 soon_either moment false false x y e f (inl h) = absurd (true≢false (sym h))
 soon_either moment false false x y e f (inr h) = absurd (true≢false (sym h))
 
-earlier_none : (o : Option Onward) → earlier o None ≡ o
+pub earlier_none : (o : Option Onward) → earlier o None ≡ o
 earlier_none None = refl
 earlier_none (Some x) = refl
 

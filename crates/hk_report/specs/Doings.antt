@@ -1,5 +1,5 @@
 -- What each line did that the changes under confined calls are told by. docs/RULES.md, "Under a call".
-use Rattle.std.specs.Prelude.{◌≡◌, true, false, List, [], ◌∷◌, take, Option, Some, None, IfSome, is_some, option_map}
+use Rattle.std.specs.Prelude.{◌≡◌, true, false, List, [], ◌∷◌, ◌++◌, take, Option, Some, None, IfSome, is_some, option_map}
 use Rattle.std.specs.Option.{option_and_then, unwrap_or}
 use Rattle.hk_model.specs.declared.calls.Call.{Call}
 use Rattle.hk_model.specs.declared.entries.Entry.{Entry}
@@ -14,6 +14,7 @@ use Rattle.hk_model.specs.Running.{Machine, moved}
 use Rattle.hk_model.specs.Lines.{done_call, makes_object, enters_call, param_count}
 use Rattle.hk_report.specs.declared.doings.Before.{Before}
 use Rattle.hk_report.specs.declared.doings.Doing.{Doing}
+use Rattle.hk_report.specs.declared.doings.Entered.{Entered}
 use Rattle.hk_report.specs.Named.{named_change}
 
 -- what is known of a call, or of none, before it is done: what it makes takes the next name, or the next number
@@ -63,9 +64,17 @@ doings w m (line ∷ lines) = doing m.state line (moved w m line.cpu).state ∷ 
 abbrev pub given_params : Line → Before → State → List Entry
 given_params line before t = elim before.enters [ None ↦ [] | Some inc ↦ take (param_count (done_call line)) (incarnation t inc).slots ]
 
+-- they are kept where the line has begun one
+abbrev pub kept_params : Option Entered → List Entry → List (List Entry)
+kept_params None params = []
+kept_params (Some entered) params = params ∷ []
+
+-- those of the calls that lines have begun, in the order of their incarnations
 abbrev pub params_given : WorldValue → Machine → List Line → List (List Entry)
 params_given w m [] = []
-params_given w m (line ∷ lines) = given_params line (before_line m.state line) (moved w m line.cpu).state ∷ params_given w (moved w m line.cpu) lines
+params_given w m (line ∷ lines) =
+    kept_params (doing m.state line (moved w m line.cpu).state).entered (given_params line (before_line m.state line) (moved w m line.cpu).state)
+    ++ params_given w (moved w m line.cpu) lines
 
 -- the slots of the incarnation that the processor runs; where it runs nothing, none
 abbrev pub slots_on : State → Cpu → List Entry

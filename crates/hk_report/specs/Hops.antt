@@ -18,7 +18,9 @@ use Rattle.hk_report.specs.declared.histories.Span.{Span}
 use Rattle.hk_report.specs.declared.histories.History.{History}
 use Rattle.hk_report.specs.declared.hops.Arrived.{Arrived}
 use Rattle.hk_report.specs.declared.hops.Latest.{Latest}
+use Rattle.hk_report.specs.declared.hops.Bounds.{Bounds}
 use Rattle.hk_report.specs.declared.hops.Level.{Level}
+use Rattle.hk_report.specs.declared.hops.Level.TheVariants.{End, Behind}
 use Rattle.hk_report.specs.declared.hops.Onward.{Onward}
 use Rattle.hk_report.specs.Histories.{history_of}
 
@@ -63,8 +65,12 @@ ends_before before = record { modify = before; unconf = 0 }
 abbrev pub latest_end : Name → ℕ → Name → Latest
 latest_end end before name = if name.0 == end.0 then ends_before before else no_latest
 
+abbrev pub bounds_at : Bounds → Name → Latest
+bounds_at bounds name = unwrap_or (get name_cmp bounds.latest name) no_latest
+
 abbrev pub latest_at : Level → Name → Latest
-latest_at level name = unwrap_or (get name_cmp level.latest name) no_latest
+latest_at (End name before) = latest_end name before
+latest_at (Behind bounds) = bounds_at bounds
 
 -- the rest can be made from there
 abbrev pub is_good : Arrived → Latest → Bool

@@ -1,8 +1,9 @@
 -- The changes with their reasons, from what has stood in lists, who is under which call, and the parameters of the calls.
 -- docs/RULES.md, "Changes and their reasons".
-use Rattle.std.specs.Prelude.{◌≡◌, ℕ, ◌+◌, ◌-◌, ◌<◌, ◌^◌, Bool, true, false, List, [], ◌∷◌, slice_index_or}
+use Rattle.std.specs.Prelude.{◌≡◌, ◌+◌, ◌-◌, ◌<◌, ◌^◌, Bool, true, false, List, [], ◌∷◌, length, slice_index_or}
 use Rattle.std.specs.List.{AllByRecursion}
 use Rattle.hk_model.specs.declared.entries.Entry.{Entry}
+use Rattle.hk_model.specs.declared.names.Inc.{Inc}
 use Rattle.hk_model.specs.declared.reaches.Reach.{Reach}
 use Rattle.hk_model.specs.declared.reaches.Reach.TheVariants.{Made}
 use Rattle.hk_model.specs.declared.reaches.Change.{Change}
@@ -12,16 +13,16 @@ use Rattle.hk_report.specs.declared.histories.History.{History}
 use Rattle.hk_report.specs.Hops.{is_made}
 use Rattle.hk_report.specs.Searches.{IsFound}
 
--- the parameters of the call that begins at a moment, with those that each line has given
-abbrev pub params_at : List (List Entry) → ℕ → List Entry
-params_at params moment = slice_index_or params (moment - 1) []
+-- the parameters of a call, by its incarnation: those of the opening, of which none are kept, have the first numbers
+abbrev pub params_at : List (List Begun) → List (List Entry) → Inc → List Entry
+params_at families params call = slice_index_or params (call.0 - (length families - length params)) []
 
 module _ (families : List (List Begun)) (histories : List History) (params : List (List Entry)) where
   -- the reason, by whether the object was made under the call
   abbrev pub IsReasonedBy : BareChange → Reach → Bool → Type 0
   IsReasonedBy bare reach true = reach ≡ Made
   IsReasonedBy bare reach false =
-      IsFound (is_made families bare.under histories) histories bare.object (bare.moment + 1) bare.under.moment (params_at params bare.under.moment) reach
+      IsFound (is_made families bare.under histories) histories bare.object (bare.moment + 1) bare.under.moment (params_at families params bare.under.call) reach
 
   abbrev pub IsReasoned : BareChange → Reach → Type 0
   IsReasoned bare reach = IsReasonedBy bare reach (is_made families bare.under histories bare.object)

@@ -1,10 +1,10 @@
 -- What was told of the lines that have come. docs/RULES.md, "Changes and their reasons".
-use Rattle.std.specs.Prelude.{◌≡◌, ◌+◌, List, [], ◌∷◌, ◌++◌, length, replicate, slice_index_or}
+use Rattle.std.specs.Prelude.{◌≡◌, ◌+◌, List, [], ◌++◌, length, replicate, slice_index_or}
 use Rattle.hk_model.specs.declared.lines.Line.{Line}
 use Rattle.hk_model.specs.WorldValue.{WorldValue}
 use Rattle.hk_model.specs.Running.{AreStepsOf, after_lines, opened}
 use Rattle.hk_report.specs.declared.replay.Retelling.{Retelling}
-use Rattle.hk_report.specs.Doings.{before_line, doing, doings, given_params, params_given}
+use Rattle.hk_report.specs.Doings.{before_line, doing, doings, given_params, kept_params, params_given}
 use Rattle.hk_report.specs.Families.{changes_by, changes_from, families_after, families_by}
 use Rattle.hk_report.specs.Histories.{histories_at_end, noted}
 
@@ -24,6 +24,7 @@ pub record IsToldMore {K : Type 0} (old new : Retelling K) (line : Line) : Type 
   pub changes : new.telling.families.changes.items ≡ old.telling.families.changes.items
       ++ changes_by old.count (before_line old.machine.state line).changed (slice_index_or old.telling.families.calls.items line.inc.0 [])
   pub calls : new.telling.families.calls.items ≡ families_by old.count (doing old.machine.state line new.machine.state) old.telling.families.calls.items
-  pub params : new.telling.params.items ≡ old.telling.params.items ++ given_params line (before_line old.machine.state line) new.machine.state ∷ []
+  pub params : new.telling.params.items ≡ old.telling.params.items
+      ++ kept_params (doing old.machine.state line new.machine.state).entered (given_params line (before_line old.machine.state line) new.machine.state)
   pub histories : new.telling.histories.items
       ≡ noted (old.count + 1) (doing old.machine.state line new.machine.state) new.machine.state old.telling.histories.items

@@ -102,17 +102,17 @@ fn add_each(
     Ok(())
 }
 
-/// What a line changes, under each of the calls that it is under.
+/// What a line changes, under each of the calls that its incarnation is under.
 fn add_changes(
     changes: &mut Vec<BareChange>,
+    families: &[Items<Begun>],
     moment: u32,
-    changed: Option<Name>,
-    calls: &[Begun],
+    doing: &Doing,
 ) -> Result<(), NoMemory>
-    ensures { OnOk result (changes.new.items ≡ changes.old.items ++ changes_by moment changed calls.now) }
+    ensures { OnOk result (changes.new.items ≡ changes.old.items ++ changes_by moment doing.now.changed (slice_index_or families.now doing.now.inc.0 [])) }
 {
-    match changed {
-        Some(object) => add_each(changes, moment, object, calls),
+    match doing.changed {
+        Some(object) => add_each(changes, moment, object, calls_over(families, doing.inc)),
         None => Ok(()),
     }
 }
@@ -154,8 +154,7 @@ impl Families {
         ensures changes { OnOk result (self.new.changes.items ≡ self.old.changes.items ++ changes_by moment doing.now.changed (slice_index_or self.old.calls.items doing.now.inc.0 [])) }
         ensures calls { OnOk result (self.new.calls.items ≡ families_by moment doing.now self.old.calls.items) }
     {
-        let calls = calls_over(self.calls.as_slice(), doing.inc);
-        add_changes(&mut self.changes, moment, doing.changed, calls)?;
+        add_changes(&mut self.changes, self.calls.as_slice(), moment, doing)?;
         add_family(alloc, &mut self.calls, moment, doing)
     }
 }

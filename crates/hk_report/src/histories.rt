@@ -1,7 +1,7 @@
 //! What has stood in the list of each object, from which moment to which, and who made the object
 //! (`docs/RULES.md`, "Reaches").
 
-ghost use Rattle.std.specs.Prelude.{◌≡◌, ◌-◌, ◌++◌, ◌≤◌, length, replicate, slice_get, IfOk, OnOk};
+ghost use Rattle.std.specs.Prelude.{◌≡◌, ◌-◌, ◌++◌, ◌<◌, ◌≤◌, None, length, replicate, slice_get, slice_set, slice_index_or, IfOk, OnOk};
 ghost use Rattle.std.specs.Option.{option_and_then};
 ghost use Rattle.hk_model.specs.Limits.{entry_limit};
 ghost use Rattle.hk_model.specs.Places.{cap_of};
@@ -13,6 +13,7 @@ use hk_model::lists::Limited;
 use hk_model::{Cap, Entry, Inc, Items, Name, NoMemory, Template};
 use std::alloc::Global;
 use std::marker::PhantomData;
+use std::mem;
 
 /// A capability that stands at an index of a list.
 #[derive(Clone, Copy, PartialEq, Eq, Debug)]
@@ -120,22 +121,38 @@ fn add(spans: &mut Items<Span>, span: Option<Span>) -> Result<(), NoMemory>
 }
 
 /// What stands at each index of a list, at as many as this at least.
-fn padded(
-    alloc: Global,
-    now: &[Option<Since>],
-    count: usize,
-) -> Result<Vec<Option<Since>>, NoMemory>
-    requires now { length now.now ≤ entry_limit }
+fn padded(now: Vec<Option<Since>>, count: usize) -> Result<Vec<Option<Since>>, NoMemory>
+    requires now { length now.items ≤ entry_limit }
     requires count { count ≤ entry_limit }
-    ensures all { IfOk result (λ all. all.items ≡ padded now.now count) }
+    ensures all { IfOk result (λ all. all.items ≡ padded now.items count) }
     ensures few { IfOk result (λ all. length all.items ≤ entry_limit) }
 {
-    let mut all = Vec::from_slice(alloc, now)?;
     let missing = count.saturating_sub(now.len());
+    let mut all = now;
+    all.reserve_exact(missing)?;
     for _ in 0..missing {
         all.push(None)?;
     }
     Ok(all)
+}
+
+/// Writes what stands at an index from a moment on over what stood there, which ends.
+fn relist_at(
+    spans: &mut Items<Span>,
+    now: &mut [Option<Since>],
+    moment: u32,
+    index: usize,
+    new: &Option<Cap>,
+) -> Result<(), NoMemory>
+    requires within { index < length now.old }
+    requires few { length now.old ≤ entry_limit }
+    ensures now { OnOk result (now.new ≡ slice_set now.old index (since_by moment (slice_index_or now.old index None) new.now)) }
+    ensures spans { OnOk result (spans.new ≡ spans.old ++ added (ended_by moment index (slice_index_or now.old index None) new.now)) }
+{
+    let old = now[index];
+    add(spans, ended_by(moment, index as u16, &old, new))?;
+    now[index] = since_by(moment, &old, new);
+    Ok(())
 }
 
 /// A list has these entries from a moment on.
@@ -149,15 +166,11 @@ fn relist(
     requires { length entries.now ≤ entry_limit }
     ensures { OnOk result (history.new ≡ relisted moment maker entries.now history.old) }
 {
-    let olds = padded(alloc, history.now.as_slice(), entries.len())?;
-    let mut now = Vec::with_capacity(alloc, olds.len())?;
-    for (index, old) in olds.iter().enumerate() {
+    let before = mem::replace(&mut history.now, Limited::new(alloc)).into_vec();
+    let mut now = padded(before, entries.len())?;
+    for index in 0..now.len() {
         let new = cap_at(entries, index);
-        add(
-            &mut history.spans,
-            ended_by(moment, index as u16, old, &new),
-        )?;
-        now.push(since_by(moment, old, &new))?;
+        relist_at(&mut history.spans, &mut now, moment, index, &new)?;
     }
     history.now = Limited::from_vec(now);
     if maker.is_some() {

@@ -1,13 +1,13 @@
 //! Hops over what has stood in lists, and which of them comes first (`docs/RULES.md`, "Reaches").
 
-ghost use Rattle.std.specs.Prelude.{◌≡◌, None, IfOk, OnOk};
+ghost use Rattle.std.specs.Prelude.{◌≡◌, ◌≤◌, true, None, IfOk, OnOk};
 ghost use Rattle.std.specs.Cmp.Lexicographic.{slice_cmp};
 ghost use Rattle.std.specs.Ordering.{nat_cmp, is_lt};
 ghost use Rattle.hk_model.specs.Reaches.{index_of, moment_of};
 ghost use Rattle.hk_model.specs.Changes.{hop_key};
 ghost use Rattle.hk_report.specs.Histories.{history_of};
 ghost use Rattle.hk_report.specs.Runs.{IsRun, AreRuns, AreRuns-prop};
-ghost use Rattle.hk_report.specs.Hops.{same_begun, has_begun, is_made, next_latest, later, greater, lesser, arrived_by, arrived_whole, latest_at, latest_end, is_good, entry_onward, handed_onward, earlier, onward_over, first_from, from_on};
+ghost use Rattle.hk_report.specs.Hops.{same_begun, has_begun, is_made, next_latest, later, greater, lesser, arrived_by, arrived_whole, no_latest, ends_before, bounds_at, latest_at, latest_end, is_good, entry_onward, handed_onward, earlier, onward_over, first_from, from_on};
 ghost use Rattle.hk_report.specs.Holders.{AreHolders, HoldsAlone, held_at, spans_in, joined, latest_within, entry_most, handed_most, most_on, raised_at, raised_over};
 
 use crate::families::{Begun, calls_over};
@@ -39,10 +39,19 @@ pub struct Latest {
     pub unconf: u32,
 }
 
-/// From which moments the rest of a way can be made that has so many hops, at each object at which it can.
+/// From which moments the rest of a way can be made, at each object at which it can.
 #[derive(Drop)]
-pub struct Level {
+pub struct Bounds {
     pub latest: BTreeMap<Name, Latest>,
+}
+
+/// The same of the rest of a way that has so many hops.
+#[derive(Drop)]
+pub enum Level {
+    /// No hop: the way has come to this object, before this moment.
+    End { name: Name, before: u32 },
+    /// One hop or more.
+    Behind(Bounds),
 }
 
 /// What is to be raised at an object.
@@ -50,6 +59,17 @@ pub struct Level {
 pub(crate) struct Raise {
     pub name: Name,
     pub latest: Latest,
+}
+
+impl Raise {
+    /// Whether it raises an object as far as what is at most this.
+    fn covers(&self, name: Name, most: Latest) -> bool
+        ensures { result ≡ true → (self.now.name.0 ≡ name.0) × (most.modify ≤ self.now.latest.modify) × (most.unconf ≤ self.now.latest.unconf) }
+    {
+        self.name.0 == name.0
+            && most.modify <= self.latest.modify
+            && most.unconf <= self.latest.unconf
+    }
 }
 
 /// A hop, and where it leads.
@@ -304,46 +324,50 @@ fn joined(a: Latest, b: Latest) -> Latest
     }
 }
 
-impl Level {
+/// No rest can be made.
+fn no_latest() -> Latest
+    ensures { result ≡ no_latest }
+{
+    Latest {
+        modify: 0,
+        unconf: 0,
+    }
+}
+
+/// Below which moments a hop over a run of a capability has to be made: to what was made under the call, and by the entry.
+fn most_over(cap: Cap, latest: Latest, made: bool) -> Latest
+    ensures { result ≡ record { modify = handed_most made latest; unconf = entry_most cap latest } }
+{
+    Latest {
+        modify: handed_most(made, latest),
+        unconf: entry_most(cap, latest),
+    }
+}
+
+impl Bounds {
     /// No rest can be made.
-    fn none(alloc: Global) -> Level
-        ensures { latest_at result ≡ (λ _. record { modify = 0; unconf = 0 }) }
+    fn none(alloc: Global) -> Bounds
+        ensures { bounds_at result ≡ (λ _. no_latest) }
     {
-        Level {
+        Bounds {
             latest: BTreeMap::new(alloc),
         }
     }
 
-    /// No hop: the way has come to this object, before this moment. NoMemory is want of memory.
-    pub(crate) fn end(alloc: Global, name: Name, before: u32) -> Result<Level, NoMemory>
-        ensures { IfOk result (λ level. latest_at level ≡ latest_end name before) }
-    {
-        let mut level = Level::none(alloc);
-        let latest = Latest {
-            modify: before,
-            unconf: 0,
-        };
-        level.raise(name, latest)?;
-        Ok(level)
-    }
-
     /// From which moments the rest can be made at an object.
     fn at(&self, name: Name) -> Latest
-        ensures { result ≡ latest_at self.now name }
+        ensures { result ≡ bounds_at self.now name }
     {
         match self.latest.get(&name) {
             Some(latest) => *latest,
-            None => Latest {
-                modify: 0,
-                unconf: 0,
-            },
+            None => no_latest(),
         }
     }
 
     /// The rest can be made from these moments at an object, too.
     #[tactic(auto, using(crate::proofs::Raising::none_raised))]
     fn raise(&mut self, name: Name, latest: Latest) -> Result<(), NoMemory>
-        ensures { OnOk result (latest_at self.new ≡ raised_at (latest_at self.old) name latest) }
+        ensures { OnOk result (bounds_at self.new ≡ raised_at (bounds_at self.old) name latest) }
     {
         if latest.modify == 0 && latest.unconf == 0 {
             return Ok(());
@@ -361,7 +385,7 @@ impl Level {
         name: Name,
         latest: Latest,
     ) -> Result<(), NoMemory>
-        ensures { OnOk result (raised_at (latest_at self.new) waiting.new.name waiting.new.latest ≡ raised_at (raised_at (latest_at self.old) waiting.old.name waiting.old.latest) name latest) }
+        ensures { OnOk result (raised_at (bounds_at self.new) waiting.new.name waiting.new.latest ≡ raised_at (raised_at (bounds_at self.old) waiting.old.name waiting.old.latest) name latest) }
     {
         if waiting.name.0 == name.0 {
             waiting.latest = joined(waiting.latest, latest);
@@ -370,6 +394,34 @@ impl Level {
         self.raise(waiting.name, waiting.latest)?;
         *waiting = Raise { name, latest };
         Ok(())
+    }
+}
+
+impl Level {
+    /// From which moments the rest can be made at an object.
+    fn at(&self, name: Name) -> Latest
+        ensures { result ≡ latest_at self.now name }
+    {
+        match self {
+            Level::End { name: end, before } => {
+                if name.0 == end.0 {
+                    ends_before(*before)
+                } else {
+                    no_latest()
+                }
+            }
+            Level::Behind(bounds) => bounds.at(name),
+        }
+    }
+}
+
+/// The way has come, before this moment.
+fn ends_before(before: u32) -> Latest
+    ensures { result ≡ ends_before before }
+{
+    Latest {
+        modify: before,
+        unconf: 0,
     }
 }
 
@@ -404,7 +456,6 @@ impl<'a> Ground<'a> {
     }
 
     /// The hop that comes first of one and those over a span.
-    #[tactic(auto, using(crate::proofs::HopLemmas::stays_first))]
     fn earlier_over(
         &self,
         level: &Level,
@@ -422,7 +473,33 @@ impl<'a> Ground<'a> {
         earlier(first, self.onward_over(level, from, span))
     }
 
-    /// The first hop after which the rest can be made. Of a run it can go over the first span alone that has not ended.
+    /// The hop that comes first of one and those over a run. It can go over the first span alone that has not ended, and over
+    /// none where no rest can be made from the object that the run holds.
+    #[tactic(auto, using(crate::proofs::RunSkips::over_nothing))]
+    fn first_over(
+        &self,
+        level: &Level,
+        from: &Arrived,
+        run: &[Span],
+        first: Option<Onward>,
+    ) -> Option<Onward>
+        requires { IsRun run.now }
+        ensures { result ≡ first_from (is_made self.now.families.now self.now.begun self.now.histories.now) (latest_at level.now) from.now first run.now }
+    {
+        let Some(span) = run.first() else {
+            return first;
+        };
+        let latest = level.at(span.cap.name);
+        if latest.modify == 0 && latest.unconf == 0 {
+            return first;
+        }
+        match first_open(run, from.moment) {
+            Some(open) => self.earlier_over(level, from, open, first),
+            None => first,
+        }
+    }
+
+    /// The first hop after which the rest can be made.
     pub(crate) fn first_onward(&self, level: &Level, from: &Arrived) -> Option<Onward>
         ensures { result ≡ first_from (is_made self.now.families.now self.now.begun self.now.histories.now) (latest_at level.now) from.now None (history_of self.now.histories.now from.now.name).spans }
     {
@@ -430,9 +507,7 @@ impl<'a> Ground<'a> {
         let mut first = None;
         let mut start = 0;
         for end in ends_at(self.runs, from.name) {
-            if let Some(span) = first_open(&spans[start..*end], from.moment) {
-                first = self.earlier_over(level, from, span, first);
-            }
+            first = self.first_over(level, from, &spans[start..*end], first);
             start = *end;
         }
         first
@@ -448,52 +523,88 @@ impl<'a> Ground<'a> {
         }
     }
 
-    /// From which moments a hop over a run can be made, and the rest after it.
-    fn latest_over(&self, held: &Stretch, latest: Latest, made: bool) -> Latest
+    /// From which moments a hop over a run can be made below these.
+    fn latest_over(&self, held: &Stretch, most: Latest) -> Latest
         requires { (name : Name) × HoldsAlone self.now.histories.now name held.now }
-        ensures { result ≡ latest_within (spans_in self.now.histories.now held.now) latest made }
+        ensures { result ≡ record { modify = most_on (spans_in self.now.histories.now held.now) most.modify; unconf = most_on (spans_in self.now.histories.now held.now) most.unconf } }
     {
-        let modify = handed_most(made, latest);
-        let unconf = entry_most(held.cap, latest);
-        if modify == 0 && unconf == 0 {
-            return Latest { modify, unconf };
+        if most.modify == 0 && most.unconf == 0 {
+            return most;
         }
         let run = &spans_at(self.histories, held.by)[held.first..held.end];
         Latest {
-            modify: most_on(run, modify),
-            unconf: most_on(run, unconf),
+            modify: most_on(run, most.modify),
+            unconf: most_on(run, most.unconf),
         }
+    }
+
+    /// What is kept for an object gives over a run to that which held it, behind what is to be raised already. A run that
+    /// cannot raise it further is not looked at.
+    fn raise_over(
+        &self,
+        next: &mut Bounds,
+        waiting: &mut Raise,
+        held: &Stretch,
+        latest: Latest,
+        made: bool,
+    ) -> Result<(), NoMemory>
+        requires { (name : Name) × HoldsAlone self.now.histories.now name held.now }
+        ensures { OnOk result (raised_at (bounds_at next.new) waiting.new.name waiting.new.latest ≡ raised_at (raised_at (bounds_at next.old) waiting.old.name waiting.old.latest) held.now.by (latest_within (spans_in self.now.histories.now held.now) latest made)) }
+    {
+        let most = most_over(held.cap, latest, made);
+        if waiting.covers(held.by, most) {
+            return Ok(());
+        }
+        let over = self.latest_over(held, most);
+        next.raise_later(waiting, held.by, over)?;
+        Ok(())
     }
 
     /// What is kept for an object gives to those that held it. The runs of one list stand together, so a list is
     /// looked up once.
     #[tactic(auto, using(crate::proofs::Raising::nothing_raised))]
-    fn raise_holders(&self, next: &mut Level, name: Name, latest: Latest) -> Result<(), NoMemory>
-        ensures { OnOk result (latest_at next.new ≡ raised_over self.now.histories.now latest (is_made self.now.families.now self.now.begun self.now.histories.now name) (latest_at next.old) (held_at self.now.holders.now name)) }
+    fn raise_holders(&self, next: &mut Bounds, name: Name, latest: Latest) -> Result<(), NoMemory>
+        ensures { OnOk result (bounds_at next.new ≡ raised_over self.now.histories.now latest (is_made self.now.families.now self.now.begun self.now.histories.now name) (bounds_at next.old) (held_at self.now.holders.now name)) }
     {
         let made = self.is_made(name);
         let mut waiting = Raise {
             name,
-            latest: Latest {
-                modify: 0,
-                unconf: 0,
-            },
+            latest: no_latest(),
         };
         for held in self.holders_of(name) {
-            let over = self.latest_over(held, latest, made);
-            next.raise_later(&mut waiting, held.by, over)?;
+            self.raise_over(next, &mut waiting, held, latest, made)?;
         }
         next.raise(waiting.name, waiting.latest)
+    }
+
+    /// The bounds of one hop more than these.
+    fn bounds_behind(&self, alloc: Global, bounds: &Bounds) -> Result<Bounds, NoMemory>
+        ensures { IfOk result (λ next. bounds_at next ≡ next_latest (is_made self.now.families.now self.now.begun self.now.histories.now) self.now.histories.now (bounds_at bounds.now)) }
+    {
+        let mut next = Bounds::none(alloc);
+        for (name, latest) in bounds.latest.iter() {
+            self.raise_holders(&mut next, *name, *latest)?;
+        }
+        Ok(next)
+    }
+
+    /// The bounds of one hop to an object, before a moment.
+    fn bounds_before(&self, alloc: Global, name: Name, before: u32) -> Result<Bounds, NoMemory>
+        ensures { IfOk result (λ next. bounds_at next ≡ next_latest (is_made self.now.families.now self.now.begun self.now.histories.now) self.now.histories.now (latest_end name before)) }
+    {
+        let mut next = Bounds::none(alloc);
+        self.raise_holders(&mut next, name, ends_before(before))?;
+        Ok(next)
     }
 
     /// The level of one hop more. NoMemory is want of memory.
     pub(crate) fn next_level(&self, alloc: Global, level: &Level) -> Result<Level, NoMemory>
         ensures { IfOk result (λ next. latest_at next ≡ next_latest (is_made self.now.families.now self.now.begun self.now.histories.now) self.now.histories.now (latest_at level.now)) }
     {
-        let mut next = Level::none(alloc);
-        for (name, latest) in level.latest.iter() {
-            self.raise_holders(&mut next, *name, *latest)?;
-        }
-        Ok(next)
+        let next = match level {
+            Level::End { name, before } => self.bounds_before(alloc, *name, *before)?,
+            Level::Behind(bounds) => self.bounds_behind(alloc, bounds)?,
+        };
+        Ok(Level::Behind(next))
     }
 }

@@ -14,7 +14,7 @@ use crate::replay::{GivenParams, Telling};
 use crate::runs::{all_ends, rearrange_all};
 use crate::searching::Search;
 use crate::texts::write_change;
-use hk_model::{Change, Entry, Items, NoMemory, Reach};
+use hk_model::{Change, Entry, Inc, Items, NoMemory, Reach};
 use std::alloc::Global;
 
 /// The runs of what has stood in lists.
@@ -33,7 +33,7 @@ pub(crate) struct Grounds<'a> {
     pub histories: &'a [History],
     /// The confined calls that each incarnation is under, by its number.
     pub families: &'a [Items<Begun>],
-    /// The merged parameters of the call that each line has begun.
+    /// The merged parameters of each call that a line has begun, in the order of their incarnations.
     pub params: &'a [GivenParams],
     /// The places at which the runs of each list end, by the name of its object.
     pub runs: &'a [Items<usize>],
@@ -61,12 +61,13 @@ impl<'a> Grounds<'a> {
         }
     }
 
-    /// The merged parameters of a call.
-    fn params_of(&self, begun: Begun) -> &[Entry]
-        ensures same { result.now ≡ params_at self.now.params.now begun.moment }
+    /// The merged parameters of a call that a line has begun. The incarnations of the opening have the first numbers.
+    fn params_of(&self, call: Inc) -> &[Entry]
+        ensures same { result.now ≡ params_at self.now.families.now self.now.params.now call }
         ensures few { length result.now ≤ 8 }
     {
-        match self.params.get((begun.moment as usize).saturating_sub(1)) {
+        let opened = self.families.len().saturating_sub(self.params.len());
+        match self.params.get((call.0 as usize).saturating_sub(opened)) {
             Some(params) => params.as_slice(),
             None => &[],
         }
@@ -89,7 +90,7 @@ impl<'a> Grounds<'a> {
         }
         let search = Search {
             ground,
-            params: self.params_of(bare.under),
+            params: self.params_of(bare.under.call),
             wanted: bare.object,
             before: bare.moment + 1,
         };

@@ -5,12 +5,14 @@ ghost use Rattle.hk_model.specs.Lines.{done_call, param_count};
 ghost use Rattle.hk_model.specs.Opening.{opening};
 ghost use Rattle.hk_model.specs.Running.{opened, step};
 ghost use Rattle.hk_program.specs.Machines.{IsSound};
-ghost use Rattle.hk_report.specs.Doings.{RunsEntered, doing_behind, doings, given_params, params_given};
+ghost use Rattle.hk_report.specs.Doings.{RunsEntered, doing_behind, doings, given_params, kept_params, params_given};
 ghost use Rattle.hk_report.specs.Families.{changes_by, changes_from, families_after, families_by};
 ghost use Rattle.hk_report.specs.Histories.{finished_below, noted, opened_below, told_histories};
 ghost use Rattle.hk_report.specs.Retold.{IsToldMore};
 
-use crate::doings::{Before, Doing, before_by, before_line, before_next, doing_behind, doing_on};
+use crate::doings::{
+    Before, Doing, Entered, before_by, before_line, before_next, doing_behind, doing_on,
+};
 use crate::families::Families;
 use crate::histories::{History, finish, note, opened_histories};
 use crate::shows::{Shows, slots_of};
@@ -40,7 +42,7 @@ pub struct Replay {
 pub struct Telling {
     /// The changes under confined calls, and the calls that each incarnation is under.
     pub families: Families,
-    /// The merged parameters of the call that each line has begun, none of another line.
+    /// The merged parameters of each call that a line has begun, in the order of their incarnations.
     pub params: Vec<GivenParams>,
     /// What has stood in the list of each object, by its name.
     pub histories: Vec<History>,
@@ -99,6 +101,23 @@ fn params_on<K: Shows>(
     }
 }
 
+/// The parameters of one call more, where a line has begun one.
+fn keep_params(
+    all: &mut Vec<GivenParams>,
+    entered: &Option<Entered>,
+    params: GivenParams,
+) -> Result<(), NoMemory>
+    ensures { OnOk result (all.new.items ≡ all.old.items ++ kept_params entered.now params) }
+{
+    match entered {
+        Some(_) => {
+            all.push(params)?;
+            Ok(())
+        }
+        None => Ok(()),
+    }
+}
+
 /// The lines of a history once more, from the opening of its world on. NoMemory is want of memory.
 pub(crate) fn replayed(alloc: Global, world: &World, lines: &[Line]) -> Result<Replay, NoMemory>
     ensures first { IfOk result (λ r. r.first ≡ (opened world.now).state.next_inc) }
@@ -144,11 +163,11 @@ impl Telling {
         requires { index + 1 < 2 ^ 32 }
         ensures changes { OnOk result (self.new.families.changes.items ≡ self.old.families.changes.items ++ changes_by index doing.now.changed (slice_index_or self.old.families.calls.items doing.now.inc.0 [])) }
         ensures calls { OnOk result (self.new.families.calls.items ≡ families_by index doing.now self.old.families.calls.items) }
-        ensures params { OnOk result (self.new.params.items ≡ self.old.params.items ++ params ∷ []) }
+        ensures params { OnOk result (self.new.params.items ≡ self.old.params.items ++ kept_params doing.now.entered params) }
         ensures histories { OnOk result (self.new.histories.items ≡ noted (index + 1) doing.now (K.state kernel.now) self.old.histories.items) }
     {
         note(alloc, &mut self.histories, kernel, index + 1, doing)?;
-        self.params.push(params)?;
+        keep_params(&mut self.params, &doing.entered, params)?;
         self.families.add(alloc, index, doing)
     }
 }
@@ -218,7 +237,7 @@ impl<K: Shows> Retelling<K> {
         ensures count { OnOk result (self.new.count ≡ self.old.count + 1) }
         ensures changes { OnOk result (self.new.telling.families.changes.items ≡ self.old.telling.families.changes.items ++ changes_by self.old.count before.changed (slice_index_or self.old.telling.families.calls.items before.inc.0 [])) }
         ensures calls { OnOk result (self.new.telling.families.calls.items ≡ families_by self.old.count (doing_behind before self.old.machine.state) self.old.telling.families.calls.items) }
-        ensures params { OnOk result (self.new.telling.params.items ≡ self.old.telling.params.items ++ given_params line.now before self.old.machine.state ∷ []) }
+        ensures params { OnOk result (self.new.telling.params.items ≡ self.old.telling.params.items ++ kept_params (doing_behind before self.old.machine.state).entered (given_params line.now before self.old.machine.state)) }
         ensures histories { OnOk result (self.new.telling.histories.items ≡ noted (self.old.count + 1) (doing_behind before self.old.machine.state) self.old.machine.state self.old.telling.histories.items) }
     {
         let _ = PhantomData::<(Call, Making, Refusal, Reply, Template, What)>; // Rattle is to know what a Line holds

@@ -116,7 +116,10 @@ impl<'a> Search<'a> {
         ensures { IfOk result (λ reach. IsFoundBehind (is_made self.now.ground.families.now self.now.ground.begun self.now.ground.histories.now) self.now.ground.histories.now self.now.wanted self.now.before self.now.ground.begun.moment self.now.params.now reach) }
     {
         let mut levels = Vec::new(alloc);
-        let mut level = Level::end(alloc, self.wanted, self.before)?;
+        let mut level = Level::End {
+            name: self.wanted,
+            before: self.before,
+        };
         for _ in 0..u64::MAX {
             if let Some(start) = self.first_start(&level) {
                 let mut hops = Items::new(alloc);

@@ -4,4 +4,4 @@ use Rattle.hk_report.proofs.histories.padded.Given as goal
 
 -- so many are added
 abbrev pub invariant-loop : goal.invariant-loop
-invariant-loop l = l.all.items ≡ l.now ++ replicate l.counter None
+invariant-loop l = l.all.items ≡ l.initial.all.items ++ replicate l.counter None

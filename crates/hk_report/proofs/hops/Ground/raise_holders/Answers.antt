@@ -1,8 +1,8 @@
 use Rattle.hk_report.proofs.Stretches.{alone_at}
 use Rattle.hk_report.proofs.hops.Ground.raise_holders.Goals as goal
 
-pub latest_over-over-requires : goal.latest_over-over-requires
-latest_over-over-requires c =
+pub raise_over-requires : goal.raise_over-requires
+raise_over-requires c =
     let s = c.args.self.now in
     let name = c.args.name in (
       name,

@@ -1,7 +1,6 @@
-use Rattle.std.proofs.Common.{◌≡◌, ap, sym, subst, ◌∙◌}
-use Rattle.hk_model.specs.Running.{Machine}
+use Rattle.std.proofs.Common.{sym, subst}
 use Rattle.hk_report.specs.declared.doings.Before.{Before}
-use Rattle.hk_report.specs.Doings.{RunsEntered, before_line}
+use Rattle.hk_report.specs.Doings.{RunsEntered}
 use Rattle.hk_report.proofs.NextLines.{line_known, step_enters}
 use Rattle.hk_report.proofs.Retold.{told_more}
 use Rattle.hk_report.proofs.replay.Retelling.step_into.Goals as goal

@@ -1,11 +1,11 @@
 use Rattle.std.proofs.Common.{List, sym, ◌∙◌, ap}
 use Rattle.hk_model.specs.declared.names.Name.{Name}
 use Rattle.hk_report.specs.declared.hops.Latest.{Latest}
-use Rattle.hk_report.specs.Hops.{is_made, latest_at}
+use Rattle.hk_report.specs.Hops.{is_made, bounds_at}
 use Rattle.hk_report.specs.Holders.{held_at}
 use Rattle.hk_report.proofs.Raising.{raised_by}
 use Rattle.hk_report.proofs.Raising.{level_next}
-use Rattle.hk_report.proofs.hops.Ground.next_level.Goals as goal
+use Rattle.hk_report.proofs.hops.Ground.bounds_behind.Goals as goal
 
 pub loop-name-init : goal.loop-name-init
 loop-name-init c =
@@ -19,5 +19,5 @@ pub returns : goal.returns
 returns c =
     let s = c.args.self.now in
     let made = is_made s.families.now s.begun s.histories.now in
-    sym (ap (λ (all : List (Name × Latest)). raised_by made s.histories.now (held_at s.holders.now) (latest_at c.loop-name.next) all) c.in-None.ensures.steps.0)
-    ∙ c.loop-name.invariant ∙ level_next made s.histories.now s.runs.now s.holders.now c.args.level.now.latest.entries s.cut s.held c.iter-name-items.ensures.found
+    sym (ap (λ (all : List (Name × Latest)). raised_by made s.histories.now (held_at s.holders.now) (bounds_at c.loop-name.next) all) c.in-None.ensures.steps.0)
+    ∙ c.loop-name.invariant ∙ level_next made s.histories.now s.runs.now s.holders.now c.args.bounds.now.latest.entries s.cut s.held c.iter-name-items.ensures.found

@@ -4,7 +4,7 @@ use Rattle.hk_model.specs.State.{name_cmp}
 use Rattle.hk_report.specs.declared.hops.Latest.{Latest}
 use Rattle.hk_report.specs.Holders.{joined}
 use Rattle.hk_report.proofs.Raising.{raise_is}
-use Rattle.hk_report.proofs.hops.Level.raise.Goals as goal
+use Rattle.hk_report.proofs.hops.Bounds.raise.Goals as goal
 
 pub returns : goal.returns
 returns c =
