@@ -1,15 +1,17 @@
 -- Room for one more object.
-use Rattle.std.proofs.Common.{◌≡◌, ◌<◌, ◌≤◌, ◌↔◌, Bool, true, false, not, List, length, Err, refl, sym, ap, ◌∙◌, arith}
+use Rattle.std.proofs.Common.{◌≡◌, ◌<◌, ◌≤◌, ◌↔◌, ℕ, subst, Bool, true, false, not, List, length, Err, refl, sym, ap, ◌∙◌, arith}
 use Rattle.std.specs.Prelude.{IsTrue}
 use Rattle.std.proofs.lemmas.Bool.Decides.{nat_tests}
 use Rattle.hk_model.specs.declared.names.Proc.{Proc}
 use Rattle.hk_model.specs.declared.calls.Refusal.TheVariants as refused
 use Rattle.hk_model.specs.declared.calls.What8.TheVariants as full
 use Rattle.hk_model.specs.State.{State}
-use Rattle.hk_model.specs.Keeping.{rooted_objects}
-use Rattle.hk_model.specs.Rule.{has_room}
+use Rattle.hk_model.specs.Keeping.{AreRooted, rooted_objects}
+use Rattle.hk_model.specs.Rule.{has_room, counted}
+use Rattle.hk_model.proofs.Keeping.{rooted_leaves}
+use Rattle.hk_model.proofs.KeepingLemmas.{rooted_is}
 use Rattle.hk_objects.specs.Slots.{standing}
-use Rattle.hk_table.specs.Rooms.{MakesRoom}
+use Rattle.hk_table.specs.Rooms.{MakesRoom, AreAllRooted, IsKnownRooted}
 use Rattle.hk_table.specs.Whole.{whole}
 use Rattle.hk_table.proofs.Holding.{Slots}
 use Rattle.hk_table.proofs.Makings.{standing_many}
@@ -43,3 +45,26 @@ no_room s t a b full' holds few is none still =
     let g : has_room (rooted_objects s) ≡ false = sym (ap has_room e) ∙ r in
     let all : rooted_objects s ≡ s.objects = all_rooted s few g in
     (rw (f, g) refl, is ∙ (λ i. record s { objects = all i }))
+
+-- and names lead to each object that stands
+pub no_room_rooted : (s t : State) (a b : Bool) → a ≡ not (has_room s.objects) → a ≡ true → length s.objects ≤ 65536 → t ≡ record s { objects = rooted_objects s }
+    → b ≡ not (has_room t.objects) → b ≡ true → AreAllRooted t
+no_room_rooted s t a b full' holds few is none still =
+    let r : has_room t.objects ≡ false = not_yes b (has_room t.objects) none still in
+    let e : t.objects ≡ rooted_objects s = ap (λ (x : State). x.objects) is in
+    let g : has_room (rooted_objects s) ≡ false = sym (ap has_room e) ∙ r in
+    let same = no_room s t a b full' holds few is none still in
+    subst (λ (x : State). AreAllRooted x) (sym same.1) (all_rooted s few g)
+
+-- the number of events does not count for that
+pub counted_rooted : (b : Bool) (s t : State) (n : ℕ) → t ≡ counted n s → IsKnownRooted b s → IsKnownRooted b t
+counted_rooted b s t n is known = subst (λ (x : State). IsKnownRooted b x) (sym is) as_counted where
+  as_counted : IsKnownRooted b (counted n s)
+  as_counted h =
+      let leaves = rooted_leaves s in
+      let are : AreRooted (counted n s) leaves.set = record { closed = leaves.are.closed; least = leaves.are.least } in
+      rooted_is (counted n s) leaves.set are ∙ sym leaves.is ∙ known h
+
+-- nothing is said of it where it is not known
+pub not_known : (s : State) → IsKnownRooted false s
+not_known s h = absurd (cc)

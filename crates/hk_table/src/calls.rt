@@ -8,6 +8,7 @@ ghost use Rattle.hk_model.specs.Rule.{outcome, rule, answered, settled, counted}
 ghost use Rattle.hk_model.specs.Walking.{walk};
 ghost use Rattle.hk_table.specs.Giving.{Gives, WantsOnly, TakesOne, takes_memory};
 ghost use Rattle.hk_table.specs.Joined.{FewNumbers};
+ghost use Rattle.hk_table.specs.Rooms.{IsKnownRooted};
 ghost use Rattle.hk_table.specs.Told.{AllNamedStand};
 
 use crate::parts::Parts;
@@ -28,16 +29,24 @@ fn answered(answer: Answer) -> Reply
 
 impl Parts {
     /// What a call of a process that runs does, before objects vanish and the event is counted. Only Add, Append, Copy and
-    /// Enter may want memory.
+    /// Enter may want memory. What `rooted` says, that names lead to each object, still holds where it is refused.
     #[tactic(auto, using(crate::proofs::Wanting::wants_any))]
-    pub(crate) fn serve(&mut self, alloc: Global, proc: Proc, call: &Call) -> Result<Answer, Stop>
+    pub(crate) fn serve(
+        &mut self,
+        alloc: Global,
+        proc: Proc,
+        call: &Call,
+        rooted: &mut bool,
+    ) -> Result<Answer, Stop>
         requires known { proc.0 < length self.old.processes }
         requires runs { is_running (process self.old proc).run ≡ true }
         requires named { AllNamedStand self.old }
         requires next_name { self.old.next_name.0 < 2 ^ 63 }
         requires next_inc { self.old.next_inc.0 < 2 ^ 63 }
+        requires rooted { IsKnownRooted rooted.old self.old }
         ensures row { Gives self.old (outcome self.old proc (process self.old proc).current call.now) result self.new }
         ensures memory { WantsOnly call.now result }
+        ensures rooted { OnErr result (IsKnownRooted rooted.new self.new) }
     {
         match call {
             Call::Get { of, at } => Ok(self.get(proc, of, *at)?),
@@ -54,9 +63,9 @@ impl Parts {
             Call::MakeTemplate { of, making, into } => {
                 Ok(self.make_template(proc, of, making, *into)?)
             }
-            Call::Create { by, into } => Ok(self.create(alloc, proc, by, *into)?),
+            Call::Create { by, into } => Ok(self.create(alloc, proc, by, *into, rooted)?),
             Call::Merge { with, cap, into } => Ok(self.merge_cap(proc, with, *cap, *into)?),
-            Call::Copy { of, into } => self.copy(alloc, proc, of, *into),
+            Call::Copy { of, into } => self.copy(alloc, proc, of, *into, rooted),
             Call::Enter {
                 proc: path,
                 args,
@@ -69,20 +78,29 @@ impl Parts {
         }
     }
     /// Makes a call of a process that runs: what nothing names then vanishes, where it is answered.
-    fn reply_to(&mut self, alloc: Global, proc: Proc, call: &Call) -> Result<Reply, NoMemory>
+    fn reply_to(
+        &mut self,
+        alloc: Global,
+        proc: Proc,
+        call: &Call,
+        rooted: &mut bool,
+    ) -> Result<Reply, NoMemory>
         requires known { proc.0 < length self.old.processes }
         requires runs { is_running (process self.old proc).run ≡ true }
         requires named { AllNamedStand self.old }
         requires next_name { self.old.next_name.0 < 2 ^ 63 }
         requires next_inc { self.old.next_inc.0 < 2 ^ 63 }
+        requires rooted { IsKnownRooted rooted.old self.old }
         ensures reply { IfOk result (λ reply. settled self.old (outcome self.old proc (process self.old proc).current call.now) ≡ (reply, counted (self.old.events + 1) self.new)) }
         ensures numbers { OnOk result (TakesOne self.old self.new) }
         ensures memory { OnErr result (takes_memory call.now ≡ true) }
         ensures err { OnErr result (self.new ≡ self.old) }
+        ensures rooted { IsKnownRooted rooted.new self.new }
     {
-        match self.serve(alloc, proc, call) {
+        match self.serve(alloc, proc, call, rooted) {
             Ok(answer) => {
                 self.settle();
+                *rooted = false;
                 Ok(answered(answer))
             }
             Err(Stop::Refused(refusal)) => Ok(Reply::No(refusal)),
@@ -115,23 +133,32 @@ impl Parts {
     }
 
     /// Makes a call of a process that runs. It is one event, refused or not. NoMemory is want of memory of an Add, an
-    /// Append, a Copy or an Enter, and changes nothing.
-    pub(crate) fn act(&mut self, alloc: Global, proc: Proc, call: &Call) -> Result<Acted, NoMemory>
+    /// Append, a Copy or an Enter, and changes nothing. Where `rooted` says that names lead to each object, that holds
+    /// before and behind it.
+    pub(crate) fn act(
+        &mut self,
+        alloc: Global,
+        proc: Proc,
+        call: &Call,
+        rooted: &mut bool,
+    ) -> Result<Acted, NoMemory>
         requires known { proc.0 < length self.old.processes }
         requires runs { is_running (process self.old proc).run ≡ true }
         requires below { IsTrue (may_step self.old) }
         requires named { AllNamedStand self.old }
         requires numbers { FewNumbers self.old }
+        requires rooted { IsKnownRooted rooted.old self.old }
         ensures reply { IfOk result (λ acted. rule self.old proc call.now ≡ (acted.reply, self.new)) }
         ensures code { IfOk result (λ acted. acted.code ≡ entered_code self.old (process self.old proc).current call.now acted.reply) }
         ensures gone { IfOk result (λ acted. acted.gone ≡ not (is_running (process self.new proc).run)) }
         ensures numbers { OnOk result (FewNumbers self.new) }
         ensures memory { OnErr result (takes_memory call.now ≡ true) }
         ensures err { OnErr result (self.new ≡ self.old) }
+        ensures rooted { IsKnownRooted rooted.new self.new }
     {
         let events = self.next_event();
         let code = self.code_entered(proc, call);
-        let reply = self.reply_to(alloc, proc, call)?;
+        let reply = self.reply_to(alloc, proc, call, rooted)?;
         self.set_events(events);
         Ok(Acted {
             reply,

@@ -1,13 +1,13 @@
 //! What the calls that make objects make: Create and Copy.
 
-ghost use Rattle.std.specs.Prelude.{◌≡◌, ◌<◌, ◌≤◌, ◌^◌, true, Ok, length, map, IfOk};
+ghost use Rattle.std.specs.Prelude.{◌≡◌, ◌<◌, ◌≤◌, ◌^◌, true, Ok, length, map, IfOk, OnErr};
 ghost use Rattle.hk_model.specs.declared.entries.Entry.TheVariants.{Held};
 ghost use Rattle.hk_model.specs.declared.calls.Answer.TheVariants.{Done};
 ghost use Rattle.hk_model.specs.State.{object, process};
 ghost use Rattle.hk_model.specs.Targets.{create_form};
 ghost use Rattle.hk_model.specs.Rule.{can_be_created, copied, plain_object};
 ghost use Rattle.hk_table.specs.Giving.{Answers};
-ghost use Rattle.hk_table.specs.Rooms.{object_made_in_room};
+ghost use Rattle.hk_table.specs.Rooms.{object_made_in_room, IsKnownRooted};
 ghost use Rattle.hk_table.specs.Told.{AllNamedStand};
 
 use crate::parts::Parts;
@@ -107,21 +107,24 @@ impl Parts {
 
     /// A new object, and a capability for it in a slot. It takes no memory.
     ///
-    /// `Full` where there is no room for it; then nothing changes.
+    /// `Full` where there is no room for it; then nothing changes, and `rooted` says that names lead to each object.
     pub(crate) fn add_object(
         &mut self,
         proc: Proc,
         slot: usize,
         new: NewObject,
         rights: Rights,
+        rooted: &mut bool,
     ) -> Result<Answer, Refusal>
         requires known { proc.0 < length self.old.processes }
         requires slot { slot < 64 }
         requires next { self.old.next_name.0 < 2 ^ 63 }
         requires named { AllNamedStand self.old }
-        ensures { Answers self.old (object_made_in_room self.old (process self.old proc).current slot (plain_object new.of new.words new.entries) rights) result self.new }
+        requires rooted { IsKnownRooted rooted.old self.old }
+        ensures made { Answers self.old (object_made_in_room self.old (process self.old proc).current slot (plain_object new.of new.words new.entries) rights) result self.new }
+        ensures rooted { OnErr result (IsKnownRooted rooted.new self.new) }
     {
-        self.make_room()?;
+        self.make_room(rooted)?;
         self.make(proc, slot, new, rights);
         Ok(Answer::Done)
     }

@@ -18,18 +18,21 @@ use std::marker::Model;
 #[derive(Drop)]
 pub struct Table {
     parts: Parts,
+    // Whether it is known that names lead to each object, so that a collection takes none. A refused call leaves it so.
+    rooted: bool,
 }
 
 impl Model for Table {
     ghost use Rattle.hk_model.specs.State.{State};
     ghost use Rattle.hk_table.specs.Joined.{FewNumbers};
+    ghost use Rattle.hk_table.specs.Rooms.{IsKnownRooted};
     ghost use Rattle.hk_table.specs.Told.{AllNamedStand};
 
     ghost Value = { State };
 
     ghost view = { λ t. t.parts };
 
-    ghost invariant = { λ t. FewNumbers t.parts × AllNamedStand t.parts };
+    ghost invariant = { λ t. FewNumbers t.parts × AllNamedStand t.parts × IsKnownRooted t.rooted t.parts };
 }
 
 impl Table {
@@ -37,8 +40,10 @@ impl Table {
     pub fn new(alloc: Global, world: &World) -> Result<Table, NoMemory>
         ensures { IfOk result (λ t. t ≡ opening world.now) }
     {
-        let parts = Parts::open(alloc, world)?;
-        Ok(Table { parts })
+        Ok(Table {
+            parts: Parts::open(alloc, world)?,
+            rooted: false,
+        })
     }
 
     /// The name that the next object takes, which no object has had.
@@ -88,16 +93,18 @@ impl Kernel for Table {
 
     fn act(&mut self, alloc: Global, cpu: Cpu, call: Call) -> Result<Acted, NoMemory> {
         match self.parts.runner(cpu) {
-            Some(proc) => self.parts.act(alloc, proc, &call),
+            Some(proc) => self.parts.act(alloc, proc, &call, &mut self.rooted),
             None => unreachable!(),
         }
     }
 
     fn dispatch(&mut self, cpu: Cpu) -> Option<Proc> {
+        self.rooted = false;
         self.parts.dispatch(cpu)
     }
 
     fn halt(&mut self, cpu: Cpu) {
+        self.rooted = false;
         match self.parts.runner(cpu) {
             Some(proc) => self.parts.halt(proc),
             None => unreachable!(),

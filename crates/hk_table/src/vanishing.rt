@@ -1,9 +1,9 @@
 //! What vanishes, and the room that this makes (`docs/RULES.md`, "Objects that vanish").
 
-ghost use Rattle.std.specs.Prelude.{◌≡◌, ◌≤◌, not, length};
+ghost use Rattle.std.specs.Prelude.{◌≡◌, ◌≤◌, not, length, OnErr};
 ghost use Rattle.hk_model.specs.Keeping.{restricted, rooted_objects};
 ghost use Rattle.hk_model.specs.Rule.{has_room};
-ghost use Rattle.hk_table.specs.Rooms.{MakesRoom};
+ghost use Rattle.hk_table.specs.Rooms.{MakesRoom, IsKnownRooted};
 
 use crate::parts::Parts;
 use crate::settling::{collect_and_forget, settle_and_forget};
@@ -37,16 +37,23 @@ impl Parts {
 
     /// Room for one more object: in a full table the objects that no names lead to vanish. It takes no memory.
     ///
-    /// `Full` where names lead to so many that there is none; then nothing changes.
-    pub(crate) fn make_room(&mut self) -> Result<(), Refusal>
-        ensures { MakesRoom self.old result self.new }
+    /// `Full` where names lead to so many that there is none; then nothing changes, and `rooted` says that names lead to
+    /// each of them. Where it says so before, they are not followed again.
+    pub(crate) fn make_room(&mut self, rooted: &mut bool) -> Result<(), Refusal>
+        requires rooted { IsKnownRooted rooted.old self.old }
+        ensures room { MakesRoom self.old result self.new }
+        ensures rooted { OnErr result (IsKnownRooted rooted.new self.new) }
     {
         if !self.is_full() {
             return Ok(());
         }
+        let what = What8::Objects;
+        if *rooted {
+            return Err(Refusal::Full { what });
+        }
         self.collect();
         if self.is_full() {
-            let what = What8::Objects;
+            *rooted = true;
             return Err(Refusal::Full { what });
         }
         Ok(())
