@@ -2,6 +2,7 @@
 //! programs are (`docs/RULES.md`, "The static bound").
 #![tactic(auto)]
 
+mod batches;
 mod bounding;
 mod closing;
 mod copying;
@@ -12,6 +13,7 @@ mod merging;
 mod opening;
 mod rows;
 mod spreading;
+mod waiting;
 
 ghost use Rattle.hk_model.specs.Running.{AreStepsOf};
 ghost use Rattle.hk_bound.specs.Bounds.{DiffersInCodes, BoundLaw};
