@@ -125,7 +125,7 @@ fn take_up(
     };
     table.take_up(alloc, cell, ways, &mut gaps)?;
     fill_all(world, forms, rows, &gaps, grown)?;
-    waiting.add(cell)?;
+    waiting.add(cell, ways.has_takers(cell.process))?;
     Ok(())
 }
 
@@ -347,13 +347,13 @@ fn take_waiting(
     requires ways { AreWays world.now forms.now ways.now.known }
     ensures { IfOk result (λ more. FillsAll world.now forms.now rows.old rows.new grown.old.items grown.new.items) }
 {
-    if let Some((process, columns)) = waiting.take_merges(alloc) {
+    if let Some((process, columns)) = waiting.take_merges(alloc)? {
         merge_columns(
             alloc, world, forms, kinds, process, &columns, stretches, rows, grown,
         )?;
         return Ok(true);
     }
-    let Some((process, columns)) = waiting.take_passes(alloc) else {
+    let Some((process, columns)) = waiting.take_passes(alloc)? else {
         return Ok(false);
     };
     pass_on(
@@ -445,6 +445,15 @@ fn look(
     missing(alloc, &table, stretches)
 }
 
+/// No cells that wait.
+fn nothing_waiting(alloc: Global, world: &World, forms: &[Form]) -> Result<Waiting, NoMemory>
+    requires { IsWorld world.now }
+{
+    let count = world.tasks().len();
+    let kinds = kinds(alloc, world)?;
+    Waiting::new(alloc, count, object_count(world) + count, forms, &kinds)
+}
+
 /// All that the processes can come to have. The first look finds what they open with. Each cell that
 /// grows waits, and is taken up once with the rights that it has then. The last look finds nothing.
 pub(crate) fn closed_rows(alloc: Global, world: &World, forms: &[Form]) -> Result<Rows, NoMemory>
@@ -458,7 +467,7 @@ pub(crate) fn closed_rows(alloc: Global, world: &World, forms: &[Form]) -> Resul
     let mut rows = Rows::new(alloc, count, object_count(world) + count + forms.len())?;
     let mut ways = Ways::new(alloc, count, world)?;
     let mut grown = Vec::new(alloc);
-    let mut waiting = Waiting::new(alloc, count, object_count(world) + count + forms.len())?;
+    let mut waiting = nothing_waiting(alloc, world, forms)?;
     'looks: loop {
         let gaps = look(alloc, world, forms, &kinds, stretches.as_slice(), &rows)?;
         if gaps.is_empty() {

@@ -9,6 +9,8 @@ mod copying;
 mod forms;
 mod gaps;
 mod handing;
+mod marks;
+mod meeting;
 mod merging;
 mod opening;
 mod rows;

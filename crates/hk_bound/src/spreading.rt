@@ -8,6 +8,7 @@ ghost use Rattle.hk_bound.specs.Filled.{IsWithin, AreWays, Gains};
 use crate::copying::Bare;
 use crate::gaps::{Gap, Table, passes_all};
 use crate::handing::passing_rights;
+use crate::meeting::Meetings;
 use crate::opening::{entries_of, is_listed, object_count, type_of};
 use crate::rows::{Rows, covers};
 use hk_model::{Entry, NoMemory, World};
@@ -33,8 +34,8 @@ pub(crate) struct Ways {
     /// For each object a process that puts entries into its list and takes all that others put there, if one
     /// was seen: whatever goes through the list comes by way of it.
     pub hubs: Vec<Option<usize>>,
-    /// For each process and object whether others were looked for that take what this one puts into its list.
-    pub given: Vec<Vec<bool>>,
+    /// Who takes from the lists of objects and who stores there.
+    pub meetings: Meetings,
     /// In which lists objects stand without ENV.
     pub bare: Bare,
 }
@@ -47,18 +48,17 @@ impl Ways {
         let objects = object_count(world);
         let known = Rows::new(alloc, count, count)?;
         let mut takers: Vec<Vec<usize>> = Vec::new(alloc);
-        let mut given: Vec<Vec<bool>> = Vec::new(alloc);
         for _ in 0..count {
             takers.push(Vec::new(alloc))?;
-            given.push(vec![in alloc; false; objects]?)?;
         }
         let hubs = vec![in alloc; None; objects]?;
+        let meetings = Meetings::new(alloc, count, objects)?;
         let bare = Bare::new(alloc, world)?;
         Ok(Ways {
             known,
             takers,
             hubs,
-            given,
+            meetings,
             bare,
         })
     }
@@ -82,30 +82,17 @@ impl Ways {
         }
     }
 
-    /// Whether others are still to be looked for that take what a process puts into the list of an object. They
-    /// are then as good as looked for.
-    pub(crate) fn gives_first(&mut self, process: usize, name: usize) -> bool
-        ensures { self.new.known ≡ self.old.known }
-    {
-        let Some(objects) = self.given.get_mut(process) else {
-            return true;
-        };
-        match objects.get_mut(name) {
-            None => true,
-            Some(given) => {
-                let first = !*given;
-                *given = true;
-                first
-            }
-        }
-    }
-
     /// Those that take from a process themselves.
     pub(crate) fn takers_of(&self, process: usize) -> &[usize] {
         match self.takers.get(process) {
             None => &[],
             Some(takers) => takers.as_slice(),
         }
+    }
+
+    /// Whether any take from a process themselves.
+    pub(crate) fn has_takers(&self, process: usize) -> bool {
+        !self.takers_of(process).is_empty()
     }
 
     /// Whether what passes through these rights comes to a process from another by way of a third, which
@@ -157,6 +144,7 @@ impl<'a> Table<'a> {
         }
         let handed = ways.are_handed(process, other, passing);
         ways.known.join(process, other, by);
+        ways.meetings.add_way(process, other, by)?;
         if handed {
             return Ok(());
         }
@@ -209,33 +197,10 @@ impl<'a> Table<'a> {
         Ok(())
     }
 
-    /// What a process comes to take of another by what both have for an object, unless it is known to take as much.
-    fn take_unless_passed(
-        &self,
-        process: usize,
-        other: usize,
-        name: usize,
-        passing: Rights,
-        ways: &mut Ways,
-        gaps: &mut Vec<Gap>,
-    ) -> Result<(), NoMemory>
-        requires known { IsKnown self.now.world.now self.now.forms.now self.now.rows.now }
-        requires process { process < length self.now.world.now.tasks }
-        requires name { name < object_count self.now.world.now }
-        requires ways { AreWays self.now.world.now self.now.forms.now ways.old.known }
-        ensures ways { OnOk result (AreWays self.now.world.now self.now.forms.now ways.new.known) }
-        ensures gaps { OnOk result (Gains self.now.world.now self.now.forms.now self.now.rows.now gaps.old.items gaps.new.items) }
-    {
-        if covers(ways.known.get(process, other), passing) {
-            return Ok(());
-        }
-        self.take_through(process, other, name, ways, gaps)?;
-        Ok(())
-    }
-
-    /// What a process comes to take of all others through an object with a list.
+    /// What a process comes to take of others through an object with a list.
     fn take_from_all(
         &self,
+        alloc: Global,
         process: usize,
         name: usize,
         ways: &mut Ways,
@@ -251,16 +216,39 @@ impl<'a> Table<'a> {
         let Some(taking) = self.taking(process, name) else {
             return Ok(());
         };
-        let passing = passing_rights(taking.by);
-        for other in 0..self.world.tasks().len() {
-            self.take_unless_passed(process, other, name, passing, ways, gaps)?;
+        let others = ways.meetings.add_taker(alloc, process, name, taking.by)?;
+        for other in &others {
+            self.take_through(process, *other, name, ways, gaps)?;
         }
         Ok(())
     }
 
-    /// What all others come to take of a process through an object with a list.
+    /// What a process comes to take of another by what both have for an object, if it is one.
+    fn take_if_runs(
+        &self,
+        process: usize,
+        other: usize,
+        name: usize,
+        ways: &mut Ways,
+        gaps: &mut Vec<Gap>,
+    ) -> Result<(), NoMemory>
+        requires known { IsKnown self.now.world.now self.now.forms.now self.now.rows.now }
+        requires name { name < object_count self.now.world.now }
+        requires ways { AreWays self.now.world.now self.now.forms.now ways.old.known }
+        ensures ways { OnOk result (AreWays self.now.world.now self.now.forms.now ways.new.known) }
+        ensures gaps { OnOk result (Gains self.now.world.now self.now.forms.now self.now.rows.now gaps.old.items gaps.new.items) }
+    {
+        if process >= self.world.tasks().len() {
+            return Ok(());
+        }
+        self.take_through(process, other, name, ways, gaps)?;
+        Ok(())
+    }
+
+    /// What others come to take of a process through an object with a list.
     fn give_to_all(
         &self,
+        alloc: Global,
         process: usize,
         name: usize,
         ways: &mut Ways,
@@ -272,8 +260,9 @@ impl<'a> Table<'a> {
         ensures ways { OnOk result (AreWays self.now.world.now self.now.forms.now ways.new.known) }
         ensures gaps { OnOk result (Gains self.now.world.now self.now.forms.now self.now.rows.now gaps.old.items gaps.new.items) }
     {
-        for other in 0..self.world.tasks().len() {
-            self.take_through(other, process, name, ways, gaps)?;
+        let others = ways.meetings.add_storer(alloc, process, name)?;
+        for other in &others {
+            self.take_if_runs(*other, process, name, ways, gaps)?;
         }
         Ok(())
     }
@@ -282,6 +271,7 @@ impl<'a> Table<'a> {
     /// between all.
     fn meet_all(
         &self,
+        alloc: Global,
         process: usize,
         name: usize,
         ways: &mut Ways,
@@ -294,14 +284,11 @@ impl<'a> Table<'a> {
         ensures ways { OnOk result (AreWays self.now.world.now self.now.forms.now ways.new.known) }
         ensures gaps { OnOk result (Gains self.now.world.now self.now.forms.now self.now.rows.now gaps.old.items gaps.new.items) }
     {
-        self.take_from_all(process, name, ways, gaps)?;
+        self.take_from_all(alloc, process, name, ways, gaps)?;
         if !self.stores(process, name) {
             return Ok(());
         }
-        if !ways.gives_first(process, name) {
-            return Ok(());
-        }
-        self.give_to_all(process, name, ways, gaps)?;
+        self.give_to_all(alloc, process, name, ways, gaps)?;
         Ok(())
     }
 
@@ -309,6 +296,7 @@ impl<'a> Table<'a> {
     /// more than before.
     fn meet(
         &self,
+        alloc: Global,
         process: usize,
         name: usize,
         ways: &mut Ways,
@@ -328,14 +316,15 @@ impl<'a> Table<'a> {
             ways.note_hub(name, process);
         }
         match ways.hub(name) {
-            None => self.meet_all(process, name, ways, gaps),
-            Some(hub) => self.meet_hub(process, hub, name, ways, gaps),
+            None => self.meet_all(alloc, process, name, ways, gaps),
+            Some(hub) => self.meet_hub(alloc, process, hub, name, ways, gaps),
         }
     }
 
     /// The same, where a process stands between all.
     fn meet_hub(
         &self,
+        alloc: Global,
         process: usize,
         hub: usize,
         name: usize,
@@ -352,7 +341,7 @@ impl<'a> Table<'a> {
         if hub != process && hub < self.world.tasks().len() {
             return self.exchange(process, hub, name, ways, gaps);
         }
-        self.meet_all(process, name, ways, gaps)
+        self.meet_all(alloc, process, name, ways, gaps)
     }
 
     /// What two processes come to take of one another where one has what the other makes.
@@ -552,7 +541,7 @@ impl<'a> Table<'a> {
         ensures gaps { OnOk result (Gains self.now.world.now self.now.forms.now self.now.rows.now gaps.old.items gaps.new.items) }
     {
         self.take_own(alloc, process, name, gaps)?;
-        self.meet(process, name, ways, gaps)?;
+        self.meet(alloc, process, name, ways, gaps)?;
         self.store_all(alloc, process, name, &mut ways.bare, gaps)?;
         self.store_list(alloc, process, name, &mut ways.bare, gaps)?;
         Ok(())

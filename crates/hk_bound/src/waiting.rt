@@ -1,51 +1,19 @@
 // Cells that have grown and wait: to be merged, and to be handed on. They wait as long as anything cheaper is to
 // be done, so that a cell that grows again meanwhile is taken once.
 
+use crate::forms::Form;
+use crate::marks::Marks;
 use crate::spreading::Grown;
 use hk_model::NoMemory;
+use hk_rights::Right;
 use std::alloc::Global;
-use std::mem::replace;
 
-/// Some of the numbers below a count.
-#[derive(Drop)]
-pub(crate) struct Marks {
-    words: Vec<u64>,
-}
-
-impl Marks {
-    /// None of so many numbers.
-    pub(crate) fn new(alloc: Global, count: usize) -> Result<Marks, NoMemory> {
-        let words = vec![in alloc; 0; count / 64 + 1]?;
-        Ok(Marks { words })
-    }
-
-    /// Adds a number. Whether it was not there.
-    pub(crate) fn add(&mut self, number: usize) -> bool {
-        let bit = 1u64 << (number % 64);
-        match self.words.get_mut(number / 64) {
-            None => false,
-            Some(word) => {
-                let first = *word & bit == 0;
-                *word |= bit;
-                first
-            }
-        }
-    }
-
-    /// Takes a number away.
-    pub(crate) fn remove(&mut self, number: usize) {
-        let bit = 1u64 << (number % 64);
-        if let Some(word) = self.words.get_mut(number / 64) {
-            *word &= !bit;
-        }
-    }
-}
-
-/// Columns of one process, each once.
+/// Columns of one process.
 #[derive(Drop)]
 pub(crate) struct Columns {
-    columns: Vec<usize>,
     marks: Marks,
+    /// Whether there may be any.
+    some: bool,
 }
 
 /// Columns of each process that wait for one thing.
@@ -58,61 +26,56 @@ pub(crate) struct Line {
 
 impl Line {
     /// No columns of so many processes.
-    pub(crate) fn new(alloc: Global, count: usize, width: usize) -> Result<Line, NoMemory> {
+    fn new(alloc: Global, count: usize) -> Result<Line, NoMemory> {
         let mut processes = Vec::new(alloc);
         for _ in 0..count {
             processes.push(Columns {
-                columns: Vec::new(alloc),
-                marks: Marks::new(alloc, width)?,
+                marks: Marks::new(alloc),
+                some: false,
             })?;
         }
         Ok(Line { processes, next: 0 })
     }
 
-    /// Adds a column, unless it waits.
+    /// Adds a column.
     fn add(&mut self, process: usize, column: usize) -> Result<(), NoMemory> {
-        if let Some(waiting) = self.processes.get_mut(process) {
-            if waiting.marks.add(column) {
-                waiting.columns.push(column)?;
-            }
+        if let Some(columns) = self.processes.get_mut(process) {
+            columns.some = true;
+            columns.marks.add(column)?;
         }
         Ok(())
     }
 
-    /// Takes all columns of a process.
-    fn take_of(&mut self, alloc: Global, process: usize) -> Vec<usize> {
-        let Some(waiting) = self.processes.get_mut(process) else {
-            return Vec::new(alloc);
-        };
-        let columns = replace(&mut waiting.columns, Vec::new(alloc));
-        for column in &columns {
-            waiting.marks.remove(*column);
-        }
-        columns
-    }
-
-    /// The next process of which columns wait, in turn.
-    fn next_process(&self) -> Option<usize> {
-        let count = self.processes.len();
-        for place in self.next..count {
-            if !self.processes[place].columns.is_empty() {
-                return Some(place);
-            }
-        }
-        for place in 0..count {
-            if !self.processes[place].columns.is_empty() {
+    /// The first process from one on of which columns wait.
+    fn process_from(&self, start: usize) -> Option<usize> {
+        for place in start..self.processes.len() {
+            if self.processes[place].some {
                 return Some(place);
             }
         }
         None
     }
 
-    /// Takes the columns of the next process of which some wait.
-    fn take(&mut self, alloc: Global) -> Option<(usize, Vec<usize>)> {
-        let process = self.next_process()?;
+    /// The next process of which columns wait, in turn.
+    fn next_process(&self) -> Option<usize> {
+        match self.process_from(self.next) {
+            None => self.process_from(0),
+            Some(process) => Some(process),
+        }
+    }
+
+    /// Takes the columns of the next process of which some wait, in their order.
+    fn take(&mut self, alloc: Global) -> Result<Option<(usize, Vec<usize>)>, NoMemory> {
+        let Some(process) = self.next_process() else {
+            return Ok(None);
+        };
         self.next = process.wrapping_add(1);
-        let columns = self.take_of(alloc, process);
-        Some((process, columns))
+        let Some(columns) = self.processes.get_mut(process) else {
+            return Ok(None);
+        };
+        columns.some = false;
+        let numbers = columns.marks.take(alloc)?;
+        Ok(Some((process, numbers)))
     }
 }
 
@@ -123,35 +86,97 @@ pub(crate) struct Waiting {
     merges: Line,
     /// To be handed on to those who take from their process.
     passes: Line,
+    /// The columns of objects for whose types there are templates, and of templates for whose types there are objects.
+    merged: Marks,
+}
+
+/// Adds the columns that can be merged by one template.
+fn add_merged(
+    columns: &mut Marks,
+    names: &[usize],
+    column: usize,
+    first: bool,
+) -> Result<(), NoMemory> {
+    if names.is_empty() {
+        return Ok(());
+    }
+    columns.add(column)?;
+    if !first {
+        return Ok(());
+    }
+    for name in names {
+        columns.add(*name)?;
+    }
+    Ok(())
+}
+
+/// The columns of objects for whose types there are templates, and of templates for whose types there are objects.
+fn merged_columns(
+    alloc: Global,
+    things: usize,
+    forms: &[Form],
+    kinds: &[Vec<usize>],
+) -> Result<Marks, NoMemory> {
+    let mut columns = Marks::new(alloc);
+    let mut last = None;
+    for (place, form) in forms.iter().enumerate() {
+        if let Some(names) = kinds.get(form.of.0 as usize) {
+            let first = last != Some(form.of);
+            add_merged(&mut columns, names, things.wrapping_add(place), first)?;
+            last = Some(form.of);
+        }
+    }
+    Ok(columns)
 }
 
 impl Waiting {
-    /// None, of so many processes and columns.
-    pub(crate) fn new(alloc: Global, count: usize, width: usize) -> Result<Waiting, NoMemory> {
-        let merges = Line::new(alloc, count, width)?;
-        let passes = Line::new(alloc, count, width)?;
-        Ok(Waiting { merges, passes })
+    /// None, of so many processes of a world with these templates and objects of each type, where templates stand
+    /// behind so many columns.
+    pub(crate) fn new(
+        alloc: Global,
+        count: usize,
+        things: usize,
+        forms: &[Form],
+        kinds: &[Vec<usize>],
+    ) -> Result<Waiting, NoMemory> {
+        let merges = Line::new(alloc, count)?;
+        let passes = Line::new(alloc, count)?;
+        let merged = merged_columns(alloc, things, forms, kinds)?;
+        Ok(Waiting {
+            merges,
+            passes,
+            merged,
+        })
     }
 
-    /// Takes what waits of one process to be merged, if anything does.
-    pub(crate) fn take_merges(&mut self, alloc: Global) -> Option<(usize, Vec<usize>)> {
-        let (process, mut columns) = self.merges.take(alloc)?;
-        columns.sort_unstable();
+    /// Takes what waits of one process to be merged, if anything does, templates first.
+    pub(crate) fn take_merges(
+        &mut self,
+        alloc: Global,
+    ) -> Result<Option<(usize, Vec<usize>)>, NoMemory> {
+        let Some((process, mut columns)) = self.merges.take(alloc)? else {
+            return Ok(None);
+        };
         columns.reverse();
-        Some((process, columns))
+        Ok(Some((process, columns)))
     }
 
     /// Takes what waits of one process to be handed on, if anything does.
-    pub(crate) fn take_passes(&mut self, alloc: Global) -> Option<(usize, Vec<usize>)> {
-        let (process, mut columns) = self.passes.take(alloc)?;
-        columns.sort_unstable();
-        Some((process, columns))
+    pub(crate) fn take_passes(
+        &mut self,
+        alloc: Global,
+    ) -> Result<Option<(usize, Vec<usize>)>, NoMemory> {
+        self.passes.take(alloc)
     }
 
-    /// Adds a cell that has grown.
-    pub(crate) fn add(&mut self, cell: &Grown) -> Result<(), NoMemory> {
-        self.merges.add(cell.process, cell.column)?;
-        self.passes.add(cell.process, cell.column)?;
+    /// Adds a cell that has grown. It is handed on where its process has takers.
+    pub(crate) fn add(&mut self, cell: &Grown, has_takers: bool) -> Result<(), NoMemory> {
+        if self.merged.has(cell.column) {
+            self.merges.add(cell.process, cell.column)?;
+        }
+        if has_takers && cell.rights.has(Right::ENV) {
+            self.passes.add(cell.process, cell.column)?;
+        }
         Ok(())
     }
 }
