@@ -8,6 +8,7 @@ ghost use Rattle.hk_bound.specs.Merges.{IsStretch};
 
 use crate::forms::Form;
 use crate::gaps::{Gap, Table};
+use crate::holdings::Holdings;
 use crate::merging::{SettledSets, Stretch};
 use crate::opening::{object_count, type_of};
 use hk_model::{Name, NoMemory};
@@ -153,9 +154,11 @@ impl<'a> Table<'a> {
     /// What comes of a template: merges with it for the objects of its type. Of many templates all are merged.
     fn take_up_form(
         &self,
+        alloc: Global,
         process: usize,
         place: usize,
         stretches: &[Stretch],
+        holdings: &Holdings,
         batch: &mut Batch,
         gaps: &mut Vec<Gap>,
     ) -> Result<(), NoMemory>
@@ -176,7 +179,8 @@ impl<'a> Table<'a> {
         if batch.takes_type(form.of)? {
             return self.merge_type(process, names, stretches, &mut batch.settled, gaps);
         }
-        self.merge_form(process, place, form, names, gaps)
+        let gaining = holdings.gaining(alloc, process, place, form, names.len())?;
+        self.merge_form(process, place, form, &gaining, gaps)
     }
 
     /// What merges give to a process for an object for which it has got more rights.
@@ -202,9 +206,11 @@ impl<'a> Table<'a> {
     /// What merges give to a process for a cell that has grown.
     pub(crate) fn merge_column(
         &self,
+        alloc: Global,
         process: usize,
         column: usize,
         stretches: &[Stretch],
+        holdings: &Holdings,
         batch: &mut Batch,
         gaps: &mut Vec<Gap>,
     ) -> Result<(), NoMemory>
@@ -220,6 +226,14 @@ impl<'a> Table<'a> {
         if column < things {
             return Ok(());
         }
-        self.take_up_form(process, column - things, stretches, batch, gaps)
+        self.take_up_form(
+            alloc,
+            process,
+            column - things,
+            stretches,
+            holdings,
+            batch,
+            gaps,
+        )
     }
 }

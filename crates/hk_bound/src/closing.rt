@@ -16,6 +16,7 @@ use crate::batches::Batch;
 use crate::forms::Form;
 use crate::gaps::{Gap, Table};
 use crate::handing::all_stored_gaps;
+use crate::holdings::Holdings;
 use crate::merging::{Stretch, all_stretches};
 use crate::opening::{object_count, type_of};
 use crate::rows::{Rows, covers};
@@ -274,6 +275,7 @@ fn merge_column(
     process: usize,
     column: usize,
     stretches: &[Stretch],
+    holdings: &Holdings,
     batch: &mut Batch,
     rows: &mut Rows,
     grown: &mut Vec<Grown>,
@@ -292,7 +294,9 @@ fn merge_column(
         kinds,
         rows: &*rows,
     };
-    table.merge_column(process, column, stretches, batch, &mut gaps)?;
+    table.merge_column(
+        alloc, process, column, stretches, holdings, batch, &mut gaps,
+    )?;
     fill_all(world, forms, rows, &gaps, grown)?;
     Ok(())
 }
@@ -306,6 +310,7 @@ fn merge_columns(
     process: usize,
     columns: &[usize],
     stretches: &[Stretch],
+    holdings: &Holdings,
     rows: &mut Rows,
     grown: &mut Vec<Grown>,
 ) -> Result<(), NoMemory>
@@ -321,7 +326,8 @@ fn merge_columns(
     let mut batch = Batch::new(alloc, columns.len(), forms.len())?;
     for column in columns {
         merge_column(
-            alloc, world, forms, kinds, process, *column, stretches, &mut batch, rows, grown,
+            alloc, world, forms, kinds, process, *column, stretches, holdings, &mut batch, rows,
+            grown,
         )?;
     }
     Ok(())
@@ -349,7 +355,16 @@ fn take_waiting(
 {
     if let Some((process, columns)) = waiting.take_merges(alloc)? {
         merge_columns(
-            alloc, world, forms, kinds, process, &columns, stretches, rows, grown,
+            alloc,
+            world,
+            forms,
+            kinds,
+            process,
+            &columns,
+            stretches,
+            &waiting.holdings,
+            rows,
+            grown,
         )?;
         return Ok(true);
     }
@@ -451,7 +466,7 @@ fn nothing_waiting(alloc: Global, world: &World, forms: &[Form]) -> Result<Waiti
 {
     let count = world.tasks().len();
     let kinds = kinds(alloc, world)?;
-    Waiting::new(alloc, count, object_count(world) + count, forms, &kinds)
+    Waiting::new(alloc, count, object_count(world), forms, &kinds)
 }
 
 /// All that the processes can come to have. The first look finds what they open with. Each cell that

@@ -9,6 +9,7 @@ mod copying;
 mod forms;
 mod gaps;
 mod handing;
+mod holdings;
 mod marks;
 mod meeting;
 mod merging;

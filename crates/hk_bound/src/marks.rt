@@ -61,11 +61,6 @@ impl Marks {
         }
     }
 
-    /// Whether a number is there.
-    pub(crate) fn has(&self, number: usize) -> bool {
-        self.word(number / 64) & (1u64 << (number % 64)) != 0
-    }
-
     /// Adds to a list the numbers that are not in another set, in their order.
     pub(crate) fn list_beyond(
         &self,

@@ -2,6 +2,7 @@
 // be done, so that a cell that grows again meanwhile is taken once.
 
 use crate::forms::Form;
+use crate::holdings::Holdings;
 use crate::marks::Marks;
 use crate::spreading::Grown;
 use hk_model::NoMemory;
@@ -86,66 +87,29 @@ pub(crate) struct Waiting {
     merges: Line,
     /// To be handed on to those who take from their process.
     passes: Line,
-    /// The columns of objects for whose types there are templates, and of templates for whose types there are objects.
-    merged: Marks,
-}
-
-/// Adds the columns that can be merged by one template.
-fn add_merged(
-    columns: &mut Marks,
-    names: &[usize],
-    column: usize,
-    first: bool,
-) -> Result<(), NoMemory> {
-    if names.is_empty() {
-        return Ok(());
-    }
-    columns.add(column)?;
-    if !first {
-        return Ok(());
-    }
-    for name in names {
-        columns.add(*name)?;
-    }
-    Ok(())
-}
-
-/// The columns of objects for whose types there are templates, and of templates for whose types there are objects.
-fn merged_columns(
-    alloc: Global,
+    /// What processes have for objects that may be merged.
+    pub holdings: Holdings,
+    /// Behind how many columns templates stand.
     things: usize,
-    forms: &[Form],
-    kinds: &[Vec<usize>],
-) -> Result<Marks, NoMemory> {
-    let mut columns = Marks::new(alloc);
-    let mut last = None;
-    for (place, form) in forms.iter().enumerate() {
-        if let Some(names) = kinds.get(form.of.0 as usize) {
-            let first = last != Some(form.of);
-            add_merged(&mut columns, names, things.wrapping_add(place), first)?;
-            last = Some(form.of);
-        }
-    }
-    Ok(columns)
 }
 
 impl Waiting {
-    /// None, of so many processes of a world with these templates and objects of each type, where templates stand
-    /// behind so many columns.
+    /// None, of so many processes of a world with so many objects, with these templates and objects of each type.
     pub(crate) fn new(
         alloc: Global,
         count: usize,
-        things: usize,
+        objects: usize,
         forms: &[Form],
         kinds: &[Vec<usize>],
     ) -> Result<Waiting, NoMemory> {
         let merges = Line::new(alloc, count)?;
         let passes = Line::new(alloc, count)?;
-        let merged = merged_columns(alloc, things, forms, kinds)?;
+        let holdings = Holdings::new(alloc, count, objects, forms, kinds)?;
         Ok(Waiting {
             merges,
             passes,
-            merged,
+            holdings,
+            things: objects.saturating_add(count),
         })
     }
 
@@ -171,7 +135,8 @@ impl Waiting {
 
     /// Adds a cell that has grown. It is handed on where its process has takers.
     pub(crate) fn add(&mut self, cell: &Grown, has_takers: bool) -> Result<(), NoMemory> {
-        if self.merged.has(cell.column) {
+        if cell.column >= self.things || self.holdings.place(cell.column).is_some() {
+            self.holdings.note(cell)?;
             self.merges.add(cell.process, cell.column)?;
         }
         if has_takers && cell.rights.has(Right::ENV) {
