@@ -12,13 +12,16 @@ ghost use Rattle.hk_bound.specs.Filled.{IsWithin, AreFilling, AreWays, Fills, Fi
 ghost use Rattle.hk_bound.specs.Listed.{AreExact};
 ghost use Rattle.hk_bound.specs.Merges.{IsStretch};
 
+use crate::batches::Batch;
 use crate::forms::Form;
 use crate::gaps::{Gap, Table};
 use crate::handing::all_stored_gaps;
+use crate::holdings::Holdings;
 use crate::merging::{Stretch, all_stretches};
 use crate::opening::{object_count, type_of};
 use crate::rows::{Rows, covers};
-use crate::spreading::{Batch, Grown, Ways};
+use crate::spreading::{Grown, Ways};
+use crate::waiting::Waiting;
 use hk_model::{NoMemory, World};
 use hk_rights::Rights;
 use std::alloc::Global;
@@ -90,22 +93,21 @@ fn fill_all(
     Ok(())
 }
 
-/// Gives what comes of a cell that has grown. Where it has grown again, its later entry was taken up.
+/// Gives what comes of a cell that has grown, and lets it wait for the rest. Where it has grown again, its later
+/// entry was taken up.
 fn take_up(
     alloc: Global,
     world: &World,
     forms: &[Form],
     kinds: &[Vec<usize>],
     cell: &Grown,
-    stretches: &[Stretch],
-    batch: &mut Batch,
     rows: &mut Rows,
     ways: &mut Ways,
     grown: &mut Vec<Grown>,
+    waiting: &mut Waiting,
 ) -> Result<(), NoMemory>
     requires world { IsWorld world.now }
     requires forms { AreForms world.now forms.now }
-    requires stretches { Each (IsStretch forms.now) stretches.now }
     requires cell { IsWithin world.now forms.now cell.now }
     requires filling { AreFilling world.now forms.now rows.old grown.old.items }
     requires ways { AreWays world.now forms.now ways.old.known }
@@ -122,8 +124,9 @@ fn take_up(
         kinds,
         rows: &*rows,
     };
-    table.take_up(alloc, cell, stretches, batch, ways, &mut gaps)?;
+    table.take_up(alloc, cell, ways, &mut gaps)?;
     fill_all(world, forms, rows, &gaps, grown)?;
+    waiting.add(cell, ways.has_takers(cell.process))?;
     Ok(())
 }
 
@@ -135,14 +138,13 @@ fn pass_cells(
     kinds: &[Vec<usize>],
     other: usize,
     process: usize,
-    cells: &[Grown],
+    columns: &[usize],
     rows: &mut Rows,
     ways: &Ways,
     grown: &mut Vec<Grown>,
 ) -> Result<(), NoMemory>
     requires world { IsWorld world.now }
     requires forms { AreForms world.now forms.now }
-    requires cells { Each (IsWithin world.now forms.now) cells.now }
     requires filling { AreFilling world.now forms.now rows.old grown.old.items }
     requires ways { AreWays world.now forms.now ways.now.known }
     ensures { OnOk result (FillsAll world.now forms.now rows.old rows.new grown.old.items grown.new.items) }
@@ -159,8 +161,8 @@ fn pass_cells(
     };
     let mine = rows.row(other);
     let theirs = rows.row(process);
-    for cell in cells {
-        table.take_at(other, process, by, cell.column, mine, theirs, &mut gaps)?;
+    for column in columns {
+        table.take_grown(other, process, by, *column, mine, theirs, &mut gaps)?;
     }
     fill_all(world, forms, rows, &gaps, grown)?;
     Ok(())
@@ -173,21 +175,20 @@ fn pass_on(
     forms: &[Form],
     kinds: &[Vec<usize>],
     process: usize,
-    cells: &[Grown],
+    columns: &[usize],
     rows: &mut Rows,
     ways: &Ways,
     grown: &mut Vec<Grown>,
 ) -> Result<(), NoMemory>
     requires world { IsWorld world.now }
     requires forms { AreForms world.now forms.now }
-    requires cells { Each (IsWithin world.now forms.now) cells.now }
     requires filling { AreFilling world.now forms.now rows.old grown.old.items }
     requires ways { AreWays world.now forms.now ways.now.known }
     ensures { OnOk result (FillsAll world.now forms.now rows.old rows.new grown.old.items grown.new.items) }
 {
     for other in ways.takers_of(process) {
         pass_cells(
-            alloc, world, forms, kinds, *other, process, cells, rows, ways, grown,
+            alloc, world, forms, kinds, *other, process, columns, rows, ways, grown,
         )?;
     }
     Ok(())
@@ -200,25 +201,21 @@ fn take_up_cells(
     forms: &[Form],
     kinds: &[Vec<usize>],
     cells: &[Grown],
-    stretches: &[Stretch],
     rows: &mut Rows,
     ways: &mut Ways,
     grown: &mut Vec<Grown>,
+    waiting: &mut Waiting,
 ) -> Result<(), NoMemory>
     requires world { IsWorld world.now }
     requires forms { AreForms world.now forms.now }
-    requires stretches { Each (IsStretch forms.now) stretches.now }
     requires cells { Each (IsWithin world.now forms.now) cells.now }
     requires filling { AreFilling world.now forms.now rows.old grown.old.items }
     requires ways { AreWays world.now forms.now ways.old.known }
     ensures filled { OnOk result (FillsAll world.now forms.now rows.old rows.new grown.old.items grown.new.items) }
     ensures ways { OnOk result (AreWays world.now forms.now ways.new.known) }
 {
-    let mut batch = Batch::new(alloc, cells.len(), forms.len())?;
     for cell in cells {
-        take_up(
-            alloc, world, forms, kinds, cell, stretches, &mut batch, rows, ways, grown,
-        )?;
+        take_up(alloc, world, forms, kinds, cell, rows, ways, grown, waiting)?;
     }
     Ok(())
 }
@@ -240,8 +237,148 @@ fn before_last(grown: &[Grown]) -> usize
 }
 
 /// Takes up the cells that have grown, until none is left: always those at the end that are of one
-/// process together, so that others take them in the order of their columns.
+/// process together.
 fn take_up_all(
+    alloc: Global,
+    world: &World,
+    forms: &[Form],
+    kinds: &[Vec<usize>],
+    rows: &mut Rows,
+    ways: &mut Ways,
+    grown: &mut Vec<Grown>,
+    waiting: &mut Waiting,
+) -> Result<(), NoMemory>
+    requires world { IsWorld world.now }
+    requires forms { AreForms world.now forms.now }
+    requires filling { AreFilling world.now forms.now rows.old grown.old.items }
+    requires ways { AreWays world.now forms.now ways.old.known }
+    ensures filling { OnOk result (AreFilling world.now forms.now rows.new grown.new.items) }
+    ensures no_less { OnOk result (rows_weight rows.old ≤ rows_weight rows.new) }
+    ensures ways { OnOk result (AreWays world.now forms.now ways.new.known) }
+{
+    'cells: while !grown.is_empty() {
+        let start = before_last(grown);
+        let cells = grown.split_off(start)?;
+        take_up_cells(
+            alloc, world, forms, kinds, &cells, rows, ways, grown, waiting,
+        )?;
+    }
+    Ok(())
+}
+
+/// Gives what merges give to a process for a cell that has grown.
+fn merge_column(
+    alloc: Global,
+    world: &World,
+    forms: &[Form],
+    kinds: &[Vec<usize>],
+    process: usize,
+    column: usize,
+    stretches: &[Stretch],
+    holdings: &Holdings,
+    batch: &mut Batch,
+    rows: &mut Rows,
+    grown: &mut Vec<Grown>,
+) -> Result<(), NoMemory>
+    requires world { IsWorld world.now }
+    requires forms { AreForms world.now forms.now }
+    requires process { process < length world.now.tasks }
+    requires stretches { Each (IsStretch forms.now) stretches.now }
+    requires filling { AreFilling world.now forms.now rows.old grown.old.items }
+    ensures { OnOk result (FillsAll world.now forms.now rows.old rows.new grown.old.items grown.new.items) }
+{
+    let mut gaps = Vec::new(alloc);
+    let table = Table {
+        world,
+        forms,
+        kinds,
+        rows: &*rows,
+    };
+    table.merge_column(
+        alloc, process, column, stretches, holdings, batch, &mut gaps,
+    )?;
+    fill_all(world, forms, rows, &gaps, grown)?;
+    Ok(())
+}
+
+/// Gives what merges give to a process for cells that have grown.
+fn merge_columns(
+    alloc: Global,
+    world: &World,
+    forms: &[Form],
+    kinds: &[Vec<usize>],
+    process: usize,
+    columns: &[usize],
+    stretches: &[Stretch],
+    holdings: &Holdings,
+    rows: &mut Rows,
+    grown: &mut Vec<Grown>,
+) -> Result<(), NoMemory>
+    requires world { IsWorld world.now }
+    requires forms { AreForms world.now forms.now }
+    requires stretches { Each (IsStretch forms.now) stretches.now }
+    requires filling { AreFilling world.now forms.now rows.old grown.old.items }
+    ensures { OnOk result (FillsAll world.now forms.now rows.old rows.new grown.old.items grown.new.items) }
+{
+    if process >= world.tasks().len() {
+        return Ok(());
+    }
+    let mut batch = Batch::new(alloc, columns.len(), forms.len())?;
+    for column in columns {
+        merge_column(
+            alloc, world, forms, kinds, process, *column, stretches, holdings, &mut batch, rows,
+            grown,
+        )?;
+    }
+    Ok(())
+}
+
+/// Takes up what has waited of one process: merges, and what is handed on where no merge waits. Gives whether
+/// anything waited.
+fn take_waiting(
+    alloc: Global,
+    world: &World,
+    forms: &[Form],
+    kinds: &[Vec<usize>],
+    stretches: &[Stretch],
+    rows: &mut Rows,
+    ways: &Ways,
+    grown: &mut Vec<Grown>,
+    waiting: &mut Waiting,
+) -> Result<bool, NoMemory>
+    requires world { IsWorld world.now }
+    requires forms { AreForms world.now forms.now }
+    requires stretches { Each (IsStretch forms.now) stretches.now }
+    requires filling { AreFilling world.now forms.now rows.old grown.old.items }
+    requires ways { AreWays world.now forms.now ways.now.known }
+    ensures { IfOk result (λ more. FillsAll world.now forms.now rows.old rows.new grown.old.items grown.new.items) }
+{
+    if let Some((process, columns)) = waiting.take_merges(alloc)? {
+        merge_columns(
+            alloc,
+            world,
+            forms,
+            kinds,
+            process,
+            &columns,
+            stretches,
+            &waiting.holdings,
+            rows,
+            grown,
+        )?;
+        return Ok(true);
+    }
+    let Some((process, columns)) = waiting.take_passes(alloc)? else {
+        return Ok(false);
+    };
+    pass_on(
+        alloc, world, forms, kinds, process, &columns, rows, ways, grown,
+    )?;
+    Ok(true)
+}
+
+/// Takes up all that has grown and all that waits, until nothing is left.
+fn spread_all(
     alloc: Global,
     world: &World,
     forms: &[Form],
@@ -250,6 +387,7 @@ fn take_up_all(
     rows: &mut Rows,
     ways: &mut Ways,
     grown: &mut Vec<Grown>,
+    waiting: &mut Waiting,
 ) -> Result<(), NoMemory>
     requires world { IsWorld world.now }
     requires forms { AreForms world.now forms.now }
@@ -260,16 +398,13 @@ fn take_up_all(
     ensures no_less { OnOk result (rows_weight rows.old ≤ rows_weight rows.new) }
     ensures ways { OnOk result (AreWays world.now forms.now ways.new.known) }
 {
-    'cells: while !grown.is_empty() {
-        let process = grown[grown.len() - 1].process;
-        let start = before_last(grown);
-        let cells = grown.split_off(start)?;
-        pass_on(
-            alloc, world, forms, kinds, process, &cells, rows, ways, grown,
-        )?;
-        take_up_cells(
-            alloc, world, forms, kinds, &cells, stretches, rows, ways, grown,
-        )?;
+    for _ in 0..u64::MAX {
+        take_up_all(alloc, world, forms, kinds, rows, ways, grown, waiting)?;
+        if !take_waiting(
+            alloc, world, forms, kinds, stretches, rows, ways, grown, waiting,
+        )? {
+            return Ok(());
+        }
     }
     Ok(())
 }
@@ -325,6 +460,15 @@ fn look(
     missing(alloc, &table, stretches)
 }
 
+/// No cells that wait.
+fn nothing_waiting(alloc: Global, world: &World, forms: &[Form]) -> Result<Waiting, NoMemory>
+    requires { IsWorld world.now }
+{
+    let count = world.tasks().len();
+    let kinds = kinds(alloc, world)?;
+    Waiting::new(alloc, count, object_count(world), forms, &kinds)
+}
+
 /// All that the processes can come to have. The first look finds what they open with. Each cell that
 /// grows waits, and is taken up once with the rights that it has then. The last look finds nothing.
 pub(crate) fn closed_rows(alloc: Global, world: &World, forms: &[Form]) -> Result<Rows, NoMemory>
@@ -338,13 +482,14 @@ pub(crate) fn closed_rows(alloc: Global, world: &World, forms: &[Form]) -> Resul
     let mut rows = Rows::new(alloc, count, object_count(world) + count + forms.len())?;
     let mut ways = Ways::new(alloc, count, world)?;
     let mut grown = Vec::new(alloc);
+    let mut waiting = nothing_waiting(alloc, world, forms)?;
     'looks: loop {
         let gaps = look(alloc, world, forms, &kinds, stretches.as_slice(), &rows)?;
         if gaps.is_empty() {
             return Ok(rows);
         }
         fill_all(world, forms, &mut rows, &gaps, &mut grown)?;
-        take_up_all(
+        spread_all(
             alloc,
             world,
             forms,
@@ -353,6 +498,7 @@ pub(crate) fn closed_rows(alloc: Global, world: &World, forms: &[Form]) -> Resul
             &mut rows,
             &mut ways,
             &mut grown,
+            &mut waiting,
         )?;
     }
 }

@@ -9,6 +9,7 @@ ghost use Rattle.hk_bound.specs.Each.{Among, Each};
 ghost use Rattle.hk_bound.specs.Columns.{name_at, proc_at, opening_entries, opening_params, object_count, thing_count, width_of, cell, covers, CellFollows, Finds};
 ghost use Rattle.hk_bound.specs.Forms.{entry_form, Holds, IsFirst, AreSorted};
 ghost use Rattle.hk_bound.specs.Merges.{IsStretch, SettledRule};
+ghost use Rattle.hk_bound.specs.Filled.{Gains};
 ghost use Rattle.hk_bound.specs.Rules.{IsKnown, IsHeldAs, env_in, stores_in, taking_of, OpensWithEnv, StoredWithEnv, ListedWithEnv, Offered, EntryRule, EntriesRule, FormRule, ParamRule, ParamsRule, TypeRule, MergeRule, MergesRule, ObjectRule, Passes, share_made, HasTakings, through_in, joined_cells, CellRule, PassedRule, AreStored, passes_all, OpensWith, SlotRule, MadeRule, OwnRule};
 
 use crate::forms::{Form, entry_form, made_form, param_form, place_of};
@@ -291,6 +292,28 @@ impl<'a> Table<'a> {
         Ok(())
     }
 
+    /// What a process gets by what it has for one object of the opening, but for merges.
+    pub(crate) fn take_own(
+        &self,
+        alloc: Global,
+        process: usize,
+        name: usize,
+        gaps: &mut Vec<Gap>,
+    ) -> Result<(), NoMemory>
+        requires known { IsKnown self.now.world.now self.now.forms.now self.now.rows.now }
+        requires process { process < length self.now.world.now.tasks }
+        requires name { name < object_count self.now.world.now }
+        ensures { OnOk result (Gains self.now.world.now self.now.forms.now self.now.rows.now gaps.old.items gaps.new.items) }
+    {
+        self.take_entries(alloc, process, name, gaps)?;
+        let Some(by) = self.rows.get(process, name) else {
+            return Ok(());
+        };
+        self.take_params(process, name, by, gaps)?;
+        self.make_form(process, name, by, gaps)?;
+        Ok(())
+    }
+
     /// All that a process gets by what it has for one object of the opening. Notes for which rights merges give
     /// nothing.
     pub(crate) fn object_gaps(
@@ -430,6 +453,34 @@ impl<'a> Table<'a> {
         ensures { OnOk result (Finds self.now.world.now self.now.forms.now self.now.rows.now (CellRule self.now.rows.now process other by column) gaps.old.items gaps.new.items) }
     {
         if is_passed(cell_at(mine, column), cell_at(theirs, column), by) {
+            return Ok(());
+        }
+        self.take_cell(process, other, by, column, gaps)?;
+        Ok(())
+    }
+
+    /// The same, of a column that may be none.
+    pub(crate) fn take_grown(
+        &self,
+        process: usize,
+        other: usize,
+        by: Rights,
+        column: usize,
+        mine: &[Option<Rights>],
+        theirs: &[Option<Rights>],
+        gaps: &mut Vec<Gap>,
+    ) -> Result<(), NoMemory>
+        requires known { IsKnown self.now.world.now self.now.forms.now self.now.rows.now }
+        requires process { process < length self.now.world.now.tasks }
+        requires passes { Passes self.now.world.now self.now.forms.now process other by }
+        requires mine { mine.now ≡ slice_index_or self.now.rows.now process [] }
+        requires theirs { theirs.now ≡ slice_index_or self.now.rows.now other [] }
+        ensures { OnOk result (Gains self.now.world.now self.now.forms.now self.now.rows.now gaps.old.items gaps.new.items) }
+    {
+        if is_passed(cell_at(mine, column), cell_at(theirs, column), by) {
+            return Ok(());
+        }
+        if column >= self.width() {
             return Ok(());
         }
         self.take_cell(process, other, by, column, gaps)?;

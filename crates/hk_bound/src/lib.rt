@@ -2,16 +2,21 @@
 //! programs are (`docs/RULES.md`, "The static bound").
 #![tactic(auto)]
 
+mod batches;
 mod bounding;
 mod closing;
 mod copying;
 mod forms;
 mod gaps;
 mod handing;
+mod holdings;
+mod marks;
+mod meeting;
 mod merging;
 mod opening;
 mod rows;
 mod spreading;
+mod waiting;
 
 ghost use Rattle.hk_model.specs.Running.{AreStepsOf};
 ghost use Rattle.hk_bound.specs.Bounds.{DiffersInCodes, BoundLaw};

@@ -3,18 +3,15 @@
 ghost use Rattle.std.specs.Prelude.{◌≡◌, ◌<◌, true, IfOk, OnOk, IfSome, length};
 ghost use Rattle.hk_bound.specs.Columns.{object_count, width_of, empty_rows};
 ghost use Rattle.hk_bound.specs.Rules.{IsKnown, Passes};
-ghost use Rattle.hk_bound.specs.Each.{Each};
 ghost use Rattle.hk_bound.specs.Filled.{IsWithin, AreWays, Gains};
-ghost use Rattle.hk_bound.specs.Merges.{IsStretch};
 
 use crate::copying::Bare;
-use crate::forms::Form;
 use crate::gaps::{Gap, Table, passes_all};
 use crate::handing::passing_rights;
-use crate::merging::{SettledSets, Stretch};
+use crate::meeting::Meetings;
 use crate::opening::{entries_of, is_listed, object_count, type_of};
 use crate::rows::{Rows, covers};
-use hk_model::{Entry, Name, NoMemory, World};
+use hk_model::{Entry, NoMemory, World};
 use hk_rights::{Right, Rights};
 use std::alloc::Global;
 
@@ -37,55 +34,10 @@ pub(crate) struct Ways {
     /// For each object a process that puts entries into its list and takes all that others put there, if one
     /// was seen: whatever goes through the list comes by way of it.
     pub hubs: Vec<Option<usize>>,
-    /// For each process and object whether others were looked for that take what this one puts into its list.
-    pub given: Vec<Vec<bool>>,
+    /// Who takes from the lists of objects and who stores there.
+    pub meetings: Meetings,
     /// In which lists objects stand without ENV.
     pub bare: Bare,
-}
-
-/// What is known while cells of one process are taken up together.
-#[derive(Drop)]
-pub(crate) struct Batch {
-    /// For which rights merges gave nothing.
-    pub settled: SettledSets,
-    /// For how many types more all templates are merged with all objects, in place of each new template.
-    pub types_left: usize,
-    /// The type for which that was done last.
-    pub merged: Option<Name>,
-}
-
-impl Batch {
-    /// So many cells, of so many templates in all.
-    pub(crate) fn new(alloc: Global, cells: usize, forms: usize) -> Result<Batch, NoMemory> {
-        let types_left = if cells >= 64 && cells >= forms / 16 {
-            16
-        } else {
-            0
-        };
-        Ok(Batch {
-            settled: SettledSets::new(alloc, cells)?,
-            types_left,
-            merged: None,
-        })
-    }
-
-    /// Whether all templates of a type are merged with all objects of it, in place of each new template.
-    fn takes_type(&mut self, of: Name) -> bool {
-        if self.types_left == 0 {
-            return false;
-        }
-        self.types_left -= 1;
-        self.merged = Some(of);
-        true
-    }
-
-    /// Whether all templates of a type were merged with all objects of it last.
-    fn has_merged(&self, of: Name) -> bool {
-        match self.merged {
-            None => false,
-            Some(last) => last.0 == of.0,
-        }
-    }
 }
 
 impl Ways {
@@ -96,18 +48,17 @@ impl Ways {
         let objects = object_count(world);
         let known = Rows::new(alloc, count, count)?;
         let mut takers: Vec<Vec<usize>> = Vec::new(alloc);
-        let mut given: Vec<Vec<bool>> = Vec::new(alloc);
         for _ in 0..count {
             takers.push(Vec::new(alloc))?;
-            given.push(vec![in alloc; false; objects]?)?;
         }
         let hubs = vec![in alloc; None; objects]?;
+        let meetings = Meetings::new(alloc, count, objects)?;
         let bare = Bare::new(alloc, world)?;
         Ok(Ways {
             known,
             takers,
             hubs,
-            given,
+            meetings,
             bare,
         })
     }
@@ -131,30 +82,17 @@ impl Ways {
         }
     }
 
-    /// Whether others are still to be looked for that take what a process puts into the list of an object. They
-    /// are then as good as looked for.
-    pub(crate) fn gives_first(&mut self, process: usize, name: usize) -> bool
-        ensures { self.new.known ≡ self.old.known }
-    {
-        let Some(objects) = self.given.get_mut(process) else {
-            return true;
-        };
-        match objects.get_mut(name) {
-            None => true,
-            Some(given) => {
-                let first = !*given;
-                *given = true;
-                first
-            }
-        }
-    }
-
     /// Those that take from a process themselves.
     pub(crate) fn takers_of(&self, process: usize) -> &[usize] {
         match self.takers.get(process) {
             None => &[],
             Some(takers) => takers.as_slice(),
         }
+    }
+
+    /// Whether any take from a process themselves.
+    pub(crate) fn has_takers(&self, process: usize) -> bool {
+        !self.takers_of(process).is_empty()
     }
 
     /// Whether what passes through these rights comes to a process from another by way of a third, which
@@ -206,6 +144,7 @@ impl<'a> Table<'a> {
         }
         let handed = ways.are_handed(process, other, passing);
         ways.known.join(process, other, by);
+        ways.meetings.add_way(process, other, by)?;
         if handed {
             return Ok(());
         }
@@ -258,33 +197,10 @@ impl<'a> Table<'a> {
         Ok(())
     }
 
-    /// What a process comes to take of another by what both have for an object, unless it is known to take as much.
-    fn take_unless_passed(
-        &self,
-        process: usize,
-        other: usize,
-        name: usize,
-        passing: Rights,
-        ways: &mut Ways,
-        gaps: &mut Vec<Gap>,
-    ) -> Result<(), NoMemory>
-        requires known { IsKnown self.now.world.now self.now.forms.now self.now.rows.now }
-        requires process { process < length self.now.world.now.tasks }
-        requires name { name < object_count self.now.world.now }
-        requires ways { AreWays self.now.world.now self.now.forms.now ways.old.known }
-        ensures ways { OnOk result (AreWays self.now.world.now self.now.forms.now ways.new.known) }
-        ensures gaps { OnOk result (Gains self.now.world.now self.now.forms.now self.now.rows.now gaps.old.items gaps.new.items) }
-    {
-        if covers(ways.known.get(process, other), passing) {
-            return Ok(());
-        }
-        self.take_through(process, other, name, ways, gaps)?;
-        Ok(())
-    }
-
-    /// What a process comes to take of all others through an object with a list.
+    /// What a process comes to take of others through an object with a list.
     fn take_from_all(
         &self,
+        alloc: Global,
         process: usize,
         name: usize,
         ways: &mut Ways,
@@ -300,16 +216,39 @@ impl<'a> Table<'a> {
         let Some(taking) = self.taking(process, name) else {
             return Ok(());
         };
-        let passing = passing_rights(taking.by);
-        for other in 0..self.world.tasks().len() {
-            self.take_unless_passed(process, other, name, passing, ways, gaps)?;
+        let others = ways.meetings.add_taker(alloc, process, name, taking.by)?;
+        for other in &others {
+            self.take_through(process, *other, name, ways, gaps)?;
         }
         Ok(())
     }
 
-    /// What all others come to take of a process through an object with a list.
+    /// What a process comes to take of another by what both have for an object, if it is one.
+    fn take_if_runs(
+        &self,
+        process: usize,
+        other: usize,
+        name: usize,
+        ways: &mut Ways,
+        gaps: &mut Vec<Gap>,
+    ) -> Result<(), NoMemory>
+        requires known { IsKnown self.now.world.now self.now.forms.now self.now.rows.now }
+        requires name { name < object_count self.now.world.now }
+        requires ways { AreWays self.now.world.now self.now.forms.now ways.old.known }
+        ensures ways { OnOk result (AreWays self.now.world.now self.now.forms.now ways.new.known) }
+        ensures gaps { OnOk result (Gains self.now.world.now self.now.forms.now self.now.rows.now gaps.old.items gaps.new.items) }
+    {
+        if process >= self.world.tasks().len() {
+            return Ok(());
+        }
+        self.take_through(process, other, name, ways, gaps)?;
+        Ok(())
+    }
+
+    /// What others come to take of a process through an object with a list.
     fn give_to_all(
         &self,
+        alloc: Global,
         process: usize,
         name: usize,
         ways: &mut Ways,
@@ -321,8 +260,9 @@ impl<'a> Table<'a> {
         ensures ways { OnOk result (AreWays self.now.world.now self.now.forms.now ways.new.known) }
         ensures gaps { OnOk result (Gains self.now.world.now self.now.forms.now self.now.rows.now gaps.old.items gaps.new.items) }
     {
-        for other in 0..self.world.tasks().len() {
-            self.take_through(other, process, name, ways, gaps)?;
+        let others = ways.meetings.add_storer(alloc, process, name)?;
+        for other in &others {
+            self.take_if_runs(*other, process, name, ways, gaps)?;
         }
         Ok(())
     }
@@ -331,6 +271,7 @@ impl<'a> Table<'a> {
     /// between all.
     fn meet_all(
         &self,
+        alloc: Global,
         process: usize,
         name: usize,
         ways: &mut Ways,
@@ -343,14 +284,11 @@ impl<'a> Table<'a> {
         ensures ways { OnOk result (AreWays self.now.world.now self.now.forms.now ways.new.known) }
         ensures gaps { OnOk result (Gains self.now.world.now self.now.forms.now self.now.rows.now gaps.old.items gaps.new.items) }
     {
-        self.take_from_all(process, name, ways, gaps)?;
+        self.take_from_all(alloc, process, name, ways, gaps)?;
         if !self.stores(process, name) {
             return Ok(());
         }
-        if !ways.gives_first(process, name) {
-            return Ok(());
-        }
-        self.give_to_all(process, name, ways, gaps)?;
+        self.give_to_all(alloc, process, name, ways, gaps)?;
         Ok(())
     }
 
@@ -358,6 +296,7 @@ impl<'a> Table<'a> {
     /// more than before.
     fn meet(
         &self,
+        alloc: Global,
         process: usize,
         name: usize,
         ways: &mut Ways,
@@ -377,14 +316,15 @@ impl<'a> Table<'a> {
             ways.note_hub(name, process);
         }
         match ways.hub(name) {
-            None => self.meet_all(process, name, ways, gaps),
-            Some(hub) => self.meet_hub(process, hub, name, ways, gaps),
+            None => self.meet_all(alloc, process, name, ways, gaps),
+            Some(hub) => self.meet_hub(alloc, process, hub, name, ways, gaps),
         }
     }
 
     /// The same, where a process stands between all.
     fn meet_hub(
         &self,
+        alloc: Global,
         process: usize,
         hub: usize,
         name: usize,
@@ -401,7 +341,7 @@ impl<'a> Table<'a> {
         if hub != process && hub < self.world.tasks().len() {
             return self.exchange(process, hub, name, ways, gaps);
         }
-        self.meet_all(process, name, ways, gaps)
+        self.meet_all(alloc, process, name, ways, gaps)
     }
 
     /// What two processes come to take of one another where one has what the other makes.
@@ -584,167 +524,39 @@ impl<'a> Table<'a> {
         Ok(())
     }
 
-    /// What comes of more rights for an object of the opening.
+    /// What comes of more rights for an object of the opening, but for merges.
     fn take_up_object(
         &self,
         alloc: Global,
         process: usize,
         name: usize,
-        stretches: &[Stretch],
-        batch: &mut Batch,
         ways: &mut Ways,
         gaps: &mut Vec<Gap>,
     ) -> Result<(), NoMemory>
         requires known { IsKnown self.now.world.now self.now.forms.now self.now.rows.now }
         requires process { process < length self.now.world.now.tasks }
         requires name { name < object_count self.now.world.now }
-        requires stretches { Each (IsStretch self.now.forms.now) stretches.now }
         requires ways { AreWays self.now.world.now self.now.forms.now ways.old.known }
         ensures ways { OnOk result (AreWays self.now.world.now self.now.forms.now ways.new.known) }
         ensures gaps { OnOk result (Gains self.now.world.now self.now.forms.now self.now.rows.now gaps.old.items gaps.new.items) }
     {
-        self.object_gaps(alloc, process, name, stretches, &mut batch.settled, gaps)?;
-        self.meet(process, name, ways, gaps)?;
+        self.take_own(alloc, process, name, gaps)?;
+        self.meet(alloc, process, name, ways, gaps)?;
         self.store_all(alloc, process, name, &mut ways.bare, gaps)?;
         self.store_list(alloc, process, name, &mut ways.bare, gaps)?;
         Ok(())
     }
 
-    /// What merges give to a process for an object, if it has that.
-    fn merge_again(
-        &self,
-        process: usize,
-        name: usize,
-        stretches: &[Stretch],
-        settled: &mut SettledSets,
-        gaps: &mut Vec<Gap>,
-    ) -> Result<(), NoMemory>
-        requires known { IsKnown self.now.world.now self.now.forms.now self.now.rows.now }
-        requires process { process < length self.now.world.now.tasks }
-        requires stretches { Each (IsStretch self.now.forms.now) stretches.now }
-        ensures { OnOk result (Gains self.now.world.now self.now.forms.now self.now.rows.now gaps.old.items gaps.new.items) }
-    {
-        if name >= object_count(self.world) {
-            return Ok(());
-        }
-        if let Some(by) = self.rows.get(process, name) {
-            self.merge_unsettled(process, name, by, stretches, settled, gaps)?;
-        }
-        Ok(())
-    }
-
-    /// What merges give to a process for objects of a type.
-    fn merge_type(
-        &self,
-        process: usize,
-        names: &[usize],
-        stretches: &[Stretch],
-        settled: &mut SettledSets,
-        gaps: &mut Vec<Gap>,
-    ) -> Result<(), NoMemory>
-        requires known { IsKnown self.now.world.now self.now.forms.now self.now.rows.now }
-        requires process { process < length self.now.world.now.tasks }
-        requires stretches { Each (IsStretch self.now.forms.now) stretches.now }
-        ensures { OnOk result (Gains self.now.world.now self.now.forms.now self.now.rows.now gaps.old.items gaps.new.items) }
-    {
-        for name in names {
-            self.merge_again(process, *name, stretches, settled, gaps)?;
-        }
-        Ok(())
-    }
-
-    /// What a merge with a template that asks for some rights and gives some, but for the special ones, gives to
-    /// a process for an object, if it has that with the former and without the latter.
-    fn merge_had(
-        &self,
-        process: usize,
-        place: usize,
-        asks: Rights,
-        gives: Rights,
-        name: usize,
-        gaps: &mut Vec<Gap>,
-    ) -> Result<(), NoMemory>
-        requires known { IsKnown self.now.world.now self.now.forms.now self.now.rows.now }
-        requires process { process < length self.now.world.now.tasks }
-        requires place { place < length self.now.forms.now }
-        ensures { OnOk result (Gains self.now.world.now self.now.forms.now self.now.rows.now gaps.old.items gaps.new.items) }
-    {
-        if name >= object_count(self.world) {
-            return Ok(());
-        }
-        let Some(by) = self.rows.get(process, name) else {
-            return Ok(());
-        };
-        if by.contains(gives) || !by.contains(asks) {
-            return Ok(());
-        }
-        self.merge(process, name, by, place, gaps)?;
-        Ok(())
-    }
-
-    /// Merges with a template for objects.
-    fn merge_form(
-        &self,
-        process: usize,
-        place: usize,
-        form: &Form,
-        names: &[usize],
-        gaps: &mut Vec<Gap>,
-    ) -> Result<(), NoMemory>
-        requires known { IsKnown self.now.world.now self.now.forms.now self.now.rows.now }
-        requires process { process < length self.now.world.now.tasks }
-        requires place { place < length self.now.forms.now }
-        ensures { OnOk result (Gains self.now.world.now self.now.forms.now self.now.rows.now gaps.old.items gaps.new.items) }
-    {
-        let gives = form.give.without(Rights::SPECIAL);
-        for name in names {
-            self.merge_had(process, place, form.check, gives, *name, gaps)?;
-        }
-        Ok(())
-    }
-
-    /// What comes of a template: merges with it for the objects of its type. Of many templates all are merged.
-    fn take_up_form(
-        &self,
-        process: usize,
-        place: usize,
-        stretches: &[Stretch],
-        batch: &mut Batch,
-        gaps: &mut Vec<Gap>,
-    ) -> Result<(), NoMemory>
-        requires known { IsKnown self.now.world.now self.now.forms.now self.now.rows.now }
-        requires process { process < length self.now.world.now.tasks }
-        requires stretches { Each (IsStretch self.now.forms.now) stretches.now }
-        ensures { OnOk result (Gains self.now.world.now self.now.forms.now self.now.rows.now gaps.old.items gaps.new.items) }
-    {
-        let Some(form) = self.forms.get(place) else {
-            return Ok(());
-        };
-        let Some(names) = self.kinds.get(form.of.0 as usize) else {
-            return Ok(());
-        };
-        if batch.has_merged(form.of) {
-            return Ok(());
-        }
-        if batch.takes_type(form.of) {
-            return self.merge_type(process, names, stretches, &mut batch.settled, gaps);
-        }
-        self.merge_form(process, place, form, names, gaps)
-    }
-
-    /// What comes of a cell that has grown for its process, and through new ways for others.
+    /// What comes of a cell that has grown for its process, and through new ways for others, but for merges.
     pub(crate) fn take_up(
         &self,
         alloc: Global,
         grown: &Grown,
-        stretches: &[Stretch],
-        batch: &mut Batch,
         ways: &mut Ways,
         gaps: &mut Vec<Gap>,
     ) -> Result<(), NoMemory>
         requires known { IsKnown self.now.world.now self.now.forms.now self.now.rows.now }
         requires grown { IsWithin self.now.world.now self.now.forms.now grown.now }
-        requires stretches { Each (IsStretch self.now.forms.now) stretches.now }
         requires ways { AreWays self.now.world.now self.now.forms.now ways.old.known }
         ensures ways { OnOk result (AreWays self.now.world.now self.now.forms.now ways.new.known) }
         ensures gaps { OnOk result (Gains self.now.world.now self.now.forms.now self.now.rows.now gaps.old.items gaps.new.items) }
@@ -752,16 +564,13 @@ impl<'a> Table<'a> {
         let process = grown.process;
         let column = grown.column;
         let objects = object_count(self.world);
-        let things = self.thing_count();
         if column < objects {
-            self.take_up_object(alloc, process, column, stretches, batch, ways, gaps)?;
+            self.take_up_object(alloc, process, column, ways, gaps)?;
             return Ok(());
         }
-        if column < things {
+        if column < self.thing_count() {
             self.take_up_made(process, column - objects, ways, gaps)?;
-            return Ok(());
         }
-        self.take_up_form(process, column - things, stretches, batch, gaps)?;
         Ok(())
     }
 }

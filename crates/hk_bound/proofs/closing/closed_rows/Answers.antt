@@ -47,12 +47,12 @@ looks-smaller c =
     let again = ap length c.deref-in-looks.ensures.value in
     let full : 0 < length c.deref-in-looks.result.now = grind (arith, nat_tests, e, some, same, again) in
     let grows = (c.in_ok-fill_all.ensures {u = tt}).more full in
-    let taken = c.in_ok-take_up_all.ensures {u = tt} in
+    let taken = c.in_ok-spread_all.ensures {u = tt} in
     let more = taken.no_less in
-    smaller c.args.world.now c.args.forms.now c.looks.rows c.take_up_all.new.rows taken.filling.are (omega (arith, grows, more))
+    smaller c.args.world.now c.args.forms.now c.looks.rows c.spread_all.new.rows taken.filling.are (omega (arith, grows, more))
 
 pub look-requires-clause-stretches : goal.look-requires-clause-stretches
 look-requires-clause-stretches c = subst (Each (IsStretch c.args.forms.now)) (sym c.as_slice.ensures.value) (c.in_ok-stretches.ensures {u = tt})
 
-pub take_up_all-requires-clause-stretches : goal.take_up_all-requires-clause-stretches
-take_up_all-requires-clause-stretches c = subst (Each (IsStretch c.args.forms.now)) (sym c.as_slice-in-looks.ensures.value) (c.in_ok-stretches.ensures {u = tt})
+pub spread_all-requires-clause-stretches : goal.spread_all-requires-clause-stretches
+spread_all-requires-clause-stretches c = subst (Each (IsStretch c.args.forms.now)) (sym c.as_slice-in-looks.ensures.value) (c.in_ok-stretches.ensures {u = tt})

@@ -1,5 +1,5 @@
 use Rattle.std.proofs.Common.{length, ap, arith}
-use Rattle.hk_bound.proofs.Filling.{left_falls, fills_then}
+use Rattle.hk_bound.proofs.Filling.{left_falls}
 use Rattle.hk_bound.proofs.closing.take_up_all.Goals as goal
 
 pub cells-smaller : goal.cells-smaller
@@ -14,5 +14,4 @@ cells-smaller c =
     let after = c.split_off.new.self.ok in
     left_falls w forms c.cells.rows c.take_up_cells.new.rows c.cells.grown.items c.split_off.new.self.items c.take_up_cells.new.grown.items
     (omega (arith, start, same, items, len, before, after))
-    (fills_then w forms c.cells.rows c.pass_on.new.rows c.take_up_cells.new.rows c.split_off.new.self.items c.pass_on.new.grown.items c.take_up_cells.new.grown.items
-    (c.in_ok-pass_on.ensures {u = tt}) (c.in_ok-take_up_cells.ensures {u = tt}).filled)
+    (c.in_ok-take_up_cells.ensures {u = tt}).filled

@@ -1,3 +1,5 @@
+use Rattle.std.proofs.Common.{length, refl}
+use Rattle.std.proofs.lemmas.Option.{slice_get_read}
 use Rattle.hk_bound.proofs.Filling.{fills_none, fills_then}
 use Rattle.hk_bound.proofs.closing.take_up_cells.Goals as goal
 
@@ -13,3 +15,8 @@ loop-cell-preserved c = record {
       c.loop-cell.invariant.filled (c.in_ok-take_up.ensures {u = tt}).filled;
   ways = (c.in_ok-take_up.ensures {u = tt}).ways;
 }
+
+pub take_up-requires-clause-cell : goal.take_up-requires-clause-cell
+take_up-requires-clause-cell c =
+    c.requires.cells c.loop-cell.cell-index c.cell-item.result
+    (slice_get_read c.args.cells.now (length c.args.cells.now) c.loop-cell.cell-index c.cell-item.result refl c.loop-cell-test.true c.cell-item.is)
