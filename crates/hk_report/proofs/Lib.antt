@@ -20,6 +20,8 @@ mod Relists
 mod RunLemmas
 mod RunHops
 mod RunSkips
+mod HeldIn
+mod RunsBelow
 mod Rearranged
 mod Replays
 mod Makers
