@@ -61,7 +61,7 @@ rising_append : (n : ℕ) (xs ys : List Stretch) → IsRising xs → AllByRecurs
 rising_append n [] ys h f g e = g
 rising_append n (x ∷ xs) ys h f g e = (
   all_append (λ (t : Stretch). x.by.0 ≤ t.by.0) xs ys h.0
-  (all_through (λ (s : Stretch). s.by.0 ≡ n) (λ (t : Stretch). x.by.0 ≤ t.by.0) ys (λ s is. let low = f.0 in omega (arith, is, low)) e),
+      (all_through (λ (s : Stretch). s.by.0 ≡ n) (λ (t : Stretch). x.by.0 ≤ t.by.0) ys (λ s is. let low = f.0 in omega (arith, is, low)) e),
   rising_append n xs ys h.1 f.1 g e,
 )
 

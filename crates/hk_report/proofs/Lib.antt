@@ -17,6 +17,7 @@ mod Spans
 mod Onwards
 mod Found
 mod Relists
+mod Unchanged
 mod RunLemmas
 mod RunHops
 mod RunSkips
