@@ -1,6 +1,7 @@
 -- Which of two hops comes first, as code finds it.
-use Rattle.std.proofs.Common.{◌≡◌, ℕ, ◌<◌, Bool, true, false, Option, Some, None, refl, sym, ◌∙◌, ap, arith, cond, subst}
-use Rattle.std.specs.Prelude.{nat_lt}
+use Rattle.std.proofs.Common.{◌≡◌, ℕ, ◌<◌, Bool, true, false, Option, Some, None, refl, sym, ◌∙◌, ap, arith, cond}
+use Rattle.std.specs.Prelude.{◌⊎◌, nat_lt}
+use mathlib.Core.Logic.{inl, inr}
 use Rattle.std.specs.Cmp.{ranked}
 use Rattle.std.specs.Ordering.{nat_cmp, is_lt, ordering_then, MatchOrdering}
 use Rattle.std.specs.declared.cmp.Ordering.{Ordering}
@@ -14,7 +15,7 @@ use Rattle.hk_report.specs.declared.histories.Span.{Span}
 use Rattle.hk_report.specs.declared.hops.Arrived.{Arrived}
 use Rattle.hk_report.specs.declared.hops.Latest.{Latest}
 use Rattle.hk_report.specs.declared.hops.Onward.{Onward}
-use Rattle.hk_report.specs.Hops.{later, comes_before, earlier, entry_onward, handed_onward, onward_over}
+use Rattle.hk_report.specs.Hops.{later, comes_before, earlier, entry_onward, handed_onward, onward_over, IsSooner}
 use Rattle.hk_report.proofs.Keys.{cmp_same}
 
 -- ---- numbers that differ first
@@ -90,10 +91,44 @@ first_stays moment a (Some b) h l =
     ap (λ (o : Bool). cond o (Some b) (Some a))
     (sym (moment_first b.hop a.hop (λ e. omega (arith, e, h, l))) ∙ le-ltb (moment_of b.hop) (moment_of a.hop) (omega (arith, h, l)))
 
-pub stays_first : (made : Name → Bool) (level : Name → Latest) (from : Arrived) (span : Span) (first : Option Onward) (a : Onward) → first ≡ Some a
-    → moment_of a.hop < later from.moment span.from → first ≡ earlier first (onward_over made level from span)
-stays_first made level from span first a e l =
-    subst (λ (o : Option Onward). o ≡ earlier o (onward_over made level from span)) (sym e)
-    (sym (first_stays (later from.moment span.from) a (onward_over made level from span)
-    (earlier_at (later from.moment span.from) (entry_onward from span (level span.cap.name)) (handed_onward from span (level span.cap.name) (made span.cap.name))
-    (made_at (later from.moment span.from) _ _ refl) (made_at (later from.moment span.from) _ _ refl)) l))
+-- a hop, if it is there, is made at this moment over this index
+abbrev IsOver : ℕ → ℕ → Option Onward → Type 0
+IsOver moment index None = Unit {0}
+IsOver moment index (Some onward) = (moment_of onward.hop ≡ moment) × (index_of onward.hop ≡ index)
+
+made_over : (moment index : ℕ) (b : Bool) (onward : Onward) → (moment_of onward.hop ≡ moment) × (index_of onward.hop ≡ index) → IsOver moment index (cond b (Some onward) None)
+made_over moment index true onward e = e
+made_over moment index false onward e = tt
+
+earlier_over : (moment index : ℕ) (a b : Option Onward) → IsOver moment index a → IsOver moment index b → IsOver moment index (earlier a b)
+earlier_over moment index None b h g = g
+earlier_over moment index (Some a) None h g = h
+earlier_over moment index (Some a) (Some b) h g = by (comes_before b.hop a.hop)
+  where
+    by : (o : Bool) → IsOver moment index (cond o (Some b) (Some a))
+    by true = g
+    by false = h
+
+over_stays : (moment index : ℕ) (a : Onward) (o : Option Onward) → IsOver moment index o
+    → (moment_of a.hop < moment) ⊎ ((moment_of a.hop ≡ moment) × (index_of a.hop < index)) → earlier (Some a) o ≡ Some a
+over_stays moment index a None h l = refl
+over_stays moment index a (Some b) h l = ap (λ (o : Bool). cond o (Some b) (Some a)) (by l)
+  where
+    by : (moment_of a.hop < moment) ⊎ ((moment_of a.hop ≡ moment) × (index_of a.hop < index)) → comes_before b.hop a.hop ≡ false
+    by (inl less) =
+        let is = h.0 in
+        sym (moment_first b.hop a.hop (λ e. omega (arith, e, is, less))) ∙ le-ltb (moment_of b.hop) (moment_of a.hop) (omega (arith, is, less))
+    by (inr same) =
+        let is = h.0 in
+        let at = h.1 in
+        let e = same.0 in
+        let less = same.1 in
+        sym (index_first b.hop a.hop (is ∙ sym e) (λ f. omega (arith, f, at, less))) ∙ le-ltb (index_of b.hop) (index_of a.hop) (omega (arith, at, less))
+
+-- a hop that comes before those over a span stays the first
+pub stays_over : (made : Name → Bool) (level : Name → Latest) (from : Arrived) (span : Span) (a : Onward) → IsSooner from span a.hop
+    → earlier (Some a) (onward_over made level from span) ≡ Some a
+stays_over made level from span a l =
+    over_stays (later from.moment span.from) span.index a (onward_over made level from span)
+    (earlier_over (later from.moment span.from) span.index (entry_onward from span (level span.cap.name)) (handed_onward from span (level span.cap.name) (made span.cap.name))
+    (made_over (later from.moment span.from) span.index _ _ (refl, refl)) (made_over (later from.moment span.from) span.index _ _ (refl, refl))) l

@@ -17,9 +17,12 @@ mod Spans
 mod Onwards
 mod Found
 mod Relists
+mod Unchanged
 mod RunLemmas
 mod RunHops
 mod RunSkips
+mod HeldIn
+mod RunsBelow
 mod Rearranged
 mod Replays
 mod Makers

@@ -94,7 +94,7 @@ later_second a b = by (nat_lt a b) refl
     by true e = omega arith
     by false e = ltb-false a b e
 
-later_most : (a b m : ℕ) → a ≤ m → b ≤ m → later a b ≤ m
+pub later_most : (a b m : ℕ) → a ≤ m → b ≤ m → later a b ≤ m
 later_most a b m h g = by (nat_lt a b)
   where
     by : (o : Bool) → cond o b a ≤ m

@@ -158,12 +158,11 @@ latest_run (s ∷ run) cap latest made h =
     (sym (entry_on s cap latest h.0))
     ∙ ap (joined (latest_over s latest made)) (latest_run run cap latest made h.1)
 
-pub over_on : (spans whole : List Span) (first end : ℕ) (most : Latest) (by_modify by_unconf : ℕ) → spans ≡ whole
-    → by_modify ≡ most_on (between first end spans) most.modify → by_unconf ≡ most_on (between first end spans) most.unconf
-    → bounds by_modify by_unconf ≡ bounds (most_on (between first end whole) most.modify) (most_on (between first end whole) most.unconf)
-over_on spans whole first end most by_modify by_unconf e x y =
-    ap (λ (n : ℕ). bounds n by_unconf) (x ∙ ap (λ (xs : List Span). most_on (between first end xs) most.modify) e)
-    ∙ ap (λ (n : ℕ). bounds (most_on (between first end whole) most.modify) n) (y ∙ ap (λ (xs : List Span). most_on (between first end xs) most.unconf) e)
+pub over_on : (run whole : List Span) (most : Latest) (by_modify by_unconf : ℕ) → run ≡ whole → by_modify ≡ most_on run most.modify → by_unconf ≡ most_on run most.unconf
+    → bounds by_modify by_unconf ≡ bounds (most_on whole most.modify) (most_on whole most.unconf)
+over_on run whole most by_modify by_unconf e x y =
+    ap (λ (n : ℕ). bounds n by_unconf) (x ∙ ap (λ (xs : List Span). most_on xs most.modify) e)
+    ∙ ap (λ (n : ℕ). bounds (most_on whole most.modify) n) (y ∙ ap (λ (xs : List Span). most_on xs most.unconf) e)
 
 -- none can be gone over below no moment
 most_none : (run : List Span) → most_on run 0 ≡ 0
@@ -218,7 +217,7 @@ module _ (made : Name → Bool) (level : Name → Latest) where
 
 -- ---- of all that hold one object
 
-name_is : (x y : Name) → x.0 ≡ y.0 → x ≡ y
+pub name_is : (x y : Name) → x.0 ≡ y.0 → x ≡ y
 name_is x y h = ap (λ (n : ℕ). let z : Name = record { 0 = n } in z) h
 
 at_other : (level : Name → Latest) (name : Name) (latest : Latest) (x : Name) → AtMost (level x) (raised_at level name latest x)
@@ -472,23 +471,24 @@ raised_twice level first second a b e = subst (λ (y : Name). raised_at level fi
         by false = refl
 
 -- what is raised as far already is not raised by a run
+pub within_all : (all most : Latest) (run : List Span) (cap : Cap) (latest : Latest) (made : Bool) → AllByRecursion (λ (s : Span). s.cap ≡ cap) run
+    → most ≡ bounds (handed_most made latest) (entry_most cap latest) → most.modify ≤ all.modify → most.unconf ≤ all.unconf → all ≡ joined all (latest_within run latest made)
+within_all all most run cap latest made alike e m u =
+    both_ways all (joined all (latest_within run latest made)) (left_joined all (latest_within run latest made))
+    (both_joined all (latest_within run latest made) all (at_most_same all) within)
+  where
+    within : AtMost (latest_within run latest made) all
+    within = subst (λ (l : Latest). AtMost l all) (latest_run run cap latest made alike) (record {
+      modify = let a = most_within run (handed_most made latest) in let b : most.modify ≡ handed_most made latest = ap (λ (l : Latest). l.modify) e in omega (arith, a, b, m);
+      unconf = let a = most_within run (entry_most cap latest) in let b : most.unconf ≡ entry_most cap latest = ap (λ (l : Latest). l.unconf) e in omega (arith, a, b, u);
+    })
+
 pub covered : (level : Name → Latest) (name by : Name) (wait most : Latest) (run : List Span) (cap : Cap) (latest : Latest) (made : Bool)
     → AllByRecursion (λ (s : Span). s.cap ≡ cap) run → most ≡ bounds (handed_most made latest) (entry_most cap latest)
     → name.0 ≡ by.0 → most.modify ≤ wait.modify → most.unconf ≤ wait.unconf
     → raised_at level name wait ≡ raised_at (raised_at level name wait) by (latest_within run latest made)
 covered level name by wait most run cap latest made alike e same m u =
-    ap (raised_at level name) (sym stays) ∙ raised_twice level name by wait (latest_within run latest made) same
-  where
-    within : AtMost (latest_within run latest made) wait
-    within = subst (λ (l : Latest). AtMost l wait) (latest_run run cap latest made alike) (record {
-      modify = let a = most_within run (handed_most made latest) in let b : most.modify ≡ handed_most made latest = ap (λ (l : Latest). l.modify) e in omega (arith, a, b, m);
-      unconf = let a = most_within run (entry_most cap latest) in let b : most.unconf ≡ entry_most cap latest = ap (λ (l : Latest). l.unconf) e in omega (arith, a, b, u);
-    })
-
-    stays : joined wait (latest_within run latest made) ≡ wait
-    stays =
-        both_ways (joined wait (latest_within run latest made)) wait (both_joined wait (latest_within run latest made) wait (at_most_same wait) within)
-        (left_joined wait (latest_within run latest made))
+    ap (raised_at level name) (within_all wait most run cap latest made alike e m u) ∙ raised_twice level name by wait (latest_within run latest made) same
 
 -- what a run gives below these bounds
 pub over_run : (run : List Span) (cap : Cap) (latest : Latest) (made : Bool) (most over : Latest) → AllByRecursion (λ (s : Span). s.cap ≡ cap) run

@@ -187,7 +187,7 @@ module _ (made : Name → Bool) (level : Name → Latest) (from : Arrived) where
           ap (λ (o : Option Onward). first_from made level from (earlier first o) run) (none_over s e)
           ∙ ap (λ (o : Option Onward). first_from made level from o run) (earlier_none first) ∙ later
 
-  first_append : (first : Option Onward) (xs ys : List Span) → first_from made level from first (xs ++ ys) ≡ first_from made level from (first_from made level from first xs) ys
+  pub first_append : (first : Option Onward) (xs ys : List Span) → first_from made level from first (xs ++ ys) ≡ first_from made level from (first_from made level from first xs) ys
   first_append first [] ys = refl
   first_append first (x ∷ xs) ys = first_append (earlier first (over x)) xs ys
 
@@ -207,13 +207,13 @@ module _ (made : Name → Bool) (level : Name → Latest) (from : Arrived) where
       let same : suc (m + n) ≡ suc m + n = omega arith in
       drop_drop m n spans ∙ ap (λ (k : ℕ). drop k (s ∷ spans)) same
 
-  cut_off : (start end : ℕ) (spans : List Span) → start ≤ end → drop start spans ≡ between start end spans ++ drop end spans
+  pub cut_off : (start end : ℕ) (spans : List Span) → start ≤ end → drop start spans ≡ between start end spans ++ drop end spans
   cut_off start end spans l =
       let same : start + (end - start) ≡ end = omega (arith, l) in
       sym (take-append-drop (end - start) (drop start spans))
       ∙ ap (λ (xs : List Span). between start end spans ++ xs) (drop_drop start (end - start) spans ∙ ap (λ (k : ℕ). drop k spans) same)
 
-  none_left : (spans : List Span) (n : ℕ) → length spans ≤ n → drop n spans ≡ []
+  pub none_left : (spans : List Span) (n : ℕ) → length spans ≤ n → drop n spans ≡ []
   none_left [] zero l = refl
   none_left [] (suc n) l = refl
   none_left (span ∷ spans) zero l = absurd (omega (arith, l))

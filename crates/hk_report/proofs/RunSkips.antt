@@ -17,7 +17,7 @@ use Rattle.hk_report.proofs.Raising.{latest_none, none_onward}
 use Rattle.hk_report.proofs.RunHops.{earlier_none, first_of, run_first, Seeing, seen_next}
 
 module _ (made : Name → Bool) (level : Name → Latest) (from : Arrived) where
-  skipped : (cap : Cap) → level cap.name ≡ no_latest → (first : Option Onward) (run : List Span) → AllByRecursion (λ (s : Span). s.cap ≡ cap) run
+  pub skipped : (cap : Cap) → level cap.name ≡ no_latest → (first : Option Onward) (run : List Span) → AllByRecursion (λ (s : Span). s.cap ≡ cap) run
       → first_from made level from first run ≡ first
   skipped cap e first [] h = refl
   skipped cap e first (s ∷ run) h =
@@ -25,7 +25,7 @@ module _ (made : Name → Bool) (level : Name → Latest) (from : Arrived) where
       (sym (none_onward made level from s no_latest (sym (ap (λ (c : Cap). level c.name) h.0 ∙ e)) refl refl))
       ∙ ap (λ (o : Option Onward). first_from made level from o run) (earlier_none first) ∙ skipped cap e first run h.1
 
-  alike : (s : Span) (run : List Span) → AllByRecursion (λ (later : Span). precedes s later ≡ true) run → AllByRecursion (λ (r : Span). r.cap ≡ s.cap) run
+  pub alike : (s : Span) (run : List Span) → AllByRecursion (λ (later : Span). precedes s later ≡ true) run → AllByRecursion (λ (r : Span). r.cap ≡ s.cap) run
   alike s [] h = tt
   alike s (r ∷ run) h = (sym ((precedes_so s r h.0).cap_is), alike s run h.1)
 

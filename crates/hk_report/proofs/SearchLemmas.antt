@@ -64,40 +64,40 @@ module _ (made : Name → Bool) (histories : List History) (wanted : Name) (befo
   ]
 
   mapped_at : (levels : List Level) (i : ℕ) (level : Level) → i < length levels → level ≡ slice_index_or levels i level
-      → slice_get (map latest_at levels) i ≡ Some (latest_at level)
+      → slice_get (map (latest_at made histories) levels) i ≡ Some (latest_at made histories level)
   mapped_at [] i level l e = absurd (omega (arith, l))
-  mapped_at (x ∷ levels) zero level l e = ap (λ (y : Level). Some (latest_at y)) (sym e)
+  mapped_at (x ∷ levels) zero level l e = ap (λ (y : Level). Some (latest_at made histories y)) (sym e)
   mapped_at (x ∷ levels) (suc i) level l e = mapped_at levels i level (omega (arith, l)) e
 
   some_same : {x y : Name → Latest} → Some x ≡ Some y → x ≡ y
   some_same h = cc
 
   -- the level that is kept at a place
-  pub level_is : (levels : List Level) (n i : ℕ) (level : Level) → map latest_at levels ≡ levels_below made histories wanted before n → i < length levels
-      → level ≡ slice_index_or levels i level → latest_at level ≡ level_at made histories wanted before i
+  pub level_is : (levels : List Level) (n i : ℕ) (level : Level) → map (latest_at made histories) levels ≡ levels_below made histories wanted before n → i < length levels
+      → level ≡ slice_index_or levels i level → latest_at made histories level ≡ level_at made histories wanted before i
   level_is levels n i level all l e =
       let a = ap (length {A = Name → Latest}) all in
-      let b = length_mapped latest_at levels in
+      let b = length_mapped (latest_at made histories) levels in
       let c = length_below n in
       some_same (sym (mapped_at levels i level l e) ∙ ap (λ (xs : List (Name → Latest)). slice_get xs i) all ∙ below_at n i (omega (arith, l, a, b, c)))
 
   -- as many as there are levels
-  pub as_many : (levels : List Level) (n : ℕ) → map latest_at levels ≡ levels_below made histories wanted before n
-      → map latest_at levels ≡ levels_below made histories wanted before (length levels)
+  pub as_many : (levels : List Level) (n : ℕ) → map (latest_at made histories) levels ≡ levels_below made histories wanted before n
+      → map (latest_at made histories) levels ≡ levels_below made histories wanted before (length levels)
   as_many levels n all =
       let a = ap (length {A = Name → Latest}) all in
-      let b = length_mapped latest_at levels in
+      let b = length_mapped (latest_at made histories) levels in
       let c = length_below n in
       let e : n ≡ length levels = omega (arith, a, b, c) in
       all ∙ ap (levels_below made histories wanted before) e
 
   -- what the search has come to
   pub found_is : (levels slice : List Level) (n : ℕ) (first : Hop) (to : Arrived) (none one all : List Hop)
-      → map latest_at levels ≡ levels_below made histories wanted before n → slice ≡ levels → none ≡ [] → one ≡ none ++ first ∷ []
+      → map (latest_at made histories) levels ≡ levels_below made histories wanted before n → slice ≡ levels → none ≡ [] → one ≡ none ++ first ∷ []
       → all ≡ one ++ hops_down made histories wanted before (length slice) to → all ≡ first ∷ hops_down made histories wanted before n to
   found_is levels slice n first to none one all h same none_is one_is all_is =
       let a = ap (length {A = Name → Latest}) h in
-      let b = length_mapped latest_at levels in
+      let b = length_mapped (latest_at made histories) levels in
       let c = length_below n in
       let d = ap (length {A = Level}) same in
       let e : length slice ≡ n = omega (arith, a, b, c, d) in
@@ -131,7 +131,7 @@ module _ (made : Name → Bool) (histories : List History) (wanted : Name) (befo
       ap (λ (x : Option Onward). elim x as (λ y. List Hop) [ None ↦ [] | Some onward ↦ onward.hop ∷ hops_down made histories wanted before left onward.to ]) e
 
   pub goes_some : (left less : ℕ) (at : Arrived) (o : Onward) (level : Level) (hops all : List Hop) → left ≡ less + 1
-      → latest_at level ≡ level_at made histories wanted before less → first_onward made histories (latest_at level) at ≡ Some o
+      → latest_at made histories level ≡ level_at made histories wanted before less → first_onward made histories (latest_at made histories level) at ≡ Some o
       → hops ++ hops_down made histories wanted before left at ≡ all → (hops ++ o.hop ∷ []) ++ hops_down made histories wanted before less o.to ≡ all
   goes_some left less at o level hops all e same found h =
       let first : first_onward made histories (level_at made histories wanted before less) at ≡ Some o =
@@ -142,7 +142,7 @@ module _ (made : Name → Bool) (histories : List History) (wanted : Name) (befo
       ∙ ap (λ (n : ℕ). hops ++ hops_down made histories wanted before n at) (sym number) ∙ h
 
   pub goes_none : (left less : ℕ) (at : Arrived) (level : Level) (hops all : List Hop) → left ≡ less + 1
-      → latest_at level ≡ level_at made histories wanted before less → first_onward made histories (latest_at level) at ≡ None
+      → latest_at made histories level ≡ level_at made histories wanted before less → first_onward made histories (latest_at made histories level) at ≡ None
       → hops ++ hops_down made histories wanted before left at ≡ all → hops ≡ all
   goes_none left less at level hops all e same found h =
       let first : first_onward made histories (level_at made histories wanted before less) at ≡ None =

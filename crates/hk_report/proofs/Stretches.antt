@@ -94,7 +94,7 @@ record IsStretchOf (by : Name) (spans : List Span) (s : Stretch) : Type 0 where
   run : IsRun (between s.first s.end spans)
   alike : AllByRecursion (λ (span : Span). span.cap ≡ s.cap) (between s.first s.end spans)
 
-between_alike : (spans : List Span) (first end : ℕ) (span : Span) → slice_get spans first ≡ Some span → IsRun (between first end spans)
+pub between_alike : (spans : List Span) (first end : ℕ) (span : Span) → slice_get spans first ≡ Some span → IsRun (between first end spans)
     → AllByRecursion (λ (s : Span). s.cap ≡ span.cap) (between first end spans)
 between_alike spans first end span e h =
     run_alike (between first end spans) span h (λ x g. option_same (sym (get_between spans first end 0 x g) ∙ ap (slice_get spans) plain ∙ e))

@@ -1,5 +1,5 @@
 -- What has stood in the list of each object, from which moment to which. docs/RULES.md, "Reaches".
-use Rattle.std.specs.Prelude.{ℕ, zero, suc, ◌+◌, ◌-◌, ◌==◌, ◌&&◌, Bool, true, false, List, [], ◌∷◌, ◌++◌, length, replicate, nat_lt, slice_get, slice_set, slice_index_or}
+use Rattle.std.specs.Prelude.{◌≡◌, ◌<◌, ◌≤◌, ℕ, zero, suc, ◌+◌, ◌-◌, ◌==◌, ◌&&◌, Bool, true, false, List, [], ◌∷◌, ◌++◌, length, replicate, nat_lt, slice_get, slice_set, slice_index_or}
 use Rattle.std.specs.Prelude.{Option, Some, None, option_map, is_some}
 use Rattle.std.specs.Option.{option_and_then}
 use Rattle.hk_model.specs.declared.names.Name.{Name}
@@ -29,6 +29,17 @@ abbrev pub stays : Option Since → Option Cap → Bool
 stays None new = false
 stays (Some since) None = false
 stays (Some since) (Some cap) = same_cap since.cap cap
+
+-- the same stands at an index as before: a capability, or none
+abbrev pub same_at : Option Since → Option Cap → Bool
+same_at None None = true
+same_at None (Some cap) = false
+same_at (Some since) new = stays (Some since) new
+
+-- the same stands in a list as before
+pub record StaysListed (now : List (Option Since)) (entries : List Entry) : Type 0 where
+  pub within : length entries ≤ length now
+  pub each : (k : ℕ) → k < length now → same_at (slice_index_or now k None) (cap_at entries k) ≡ true
 
 -- what stands at an index from a moment on
 abbrev pub from_now : ℕ → Cap → Since

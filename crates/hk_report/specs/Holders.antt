@@ -32,6 +32,13 @@ holds name stretch = stretch.cap.name.0 == name.0
 abbrev pub held_at : List (List Stretch) → Name → List Stretch
 held_at all name = slice_index_or all name.0 []
 
+-- those of them in the list of one object
+abbrev pub stands_in : Name → Stretch → Bool
+stands_in by stretch = stretch.by.0 == by.0
+
+abbrev pub held_in : List (List Stretch) → Name → Name → List Stretch
+held_in all name by = filter (stands_in by) (held_at all name)
+
 -- one stretch more is kept, with those that hold its object
 abbrev pub IsOneMore : Stretch → List (List Stretch) → List (List Stretch) → Type 0
 IsOneMore stretch before after = (name : Name) → held_at after name ≡ held_at before name ++ filter (holds name) (stretch ∷ [])

@@ -1,6 +1,6 @@
 -- Hops over what has stood in lists, which of them comes first, and from which moments the rest of a way can be made.
 -- docs/RULES.md, "Reaches".
-use Rattle.std.specs.Prelude.{ℕ, ◌==◌, ◌&&◌, ◌||◌, Bool, true, false, List, [], ◌∷◌, nat_lt, slice_index_or, Option, Some, None, if◌then◌else◌}
+use Rattle.std.specs.Prelude.{◌≡◌, ◌<◌, ◌⊎◌, ℕ, ◌==◌, ◌&&◌, ◌||◌, Bool, true, false, List, [], ◌∷◌, nat_lt, slice_index_or, Option, Some, None, if◌then◌else◌}
 use Rattle.std.specs.List.{list_any}
 use Rattle.std.specs.BTreeMap.{get}
 use Rattle.std.specs.Option.{unwrap_or}
@@ -11,6 +11,7 @@ use Rattle.hk_model.specs.declared.names.Name.{Name}
 use Rattle.hk_model.specs.declared.entries.Cap.{Cap}
 use Rattle.hk_model.specs.declared.reaches.Hop.{Hop}
 use Rattle.hk_model.specs.declared.reaches.Hop.TheVariants as hop_by
+use Rattle.hk_model.specs.Reaches.{index_of, moment_of}
 use Rattle.hk_model.specs.State.{name_cmp}
 use Rattle.hk_model.specs.Changes.{hop_key}
 use Rattle.hk_report.specs.declared.families.Begun.{Begun}
@@ -20,7 +21,7 @@ use Rattle.hk_report.specs.declared.hops.Arrived.{Arrived}
 use Rattle.hk_report.specs.declared.hops.Latest.{Latest}
 use Rattle.hk_report.specs.declared.hops.Bounds.{Bounds}
 use Rattle.hk_report.specs.declared.hops.Level.{Level}
-use Rattle.hk_report.specs.declared.hops.Level.TheVariants.{End, Behind}
+use Rattle.hk_report.specs.declared.hops.Level.TheVariants.{End, Near, Behind}
 use Rattle.hk_report.specs.declared.hops.Onward.{Onward}
 use Rattle.hk_report.specs.Histories.{history_of}
 
@@ -68,10 +69,6 @@ latest_end end before name = if name.0 == end.0 then ends_before before else no_
 abbrev pub bounds_at : Bounds → Name → Latest
 bounds_at bounds name = unwrap_or (get name_cmp bounds.latest name) no_latest
 
-abbrev pub latest_at : Level → Name → Latest
-latest_at (End name before) = latest_end name before
-latest_at (Behind bounds) = bounds_at bounds
-
 -- the rest can be made from there
 abbrev pub is_good : Arrived → Latest → Bool
 is_good to latest = (to.modify && nat_lt to.moment latest.modify) || (to.unconf && nat_lt to.moment latest.unconf)
@@ -98,9 +95,26 @@ earlier None b = b
 earlier (Some a) None = Some a
 earlier (Some a) (Some b) = if comes_before b.hop a.hop then Some b else Some a
 
+-- over a span of an object from which the rest can be made below these
+abbrev pub onward_below : Latest → Bool → Arrived → Span → Option Onward
+onward_below latest made from span = earlier (entry_onward from span latest) (handed_onward from span latest made)
+
 abbrev pub onward_over : (Name → Bool) → (Name → Latest) → Arrived → Span → Option Onward
-onward_over made level from span =
-    earlier (entry_onward from span (level span.cap.name)) (handed_onward from span (level span.cap.name) (made span.cap.name))
+onward_over made level from span = onward_below (level span.cap.name) (made span.cap.name) from span
+
+-- of a hop, and of those over a span where there is one
+abbrev pub first_open_below : Latest → Bool → Arrived → Option Onward → Option Span → Option Onward
+first_open_below latest made from first None = first
+first_open_below latest made from first (Some span) = earlier first (onward_below latest made from span)
+
+-- a hop comes before all that go over a span, or over one at its index that begins later
+abbrev pub IsSooner : Arrived → Span → Hop → Type 0
+IsSooner from span hop =
+    (moment_of hop < later from.moment span.from) ⊎ ((moment_of hop ≡ later from.moment span.from) × (index_of hop < span.index))
+
+abbrev pub StaysFirst : Arrived → Span → Option Onward → Type 0
+StaysFirst from span None = ⊥
+StaysFirst from span (Some onward) = IsSooner from span onward.hop
 
 -- of these spans, and of a hop besides
 abbrev pub first_from : (Name → Bool) → (Name → Latest) → Arrived → Option Onward → List Span → Option Onward
@@ -131,3 +145,9 @@ latest_from made level all (span ∷ spans) = latest_from made level (raised mad
 -- the same with one hop more
 abbrev pub next_latest : (Name → Bool) → List History → (Name → Latest) → Name → Latest
 next_latest made histories level name = latest_from made level no_latest (history_of histories name).spans
+
+-- as the level is kept
+abbrev pub latest_at : (Name → Bool) → List History → Level → Name → Latest
+latest_at made histories (End name before) = latest_end name before
+latest_at made histories (Near name before) = next_latest made histories (latest_end name before)
+latest_at made histories (Behind bounds) = bounds_at bounds

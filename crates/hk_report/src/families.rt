@@ -48,7 +48,7 @@ fn calls_entered(
     requires { moment + 1 < 2 ^ 32 }
     ensures { IfOk result (λ calls. calls ≡ calls_entered moment new above.now) }
 {
-    let mut calls = Vec::with_capacity(alloc, above.len())?;
+    let mut calls = Vec::with_capacity(alloc, above.len() + usize::from(new.confined))?;
     for call in above {
         calls.push(*call)?;
     }

@@ -1,11 +1,11 @@
 //! What has stood in the list of each object, from which moment to which, and who made the object
 //! (`docs/RULES.md`, "Reaches").
 
-ghost use Rattle.std.specs.Prelude.{◌≡◌, ◌-◌, ◌++◌, ◌<◌, ◌≤◌, None, length, replicate, slice_get, slice_set, slice_index_or, IfOk, OnOk};
+ghost use Rattle.std.specs.Prelude.{◌≡◌, ◌-◌, ◌++◌, ◌<◌, ◌≤◌, true, None, length, replicate, slice_get, slice_set, slice_index_or, IfOk, OnOk};
 ghost use Rattle.std.specs.Option.{option_and_then};
 ghost use Rattle.hk_model.specs.Limits.{entry_limit};
 ghost use Rattle.hk_model.specs.Places.{cap_of};
-ghost use Rattle.hk_report.specs.Histories.{same_cap, stays, since_by, ended_by, added, padded, relisted, no_history, touched, touched_name, maker_of, noted, opened_below, finished_below};
+ghost use Rattle.hk_report.specs.Histories.{StaysListed, same_at, same_cap, stays, since_by, ended_by, added, padded, relisted, no_history, touched, touched_name, maker_of, noted, opened_below, finished_below};
 
 use crate::doings::Doing;
 use crate::shows::Shows;
@@ -74,6 +74,31 @@ fn stays(old: &Option<Since>, new: &Option<Cap>) -> bool
         },
         None => false,
     }
+}
+
+/// Whether the same stands at an index as before: a capability, or none.
+fn same_at(old: &Option<Since>, new: &Option<Cap>) -> bool
+    ensures { result ≡ same_at old.now new.now }
+{
+    match old {
+        Some(_) => stays(old, new),
+        None => new.is_none(),
+    }
+}
+
+/// Whether the same stands in a list as before.
+fn stays_listed(now: &[Option<Since>], entries: &[Entry]) -> bool
+    ensures { result ≡ true → StaysListed now.now entries.now }
+{
+    if now.len() < entries.len() {
+        return false;
+    }
+    for (index, old) in now.iter().enumerate() {
+        if !same_at(old, &cap_at(entries, index)) {
+            return false;
+        }
+    }
+    true
 }
 
 /// What stands at an index from a moment on, where this stood there before.
@@ -166,6 +191,9 @@ fn relist(
     requires { length entries.now ≤ entry_limit }
     ensures { OnOk result (history.new ≡ relisted moment maker entries.now history.old) }
 {
+    if maker.is_none() && stays_listed(history.now.as_slice(), entries) {
+        return Ok(());
+    }
     let before = mem::replace(&mut history.now, Limited::new(alloc)).into_vec();
     let mut now = padded(before, entries.len())?;
     for index in 0..now.len() {

@@ -1,14 +1,15 @@
 //! Hops over what has stood in lists, and which of them comes first (`docs/RULES.md`, "Reaches").
 
-ghost use Rattle.std.specs.Prelude.{◌≡◌, ◌≤◌, true, None, IfOk, OnOk};
+ghost use Rattle.std.specs.Prelude.{◌≡◌, ◌≤◌, true, None, IfOk, IfSome, OnOk};
 ghost use Rattle.std.specs.Cmp.Lexicographic.{slice_cmp};
+ghost use Rattle.std.specs.List.{find};
 ghost use Rattle.std.specs.Ordering.{nat_cmp, is_lt};
 ghost use Rattle.hk_model.specs.Reaches.{index_of, moment_of};
 ghost use Rattle.hk_model.specs.Changes.{hop_key};
 ghost use Rattle.hk_report.specs.Histories.{history_of};
-ghost use Rattle.hk_report.specs.Runs.{IsRun, AreRuns, AreRuns-prop};
-ghost use Rattle.hk_report.specs.Hops.{same_begun, has_begun, is_made, next_latest, later, greater, lesser, arrived_by, arrived_whole, no_latest, ends_before, bounds_at, latest_at, latest_end, is_good, entry_onward, handed_onward, earlier, onward_over, first_from, from_on};
-ghost use Rattle.hk_report.specs.Holders.{AreHolders, HoldsAlone, held_at, spans_in, joined, latest_within, entry_most, handed_most, most_on, raised_at, raised_over};
+ghost use Rattle.hk_report.specs.Runs.{IsRun, AreRuns, AreRuns-prop, is_open};
+ghost use Rattle.hk_report.specs.Hops.{StaysFirst, same_begun, has_begun, is_made, next_latest, later, greater, lesser, arrived_by, arrived_whole, no_latest, ends_before, bounds_at, latest_at, latest_end, is_good, entry_onward, handed_onward, earlier, onward_below, first_open_below, first_from, from_on};
+ghost use Rattle.hk_report.specs.Holders.{AreHolders, HoldsAlone, held_at, held_in, spans_in, joined, latest_within, entry_most, handed_most, most_on, raised_at, raised_over};
 
 use crate::families::{Begun, calls_over};
 use crate::histories::{History, Span};
@@ -50,7 +51,9 @@ pub struct Bounds {
 pub enum Level {
     /// No hop: the way has come to this object, before this moment.
     End { name: Name, before: u32 },
-    /// One hop or more.
+    /// One hop to it: told of an object as it is asked for, by the runs of its list that hold the other.
+    Near { name: Name, before: u32 },
+    /// More hops, worked out for each object.
     Behind(Bounds),
 }
 
@@ -397,24 +400,6 @@ impl Bounds {
     }
 }
 
-impl Level {
-    /// From which moments the rest can be made at an object.
-    fn at(&self, name: Name) -> Latest
-        ensures { result ≡ latest_at self.now name }
-    {
-        match self {
-            Level::End { name: end, before } => {
-                if name.0 == end.0 {
-                    ends_before(*before)
-                } else {
-                    no_latest()
-                }
-            }
-            Level::Behind(bounds) => bounds.at(name),
-        }
-    }
-}
-
 /// The way has come, before this moment.
 fn ends_before(before: u32) -> Latest
     ensures { result ≡ ends_before before }
@@ -422,6 +407,55 @@ fn ends_before(before: u32) -> Latest
     Latest {
         modify: before,
         unconf: 0,
+    }
+}
+
+/// From which moments the rest can be made where the way has come to an object, before a moment.
+fn latest_end(end: Name, before: u32, name: Name) -> Latest
+    ensures { result ≡ latest_end end before name }
+{
+    if name.0 == end.0 {
+        ends_before(before)
+    } else {
+        no_latest()
+    }
+}
+
+/// Whether a hop comes before all over a run that begins with this span.
+fn stays_first(from: &Arrived, span: &Span, first: &Option<Onward>) -> bool
+    ensures { result ≡ true → StaysFirst from.now span.now first.now }
+{
+    match first {
+        Some(onward) => {
+            let moment = later(from.moment, span.from);
+            moment_of(&onward.hop) < moment
+                || (moment_of(&onward.hop) == moment && index_of(&onward.hop) < span.index)
+        }
+        None => false,
+    }
+}
+
+/// The hop that comes first of one and those over a run of one capability, after which the rest can be made below these.
+/// It can go over the first span alone that has not ended.
+fn first_open_below(
+    run: &[Span],
+    from: &Arrived,
+    latest: Latest,
+    made: bool,
+    first: Option<Onward>,
+) -> Option<Onward>
+    requires { IsRun run.now }
+    ensures { result ≡ first_open_below latest made from.now first (find (is_open from.now.moment) run.now) }
+{
+    match first_open(run, from.moment) {
+        Some(span) => earlier(
+            first,
+            earlier(
+                entry_onward(from, span, latest),
+                handed_onward(from, span, latest, made),
+            ),
+        ),
+        None => first,
     }
 }
 
@@ -439,75 +473,120 @@ impl<'a> Ground<'a> {
         }
     }
 
-    /// The first hop over a span after which the rest can be made.
-    #[tactic(auto, using(crate::proofs::Raising::none_onward))]
-    fn onward_over(&self, level: &Level, from: &Arrived, span: &Span) -> Option<Onward>
-        ensures { result ≡ onward_over (is_made self.now.families.now self.now.begun self.now.histories.now) (latest_at level.now) from.now span.now }
+    /// From which moments the rest can be made at an object.
+    fn latest_at(&self, level: &Level, name: Name) -> Latest
+        ensures { result ≡ latest_at (is_made self.now.families.now self.now.begun self.now.histories.now) self.now.histories.now level.now name }
     {
-        let latest = level.at(span.cap.name);
-        if latest.modify == 0 && latest.unconf == 0 {
-            return None;
+        match level {
+            Level::End { name: end, before } => latest_end(*end, *before, name),
+            Level::Near { name: end, before } => self.latest_near(*end, *before, name),
+            Level::Behind(bounds) => bounds.at(name),
         }
-        let made = self.is_made(span.cap.name);
-        earlier(
-            entry_onward(from, span, latest),
-            handed_onward(from, span, latest, made),
-        )
     }
 
-    /// The hop that comes first of one and those over a span.
-    fn earlier_over(
-        &self,
-        level: &Level,
-        from: &Arrived,
-        span: &Span,
-        first: Option<Onward>,
-    ) -> Option<Onward>
-        ensures { result ≡ earlier first (onward_over (is_made self.now.families.now self.now.begun self.now.histories.now) (latest_at level.now) from.now span.now) }
+    /// From which moments one hop to an object, before a moment, can be made at another.
+    fn latest_near(&self, end: Name, before: u32, name: Name) -> Latest
+        ensures { result ≡ next_latest (is_made self.now.families.now self.now.begun self.now.histories.now) self.now.histories.now (latest_end end before) name }
     {
-        if let Some(onward) = first {
-            if moment_of(&onward.hop) < later(from.moment, span.from) {
-                return first;
-            }
+        let made = self.is_made(end);
+        let latest = ends_before(before);
+        let mut all = no_latest();
+        for held in self.held_in(end, name) {
+            all = self.joined_over(all, held, latest, made);
         }
-        earlier(first, self.onward_over(level, from, span))
+        all
     }
 
-    /// The hop that comes first of one and those over a run. It can go over the first span alone that has not ended, and over
-    /// none where no rest can be made from the object that the run holds.
-    #[tactic(auto, using(crate::proofs::RunSkips::over_nothing))]
+    /// The greater of these bounds and those that what is kept for an object gives over a run.
+    fn joined_over(&self, all: Latest, held: &Stretch, latest: Latest, made: bool) -> Latest
+        requires { (name : Name) × HoldsAlone self.now.histories.now name held.now }
+        ensures { result ≡ joined all (latest_within (spans_in self.now.histories.now held.now) latest made) }
+    {
+        let most = most_over(held.cap, latest, made);
+        if most.modify <= all.modify && most.unconf <= all.unconf {
+            return all;
+        }
+        joined(all, self.latest_over(held, most))
+    }
+
+    /// The hop that comes first of one and those over a run. `known` keeps what was asked of a level last: runs that hold
+    /// one object stand together.
     fn first_over(
         &self,
         level: &Level,
+        known: &mut Option<Raise>,
         from: &Arrived,
         run: &[Span],
         first: Option<Onward>,
     ) -> Option<Onward>
-        requires { IsRun run.now }
-        ensures { result ≡ first_from (is_made self.now.families.now self.now.begun self.now.histories.now) (latest_at level.now) from.now first run.now }
+        requires run { IsRun run.now }
+        requires known { IfSome known.old (λ kept. kept.latest ≡ latest_at (is_made self.now.families.now self.now.begun self.now.histories.now) self.now.histories.now level.now kept.name) }
+        ensures first { result ≡ first_from (is_made self.now.families.now self.now.begun self.now.histories.now) (latest_at (is_made self.now.families.now self.now.begun self.now.histories.now) self.now.histories.now level.now) from.now first run.now }
+        ensures known { IfSome known.new (λ kept. kept.latest ≡ latest_at (is_made self.now.families.now self.now.begun self.now.histories.now) self.now.histories.now level.now kept.name) }
     {
         let Some(span) = run.first() else {
             return first;
         };
-        let latest = level.at(span.cap.name);
+        if stays_first(from, span, &first) {
+            return first;
+        }
+        let name = span.cap.name;
+        let latest = self.latest_known(level, known, name);
         if latest.modify == 0 && latest.unconf == 0 {
             return first;
         }
-        match first_open(run, from.moment) {
-            Some(open) => self.earlier_over(level, from, open, first),
-            None => first,
+        first_open_below(run, from, latest, self.is_made(name), first)
+    }
+
+    /// From which moments the rest can be made at an object, by what was asked last where it was the same.
+    fn latest_known(&self, level: &Level, known: &mut Option<Raise>, name: Name) -> Latest
+        requires { IfSome known.old (λ kept. kept.latest ≡ latest_at (is_made self.now.families.now self.now.begun self.now.histories.now) self.now.histories.now level.now kept.name) }
+        ensures value { result ≡ latest_at (is_made self.now.families.now self.now.begun self.now.histories.now) self.now.histories.now level.now name }
+        ensures known { IfSome known.new (λ kept. kept.latest ≡ latest_at (is_made self.now.families.now self.now.begun self.now.histories.now) self.now.histories.now level.now kept.name) }
+    {
+        if let Some(kept) = *known {
+            if kept.name.0 == name.0 {
+                return kept.latest;
+            }
         }
+        let latest = self.latest_at(level, name);
+        *known = Some(Raise { name, latest });
+        latest
     }
 
     /// The first hop after which the rest can be made.
     pub(crate) fn first_onward(&self, level: &Level, from: &Arrived) -> Option<Onward>
-        ensures { result ≡ first_from (is_made self.now.families.now self.now.begun self.now.histories.now) (latest_at level.now) from.now None (history_of self.now.histories.now from.now.name).spans }
+        ensures { result ≡ first_from (is_made self.now.families.now self.now.begun self.now.histories.now) (latest_at (is_made self.now.families.now self.now.begun self.now.histories.now) self.now.histories.now level.now) from.now None (history_of self.now.histories.now from.now.name).spans }
+    {
+        match level {
+            Level::End { name, before } => self.first_to(*name, *before, from),
+            _ => self.first_by_runs(level, from),
+        }
+    }
+
+    /// The first hop to an object before a moment: of the runs of the list those that hold it are looked at.
+    fn first_to(&self, end: Name, before: u32, from: &Arrived) -> Option<Onward>
+        ensures { result ≡ first_from (is_made self.now.families.now self.now.begun self.now.histories.now) (latest_end end before) from.now None (history_of self.now.histories.now from.now.name).spans }
+    {
+        let latest = ends_before(before);
+        let made = self.is_made(end);
+        let mut first = None;
+        for held in self.held_in(end, from.name) {
+            first = first_open_below(self.run_of(held), from, latest, made, first);
+        }
+        first
+    }
+
+    /// The first hop after which the rest can be made, by all runs of the list.
+    fn first_by_runs(&self, level: &Level, from: &Arrived) -> Option<Onward>
+        ensures { result ≡ first_from (is_made self.now.families.now self.now.begun self.now.histories.now) (latest_at (is_made self.now.families.now self.now.begun self.now.histories.now) self.now.histories.now level.now) from.now None (history_of self.now.histories.now from.now.name).spans }
     {
         let spans = spans_at(self.histories, from.name);
         let mut first = None;
+        let mut known = None;
         let mut start = 0;
         for end in ends_at(self.runs, from.name) {
-            first = self.first_over(level, from, &spans[start..*end], first);
+            first = self.first_over(level, &mut known, from, &spans[start..*end], first);
             start = *end;
         }
         first
@@ -523,6 +602,25 @@ impl<'a> Ground<'a> {
         }
     }
 
+    /// Those of them in the list of an object. The runs of each list stand together, in the order of the names.
+    fn held_in(&self, name: Name, by: Name) -> &[Stretch]
+        ensures { result.now ≡ held_in self.now.holders.now name by }
+    {
+        let held = self.holders_of(name);
+        let start = held.partition_point(|stretch| stretch.by.0 < by.0);
+        let rest = &held[start..];
+        let count = rest.partition_point(|stretch| stretch.by.0 <= by.0);
+        &rest[..count]
+    }
+
+    /// The spans of a run.
+    fn run_of(&self, held: &Stretch) -> &[Span]
+        requires { (name : Name) × HoldsAlone self.now.histories.now name held.now }
+        ensures { result.now ≡ spans_in self.now.histories.now held.now }
+    {
+        &spans_at(self.histories, held.by)[held.first..held.end]
+    }
+
     /// From which moments a hop over a run can be made below these.
     fn latest_over(&self, held: &Stretch, most: Latest) -> Latest
         requires { (name : Name) × HoldsAlone self.now.histories.now name held.now }
@@ -531,7 +629,7 @@ impl<'a> Ground<'a> {
         if most.modify == 0 && most.unconf == 0 {
             return most;
         }
-        let run = &spans_at(self.histories, held.by)[held.first..held.end];
+        let run = self.run_of(held);
         Latest {
             modify: most_on(run, most.modify),
             unconf: most_on(run, most.unconf),
@@ -597,14 +695,27 @@ impl<'a> Ground<'a> {
         Ok(next)
     }
 
+    /// The bounds of two hops to an object, before a moment.
+    fn bounds_of_two(&self, alloc: Global, name: Name, before: u32) -> Result<Bounds, NoMemory>
+        ensures { IfOk result (λ next. bounds_at next ≡ next_latest (is_made self.now.families.now self.now.begun self.now.histories.now) self.now.histories.now (next_latest (is_made self.now.families.now self.now.begun self.now.histories.now) self.now.histories.now (latest_end name before))) }
+    {
+        let near = self.bounds_before(alloc, name, before)?;
+        self.bounds_behind(alloc, &near)
+    }
+
     /// The level of one hop more. NoMemory is want of memory.
     pub(crate) fn next_level(&self, alloc: Global, level: &Level) -> Result<Level, NoMemory>
-        ensures { IfOk result (λ next. latest_at next ≡ next_latest (is_made self.now.families.now self.now.begun self.now.histories.now) self.now.histories.now (latest_at level.now)) }
+        ensures { IfOk result (λ next. latest_at (is_made self.now.families.now self.now.begun self.now.histories.now) self.now.histories.now next ≡ next_latest (is_made self.now.families.now self.now.begun self.now.histories.now) self.now.histories.now (latest_at (is_made self.now.families.now self.now.begun self.now.histories.now) self.now.histories.now level.now)) }
     {
-        let next = match level {
-            Level::End { name, before } => self.bounds_before(alloc, *name, *before)?,
-            Level::Behind(bounds) => self.bounds_behind(alloc, bounds)?,
-        };
-        Ok(Level::Behind(next))
+        match level {
+            Level::End { name, before } => {
+                let (name, before) = (*name, *before);
+                Ok(Level::Near { name, before })
+            }
+            Level::Near { name, before } => {
+                Ok(Level::Behind(self.bounds_of_two(alloc, *name, *before)?))
+            }
+            Level::Behind(bounds) => Ok(Level::Behind(self.bounds_behind(alloc, bounds)?)),
+        }
     }
 }

@@ -24,15 +24,15 @@ fn precedes(a: &Span, b: &Span) -> bool
         && b.from < b.until
 }
 
-/// Puts what has stood in a list in order, by its index, its capability and its moment.
+/// Puts what has stood in a list in order, by the object, its index, its rights and its moment.
 fn rearrange(alloc: Global, history: &mut History)
     ensures { IsRearranged history.old history.new }
 {
     let mut spans = mem::replace(&mut history.spans, Items::new(alloc)).into_vec();
     spans.sort_unstable_by_key(|span| {
         (
-            span.index,
             span.cap.name.0,
+            span.index,
             span.cap.rights.bits(),
             span.from,
         )

@@ -56,7 +56,7 @@ fn direct_param(params: &[Entry], wanted: Name) -> Option<u8>
 impl<'a> Search<'a> {
     /// The first hop from the object of an entry after which the rest can be made.
     fn onward_at(&self, level: &Level, entry: &Entry) -> Option<Onward>
-        ensures { result ≡ onward_at (is_made self.now.ground.families.now self.now.ground.begun self.now.ground.histories.now) self.now.ground.histories.now self.now.ground.begun.moment (latest_at level.now) entry.now }
+        ensures { result ≡ onward_at (is_made self.now.ground.families.now self.now.ground.begun self.now.ground.histories.now) self.now.ground.histories.now self.now.ground.begun.moment (latest_at (is_made self.now.ground.families.now self.now.ground.begun self.now.ground.histories.now) self.now.ground.histories.now level.now) entry.now }
     {
         let _ = PhantomData::<(Entry, Template)>; // Rattle is to know what an Entry holds
         match entry {
@@ -71,7 +71,7 @@ impl<'a> Search<'a> {
     /// The first parameter from whose object the rest can be made after a hop.
     fn first_start(&self, level: &Level) -> Option<Start>
         requires { length self.now.params.now ≤ 8 }
-        ensures { result ≡ first_start (is_made self.now.ground.families.now self.now.ground.begun self.now.ground.histories.now) self.now.ground.histories.now self.now.ground.begun.moment (latest_at level.now) 0 self.now.params.now }
+        ensures { result ≡ first_start (is_made self.now.ground.families.now self.now.ground.begun self.now.ground.histories.now) self.now.ground.histories.now self.now.ground.begun.moment (latest_at (is_made self.now.ground.families.now self.now.ground.begun self.now.ground.histories.now) self.now.ground.histories.now level.now) 0 self.now.params.now }
     {
         for (index, entry) in self.params.iter().enumerate() {
             if let Some(onward) = self.onward_at(level, entry) {
@@ -90,7 +90,7 @@ impl<'a> Search<'a> {
         levels: &[Level],
         from: Arrived,
     ) -> Result<(), NoMemory>
-        requires { map latest_at levels.now ≡ levels_below (is_made self.now.ground.families.now self.now.ground.begun self.now.ground.histories.now) self.now.ground.histories.now self.now.wanted self.now.before (length levels.now) }
+        requires { map (latest_at (is_made self.now.ground.families.now self.now.ground.begun self.now.ground.histories.now) self.now.ground.histories.now) levels.now ≡ levels_below (is_made self.now.ground.families.now self.now.ground.begun self.now.ground.histories.now) self.now.ground.histories.now self.now.wanted self.now.before (length levels.now) }
         ensures { OnOk result (hops.new ≡ hops.old ++ hops_down (is_made self.now.ground.families.now self.now.ground.begun self.now.ground.histories.now) self.now.ground.histories.now self.now.wanted self.now.before (length levels.now) from) }
     {
         let mut left = levels.len();

@@ -1,29 +1,27 @@
-use Rattle.std.proofs.Common.{Option, sym, ◌∙◌, ap, Bor}
-use Rattle.std.specs.Option.{option_copied}
-use Rattle.hk_report.specs.declared.histories.Span.{Span}
+use Rattle.std.proofs.Common.{◌∙◌}
 use Rattle.hk_report.specs.Hops.{is_made, latest_at}
-use Rattle.hk_report.proofs.RunHops.{first_of}
-use Rattle.hk_report.proofs.RunSkips.{over_nothing, over_found}
+use Rattle.hk_report.proofs.RunsBelow.{over_first, stays_run}
+use Rattle.hk_report.proofs.RunSkips.{over_nothing}
 use Rattle.hk_report.proofs.hops.Ground.first_over.Goals as goal
 
-pub returns-then-latest-eq0-2 : goal.returns-then-latest-eq0-2
-returns-then-latest-eq0-2 c =
-    let s = c.args.self.now in
-    over_nothing (is_made s.families.now s.begun s.histories.now) (latest_at c.args.level.now) c.args.from.now c.args.first c.args.run.now c.in-Some.span.now
-    c.at-latest.result c.requires c.in-Some.ensures.value c.at-latest.ensures c.if-latest-eq0.true c.if-latest-eq0-2.true
-
-pub returns-in-Some-first_open : goal.returns-in-Some-first_open
-returns-in-Some-first_open c =
+pub returns-then-stays_first-clause-first : goal.returns-then-stays_first-clause-first
+returns-then-stays_first-clause-first c =
     let s = c.args.self.now in
     let made = is_made s.families.now s.begun s.histories.now in
-    let level = latest_at c.args.level.now in
-    over_found made level c.args.from.now c.args.first c.earlier_over.result c.args.run.now (option_copied c.first_open.result) c.requires c.first_open.ensures
-    (c.earlier_over.ensures ∙ sym (ap (λ (o : Option (Bor Span)). first_of made level c.args.from.now c.args.first (option_copied o)) c.in-Some-first_open.is))
+    stays_run made (latest_at made s.histories.now c.args.level.now) c.args.from.now c.args.first c.args.run.now c.in-Some.span.now c.requires.run c.in-Some.ensures.value
+    (c.stays_first.ensures c.if-stays_first.true)
 
-pub returns-in-None : goal.returns-in-None
-returns-in-None c =
+pub returns-then-latest-eq0-2-clause-first : goal.returns-then-latest-eq0-2-clause-first
+returns-then-latest-eq0-2-clause-first c =
     let s = c.args.self.now in
     let made = is_made s.families.now s.begun s.histories.now in
-    let level = latest_at c.args.level.now in
-    over_found made level c.args.from.now c.args.first c.args.first c.args.run.now (option_copied c.first_open.result) c.requires c.first_open.ensures
-    (sym (ap (λ (o : Option (Bor Span)). first_of made level c.args.from.now c.args.first (option_copied o)) c.in-None.is))
+    over_nothing made (latest_at made s.histories.now c.args.level.now) c.args.from.now c.args.first c.args.run.now c.in-Some.span.now
+    c.latest_known-latest.result c.requires.run c.in-Some.ensures.value c.latest_known-latest.ensures.value c.if-latest-eq0.true c.if-latest-eq0-2.true
+
+pub returns-clause-first : goal.returns-clause-first
+returns-clause-first c =
+    let s = c.args.self.now in
+    let made = is_made s.families.now s.begun s.histories.now in
+    c.first_open_below.ensures
+    ∙ over_first made (latest_at made s.histories.now c.args.level.now) c.args.from.now c.args.first c.args.run.now c.in-Some.span.now c.latest_known-latest.result
+    c.is_made.result c.requires.run c.in-Some.ensures.value c.latest_known-latest.ensures.value c.is_made.ensures

@@ -1,4 +1,3 @@
-use Rattle.hk_report.specs.Histories.{history_of}
 use Rattle.hk_report.specs.Holders.{spans_in}
 use Rattle.hk_report.proofs.Raising.{over_on, over_off}
 use Rattle.hk_report.proofs.hops.Ground.latest_over.Goals as goal
@@ -9,6 +8,5 @@ returns-then-most-eq0-2 c = over_off (spans_in c.args.self.now.histories.now c.a
 
 pub returns : goal.returns
 returns c =
-    let held = c.args.held.now in
-    over_on c.spans_at.result.now (history_of c.args.self.now.histories.now held.by).spans held.first held.end c.args.most c.most_on.result c.most_on-2.result
-    c.spans_at.ensures c.most_on.ensures c.most_on-2.ensures
+    over_on c.run_of-run.result.now (spans_in c.args.self.now.histories.now c.args.held.now) c.args.most c.most_on.result c.most_on-2.result c.run_of-run.ensures c.most_on.ensures
+    c.most_on-2.ensures

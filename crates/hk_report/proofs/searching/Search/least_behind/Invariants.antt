@@ -8,9 +8,9 @@ use Rattle.hk_report.proofs.searching.Search.least_behind.Given as goal
 
 abbrev pub invariant-loop : goal.invariant-loop
 invariant-loop l = Seeking
-    (latest_at l.level
+    (latest_at (is_made l.self.ground.families.now l.self.ground.begun l.self.ground.histories.now) l.self.ground.histories.now l.level
     ≡ level_at (is_made l.self.ground.families.now l.self.ground.begun l.self.ground.histories.now) l.self.ground.histories.now l.self.wanted l.self.before l.counter)
-    (map latest_at l.levels.items
+    (map (latest_at (is_made l.self.ground.families.now l.self.ground.begun l.self.ground.histories.now) l.self.ground.histories.now) l.levels.items
     ≡ levels_below (is_made l.self.ground.families.now l.self.ground.begun l.self.ground.histories.now) l.self.ground.histories.now l.self.wanted l.self.before l.counter)
     ((less : ℕ) → less < l.counter
     → first_start (is_made l.self.ground.families.now l.self.ground.begun l.self.ground.histories.now) l.self.ground.histories.now l.self.ground.begun.moment

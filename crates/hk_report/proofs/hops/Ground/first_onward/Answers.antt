@@ -1,9 +1,0 @@
-use Rattle.hk_report.specs.Hops.{is_made, latest_at}
-use Rattle.hk_report.proofs.RunSkips.{seen_over}
-use Rattle.hk_report.proofs.hops.Ground.first_onward.Goals as goal
-
-pub loop-end-preserved : goal.loop-end-preserved
-loop-end-preserved c =
-    let s = c.args.self.now in
-    seen_over (is_made s.families.now s.begun s.histories.now) (latest_at c.args.level.now) c.args.from.now c.spans_at-spans.result.now c.ends_at-end-items.result.now
-    c.loop-end.end-index c.loop-end.start c.loop-end.first c.first_over-first.result c.loop-end.invariant c.loop-end-test.true c.first_over-first.ensures
