@@ -7,3 +7,4 @@ pub mod Turns
 pub mod Spans
 pub mod LineCount
 pub mod PiecesGood
+pub mod Marks

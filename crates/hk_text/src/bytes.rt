@@ -4,6 +4,7 @@ ghost use Rattle.std.specs.Prelude.{◌≡◌, ◌≤◌, ◌==◌, length};
 ghost use Rattle.std.specs.List.{list_any, list_all, position_or_len};
 ghost use Rattle.hk_model.specs.Labels.{is_digit, is_lower, is_capital, is_word_byte, is_register};
 ghost use Rattle.hk_format.specs.Texts.{is_blank, is_no_text};
+ghost use Rattle.hk_text.specs.Views.{is_mark};
 
 /// Whether the byte is one of `0` to `9`.
 pub fn is_digit(byte: u8) -> bool
@@ -89,6 +90,27 @@ pub fn first_of(text: &[u8], byte: u8) -> usize
     ensures within { result ≤ length text.now }
 {
     match text.iter().position(|b| *b == byte) {
+        Some(at) => at,
+        None => text.len(),
+    }
+}
+
+/// Whether the text of a line ends at the byte: it may not stand in a line, or it begins a comment.
+fn is_mark(byte: u8) -> bool
+    ensures { result ≡ is_mark byte }
+{
+    if b'#' < byte && byte <= 126 {
+        return false;
+    }
+    is_no_text(byte) || byte == b'#'
+}
+
+/// The place of the first byte at which the text of a line ends, or the length.
+pub fn first_mark(text: &[u8]) -> usize
+    ensures place { result ≡ position_or_len is_mark text.now }
+    ensures within { result ≤ length text.now }
+{
+    match text.iter().position(|byte| is_mark(*byte)) {
         Some(at) => at,
         None => text.len(),
     }
