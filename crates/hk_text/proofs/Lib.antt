@@ -8,3 +8,4 @@ pub mod Spans
 pub mod LineCount
 pub mod PiecesGood
 pub mod Marks
+pub mod Tokens

@@ -7,7 +7,7 @@ ghost use Rattle.hk_text.specs.Views.{seen, line_seen, line_pieces, texts_of, is
 ghost use Rattle.hk_format.specs.Outcomes.{Gives, Becomes, IsRefused};
 ghost use Rattle.hk_text.specs.Outcomes.{first_line, FindsLine};
 
-use crate::bytes::{first_blank, first_mark, first_no_text};
+use crate::bytes::{first_mark, first_no_text, first_token};
 use crate::errors::{LineError, TextError};
 use crate::pieces::{Piece, kind_of};
 use hk_format::TextCause;
@@ -157,9 +157,10 @@ fn cut_between(
     let mut at = start;
     while at < end {
         let rest = &source[at..end];
-        let len = first_blank(rest);
+        let token = first_token(rest);
+        let len = token.len;
         if len > 0 {
-            let kind = kind_of(&rest[..len])?;
+            let kind = kind_of(&rest[..len], token.in_word)?;
             let piece = Piece {
                 start: at,
                 end: at + len,
