@@ -5,16 +5,16 @@ ghost use Rattle.std.specs.Prelude.{codes as letters};
 ghost use Rattle.hk_model.specs.Generated.{at_slot, bump_steps, main_steps, code};
 
 use crate::contents::text;
-use hk_model::{Args, Code, Index, Instr, Items, Operand, Route, Slot};
+use hk_model::{Args, Code, Index, Indices, Instr, Items, Operand, Route, Slot};
 use std::alloc::{AllocError, Global};
 
 /// The path of one slot.
-fn at_slot(alloc: Global, slot: u16) -> Result<Route, AllocError>
-    ensures { IfOk result (λ route. route ≡ at_slot slot) }
+fn at_slot(slot: u16) -> Route
+    ensures { result ≡ at_slot slot }
 {
-    Ok(Route {
-        at: Items::from_vec(vec![in alloc; Index::Fixed(slot)]?),
-    })
+    Route {
+        at: Indices::one(Index::Fixed(slot)),
+    }
 }
 
 /// One argument of a call.
@@ -29,7 +29,7 @@ fn bump_steps(alloc: Global) -> Result<Items<Instr>, AllocError>
     ensures { IfOk result (λ steps. steps ≡ bump_steps) }
 {
     let get = Instr::Get {
-        of: at_slot(alloc, 0)?,
+        of: at_slot(0),
         at: Operand::Number(0),
         reg: 1,
     };
@@ -38,7 +38,7 @@ fn bump_steps(alloc: Global) -> Result<Items<Instr>, AllocError>
         by: Operand::Number(1),
     };
     let put = Instr::Put {
-        of: at_slot(alloc, 0)?,
+        of: at_slot(0),
         at: Operand::Number(0),
         word: Operand::Reg(1),
     };
@@ -50,15 +50,15 @@ fn main_steps(alloc: Global) -> Result<Items<Instr>, AllocError>
     ensures { IfOk result (λ steps. steps ≡ main_steps) }
 {
     let take = Instr::P {
-        of: at_slot(alloc, 2)?,
+        of: at_slot(2),
     };
     let call = Instr::Enter {
-        proc: at_slot(alloc, 0)?,
+        proc: at_slot(0),
         args: one(Slot(1)),
         into: Slot(3),
     };
     let give = Instr::V {
-        of: at_slot(alloc, 2)?,
+        of: at_slot(2),
     };
     let add = Instr::AddReg {
         reg: 0,

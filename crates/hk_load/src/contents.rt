@@ -1,6 +1,6 @@
 //! The lines of an object, a procedure or a process (`docs/FORMATS.md`, "Loading").
 
-ghost use Rattle.std.specs.Prelude.{◌≡◌, ◌+◌, ◌≤◌, ◌++◌, [], length, OnOk};
+ghost use Rattle.std.specs.Prelude.{◌≡◌, ◌+◌, ◌≤◌, ◌++◌, [], length, IfOk, OnOk};
 ghost use Rattle.hk_format.specs.Loading.{used, contents, contents_of};
 ghost use Rattle.hk_format.specs.Outcomes.{Becomes, GivesAll};
 ghost use Rattle.hk_load.specs.Filling.{contents_seen, room_seen, words_added, param_added, entry_added, added};
@@ -31,15 +31,15 @@ pub struct Contents {
 }
 
 impl Contents {
-    /// Before the first line.
-    fn new(alloc: Global) -> Contents
-        ensures { contents_seen result ≡ contents [] [] [] }
+    /// Before the first line, with room for so many entries. The only error is want of memory.
+    fn with_room(alloc: Global, entries: usize) -> Result<Contents, AllocError>
+        ensures { IfOk result (λ none. contents_seen none ≡ contents [] [] []) }
     {
-        Contents {
+        Ok(Contents {
             words: Words::new(alloc),
             params: Params::new(alloc),
-            entries: Entries::new(alloc),
-        }
+            entries: Entries::from_vec(Vec::with_capacity(alloc, entries)?),
+        })
     }
 
     /// What these lines give. A line's UnknownName and BadRights come from the left, then WrongPart,
@@ -53,7 +53,7 @@ impl Contents {
         requires { room.entries ≤ 256 }
         ensures { GivesAll contents_seen result (contents_of declared.now (room_seen room) (used 0 0 0) parts.now) }
     {
-        let mut contents = Contents::new(alloc);
+        let mut contents = Contents::with_room(alloc, entry_count(parts).min(room.entries))?;
         for part in parts {
             if let Err(error) = contents.add(declared, room, &part.body) {
                 return Err(error.on_line(part.line));
@@ -115,6 +115,16 @@ impl Contents {
         self.entries.push(entry)?;
         Ok(())
     }
+}
+
+/// How many of the lines are those of entries.
+fn entry_count(parts: &[Part]) -> usize {
+    parts.iter().filter(|part| is_entry(&part.body)).count()
+}
+
+/// Whether the line is neither words nor a parameter.
+fn is_entry(body: &Body) -> bool {
+    !matches!(body, Body::WordsAre(_) | Body::ParamIs { .. })
 }
 
 /// Adds words at the end.

@@ -40,12 +40,13 @@ fn steps_with(alloc: Global, labels: &Labels, parts: Vec<Part>) -> Result<Items<
 fn add_step(labels: &Labels, steps: &mut Items<Instr>, body: Body) -> Result<(), LineError>
     ensures { Becomes result steps.new (step_added labels.now steps.old body) }
 {
-    if let Body::StepIs(written) = body {
-        let step = labels.instruction(written)?;
-        if steps.len() >= CODE_LIMIT {
-            return Err(LineError::Bad(LoadCause::TooMany));
-        }
-        steps.push(step)?;
+    let Body::StepIs(written) = body else {
+        return Ok(());
+    };
+    let step = labels.instruction(written)?;
+    if steps.len() >= CODE_LIMIT {
+        return Err(LineError::Bad(LoadCause::TooMany));
     }
+    steps.push(step)?;
     Ok(())
 }

@@ -7,6 +7,7 @@ use crate::names::Slot;
 use crate::paths::Args;
 use hk_rights::Rights;
 use std::alloc::{AllocError, Global};
+use std::marker::Model;
 
 /// A number, or what a register holds.
 #[derive(Clone, Copy, PartialEq, Eq, Debug)]
@@ -25,7 +26,73 @@ pub enum Index {
 /// One to eight indices, from which a path is made when the instruction is run.
 #[derive(Drop)]
 pub struct Route {
-    pub at: Items<Index>,
+    pub at: Indices,
+}
+
+/// An index alone, which is kept in place, or a list of them.
+#[derive(Drop)]
+enum OneOrMore {
+    One([Index; 1]),
+    More(Items<Index>),
+}
+
+/// The indices of a route. Most routes have one, which takes no memory of its own. Contracts see the list.
+#[derive(Drop)]
+pub struct Indices {
+    kept: OneOrMore,
+}
+
+impl Model for Indices {
+    ghost use Rattle.std.specs.Prelude.{List};
+    ghost use Rattle.hk_model.specs.declared.instructions.Index.{Index};
+    ghost use Rattle.hk_model.specs.RouteIndices.{indices_kept};
+
+    ghost Value = { List Index };
+
+    ghost view = { λ indices. indices_kept indices.kept };
+}
+
+impl Indices {
+    ghost use Rattle.std.specs.Prelude.{◌≡◌, ◌∷◌, [], IfOk};
+
+    /// An index alone.
+    pub fn one(index: Index) -> Indices
+        ensures { result ≡ index ∷ [] }
+    {
+        Indices {
+            kept: OneOrMore::One([index]),
+        }
+    }
+
+    /// These indices.
+    pub fn from_items(indices: Items<Index>) -> Indices
+        ensures { result ≡ indices }
+    {
+        Indices {
+            kept: OneOrMore::More(indices),
+        }
+    }
+
+    /// The indices, from left to right.
+    pub fn as_slice(&self) -> &[Index]
+        ensures { result.now ≡ self.now }
+    {
+        match &self.kept {
+            OneOrMore::One(index) => index,
+            OneOrMore::More(indices) => indices.as_slice(),
+        }
+    }
+
+    /// Equal indices. The only error is want of memory.
+    pub fn copy(&self, alloc: Global) -> Result<Indices, AllocError>
+        ensures { IfOk result (λ indices. indices ≡ self.now) }
+    {
+        let kept = match &self.kept {
+            OneOrMore::One(index) => OneOrMore::One(*index),
+            OneOrMore::More(indices) => OneOrMore::More(indices.copy(alloc)?),
+        };
+        Ok(Indices { kept })
+    }
 }
 
 /// An instruction: the 20 kernel calls, and six that are local to the process

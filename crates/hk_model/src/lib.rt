@@ -25,7 +25,7 @@ pub mod world;
 pub use calls::{Answer, Call, Refusal, Reply, What8};
 pub use entries::{Arg, Cap, Entry, Making, Param, Template};
 pub use frames::{Frame, Todo};
-pub use instructions::{Index, Instr, Operand, Route};
+pub use instructions::{Index, Indices, Instr, Operand, Route};
 pub use kernel::{Acted, Kernel, NoMemory};
 pub use lines::{End, Line, What};
 pub use lists::{Entries, Items, Params, Text, Words};

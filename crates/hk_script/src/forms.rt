@@ -1,13 +1,12 @@
 //! The forms that a piece can be wanted in (`docs/FORMATS.md`, "Names" and "Grammar").
 
-ghost use Rattle.std.specs.Prelude.{◌≡◌, ◌<◌, ◌≤◌, ◌==◌, ◌∷◌, [], length, Ok, IsTrue, IfOk, IfErr, Some, codes, false, map};
+ghost use Rattle.std.specs.Prelude.{◌≡◌, ◌<◌, ◌≤◌, ◌==◌, ◌∷◌, [], length, Ok, IsTrue, Some, codes, false, map};
 ghost use Rattle.std.specs.List.{slice_split, position_or_len};
 ghost use Rattle.hk_model.specs.declared.instructions.Route.{Route};
 ghost use Rattle.hk_model.specs.Limits.{slot_limit};
 ghost use Rattle.hk_format.specs.Pieces.{Path, is_index_text, is_too_large, index_of};
 ghost use Rattle.hk_format.specs.Reading.{wanted};
 ghost use Rattle.hk_format.specs.Forms.{as_verb, as_word, as_name, as_type, as_rights, as_number, as_number_in, as_slot, as_register, as_operand, as_route, route_of};
-ghost use Rattle.hk_format.specs.declared.errors.LineError.TheVariants as line_error;
 ghost use Rattle.hk_script.specs.Lines.{rest, index_in};
 ghost use Rattle.hk_script.specs.Paths.{AreIndices, cut_points, route_on};
 ghost use Rattle.hk_format.specs.Outcomes.{Gives};
@@ -18,7 +17,7 @@ use crate::line::Line;
 use crate::verbs::verb_of;
 use hk_format::{ParseCause, Verb};
 use hk_model::limits::{INDEX_BOUND, SLOT_LIMIT};
-use hk_model::{Index, Items, Operand, Route, Slot, Text};
+use hk_model::{Index, Indices, Items, Operand, Route, Slot, Text};
 use hk_text::{PieceKind, first_of, is_register, value};
 use std::alloc::Global;
 
@@ -166,12 +165,12 @@ impl<'a> Line<'a> {
             PieceKind::Path => path(alloc, self.bytes(piece)),
             PieceKind::Number(n) => {
                 if n < 64 {
-                    one(alloc, Index::Fixed(n as u16))
+                    Ok(one(Index::Fixed(n as u16)))
                 } else {
                     Err(LineError::Bad(ParseCause::OutOfRange))
                 }
             }
-            PieceKind::Word => one(alloc, Index::ByReg(register(self.bytes(piece))?)),
+            PieceKind::Word => Ok(one(Index::ByReg(register(self.bytes(piece))?))),
             _ => Err(LineError::Bad(ParseCause::UnknownWord)),
         }
     }
@@ -189,13 +188,12 @@ fn register(text: &[u8]) -> Result<u8, LineError>
 }
 
 /// The path of one index.
-fn one(alloc: Global, index: Index) -> Result<Route, LineError>
-    ensures ok { IfOk result (λ route. route ≡ route_of (index ∷ [])) }
-    ensures memory { IfErr result (λ e. e ≡ line_error.NoMemory) }
+fn one(index: Index) -> Route
+    ensures { result ≡ route_of (index ∷ []) }
 {
-    let mut at = Items::new(alloc);
-    at.push(index)?;
-    Ok(Route { at })
+    Route {
+        at: Indices::one(index),
+    }
 }
 
 /// The path whose indices points join in the text.
@@ -215,7 +213,9 @@ fn path_on(mut at: Items<Index>, text: &[u8], bound: u32) -> Result<Route, LineE
     let len = first_of(text, b'.');
     at.push(index(&text[..len], bound)?)?;
     if len == text.len() {
-        return Ok(Route { at });
+        return Ok(Route {
+            at: Indices::from_items(at),
+        });
     }
     path_on(at, &text[len..][1..], INDEX_BOUND)
 }

@@ -7,3 +7,5 @@ pub mod Turns
 pub mod Spans
 pub mod LineCount
 pub mod PiecesGood
+pub mod Marks
+pub mod Tokens

@@ -1,9 +1,9 @@
 -- Pieces and lines of a source as the definitions have them. docs/FORMATS.md, "Text" and "Pieces".
-use Rattle.std.specs.Prelude.{ℕ, ◌==◌, ◌<◌, ◌≤◌, ◌&&◌, not, List, [], ◌∷◌, Result, Ok, Err, map, length, nat_le, if◌then◌else◌}
+use Rattle.std.specs.Prelude.{ℕ, ◌==◌, ◌<◌, ◌≤◌, ◌&&◌, ◌||◌, Bool, not, List, [], ◌∷◌, Result, Ok, Err, map, length, nat_le, if◌then◌else◌}
 use Rattle.std.specs.List.{slice_range, slice_split, filter}
 use Rattle.hk_format.specs.Pieces as piece
 use Rattle.hk_format.specs.Pieces.{pointed_of}
-use Rattle.hk_format.specs.Texts.{is_none, is_blank}
+use Rattle.hk_format.specs.Texts.{is_none, is_blank, is_no_text}
 use Rattle.hk_format.specs.declared.causes.TextCause.{TextCause}
 use Rattle.hk_text.specs.declared.pieces.PieceKind.{PieceKind}
 use Rattle.hk_text.specs.declared.pieces.PieceKind.TheVariants as kind
@@ -47,3 +47,7 @@ LieBetween start end (p ∷ ps) = (start ≤ p.start) × (p.start < p.end) × Li
 -- the texts between blanks
 abbrev pub texts_of : List ℕ → List (List ℕ)
 texts_of line = filter (λ t. not (is_none t)) (slice_split is_blank line)
+
+-- the text of a line ends at these: what may not stand in a line, and the `#` of a comment
+abbrev pub is_mark : ℕ → Bool
+is_mark b = is_no_text b || b == 35

@@ -1,9 +1,10 @@
 //! What bytes are, and where the first of a kind stands.
 
-ghost use Rattle.std.specs.Prelude.{◌≡◌, ◌≤◌, ◌==◌, length};
+ghost use Rattle.std.specs.Prelude.{◌≡◌, ◌≤◌, ◌==◌, length, not, take};
 ghost use Rattle.std.specs.List.{list_any, list_all, position_or_len};
 ghost use Rattle.hk_model.specs.Labels.{is_digit, is_lower, is_capital, is_word_byte, is_register};
 ghost use Rattle.hk_format.specs.Texts.{is_blank, is_no_text};
+ghost use Rattle.hk_text.specs.Views.{is_mark};
 
 /// Whether the byte is one of `0` to `9`.
 pub fn is_digit(byte: u8) -> bool
@@ -33,12 +34,22 @@ pub fn are_digits(text: &[u8]) -> bool
     text.iter().all(|byte| is_digit(*byte))
 }
 
-/// Whether all bytes may stand in a word.
-pub fn are_word_bytes(text: &[u8]) -> bool
-    ensures { result ≡ list_all is_word_byte text.now }
+/// Whether the byte may stand in a word.
+fn is_word_byte(byte: u8) -> bool
+    ensures { result ≡ is_word_byte byte }
 {
-    text.iter()
-        .all(|byte| is_lower(*byte) || is_digit(*byte) || *byte == b'_')
+    is_lower(byte) || is_digit(byte) || byte == b'_'
+}
+
+/// The place of the first byte that may not stand in a word, or the length.
+fn word_len(text: &[u8]) -> usize
+    ensures place { result ≡ position_or_len (λ b. not (is_word_byte b)) text.now }
+    ensures within { result ≤ length text.now }
+{
+    match text.iter().position(|byte| !is_word_byte(*byte)) {
+        Some(at) => at,
+        None => text.len(),
+    }
 }
 
 /// Whether the text is `r0` to `r7`, the name of a register (`docs/FORMATS.md`, "Names").
@@ -73,7 +84,7 @@ fn is_blank(byte: u8) -> bool
 }
 
 /// The place of the first blank, or the length.
-pub fn first_blank(text: &[u8]) -> usize
+fn first_blank(text: &[u8]) -> usize
     ensures place { result ≡ position_or_len is_blank text.now }
     ensures within { result ≤ length text.now }
 {
@@ -83,12 +94,60 @@ pub fn first_blank(text: &[u8]) -> usize
     }
 }
 
+/// The text that stands before the first blank.
+#[derive(Clone, Copy)]
+pub struct Token {
+    pub len: usize,
+    /// Whether all its bytes may stand in a word.
+    pub in_word: bool,
+}
+
+/// The text before the first blank, or all.
+pub fn first_token(text: &[u8]) -> Token
+    ensures place { result.len ≡ position_or_len is_blank text.now }
+    ensures within { result.len ≤ length text.now }
+    ensures word { result.in_word ≡ list_all is_word_byte (take result.len text.now) }
+{
+    let len = word_len(text);
+    if len == text.len() {
+        return Token { len, in_word: true };
+    }
+    if is_blank(text[len]) {
+        return Token { len, in_word: true };
+    }
+    Token {
+        len: len + first_blank(&text[len..]),
+        in_word: false,
+    }
+}
+
 /// The place of the first such byte, or the length.
 pub fn first_of(text: &[u8], byte: u8) -> usize
     ensures place { result ≡ position_or_len (λ b. b == byte) text.now }
     ensures within { result ≤ length text.now }
 {
     match text.iter().position(|b| *b == byte) {
+        Some(at) => at,
+        None => text.len(),
+    }
+}
+
+/// Whether the text of a line ends at the byte: it may not stand in a line, or it begins a comment.
+fn is_mark(byte: u8) -> bool
+    ensures { result ≡ is_mark byte }
+{
+    if b'#' < byte && byte <= 126 {
+        return false;
+    }
+    is_no_text(byte) || byte == b'#'
+}
+
+/// The place of the first byte at which the text of a line ends, or the length.
+pub fn first_mark(text: &[u8]) -> usize
+    ensures place { result ≡ position_or_len is_mark text.now }
+    ensures within { result ≤ length text.now }
+{
+    match text.iter().position(|byte| is_mark(*byte)) {
         Some(at) => at,
         None => text.len(),
     }

@@ -2,15 +2,13 @@
 
 ghost use Rattle.std.specs.Prelude.{◌≡◌, ◌<◌, ◌==◌, length, min, IsTrue, Some, None, if◌then◌else◌};
 ghost use Rattle.std.specs.List.{slice_split, list_all, list_any};
-ghost use Rattle.hk_model.specs.Labels.{is_digit};
+ghost use Rattle.hk_model.specs.Labels.{is_digit, is_word_byte};
 ghost use Rattle.hk_model.specs.Limits.{word_bound};
 ghost use Rattle.hk_format.specs.Pieces.{is_number, is_upper, is_index_text, is_too_large, value, number_of, plain_of, pointed_of, piece_of};
 ghost use Rattle.hk_text.specs.Views.{kind_piece};
 ghost use Rattle.hk_text.specs.Outcomes.{GivesOrCause};
 
-use crate::bytes::{
-    are_digits, are_word_bytes, has_point, is_capital, is_digit, is_lower, is_register,
-};
+use crate::bytes::{are_digits, has_point, is_capital, is_digit, is_lower, is_register};
 use hk_format::TextCause;
 
 /// The least number that no piece can be.
@@ -40,12 +38,14 @@ pub struct Piece {
 }
 
 /// What the text is as a piece, or why it is none. No text with a point has another form than that of a
-/// path, so points are looked for only where it has no other form.
-pub fn kind_of(text: &[u8]) -> Result<PieceKind, TextCause>
-    requires { 0 < length text.now }
+/// path, so points are looked for only where it has no other form. The caller knows whether all bytes may stand in
+/// a word.
+pub fn kind_of(text: &[u8], in_word: bool) -> Result<PieceKind, TextCause>
+    requires some { 0 < length text.now }
+    requires word { in_word ≡ list_all is_word_byte text.now }
     ensures { GivesOrCause (λ kind. kind_piece kind text.now) result (piece_of text.now) }
 {
-    match plain(text) {
+    match plain(text, in_word) {
         Ok(kind) => Ok(kind),
         Err(cause) => {
             if has_point(text) {
@@ -58,8 +58,9 @@ pub fn kind_of(text: &[u8]) -> Result<PieceKind, TextCause>
 }
 
 /// What a text without a point is.
-fn plain(text: &[u8]) -> Result<PieceKind, TextCause>
-    requires { 0 < length text.now }
+fn plain(text: &[u8], in_word: bool) -> Result<PieceKind, TextCause>
+    requires some { 0 < length text.now }
+    requires word { in_word ≡ list_all is_word_byte text.now }
     ensures { GivesOrCause (λ kind. kind_piece kind text.now) result (plain_of text.now) }
 {
     let first = text[0];
@@ -67,7 +68,7 @@ fn plain(text: &[u8]) -> Result<PieceKind, TextCause>
         return number(text);
     }
     if is_lower(first) {
-        if are_word_bytes(text) && text.len() <= 32 {
+        if in_word && text.len() <= 32 {
             return Ok(PieceKind::Word);
         }
         return Err(TextCause::BadToken);

@@ -8,6 +8,7 @@ ghost use Rattle.hk_format.specs.Texts.{lines_of, text, line_onto};
 ghost use Rattle.hk_format.specs.Outcomes.{IsRefused};
 ghost use Rattle.hk_text.specs.Ahead.{lines_ahead, bytes_ahead, pieces_read, HasNumbers};
 
+use crate::bytes::first_mark;
 use crate::errors::TextError;
 use crate::pieces::Piece;
 use crate::text::{cut_line, line_len};
@@ -65,11 +66,13 @@ impl<'a> LineReader<'a> {
     {
         let number = self.number;
         let start = self.start;
-        let len = match line_len(&self.source[start..]) {
+        let rest = &self.source[start..];
+        let mark = first_mark(rest);
+        let len = match line_len(rest, mark) {
             Ok(len) => len,
             Err(error) => return Err(error.on_line(number)),
         };
-        if let Err(error) = cut_line(&mut self.pieces, self.source, start, start + len) {
+        if let Err(error) = cut_line(&mut self.pieces, self.source, start, start + len, mark) {
             return Err(error.on_line(number));
         }
         self.number += 1;

@@ -1,13 +1,13 @@
 //! Bytes as lines, and lines as pieces (`docs/FORMATS.md`, "Text").
 
-ghost use Rattle.std.specs.Prelude.{◌≡◌, ℕ, ◌<◌, ◌≤◌, ◌^◌, ◌-◌, false, length, map, Ok, Err, IfOk, OnOk};
-ghost use Rattle.std.specs.List.{slice_range, flat_map, list_any};
+ghost use Rattle.std.specs.Prelude.{◌≡◌, ℕ, ◌<◌, ◌≤◌, ◌^◌, ◌+◌, ◌-◌, ◌==◌, false, length, map, Ok, Err, IfOk, OnOk};
+ghost use Rattle.std.specs.List.{slice_range, flat_map, list_any, position_or_len};
 ghost use Rattle.hk_format.specs.Texts.{lines_of, text, text_line, pieces_of, is_no_text};
-ghost use Rattle.hk_text.specs.Views.{seen, line_seen, line_pieces, texts_of, LieBetween};
+ghost use Rattle.hk_text.specs.Views.{seen, line_seen, line_pieces, texts_of, is_mark, LieBetween};
 ghost use Rattle.hk_format.specs.Outcomes.{Gives, Becomes, IsRefused};
-ghost use Rattle.hk_text.specs.Outcomes.{FindsLine};
+ghost use Rattle.hk_text.specs.Outcomes.{first_line, FindsLine};
 
-use crate::bytes::{first_blank, first_no_text, first_of};
+use crate::bytes::{first_mark, first_no_text, first_token};
 use crate::errors::{LineError, TextError};
 use crate::pieces::{Piece, kind_of};
 use hk_format::TextCause;
@@ -39,11 +39,13 @@ pub fn lines(alloc: Global, bytes: &[u8]) -> Result<Vec<TextLine>, TextError>
     let mut number = 1;
     let mut start = 0;
     while start < bytes.len() {
-        let len = match line_len(&bytes[start..]) {
+        let rest = &bytes[start..];
+        let mark = first_mark(rest);
+        let len = match line_len(rest, mark) {
             Ok(len) => len,
             Err(error) => return Err(error.on_line(number)),
         };
-        match pieces_of_line(alloc, &mut scratch, bytes, start, start + len) {
+        match pieces_of_line(alloc, &mut scratch, bytes, start, start + len, mark) {
             Ok(pieces) => {
                 if !pieces.as_slice().is_empty() {
                     lines.push(TextLine { number, pieces })?;
@@ -57,12 +59,17 @@ pub fn lines(alloc: Global, bytes: &[u8]) -> Result<Vec<TextLine>, TextError>
     Ok(lines.into_vec())
 }
 
-/// The length of the first line, in which each byte may stand in a script; else NotAscii.
-pub(crate) fn line_len(text: &[u8]) -> Result<usize, LineError>
+/// The length of the first line, in which each byte may stand in a script; else NotAscii. The mark is where its text
+/// ends, at a comment or with the line.
+pub(crate) fn line_len(text: &[u8], mark: usize) -> Result<usize, LineError>
+    requires mark { mark ≡ position_or_len is_mark text.now }
+    requires within { mark ≤ length text.now }
     ensures line { FindsLine result text.now }
     ensures within { IfOk result (λ len. len ≤ length text.now) }
+    ensures comment { OnOk result (mark ≡ position_or_len (λ b. b == 35) (first_line text.now)) }
+    ensures before { IfOk result (λ len. mark ≤ len) }
 {
-    let len = first_no_text(text);
+    let len = no_text_from(text, mark);
     if len == text.len() {
         return Ok(len);
     }
@@ -70,6 +77,22 @@ pub(crate) fn line_len(text: &[u8]) -> Result<usize, LineError>
         return Ok(len);
     }
     Err(LineError::Bad(TextCause::NotAscii))
+}
+
+/// The place of the first byte that may not stand in a line, or the length, where the text of the line ends at the mark.
+fn no_text_from(text: &[u8], mark: usize) -> usize
+    requires mark { mark ≡ position_or_len is_mark text.now }
+    requires within { mark ≤ length text.now }
+    ensures place { result ≡ position_or_len is_no_text text.now }
+    ensures within { result ≤ length text.now }
+{
+    if mark == text.len() {
+        return mark;
+    }
+    if text[mark] != b'#' {
+        return mark;
+    }
+    mark + first_no_text(&text[mark..])
 }
 
 /// The pieces of the line that begins and ends at these places, in which each byte may stand. They are put
@@ -80,27 +103,33 @@ fn pieces_of_line(
     source: &[u8],
     start: usize,
     end: usize,
+    comment: usize,
 ) -> Result<Items<Piece>, LineError>
     requires order { start ≤ end }
     requires inside { end ≤ length source.now }
+    requires comment { comment ≡ position_or_len (λ b. b == 35) (slice_range source.now start end) }
+    requires before { start + comment ≤ end }
     requires clean { list_any is_no_text (slice_range source.now start end) ≡ false }
     ensures value { Gives (λ v. map (seen source.now) v) result (text_line (slice_range source.now start end)) }
     ensures spans { IfOk result (λ v. LieBetween start end v) }
 {
-    cut_line(scratch, source, start, end)?;
+    cut_line(scratch, source, start, end, comment)?;
     Ok(Items::from_vec(Vec::from_slice(alloc, scratch.as_slice())?))
 }
 
 /// Puts the pieces of the line that begins and ends at these places, in which each byte may stand, in the
-/// place of others.
+/// place of others. Its comment begins so many bytes from its start, or it has none and that is its length.
 pub(crate) fn cut_line(
     pieces: &mut Vec<Piece>,
     source: &[u8],
     start: usize,
     end: usize,
+    comment: usize,
 ) -> Result<(), LineError>
     requires order { start ≤ end }
     requires inside { end ≤ length source.now }
+    requires comment { comment ≡ position_or_len (λ b. b == 35) (slice_range source.now start end) }
+    requires before { start + comment ≤ end }
     requires clean { list_any is_no_text (slice_range source.now start end) ≡ false }
     ensures value { Becomes result (map (seen source.now) pieces.new.items) (text_line (slice_range source.now start end)) }
     ensures spans { OnOk result (LieBetween start end pieces.new.items) }
@@ -109,7 +138,7 @@ pub(crate) fn cut_line(
     if line.len() > LINE_BYTES {
         return Err(LineError::Bad(TextCause::LongLine));
     }
-    cut_between(pieces, source, start, start + first_of(line, b'#'))
+    cut_between(pieces, source, start, start + comment)
 }
 
 /// Puts the pieces between these places in the place of others.
@@ -128,9 +157,10 @@ fn cut_between(
     let mut at = start;
     while at < end {
         let rest = &source[at..end];
-        let len = first_blank(rest);
+        let token = first_token(rest);
+        let len = token.len;
         if len > 0 {
-            let kind = kind_of(&rest[..len])?;
+            let kind = kind_of(&rest[..len], token.in_word)?;
             let piece = Piece {
                 start: at,
                 end: at + len,

@@ -8,27 +8,27 @@ use Rattle.hk_text.proofs.text.cut_between.Goals.{then-len-gt0+in_ok-kind+in_def
 
 pub returns-in_err-kind-clause-value : goal.returns-in_err-kind-clause-value
 returns-in_err-kind-clause-value c =
-    let refused = turn_refused c.args.source.now c.loop-at.at c.args.end c.first_blank-len.result _ c.in_err-kind.field-0.0 _ c.first_blank-len.ensures.place
-    (omega arith) c.first_blank-len.ensures.within c.in_err-kind.ensures c.loop-at.invariant.rest in
+    let refused = turn_refused c.args.source.now c.loop-at.at c.args.end c.first_token-token.result.len _ c.in_err-kind.field-0.0 _ c.first_token-token.ensures.place
+    (omega arith) c.first_token-token.ensures.within c.in_err-kind.ensures c.loop-at.invariant.rest in
     let p = err_from_is_err_and c.from_residual.result c.from_residual.ensures.1 in
     rw (p.1, p.2) refused
 
 pub loop-at-preserved : goal.loop-at-preserved
 loop-at-preserved c = record {
   high = omega arith;
-  low = let size = length-take (c.args.end - c.loop-at.at) (drop c.loop-at.at c.args.source.now) in omega (arith, c.first_blank-len.ensures.within);
+  low = let size = length-take (c.args.end - c.loop-at.at) (drop c.loop-at.at c.args.source.now) in omega (arith, c.first_token-token.ensures.within);
   rest = elim c.if-len-gt0.branch [
     | then-len-gt0+in_ok-kind+in_default w ↦ rw (w.pieces-is, w.in_default.ensures.items)
-        (turn_pushed c.args.source.now c.loop-at.at c.args.end c.first_blank-len.result c.loop-at.pieces.items w.in_ok-kind.kind _
-        (omega arith) c.requires.inside c.first_blank-len.ensures.place w.if-len-gt0.true c.first_blank-len.ensures.within w.in_ok-kind.ensures c.loop-at.invariant.rest)
-    | else-len-gt0 w ↦ rw w.pieces-is (turn_none c.args.source.now c.loop-at.at c.args.end c.first_blank-len.result _ _ c.first_blank-len.ensures.place
+        (turn_pushed c.args.source.now c.loop-at.at c.args.end c.first_token-token.result.len c.loop-at.pieces.items w.in_ok-kind.kind _
+        (omega arith) c.requires.inside c.first_token-token.ensures.place w.if-len-gt0.true c.first_token-token.ensures.within w.in_ok-kind.ensures c.loop-at.invariant.rest)
+    | else-len-gt0 w ↦ rw w.pieces-is (turn_none c.args.source.now c.loop-at.at c.args.end c.first_token-token.result.len _ _ c.first_token-token.ensures.place
         (omega arith) c.loop-at.invariant.rest)
   ];
   spans =
       let size = length-take (c.args.end - c.loop-at.at) (drop c.loop-at.at c.args.source.now) in
       elim c.if-len-gt0.branch [
         | then-len-gt0+in_ok-kind+in_default w ↦ rw (w.pieces-is, w.in_default.ensures.items)
-            (lie_both _ _ _ c.loop-at.pieces.items _ c.loop-at.invariant.spans (omega arith, omega arith, omega (arith, c.first_blank-len.ensures.within)))
+            (lie_both _ _ _ c.loop-at.pieces.items _ c.loop-at.invariant.spans (omega arith, omega arith, omega (arith, c.first_token-token.ensures.within)))
         | else-len-gt0 w ↦ rw w.pieces-is (lie_before _ _ _ c.loop-at.pieces.items c.loop-at.invariant.spans (omega arith))
       ];
 }
