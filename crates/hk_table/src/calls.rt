@@ -13,6 +13,7 @@ ghost use Rattle.hk_table.specs.Told.{AllNamedStand};
 use crate::parts::Parts;
 use hk_calls::Stop;
 use hk_model::{Acted, Answer, Call, Entry, NoMemory, Path, Proc, Reply};
+use hk_spaces::Space;
 use std::alloc::Global;
 
 /// The reply that says an answer.
@@ -30,7 +31,13 @@ impl Parts {
     /// What a call of a process that runs does, before objects vanish and the event is counted. Only Add, Append, Copy and
     /// Enter may want memory.
     #[tactic(auto, using(crate::proofs::Wanting::wants_any))]
-    pub(crate) fn serve(&mut self, alloc: Global, proc: Proc, call: &Call) -> Result<Answer, Stop>
+    pub(crate) fn serve(
+        &mut self,
+        alloc: Global,
+        proc: Proc,
+        call: &Call,
+        space: &mut Space,
+    ) -> Result<Answer, Stop>
         requires known { proc.0 < length self.old.processes }
         requires runs { is_running (process self.old proc).run ≡ true }
         requires named { AllNamedStand self.old }
@@ -61,7 +68,7 @@ impl Parts {
                 proc: path,
                 args,
                 into,
-            } => self.enter(proc, path, args, *into),
+            } => self.enter(proc, path, args, *into, space),
             Call::Leave { give } => Ok(self.leave(proc, *give)?),
             Call::P { of } => Ok(self.take_token(proc, of)?),
             Call::V { of } => Ok(self.give_token(proc, of)?),
@@ -69,7 +76,13 @@ impl Parts {
         }
     }
     /// Makes a call of a process that runs: what nothing names then vanishes, where it is answered.
-    fn reply_to(&mut self, alloc: Global, proc: Proc, call: &Call) -> Result<Reply, NoMemory>
+    fn reply_to(
+        &mut self,
+        alloc: Global,
+        proc: Proc,
+        call: &Call,
+        space: &mut Space,
+    ) -> Result<Reply, NoMemory>
         requires known { proc.0 < length self.old.processes }
         requires runs { is_running (process self.old proc).run ≡ true }
         requires named { AllNamedStand self.old }
@@ -80,7 +93,7 @@ impl Parts {
         ensures memory { OnErr result (takes_memory call.now ≡ true) }
         ensures err { OnErr result (self.new ≡ self.old) }
     {
-        match self.serve(alloc, proc, call) {
+        match self.serve(alloc, proc, call, space) {
             Ok(answer) => {
                 self.settle();
                 Ok(answered(answer))
@@ -115,8 +128,15 @@ impl Parts {
     }
 
     /// Makes a call of a process that runs. It is one event, refused or not. NoMemory is want of memory of an Add, an
-    /// Append, a Copy or an Enter, and changes nothing.
-    pub(crate) fn act(&mut self, alloc: Global, proc: Proc, call: &Call) -> Result<Acted, NoMemory>
+    /// Append, a Copy or an Enter, and changes nothing. The name space of an Enter is written into the one that is handed in,
+    /// whatever stands there.
+    pub(crate) fn act(
+        &mut self,
+        alloc: Global,
+        proc: Proc,
+        call: &Call,
+        space: &mut Space,
+    ) -> Result<Acted, NoMemory>
         requires known { proc.0 < length self.old.processes }
         requires runs { is_running (process self.old proc).run ≡ true }
         requires below { IsTrue (may_step self.old) }
@@ -131,7 +151,7 @@ impl Parts {
     {
         let events = self.next_event();
         let code = self.code_entered(proc, call);
-        let reply = self.reply_to(alloc, proc, call)?;
+        let reply = self.reply_to(alloc, proc, call, space)?;
         self.set_events(events);
         Ok(Acted {
             reply,

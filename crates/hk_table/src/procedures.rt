@@ -64,7 +64,8 @@ impl Parts {
         }
     }
 
-    /// Enter: a new incarnation, with the merged parameters and what the procedure holds.
+    /// Enter: a new incarnation, with the merged parameters and what the procedure holds. Its name space is written into the one
+    /// that is handed in, whatever stands there, and as far as it was written copied from there.
     #[tactic(auto, using(crate::proofs::TargetLemmas::target_lives), unfolding(hk_model::specs::Rule::enter_procedure))]
     pub(crate) fn enter(
         &mut self,
@@ -72,6 +73,7 @@ impl Parts {
         path: &Path,
         args: &Args,
         into: Slot,
+        space: &mut Space,
     ) -> Result<Answer, Stop>
         requires known { proc.0 < length self.old.processes }
         requires next { self.old.next_inc.0 < 2 ^ 63 }
@@ -88,9 +90,9 @@ impl Parts {
             of: Name(0),
         }; 8];
         self.args(proc, args.as_slice(), &mut held);
-        let mut space = Space::empty();
+        space.clear();
         fill_space(
-            &mut space,
+            space,
             &held[..args.len()],
             self.params(cap.name),
             self.entries(cap.name),

@@ -10,6 +10,7 @@ ghost use Rattle.hk_model.specs.State.{incarnation, object};
 
 use crate::parts::Parts;
 use hk_model::{Acted, Call, Cpu, Entry, Inc, Kernel, Name, NoMemory, Proc, Snapshot, World};
+use hk_spaces::Space;
 use std::alloc::Global;
 use std::marker::Model;
 
@@ -18,6 +19,8 @@ use std::marker::Model;
 #[derive(Drop)]
 pub struct Table {
     parts: Parts,
+    // Where the name space of a call is written, before its frame gets it.
+    space: Space,
 }
 
 impl Model for Table {
@@ -38,7 +41,8 @@ impl Table {
         ensures { IfOk result (λ t. t ≡ opening world.now) }
     {
         let parts = Parts::open(alloc, world)?;
-        Ok(Table { parts })
+        let space = Space::empty();
+        Ok(Table { parts, space })
     }
 
     /// The name that the next object takes, which no object has had.
@@ -88,7 +92,7 @@ impl Kernel for Table {
 
     fn act(&mut self, alloc: Global, cpu: Cpu, call: Call) -> Result<Acted, NoMemory> {
         match self.parts.runner(cpu) {
-            Some(proc) => self.parts.act(alloc, proc, &call),
+            Some(proc) => self.parts.act(alloc, proc, &call, &mut self.space),
             None => unreachable!(),
         }
     }
