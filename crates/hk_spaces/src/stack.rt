@@ -1,6 +1,6 @@
 //! The stack of the calls that a process is in.
 
-ghost use Rattle.std.specs.Prelude.{◌≡◌, ◌<◌, ◌≤◌, [], ◌∷◌, ◌++◌, length, slice_get, take, Some, OnOk, OnErr, IfSome, IfNone};
+ghost use Rattle.std.specs.Prelude.{◌≡◌, ◌<◌, ◌≤◌, [], ◌∷◌, ◌++◌, ◌+◌, length, slice_get, take, Some, OnOk, OnErr, IfSome, IfNone};
 ghost use Rattle.hk_spaces.specs.declared.stack.StackFrame.{StackFrame};
 ghost use Rattle.hk_spaces.specs.Slots.{called_frame, with_top, HasPlaces};
 
@@ -66,6 +66,18 @@ fn blank_frame() -> StackFrame {
     }
 }
 
+/// One place more. NoMemory is want of memory, and changes nothing. It stands apart, since a function that holds a frame in
+/// place lays it out whenever it is called.
+#[inline(never)]
+fn add_place(places: &mut Vec<StackFrame>) -> Result<(), NoMemory>
+    ensures ok { OnOk result (length places.new.items ≡ length places.old.items + 1) }
+    ensures err { OnErr result (places.new.items ≡ places.old.items) }
+    ensures same { take (length places.old.items) places.new.items ≡ places.old.items }
+{
+    places.push(blank_frame())?;
+    Ok(())
+}
+
 /// There is a place behind the first frames, so many. NoMemory is want of memory, and changes nothing.
 #[inline(always)]
 fn make_place(places: &mut Vec<StackFrame>, depth: usize) -> Result<(), NoMemory>
@@ -76,7 +88,7 @@ fn make_place(places: &mut Vec<StackFrame>, depth: usize) -> Result<(), NoMemory
     ensures same { take depth places.new.items ≡ take depth places.old.items }
 {
     if depth == places.len() {
-        places.push(blank_frame())?;
+        add_place(places)?;
     }
     Ok(())
 }
