@@ -10,10 +10,10 @@ ghost use Rattle.hk_table.specs.Giving.{Gives, WantsOnly, TakesOne, takes_memory
 ghost use Rattle.hk_table.specs.Joined.{FewNumbers};
 ghost use Rattle.hk_table.specs.Told.{AllNamedStand};
 
+use crate::draft::Draft;
 use crate::parts::Parts;
 use hk_calls::Stop;
 use hk_model::{Acted, Answer, Call, Entry, NoMemory, Path, Proc, Reply};
-use hk_spaces::Space;
 use std::alloc::Global;
 
 /// The reply that says an answer.
@@ -36,7 +36,7 @@ impl Parts {
         alloc: Global,
         proc: Proc,
         call: &Call,
-        space: &mut Space,
+        draft: &mut Draft,
     ) -> Result<Answer, Stop>
         requires known { proc.0 < length self.old.processes }
         requires runs { is_running (process self.old proc).run ≡ true }
@@ -68,7 +68,7 @@ impl Parts {
                 proc: path,
                 args,
                 into,
-            } => self.enter(proc, path, args, *into, space),
+            } => self.enter(proc, path, args, *into, draft),
             Call::Leave { give } => Ok(self.leave(proc, *give)?),
             Call::P { of } => Ok(self.take_token(proc, of)?),
             Call::V { of } => Ok(self.give_token(proc, of)?),
@@ -81,7 +81,7 @@ impl Parts {
         alloc: Global,
         proc: Proc,
         call: &Call,
-        space: &mut Space,
+        draft: &mut Draft,
     ) -> Result<Reply, NoMemory>
         requires known { proc.0 < length self.old.processes }
         requires runs { is_running (process self.old proc).run ≡ true }
@@ -93,7 +93,7 @@ impl Parts {
         ensures memory { OnErr result (takes_memory call.now ≡ true) }
         ensures err { OnErr result (self.new ≡ self.old) }
     {
-        match self.serve(alloc, proc, call, space) {
+        match self.serve(alloc, proc, call, draft) {
             Ok(answer) => {
                 self.settle();
                 Ok(answered(answer))
@@ -128,14 +128,13 @@ impl Parts {
     }
 
     /// Makes a call of a process that runs. It is one event, refused or not. NoMemory is want of memory of an Add, an
-    /// Append, a Copy or an Enter, and changes nothing. The name space of an Enter is written into the one that is handed in,
-    /// whatever stands there.
+    /// Append, a Copy or an Enter, and changes nothing. A call of a procedure is put together in the draft, whatever stands there.
     pub(crate) fn act(
         &mut self,
         alloc: Global,
         proc: Proc,
         call: &Call,
-        space: &mut Space,
+        draft: &mut Draft,
     ) -> Result<Acted, NoMemory>
         requires known { proc.0 < length self.old.processes }
         requires runs { is_running (process self.old proc).run ≡ true }
@@ -151,7 +150,7 @@ impl Parts {
     {
         let events = self.next_event();
         let code = self.code_entered(proc, call);
-        let reply = self.reply_to(alloc, proc, call, space)?;
+        let reply = self.reply_to(alloc, proc, call, draft)?;
         self.set_events(events);
         Ok(Acted {
             reply,

@@ -8,9 +8,9 @@ ghost use Rattle.hk_model.specs.Opening.{opening};
 ghost use Rattle.hk_model.specs.Processors.{running_on};
 ghost use Rattle.hk_model.specs.State.{incarnation, object};
 
+use crate::draft::Draft;
 use crate::parts::Parts;
 use hk_model::{Acted, Call, Cpu, Entry, Inc, Kernel, Name, NoMemory, Proc, Snapshot, World};
-use hk_spaces::Space;
 use std::alloc::Global;
 use std::marker::Model;
 
@@ -19,8 +19,8 @@ use std::marker::Model;
 #[derive(Drop)]
 pub struct Table {
     parts: Parts,
-    // Where the name space of a call is written, before its frame gets it.
-    space: Space,
+    // Where a call of a procedure is put together.
+    draft: Draft,
 }
 
 impl Model for Table {
@@ -41,8 +41,8 @@ impl Table {
         ensures { IfOk result (λ t. t ≡ opening world.now) }
     {
         let parts = Parts::open(alloc, world)?;
-        let space = Space::empty();
-        Ok(Table { parts, space })
+        let draft = Draft::new();
+        Ok(Table { parts, draft })
     }
 
     /// The name that the next object takes, which no object has had.
@@ -92,7 +92,7 @@ impl Kernel for Table {
 
     fn act(&mut self, alloc: Global, cpu: Cpu, call: Call) -> Result<Acted, NoMemory> {
         match self.parts.runner(cpu) {
-            Some(proc) => self.parts.act(alloc, proc, &call, &mut self.space),
+            Some(proc) => self.parts.act(alloc, proc, &call, &mut self.draft),
             None => unreachable!(),
         }
     }
