@@ -78,7 +78,7 @@ whole_line line bytes said pointed replied ended rest a b c d e =
     let arrow : List ℕ = 32 ∷ 45 ∷ 62 ∷ 32 ∷ [] in
     let reply = spell_line (reply_pieces line.reply) in
     sym (ap (λ (t : List ℕ). t ++ rest) (written_line line [] actor (actor ++ what) ((actor ++ what) ++ arrow) (((actor ++ what) ++ arrow) ++ reply)
-      ((((actor ++ what) ++ arrow) ++ reply) ++ 10 ∷ []) refl refl refl refl refl))
+    ((((actor ++ what) ++ arrow) ++ reply) ++ 10 ∷ []) refl refl refl refl refl))
     ∙ line_joined actor what arrow reply (10 ∷ []) rest
     ∙ ap (λ (t : List ℕ). actor ++ (what ++ (arrow ++ (reply ++ t)))) e
     ∙ ap (λ (t : List ℕ). actor ++ (what ++ (arrow ++ t))) d
