@@ -12,6 +12,8 @@ pub mod Spelled
 pub mod SeenForms
 pub mod Slots
 pub mod FirstWords
+pub mod TextsBehind
+pub mod Thousands
 pub mod Sound
 pub mod LinesAgain
 pub mod Clear

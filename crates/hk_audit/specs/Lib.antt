@@ -8,3 +8,4 @@ pub mod RecordCuts
 pub mod RecordEvents
 pub mod Begun
 pub mod Followed
+pub mod ThreeDigits

@@ -7,6 +7,7 @@ mod audits;
 mod calls;
 mod events;
 mod forms;
+mod fronts;
 mod lengths;
 mod lines;
 mod parts;

@@ -16,6 +16,7 @@ ghost use Rattle.hk_audit.specs.Followed.{IsReadTo, cpu_by, digit_at};
 ghost use Rattle.hk_audit.specs.RecordCuts.{behind_first, texts_of};
 
 use crate::audits::RecordError;
+use crate::fronts::behind_line;
 use crate::lines::write_line;
 use crate::reading::behind;
 use crate::records::end_line;
@@ -33,7 +34,7 @@ use std::marker::Model;
 #[derive(Drop)]
 pub struct Reader<'a> {
     left: &'a [u8],
-    // The text of the line that was told last.
+    // The text of a line that was made, where looking at it piece by piece told nothing.
     text: String,
 }
 
@@ -91,6 +92,10 @@ impl<'a> Reader<'a> {
         ensures same { IfOk result (λ taken. taken ≡ false → self.new ≡ self.old) }
         ensures memory { OnErr result (self.new ≡ self.old) }
     {
+        if let Some(left) = behind_line(self.left, line) {
+            self.left = left;
+            return Ok(true);
+        }
         self.text.clear();
         write_line(&mut self.text, line)?;
         match behind(self.left, self.text.as_bytes()) {

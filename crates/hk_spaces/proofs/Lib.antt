@@ -1,1 +1,2 @@
 pub mod Emptiness
+pub mod Places

@@ -6,7 +6,7 @@ mod space;
 mod stack;
 
 pub use space::Space;
-pub use stack::{Stack, StackFrame};
+pub use stack::{Linkage, Stack, StackFrame};
 
 #[cfg(test)]
 mod tests;

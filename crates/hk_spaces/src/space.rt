@@ -1,6 +1,7 @@
 //! A local name space.
 
-ghost use Rattle.std.specs.Prelude.{◌≡◌, ◌<◌, ◌≤◌, ◌+◌, ◌++◌, drop, length, slice_get, slice_set, take, Some};
+ghost use Rattle.std.specs.Prelude.{◌≡◌, ◌<◌, ◌≤◌, ◌+◌, ◌++◌, ℕ, drop, length, slice_get, slice_index_or, slice_set, take, Some};
+ghost use Rattle.hk_model.specs.declared.entries.Entry.TheVariants.{Empty};
 ghost use Rattle.hk_spaces.specs.Spaces.{empty_slots, IsEmptyFrom};
 
 use hk_model::{Entry, Slot};
@@ -25,6 +26,18 @@ impl Model for Space {
     ghost view = { λ space. space.slots };
 
     ghost invariant = { λ space. IsWritten space.written space.slots };
+}
+
+/// Nothing stands in the slots from one place up to another. The others stay as they are.
+fn empty_between(slots: &mut [Entry; 64], start: usize, end: usize)
+    requires { end ≤ 64 }
+    ensures before { (slot : ℕ) → slot < start → slice_index_or slots.new slot Empty ≡ slice_index_or slots.old slot Empty }
+    ensures rest { IsEmptyFrom end slots.old → IsEmptyFrom start slots.new }
+    ensures all { length slots.new ≡ length slots.old }
+{
+    for slot in start..end {
+        slots[slot] = Entry::Empty;
+    }
 }
 
 impl Space {
@@ -70,6 +83,35 @@ impl Space {
         let slots = &mut self.slots[..];
         slots[from..end].copy_from_slice(entries);
         self.written = self.written.max(end);
+    }
+
+    /// Nothing stands in the slots from this one on.
+    fn shorten(&mut self, end: usize)
+        requires { end ≤ 64 }
+        ensures before { (slot : ℕ) → slot < end → slice_index_or self.new slot Empty ≡ slice_index_or self.old slot Empty }
+        ensures rest { IsEmptyFrom end self.new }
+        ensures all { length self.new ≡ 64 }
+    {
+        empty_between(&mut self.slots, end, self.written);
+        self.written = self.written.min(end);
+    }
+
+    /// Nothing stands in any slot. It costs as much as was written.
+    #[tactic(auto, using(crate::proofs::Emptiness::all_gone))]
+    pub fn clear(&mut self)
+        ensures { self.new ≡ empty_slots }
+    {
+        self.shorten(0);
+    }
+
+    /// Each slot gets what stands there in another name space. It costs as much as was written into the two.
+    pub fn copy_from(&mut self, other: &Space)
+        ensures { self.new ≡ other.now }
+    {
+        let entries = other.written();
+        let _all = other.as_slice(); // so that the check knows how many slots there are
+        self.write(Slot(0), entries);
+        self.shorten(entries.len());
     }
 
     /// The 64 entries.

@@ -1,7 +1,8 @@
 //! The stack of the calls that a process is in.
 
-ghost use Rattle.std.specs.Prelude.{◌≡◌, ◌<◌, ◌≤◌, [], ◌∷◌, ◌++◌, length, slice_get, Some, OnOk, OnErr, IfSome, IfNone};
-ghost use Rattle.hk_spaces.specs.Slots.{with_top};
+ghost use Rattle.std.specs.Prelude.{◌≡◌, ◌<◌, ◌≤◌, [], ◌∷◌, ◌++◌, ◌+◌, length, slice_get, take, Some, OnOk, OnErr, IfSome, IfNone};
+ghost use Rattle.hk_spaces.specs.declared.stack.StackFrame.{StackFrame};
+ghost use Rattle.hk_spaces.specs.Slots.{called_frame, with_top, HasPlaces};
 
 use crate::space::Space;
 use hk_model::{Entry, Inc, Name, NoMemory, Slot};
@@ -21,22 +22,75 @@ pub struct StackFrame {
     pub procedure: Option<Name>,
 }
 
+/// What the frame of a call of a procedure has beside its name space.
+#[derive(Clone, Copy, PartialEq, Eq, Debug)]
+pub struct Linkage {
+    /// The number of the incarnation.
+    pub inc: Inc,
+    /// The slot of the frame below that takes what is returned.
+    pub into: Slot,
+    pub confined: bool,
+    /// The procedure that was called.
+    pub procedure: Name,
+}
+
 /// At most 64 frames, the base of the process first and its current call last (`docs/RULES.md`,
 /// "Limits"). Contracts see the list of frames.
 #[derive(Drop)]
 pub struct Stack {
-    frames: Vec<StackFrame>,
+    // The frames, and behind them such as have gone, in whose places the next ones are written.
+    places: Vec<StackFrame>,
+    depth: usize,
 }
 
 impl Model for Stack {
-    ghost use Rattle.std.specs.Prelude.{List, ◌≤◌, length};
+    ghost use Rattle.std.specs.Prelude.{List, take};
     ghost use Rattle.hk_spaces.specs.declared.stack.StackFrame.{StackFrame};
+    ghost use Rattle.hk_spaces.specs.Slots.{HasPlaces};
 
     ghost Value = { List StackFrame };
 
-    ghost view = { λ stack. stack.frames.items };
+    ghost view = { λ stack. take stack.depth stack.places.items };
 
-    ghost invariant = { λ stack. length stack.frames.items ≤ 64 };
+    ghost invariant = { λ stack. HasPlaces stack.depth stack.places.items };
+}
+
+/// A frame of no call, for a call's to be written over.
+fn blank_frame() -> StackFrame {
+    StackFrame {
+        space: Space::empty(),
+        inc: Inc(0),
+        into: Slot(0),
+        confined: false,
+        procedure: None,
+    }
+}
+
+/// One place more. NoMemory is want of memory, and changes nothing. It stands apart, since a function that holds a frame in
+/// place lays it out whenever it is called.
+#[inline(never)]
+fn add_place(places: &mut Vec<StackFrame>) -> Result<(), NoMemory>
+    ensures ok { OnOk result (length places.new.items ≡ length places.old.items + 1) }
+    ensures err { OnErr result (places.new.items ≡ places.old.items) }
+    ensures same { take (length places.old.items) places.new.items ≡ places.old.items }
+{
+    places.push(blank_frame())?;
+    Ok(())
+}
+
+/// There is a place behind the first frames, so many. NoMemory is want of memory, and changes nothing.
+#[inline(always)]
+fn make_place(places: &mut Vec<StackFrame>, depth: usize) -> Result<(), NoMemory>
+    requires has { HasPlaces depth places.old.items }
+    requires room { depth < 64 }
+    ensures place { OnOk result (depth < length places.new.items) }
+    ensures has { HasPlaces depth places.new.items }
+    ensures same { take depth places.new.items ≡ take depth places.old.items }
+{
+    if depth == places.len() {
+        add_place(places)?;
+    }
+    Ok(())
 }
 
 impl Stack {
@@ -45,7 +99,8 @@ impl Stack {
         ensures { result ≡ [] }
     {
         Stack {
-            frames: Vec::new(alloc),
+            places: Vec::new(alloc),
+            depth: 0,
         }
     }
 
@@ -55,7 +110,31 @@ impl Stack {
         ensures ok { OnOk result (self.new ≡ self.old ++ frame ∷ []) }
         ensures err { OnErr result (self.new ≡ self.old) }
     {
-        self.frames.push(frame)?;
+        if self.depth < self.places.len() {
+            self.places[self.depth] = frame;
+        } else {
+            self.places.push(frame)?;
+        }
+        self.depth += 1;
+        Ok(())
+    }
+
+    /// Puts the frame of a call on top, which has what stands in this name space. It is written where a frame stood that
+    /// has gone, if there is such a place. NoMemory is want of memory, and changes nothing.
+    #[inline(always)]
+    pub fn push_call(&mut self, space: &Space, linkage: Linkage) -> Result<(), NoMemory>
+        requires { length self.old < 64 }
+        ensures ok { OnOk result (self.new ≡ self.old ++ called_frame space.now linkage ∷ []) }
+        ensures err { OnErr result (self.new ≡ self.old) }
+    {
+        make_place(&mut self.places, self.depth)?;
+        let frame = &mut self.places[self.depth];
+        frame.space.copy_from(space);
+        frame.inc = linkage.inc;
+        frame.into = linkage.into;
+        frame.confined = linkage.confined;
+        frame.procedure = Some(linkage.procedure);
+        self.depth += 1;
         Ok(())
     }
 
@@ -64,7 +143,31 @@ impl Stack {
         ensures some { IfSome result (λ frame. self.old ≡ self.new ++ frame ∷ []) }
         ensures none { IfNone result ((self.old ≡ []) × (self.new ≡ [])) }
     {
-        self.frames.pop()
+        self.places.truncate(self.depth);
+        let top = self.places.pop()?;
+        self.depth -= 1;
+        Some(top)
+    }
+
+    /// Takes the frame from the top, and gives its slot of the frame below. None exactly where there is no frame. Its place
+    /// is kept for the next one.
+    #[inline(always)]
+    pub fn leave(&mut self) -> Option<Slot>
+        ensures some { IfSome result (λ into. (frame : StackFrame) × ((self.old ≡ self.new ++ frame ∷ []) × (frame.into ≡ into))) }
+        ensures none { IfNone result ((self.old ≡ []) × (self.new ≡ [])) }
+    {
+        if self.depth == 0 {
+            return None;
+        }
+        self.depth -= 1;
+        Some(self.places[self.depth].into)
+    }
+
+    /// Takes all frames. Their places are kept for the next ones.
+    pub fn clear(&mut self)
+        ensures { self.new ≡ [] }
+    {
+        self.depth = 0;
     }
 
     /// The number of frames, at most 64.
@@ -73,7 +176,7 @@ impl Stack {
         ensures value { result ≡ length self.now }
         ensures few { result ≤ 64 }
     {
-        self.frames.len()
+        self.depth
     }
 
     /// The frame at a depth, from 0 for the base.
@@ -82,7 +185,7 @@ impl Stack {
         requires { at < length self.now }
         ensures { slice_get self.now at ≡ Some result.now }
     {
-        &self.frames[at]
+        &self.places[at]
     }
 
     /// Writes an entry into a slot of the top frame.
@@ -92,7 +195,7 @@ impl Stack {
         requires slot { slot.0 < 64 }
         ensures { self.new ≡ with_top self.old slot.0 entry }
     {
-        let top = self.frames.len() - 1;
-        self.frames[top].space.set(slot, entry);
+        let top = self.depth - 1;
+        self.places[top].space.set(slot, entry);
     }
 }

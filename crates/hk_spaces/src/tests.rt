@@ -1,4 +1,4 @@
-use crate::{Space, Stack, StackFrame};
+use crate::{Linkage, Space, Stack, StackFrame};
 use hk_model::{Cap, Entry, Inc, Name, Slot};
 use hk_rights::Rights;
 use std::test::Fail;
@@ -42,5 +42,32 @@ fn the_last_frame_is_changed_and_taken(rt: HostRuntime) -> Result<(), Fail> {
     assert_eq!(rt; stack.frame(1).space.at(Slot(0)), held());
     assert_eq!(rt; stack.pop().map(|top| top.inc), Some(Inc(2)));
     assert_eq!(rt; stack.depth(), 1);
+    Ok(())
+}
+
+/// What a call keeps whose capability comes to slot 3 of its caller.
+fn linkage(inc: u64) -> Linkage {
+    Linkage {
+        inc: Inc(inc),
+        into: Slot(3),
+        confined: true,
+        procedure: Name(8),
+    }
+}
+
+#[test]
+fn a_call_is_written_where_another_has_gone(rt: HostRuntime) -> Result<(), Fail> {
+    let mut stack = Stack::empty(rt.alloc());
+    let mut space = Space::empty();
+    space.set(Slot(5), held());
+    assert!(rt; stack.push_call(&space, linkage(1)).is_ok());
+    assert_eq!(rt; stack.frame(0).space.at(Slot(5)), held());
+    assert_eq!(rt; stack.leave(), Some(Slot(3)));
+    assert_eq!(rt; stack.leave(), None);
+    space.clear();
+    assert!(rt; stack.push_call(&space, linkage(2)).is_ok());
+    assert_eq!(rt; stack.frame(0).space.at(Slot(5)), Entry::Empty);
+    stack.clear();
+    assert_eq!(rt; stack.depth(), 0);
     Ok(())
 }

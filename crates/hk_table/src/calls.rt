@@ -11,6 +11,7 @@ ghost use Rattle.hk_table.specs.Joined.{FewNumbers};
 ghost use Rattle.hk_table.specs.Rooms.{IsKnownRooted};
 ghost use Rattle.hk_table.specs.Told.{AllNamedStand};
 
+use crate::draft::Draft;
 use crate::parts::Parts;
 use hk_calls::Stop;
 use hk_model::{Acted, Answer, Call, Entry, NoMemory, Path, Proc, Reply};
@@ -36,6 +37,7 @@ impl Parts {
         alloc: Global,
         proc: Proc,
         call: &Call,
+        draft: &mut Draft,
         rooted: &mut bool,
     ) -> Result<Answer, Stop>
         requires known { proc.0 < length self.old.processes }
@@ -70,7 +72,7 @@ impl Parts {
                 proc: path,
                 args,
                 into,
-            } => self.enter(proc, path, args, *into),
+            } => self.enter(proc, path, args, *into, draft),
             Call::Leave { give } => Ok(self.leave(proc, *give)?),
             Call::P { of } => Ok(self.take_token(proc, of)?),
             Call::V { of } => Ok(self.give_token(proc, of)?),
@@ -83,6 +85,7 @@ impl Parts {
         alloc: Global,
         proc: Proc,
         call: &Call,
+        draft: &mut Draft,
         rooted: &mut bool,
     ) -> Result<Reply, NoMemory>
         requires known { proc.0 < length self.old.processes }
@@ -97,7 +100,7 @@ impl Parts {
         ensures err { OnErr result (self.new ≡ self.old) }
         ensures rooted { IsKnownRooted rooted.new self.new }
     {
-        match self.serve(alloc, proc, call, rooted) {
+        match self.serve(alloc, proc, call, draft, rooted) {
             Ok(answer) => {
                 self.settle();
                 *rooted = false;
@@ -133,13 +136,14 @@ impl Parts {
     }
 
     /// Makes a call of a process that runs. It is one event, refused or not. NoMemory is want of memory of an Add, an
-    /// Append, a Copy or an Enter, and changes nothing. Where `rooted` says that names lead to each object, that holds
-    /// before and behind it.
+    /// Append, a Copy or an Enter, and changes nothing. A call of a procedure is put together in the draft, whatever stands there.
+    /// Where `rooted` says that names lead to each object, that holds before and behind it.
     pub(crate) fn act(
         &mut self,
         alloc: Global,
         proc: Proc,
         call: &Call,
+        draft: &mut Draft,
         rooted: &mut bool,
     ) -> Result<Acted, NoMemory>
         requires known { proc.0 < length self.old.processes }
@@ -158,7 +162,7 @@ impl Parts {
     {
         let events = self.next_event();
         let code = self.code_entered(proc, call);
-        let reply = self.reply_to(alloc, proc, call, rooted)?;
+        let reply = self.reply_to(alloc, proc, call, draft, rooted)?;
         self.set_events(events);
         Ok(Acted {
             reply,

@@ -16,7 +16,7 @@ use crate::stacks::Stacks;
 use hk_model::{Inc, Name, NoMemory, Proc, ProcessState, Slot};
 use hk_objects::Objects;
 use hk_reclaim::Counts;
-use hk_spaces::{Space, StackFrame};
+use hk_spaces::{Linkage, Space};
 
 /// What the frames of a process named from outside goes.
 fn release_frames(objects: &Objects, counts: &mut Counts, stacks: &Stacks, proc: Proc)
@@ -74,26 +74,25 @@ impl Parts {
         procedure: Name,
         into: Slot,
         confined: bool,
-        space: Space,
+        space: &Space,
     ) -> Result<(), NoMemory>
         requires known { proc.0 < length self.old.processes }
         requires lives { 0 < length (incarnation self.old (process self.old proc).current).slots }
         requires depth { depth self.old proc < 64 }
         requires next { self.old.next_inc.0 < 2 ^ 63 }
-        ensures ok { OnOk result (self.new ≡ enter self.old (called_incarnation proc procedure (process self.old proc).current into confined space)) }
+        ensures ok { OnOk result (self.new ≡ enter self.old (called_incarnation proc procedure (process self.old proc).current into confined space.now)) }
         ensures err { OnErr result (self.new ≡ self.old) }
     {
         let _deep = self.stacks.depth(proc);
         let _slots = space.as_slice(); // so that the check knows how many slots there are
         let inc = self.stacks.next();
-        let frame = StackFrame {
-            space,
+        let linkage = Linkage {
             inc,
             into,
             confined,
-            procedure: Some(procedure),
+            procedure,
         };
-        self.stacks.push(proc, frame)?;
+        self.stacks.push(proc, space, linkage)?;
         hold_top(&self.objects, &mut self.counts, &self.stacks, proc);
         self.processes.set_current(proc, inc);
         Ok(())

@@ -4,7 +4,7 @@
 //! Its state is that of the rule table, told from its parts. The files are by subject: `stacks` has the name spaces of the
 //! calls, `parts` these with the objects, the queues and the counts, `born`, `counted` and `opening` the state in which a world
 //! opens, `processors` the dispatch, the halt and what a processor runs, `finding` and `reads` the objects by name, `walks` and
-//! `targets` the tests that the calls share, `frames` the incarnations that come and go, `making` and `objects` what is made.
+//! `targets` the tests that the calls share, `frames` the incarnations that come and go, `draft` where a call is put together, `making` and `objects` what is made.
 //! The calls: `words`, `lists`, `slots`, `templates`, `semaphores`, `procedures` and `creating`; `calls` hands each to its row.
 //! The state as plain data: `queued`, `shown` and `shows`. `counting` raises and lowers the counts by what names come and go,
 //! `settling` and `vanishing` take away what nothing names or reaches by them, and `laws` says what the counts from outside
@@ -20,6 +20,7 @@ mod confined;
 mod counted;
 mod counting;
 mod creating;
+mod draft;
 mod finding;
 mod frames;
 mod laws;

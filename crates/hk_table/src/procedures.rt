@@ -7,13 +7,13 @@ ghost use Rattle.hk_model.specs.Rule.{slots_at, type_held, argument, enter_proce
 ghost use Rattle.hk_table.specs.Giving.{Answers, Gives};
 ghost use Rattle.hk_table.specs.Returns.{returned_with};
 
+use crate::draft::Draft;
 use crate::parts::Parts;
 use hk_calls::{Stop, Wanted, slot_at};
 use hk_merge::{Arg, allowed, fill_space, held};
 use hk_model::limits::{DEPTH_LIMIT, SLOT_LIMIT};
 use hk_model::{Answer, Args, Cap, Entry, Name, Path, Proc, Refusal, Slot, Template};
 use hk_rights::{Right, Rights};
-use hk_spaces::Space;
 use std::marker::PhantomData;
 
 /// The slots are to be below 64; they have the steps from `first` on.
@@ -64,7 +64,8 @@ impl Parts {
         }
     }
 
-    /// Enter: a new incarnation, with the merged parameters and what the procedure holds.
+    /// Enter: a new incarnation, with the merged parameters and what the procedure holds. They are put together in the draft,
+    /// whatever stands there.
     #[tactic(auto, using(crate::proofs::TargetLemmas::target_lives), unfolding(hk_model::specs::Rule::enter_procedure))]
     pub(crate) fn enter(
         &mut self,
@@ -72,6 +73,7 @@ impl Parts {
         path: &Path,
         args: &Args,
         into: Slot,
+        draft: &mut Draft,
     ) -> Result<Answer, Stop>
         requires known { proc.0 < length self.old.processes }
         requires next { self.old.next_inc.0 < 2 ^ 63 }
@@ -83,15 +85,11 @@ impl Parts {
         slot_at(into, into_step)?;
         let cap = self.target(proc, path, Wanted::Procedures, Rights::A0)?;
         let confined = !cap.rights.has(Right::UNCONF);
-        let mut held = [Arg {
-            entry: Entry::Empty,
-            of: Name(0),
-        }; 8];
-        self.args(proc, args.as_slice(), &mut held);
-        let mut space = Space::empty();
+        self.args(proc, args.as_slice(), &mut draft.args);
+        draft.space.clear();
         fill_space(
-            &mut space,
-            &held[..args.len()],
+            &mut draft.space,
+            &draft.args[..args.len()],
             self.params(cap.name),
             self.entries(cap.name),
             confined,
@@ -100,7 +98,7 @@ impl Parts {
         if self.depth(proc) >= DEPTH_LIMIT {
             return Err(Stop::Refused(Refusal::Deep));
         }
-        self.add_call(proc, cap.name, into, confined, space)?;
+        self.add_call(proc, cap.name, into, confined, &draft.space)?;
         Ok(Answer::Done)
     }
 

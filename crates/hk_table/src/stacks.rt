@@ -6,12 +6,12 @@
 ghost use Rattle.std.specs.Prelude.{◌≡◌, ◌<◌, ◌≤◌, ◌+◌, ◌-◌, ◌++◌, ◌∷◌, ◌^◌, [], IfOk, OnOk, OnErr, IfSome, IfNone, length, option_copied, option_map, replicate, slice_set, slice_index_or};
 ghost use Rattle.hk_model.specs.declared.entries.Entry.TheVariants.{Empty};
 ghost use Rattle.hk_spaces.specs.declared.stack.StackFrame.{StackFrame};
-ghost use Rattle.hk_spaces.specs.Slots.{with_top};
+ghost use Rattle.hk_spaces.specs.Slots.{called_frame, with_top};
 ghost use Rattle.hk_table.specs.Small.{AreSmallStacks};
 ghost use Rattle.hk_table.specs.Stacked.{base_frame, base_stacks, top_of, slots_of, with_top_of, with_frame, Pops, AreNumbered, IsIn};
 
 use hk_model::{Entries, Entry, Inc, NoMemory, Proc, Slot, World};
-use hk_spaces::{Space, Stack, StackFrame};
+use hk_spaces::{Linkage, Space, Stack, StackFrame};
 use std::alloc::Global;
 use std::marker::Model;
 
@@ -83,15 +83,15 @@ fn put_top_of(all: &mut Vec<Stack>, at: usize, slot: Slot, entry: Entry)
     }
 }
 
-/// Puts a frame on top of the stack of a process.
+/// Puts the frame of a call on top of the stack of a process.
 #[inline(always)]
-fn push_on(all: &mut Vec<Stack>, at: usize, frame: StackFrame) -> Result<(), NoMemory>
+fn push_on(all: &mut Vec<Stack>, at: usize, space: &Space, linkage: Linkage) -> Result<(), NoMemory>
     requires at { at < length all.old.items }
     requires depth { length (slice_index_or all.old.items at []) < 64 }
-    ensures ok { OnOk result (all.new.items ≡ slice_set all.old.items at (slice_index_or all.old.items at [] ++ frame ∷ [])) }
+    ensures ok { OnOk result (all.new.items ≡ slice_set all.old.items at (slice_index_or all.old.items at [] ++ called_frame space.now linkage ∷ [])) }
     ensures err { OnErr result (all.new.items ≡ all.old.items) }
 {
-    all[at].push(frame)?;
+    all[at].push_call(space, linkage)?;
     Ok(())
 }
 
@@ -103,20 +103,7 @@ fn pop_off(all: &mut Vec<Stack>, at: usize) -> Option<Slot>
     if at >= all.len() {
         return None;
     }
-    match all[at].pop() {
-        Some(frame) => Some(frame.into),
-        None => None,
-    }
-}
-
-/// Takes all frames of a stack.
-fn empty_out(stack: &mut Stack)
-    ensures { stack.new ≡ [] }
-{
-    let depth = stack.depth();
-    for _k in 0..depth {
-        stack.pop();
-    }
+    all[at].leave()
 }
 
 /// Takes all frames of a process.
@@ -124,7 +111,7 @@ fn empty_at(all: &mut Vec<Stack>, at: usize)
     ensures { all.new.items ≡ slice_set all.old.items at [] }
 {
     if at < all.len() {
-        empty_out(&mut all[at]);
+        all[at].clear();
     }
 }
 
@@ -219,18 +206,24 @@ impl Stacks {
         }
     }
 
-    /// Puts a frame with the next number on top of the stack of a process. NoMemory is want of memory, and changes nothing.
+    /// Puts the frame of a call with the next number on top of the stack of a process. NoMemory is want of memory, and changes
+    /// nothing.
     #[inline(always)]
-    pub(crate) fn push(&mut self, proc: Proc, frame: StackFrame) -> Result<(), NoMemory>
+    pub(crate) fn push(
+        &mut self,
+        proc: Proc,
+        space: &Space,
+        linkage: Linkage,
+    ) -> Result<(), NoMemory>
         requires proc { proc.0 < length self.old.stacks }
         requires depth { length (slice_index_or self.old.stacks proc.0 []) < 64 }
-        requires number { frame.inc ≡ self.old.next }
+        requires number { linkage.inc ≡ self.old.next }
         requires next { self.old.next.0 < 2 ^ 63 }
-        ensures ok { OnOk result (self.new ≡ with_frame self.old proc.0 frame) }
+        ensures ok { OnOk result (self.new ≡ with_frame self.old proc.0 (called_frame space.now linkage)) }
         ensures err { OnErr result (self.new ≡ self.old) }
         ensures numbered { AreNumbered self.old.stacks self.old.next }
     {
-        push_on(&mut self.all, proc.0 as usize, frame)?;
+        push_on(&mut self.all, proc.0 as usize, space, linkage)?;
         self.next = Inc(self.next.0 + 1);
         Ok(())
     }

@@ -8,6 +8,7 @@ ghost use Rattle.hk_model.specs.Opening.{opening};
 ghost use Rattle.hk_model.specs.Processors.{running_on};
 ghost use Rattle.hk_model.specs.State.{incarnation, object};
 
+use crate::draft::Draft;
 use crate::parts::Parts;
 use hk_model::{Acted, Call, Cpu, Entry, Inc, Kernel, Name, NoMemory, Proc, Snapshot, World};
 use std::alloc::Global;
@@ -18,6 +19,8 @@ use std::marker::Model;
 #[derive(Drop)]
 pub struct Table {
     parts: Parts,
+    // Where a call of a procedure is put together.
+    draft: Draft,
     // Whether it is known that names lead to each object, so that a collection takes none. A refused call leaves it so.
     rooted: bool,
 }
@@ -42,6 +45,7 @@ impl Table {
     {
         Ok(Table {
             parts: Parts::open(alloc, world)?,
+            draft: Draft::new(),
             rooted: false,
         })
     }
@@ -93,7 +97,10 @@ impl Kernel for Table {
 
     fn act(&mut self, alloc: Global, cpu: Cpu, call: Call) -> Result<Acted, NoMemory> {
         match self.parts.runner(cpu) {
-            Some(proc) => self.parts.act(alloc, proc, &call, &mut self.rooted),
+            Some(proc) => {
+                self.parts
+                    .act(alloc, proc, &call, &mut self.draft, &mut self.rooted)
+            }
             None => unreachable!(),
         }
     }
