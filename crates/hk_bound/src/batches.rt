@@ -29,7 +29,7 @@ pub(crate) struct Batch {
 impl Batch {
     /// So many cells, of so many templates in all.
     pub(crate) fn new(alloc: Global, cells: usize, forms: usize) -> Result<Batch, NoMemory> {
-        let types_left = if cells >= 64 && cells >= forms / 16 {
+        let types_left = if cells >= 64 && cells >= forms / 2 {
             16
         } else {
             0
