@@ -29,7 +29,7 @@ pub(crate) struct Batch {
 impl Batch {
     /// So many cells, of so many templates in all.
     pub(crate) fn new(alloc: Global, cells: usize, forms: usize) -> Result<Batch, NoMemory> {
-        let types_left = if cells >= 64 && cells >= forms / 16 {
+        let types_left = if cells >= 64 && cells >= forms / 2 {
             16
         } else {
             0
@@ -179,8 +179,10 @@ impl<'a> Table<'a> {
         if batch.takes_type(form.of)? {
             return self.merge_type(process, names, stretches, &mut batch.settled, gaps);
         }
-        let gaining = holdings.gaining(alloc, process, place, form, names.len())?;
-        self.merge_form(process, place, form, &gaining, gaps)
+        match holdings.gaining(alloc, process, place, form, names.len())? {
+            None => self.merge_form(process, place, form, names, gaps),
+            Some(gaining) => self.merge_form(process, place, form, &gaining, gaps),
+        }
     }
 
     /// What merges give to a process for an object for which it has got more rights.

@@ -1,5 +1,5 @@
-// Which rights processes have for the objects for whose types there are templates, type by type: so a template is
-// held against many objects at a time.
+// Which rights processes have for the objects for whose types there are many templates, type by type: so a template
+// is held against many objects at a time.
 
 use crate::forms::Form;
 use crate::spreading::Grown;
@@ -9,6 +9,9 @@ use std::alloc::Global;
 
 /// How many objects are passed over together, at most.
 const GROUP: usize = 64;
+
+/// Of how many templates on those of a type are many.
+const MANY: usize = 16;
 
 /// The rights of one process, by the places of objects.
 #[derive(Drop)]
@@ -22,12 +25,12 @@ struct Holding {
 /// The rights of all processes.
 #[derive(Drop)]
 pub(crate) struct Holdings {
-    /// The objects for whose types there are templates, type by type.
+    /// The objects for whose types there are many templates, type by type.
     names: Vec<usize>,
     /// For each object its place among these.
     places: Vec<Option<usize>>,
-    /// For each template the place of the first object of its type.
-    starts: Vec<usize>,
+    /// For each template the place of the first object of its type, if there are many for the type.
+    starts: Vec<Option<usize>>,
     processes: Vec<Holding>,
 }
 
@@ -43,11 +46,9 @@ fn some_gain(objects: &[Rights], check: Rights, give: Rights) -> bool {
 impl Holding {
     /// Notes the rights for the object at a place.
     fn set(&mut self, place: usize, rights: Rights, count: usize) -> Result<(), NoMemory> {
-        for _ in self.rights.len()..count {
-            self.rights.push(Rights::all())?;
-        }
-        for _ in self.unions.len()..count / GROUP + 1 {
-            self.unions.push(Rights::none())?;
+        if self.rights.is_empty() {
+            self.rights.resize(count, Rights::all())?;
+            self.unions.resize(count / GROUP + 1, Rights::none())?;
         }
         if let Some(old) = self.rights.get_mut(place) {
             *old = rights;
@@ -131,30 +132,40 @@ impl Holdings {
                 unions: Vec::new(alloc),
             })?;
         }
-        for form in forms {
-            holdings.add_form(form, kinds)?;
+        for number in 0..forms.len() {
+            holdings.add_form(forms, number, kinds)?;
         }
         Ok(holdings)
     }
 
-    /// Adds a template behind the others, and the objects of its type.
-    fn add_form(&mut self, form: &Form, kinds: &[Vec<usize>]) -> Result<(), NoMemory> {
-        let Some(names) = kinds.get(form.of.0 as usize) else {
-            self.starts.push(self.names.len())?;
+    /// Adds a template behind the others, and with the first of a type its objects, if there are many for it.
+    fn add_form(
+        &mut self,
+        forms: &[Form],
+        number: usize,
+        kinds: &[Vec<usize>],
+    ) -> Result<(), NoMemory> {
+        let of = forms.get(number).map(|form| form.of);
+        let before = forms.get(number.wrapping_sub(1)).map(|form| form.of);
+        let start = if before == of {
+            self.starts.last().copied().flatten()
+        } else if forms
+            .get(number.saturating_add(MANY - 1))
+            .map(|form| form.of)
+            == of
+        {
+            Some(self.names.len())
+        } else {
+            None
+        };
+        self.starts.push(start)?;
+        let (Some(of), true) = (of, before != of && start.is_some()) else {
             return Ok(());
         };
-        let known = match names.first() {
-            None => None,
-            Some(first) => self.place(*first),
-        };
-        match known {
-            Some(place) => self.starts.push(place)?,
-            None => {
-                self.starts.push(self.names.len())?;
-                self.add_names(names.as_slice())?;
-            }
+        match kinds.get(of.0 as usize) {
+            None => Ok(()),
+            Some(names) => self.add_names(names.as_slice()),
         }
-        Ok(())
     }
 
     /// Adds objects behind the others.
@@ -169,8 +180,8 @@ impl Holdings {
         Ok(())
     }
 
-    /// The place of an object, if there are templates for its type.
-    pub(crate) fn place(&self, name: usize) -> Option<usize> {
+    /// The place of an object, if there are many templates for its type.
+    fn place(&self, name: usize) -> Option<usize> {
         match self.places.get(name) {
             None => None,
             Some(place) => *place,
@@ -189,7 +200,8 @@ impl Holdings {
         }
     }
 
-    /// The objects for which a template gives a process something. `count` is how many there are of its type.
+    /// The objects for which a template gives a process something, if there are many for its type. `count` is how
+    /// many objects there are of it.
     pub(crate) fn gaining(
         &self,
         alloc: Global,
@@ -197,21 +209,17 @@ impl Holdings {
         number: usize,
         form: &Form,
         count: usize,
-    ) -> Result<Vec<usize>, NoMemory> {
-        let mut found = Vec::new(alloc);
-        let (Some(start), Some(holding)) = (self.starts.get(number), self.processes.get(process))
-        else {
-            return Ok(found);
+    ) -> Result<Option<Vec<usize>>, NoMemory> {
+        let Some(start) = self.starts.get(number).copied().flatten() else {
+            return Ok(None);
         };
-        let give = form.give.without(Rights::SPECIAL);
-        holding.list_all(
-            self.names.as_slice(),
-            *start,
-            start.saturating_add(count),
-            form.check,
-            give,
-            &mut found,
-        )?;
-        Ok(found)
+        let mut found = Vec::new(alloc);
+        if let Some(holding) = self.processes.get(process) {
+            let give = form.give.without(Rights::SPECIAL);
+            let end = start.saturating_add(count);
+            let names = self.names.as_slice();
+            holding.list_all(names, start, end, form.check, give, &mut found)?;
+        }
+        Ok(Some(found))
     }
 }

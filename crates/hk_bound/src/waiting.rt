@@ -89,8 +89,6 @@ pub(crate) struct Waiting {
     passes: Line,
     /// What processes have for objects that may be merged.
     pub holdings: Holdings,
-    /// Behind how many columns templates stand.
-    things: usize,
 }
 
 impl Waiting {
@@ -109,7 +107,6 @@ impl Waiting {
             merges,
             passes,
             holdings,
-            things: objects.saturating_add(count),
         })
     }
 
@@ -135,10 +132,8 @@ impl Waiting {
 
     /// Adds a cell that has grown. It is handed on where its process has takers.
     pub(crate) fn add(&mut self, cell: &Grown, has_takers: bool) -> Result<(), NoMemory> {
-        if cell.column >= self.things || self.holdings.place(cell.column).is_some() {
-            self.holdings.note(cell)?;
-            self.merges.add(cell.process, cell.column)?;
-        }
+        self.holdings.note(cell)?;
+        self.merges.add(cell.process, cell.column)?;
         if has_takers && cell.rights.has(Right::ENV) {
             self.passes.add(cell.process, cell.column)?;
         }
