@@ -2,7 +2,7 @@
 use Rattle.std.proofs.Common.{◌≡◌, ℕ, zero, suc, ◌+◌, ◌-◌, ◌<◌, ◌≤◌, List, [], ◌∷◌, ◌++◌, length, Bool, true, false, Option, Some, None, refl, sym, ◌∙◌, ap, arith, cond, subst, take, slice_get}
 use Rattle.std.specs.Prelude.{◌==◌, ◌⊎◌, drop, filter, nat_lt, nat_le, slice_index_or}
 use mathlib.Core.Logic.{inl, inr}
-use Rattle.std.specs.List.{AllByRecursion, between, find}
+use Rattle.std.specs.List.{AllByRecursion, between}
 use Rattle.std.specs.List.Sorted.{IsNonDecreasingBy, IsPartitionPoint}
 use Rattle.std.proofs.lemmas.Bool.{true≢false, eqb-true, eq-eqb, ne_eqb, ltb-true, ltb-false, lt-ltb, le-ltb, leb-true, le-leb, cases_lt}
 use Rattle.std.proofs.lemmas.List.{get_or-drop}
@@ -15,9 +15,9 @@ use Rattle.hk_report.specs.declared.holders.Stretch.{Stretch}
 use Rattle.hk_report.specs.declared.hops.Arrived.{Arrived}
 use Rattle.hk_report.specs.declared.hops.Latest.{Latest}
 use Rattle.hk_report.specs.declared.hops.Onward.{Onward}
-use Rattle.hk_report.specs.Histories.{no_history, history_of}
+use Rattle.hk_report.specs.Histories.{history_of}
 use Rattle.hk_report.specs.Hops.{first_from, latest_end, next_latest, ends_before, no_latest}
-use Rattle.hk_report.specs.Runs.{IsRun, AreCut, ends_at, AreRuns}
+use Rattle.hk_report.specs.Runs.{AreCut, ends_at, AreRuns}
 use Rattle.hk_report.specs.Holders.{spans_in, stretch_at, stretches, holds, held_at, stands_in, held_in, numbered, stretches_of, stretches_below, AreHolders, HoldsAlone, joined, latest_within, raised_at, raised_over}
 use Rattle.hk_report.proofs.HistoryLemmas.{beyond}
 use Rattle.hk_report.proofs.HolderLemmas.{drop_more, drop_done}

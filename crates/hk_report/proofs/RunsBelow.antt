@@ -2,7 +2,7 @@
 use Rattle.std.proofs.Common.{◌≡◌, ℕ, ◌+◌, ◌<◌, ◌≤◌, List, [], ◌∷◌, length, Bool, true, false, Option, Some, None, refl, sym, ◌∙◌, ap, arith, cond, subst, slice_get}
 use Rattle.std.specs.Prelude.{◌⊎◌, drop, slice_index_or}
 use mathlib.Core.Logic.{inl, inr}
-use Rattle.std.specs.List.{AllByRecursion, between, find}
+use Rattle.std.specs.List.{AllByRecursion, find}
 use Rattle.std.proofs.lemmas.Bool.{cases_lt}
 use Rattle.hk_model.specs.declared.names.Name.{Name}
 use Rattle.hk_model.specs.declared.entries.Cap.{Cap}
@@ -13,7 +13,6 @@ use Rattle.hk_report.specs.declared.holders.Stretch.{Stretch}
 use Rattle.hk_report.specs.declared.hops.Arrived.{Arrived}
 use Rattle.hk_report.specs.declared.hops.Latest.{Latest}
 use Rattle.hk_report.specs.declared.hops.Onward.{Onward}
-use Rattle.hk_report.specs.Histories.{history_of}
 use Rattle.hk_report.specs.Hops.{earlier, onward_below, first_open_below, first_from, later, IsSooner, StaysFirst}
 use Rattle.hk_report.specs.Runs.{precedes, IsRun, is_open}
 use Rattle.hk_report.specs.Holders.{spans_in, HoldsAlone}

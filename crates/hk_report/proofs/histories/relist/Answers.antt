@@ -1,5 +1,3 @@
-use Rattle.std.proofs.Common.{refl, subst}
-use Rattle.hk_report.specs.Histories.{StaysListed}
 use Rattle.hk_report.proofs.Unchanged.{unchanged}
 use Rattle.hk_report.proofs.histories.relist.Goals as goal
 

@@ -1,5 +1,4 @@
 use Rattle.std.proofs.Common.{◌∙◌, ap}
-use Rattle.hk_report.specs.declared.hops.Latest.{Latest}
 use Rattle.hk_report.specs.Holders.{spans_in, joined}
 use Rattle.hk_report.proofs.Raising.{within_all, over_run}
 use Rattle.hk_report.proofs.hops.Ground.joined_over.Goals as goal

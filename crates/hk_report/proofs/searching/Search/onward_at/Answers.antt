@@ -1,5 +1,4 @@
 use Rattle.std.proofs.Common.{sym, ◌∙◌, ap}
-use Rattle.hk_report.specs.declared.hops.Arrived.{Arrived}
 use Rattle.hk_report.specs.Hops.{is_made, latest_at}
 use Rattle.hk_report.specs.Searches.{first_onward, onward_at}
 use Rattle.hk_report.proofs.searching.Search.onward_at.Goals as goal
