@@ -49,17 +49,13 @@ fn bump_steps(alloc: Global) -> Result<Items<Instr>, AllocError>
 fn main_steps(alloc: Global) -> Result<Items<Instr>, AllocError>
     ensures { IfOk result (λ steps. steps ≡ main_steps) }
 {
-    let take = Instr::P {
-        of: at_slot(2),
-    };
+    let take = Instr::P { of: at_slot(2) };
     let call = Instr::Enter {
         proc: at_slot(0),
         args: one(Slot(1)),
         into: Slot(3),
     };
-    let give = Instr::V {
-        of: at_slot(2),
-    };
+    let give = Instr::V { of: at_slot(2) };
     let add = Instr::AddReg {
         reg: 0,
         by: Operand::Number(1),

@@ -114,6 +114,7 @@ impl Loaded {
     }
 
     /// Adds an object of one line, or TooMany.
+    #[inline(always)]
     fn add_single(&mut self, line: u32, name: Text, kind: Kind) -> Result<(), LoadError>
         ensures { BecomesAll result (built_of self.new) (single_added (built_of self.old) line name kind) }
     {
@@ -259,6 +260,7 @@ impl Loaded {
     }
 
     /// Puts an object at the end.
+    #[inline(always)]
     fn push_object(&mut self, label: Text, kind: Kind) -> Result<(), LoadError>
         ensures { BecomesAll result (built_of self.new) (Ok (with_born (built_of self.old) label kind)) }
     {

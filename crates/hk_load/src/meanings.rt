@@ -14,26 +14,26 @@ use std::alloc::{AllocError, Global};
 #[derive(Clone, Copy)]
 pub enum Meaning {
     /// The type of this number.
-    IsType(u64),
+    IsType(u32),
     /// The object of this number, which is no type.
-    IsObject(u64),
+    IsObject(u32),
     /// The code of this number.
-    IsCode(usize),
+    IsCode(u32),
     IsProcess,
 }
 
 /// The numbers of the next object and of the next code.
 #[derive(Drop)]
 struct Next {
-    object: u64,
-    code: usize,
+    object: u32,
+    code: u32,
 }
 
 impl Next {
     /// What the name that a head gives stands for, if it gives one.
     fn meaning(&mut self, head: &Head) -> Option<Meaning>
-        requires object { self.old.object < 2 ^ 64 - 1 }
-        requires code { self.old.code < 2 ^ 64 - 1 }
+        requires object { self.old.object < 2 ^ 32 - 1 }
+        requires code { self.old.code < 2 ^ 32 - 1 }
         ensures meaning { result ≡ meaning_given self.old.object self.old.code head.now }
         ensures object { self.new.object ≡ object_after self.old.object head.now }
         ensures code { self.new.code ≡ code_after self.old.code head.now }
@@ -50,8 +50,8 @@ impl Next {
     }
 
     /// The number of the next object, which is taken.
-    fn next_object(&mut self) -> u64
-        requires { self.old.object < 2 ^ 64 - 1 }
+    fn next_object(&mut self) -> u32
+        requires { self.old.object < 2 ^ 32 - 1 }
         ensures number { result ≡ self.old.object }
         ensures object { self.new.object ≡ self.old.object + 1 }
         ensures code { self.new.code ≡ self.old.code }
@@ -62,8 +62,8 @@ impl Next {
     }
 
     /// The number of the next code, which is taken.
-    fn next_code(&mut self) -> usize
-        requires { self.old.code < 2 ^ 64 - 1 }
+    fn next_code(&mut self) -> u32
+        requires { self.old.code < 2 ^ 32 - 1 }
         ensures number { result ≡ self.old.code }
         ensures object { self.new.object ≡ self.old.object }
         ensures code { self.new.code ≡ self.old.code + 1 }
@@ -74,10 +74,16 @@ impl Next {
     }
 }
 
-/// What the names that these heads give stand for, in their order.
+/// More items than these have no numbers: so many want more memory than there is.
+const ITEM_LIMIT: usize = (1 << 32) - 9;
+
+/// What the names that these heads give stand for, in their order. The only error is want of memory.
 pub fn meanings_of(alloc: Global, items: &[Item]) -> Result<Vec<Meaning>, AllocError>
     ensures { IfOk result (λ ms. ms.items ≡ meanings_from 7 0 (map (λ (i : Item). i.head) items.now)) }
 {
+    if items.len() > ITEM_LIMIT {
+        return Err(AllocError);
+    }
     let mut meanings = Vec::with_capacity(alloc, items.len())?;
     let mut next = Next { object: 7, code: 0 };
     for item in items {
@@ -114,8 +120,8 @@ pub fn object_number(names: &Names, meanings: &[Meaning], name: &str) -> Option<
         return Some(number);
     }
     match meaning_named(names, meanings, name) {
-        Some(Meaning::IsType(number)) => Some(number),
-        Some(Meaning::IsObject(number)) => Some(number),
+        Some(Meaning::IsType(number)) => Some(u64::from(number)),
+        Some(Meaning::IsObject(number)) => Some(u64::from(number)),
         Some(Meaning::IsCode(_)) => None,
         Some(Meaning::IsProcess) => None,
         None => None,
@@ -130,7 +136,7 @@ pub fn type_number(names: &Names, meanings: &[Meaning], name: &str) -> Option<u6
         return Some(number);
     }
     match meaning_named(names, meanings, name) {
-        Some(Meaning::IsType(number)) => Some(number),
+        Some(Meaning::IsType(number)) => Some(u64::from(number)),
         Some(Meaning::IsObject(_)) => None,
         Some(Meaning::IsCode(_)) => None,
         Some(Meaning::IsProcess) => None,
@@ -145,7 +151,7 @@ pub fn code_number(names: &Names, meanings: &[Meaning], name: &str) -> Option<us
     match meaning_named(names, meanings, name) {
         Some(Meaning::IsType(_)) => None,
         Some(Meaning::IsObject(_)) => None,
-        Some(Meaning::IsCode(number)) => Some(number),
+        Some(Meaning::IsCode(number)) => Some(number as usize),
         Some(Meaning::IsProcess) => None,
         None => None,
     }

@@ -7,4 +7,4 @@ use Rattle.hk_model.specs.declared.instructions.OneOrMore.TheVariants.{One, More
 -- the one that is kept in place, or those of the list
 abbrev pub indices_kept : OneOrMore → List Index
 indices_kept (One at) = at
-indices_kept (More at) = at
+indices_kept (More at) = at.value

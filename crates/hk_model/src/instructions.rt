@@ -29,11 +29,11 @@ pub struct Route {
     pub at: Indices,
 }
 
-/// An index alone, which is kept in place, or a list of them.
+/// An index alone, which is kept in place, or a list of them, which stands apart so that a route is small.
 #[derive(Drop)]
 enum OneOrMore {
     One([Index; 1]),
-    More(Items<Index>),
+    More(Box<Items<Index>>),
 }
 
 /// The indices of a route. Most routes have one, which takes no memory of its own. Contracts see the list.
@@ -64,13 +64,12 @@ impl Indices {
         }
     }
 
-    /// These indices.
-    pub fn from_items(indices: Items<Index>) -> Indices
-        ensures { result ≡ indices }
+    /// These indices. The only error is want of memory.
+    pub fn from_items(alloc: Global, indices: Items<Index>) -> Result<Indices, AllocError>
+        ensures { IfOk result (λ kept. kept ≡ indices) }
     {
-        Indices {
-            kept: OneOrMore::More(indices),
-        }
+        let kept = OneOrMore::More(Box::new(alloc, indices)?);
+        Ok(Indices { kept })
     }
 
     /// The indices, from left to right.
@@ -89,7 +88,7 @@ impl Indices {
     {
         let kept = match &self.kept {
             OneOrMore::One(index) => OneOrMore::One(*index),
-            OneOrMore::More(indices) => OneOrMore::More(indices.copy(alloc)?),
+            OneOrMore::More(indices) => OneOrMore::More(Box::new(alloc, indices.copy(alloc)?)?),
         };
         Ok(Indices { kept })
     }

@@ -201,11 +201,11 @@ fn path(alloc: Global, text: &[u8]) -> Result<Route, LineError>
     requires { AreIndices (cut_points text.now) }
     ensures { Gives (λ x. x) result (as_route (Path (map index_of (cut_points text.now)))) }
 {
-    path_on(Items::new(alloc), text, SLOT_LIMIT as u32)
+    path_on(alloc, Items::new(alloc), text, SLOT_LIMIT as u32)
 }
 
 /// The path of these indices and of those in the text, the first of which is to be below the bound.
-fn path_on(mut at: Items<Index>, text: &[u8], bound: u32) -> Result<Route, LineError>
+fn path_on(alloc: Global, mut at: Items<Index>, text: &[u8], bound: u32) -> Result<Route, LineError>
     requires indices { AreIndices (cut_points text.now) }
     requires bound { bound ≤ 65536 }
     ensures { Gives (λ x. x) result (route_on at bound (map index_of (cut_points text.now))) }
@@ -213,11 +213,10 @@ fn path_on(mut at: Items<Index>, text: &[u8], bound: u32) -> Result<Route, LineE
     let len = first_of(text, b'.');
     at.push(index(&text[..len], bound)?)?;
     if len == text.len() {
-        return Ok(Route {
-            at: Indices::from_items(at),
-        });
+        let at = Indices::from_items(alloc, at)?;
+        return Ok(Route { at });
     }
-    path_on(at, &text[len..][1..], INDEX_BOUND)
+    path_on(alloc, at, &text[len..][1..], INDEX_BOUND)
 }
 
 /// An index that is a register, or a number below the bound.

@@ -17,7 +17,7 @@ returns-in_err-index t c =
 
 pub returns-then-len-text : goal.returns-then-len-text
 returns-then-len-text t c =
-    rw (c.from_items.ensures, c.in_ok-push.ensures.ok) (route_last c.args.text.now c.args.at c.args.bound c.first_of-len.result c.in_ok-index.field-0 c.first_of-len.ensures.place
+    rw (c.in_ok-at.ensures, c.in_ok-push.ensures.ok) (route_last c.args.text.now c.args.at c.args.bound c.first_of-len.result c.in_ok-index.field-0 c.first_of-len.ensures.place
     c.if-len-text.true c.in_ok-index.ensures)
 
 pub path_on-requires : goal.path_on-requires
