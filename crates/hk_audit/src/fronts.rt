@@ -34,8 +34,8 @@ fn behind_actor<'a>(bytes: &'a [u8], line: &Line) -> Option<&'a [u8]>
     ensures { IfSome result (λ rest. (decimal line.now.cpu.0 ++ 32 ∷ (decimal line.now.proc.0 ++ 32 ∷ (decimal line.now.inc.0 ++ 32 ∷ []))) ++ rest.now ≡ bytes.now) }
 {
     let first = behind_number(bytes, u64::from(line.cpu.0))?;
-    let second = behind_next(first, u64::from(line.proc.0))?;
-    let third = behind_next(second, line.inc.0)?;
+    let second = behind_next_few(first, u64::from(line.proc.0))?;
+    let third = behind_next_few(second, line.inc.0)?;
     behind(third, b" ")
 }
 
@@ -217,6 +217,18 @@ fn behind_next<'a>(bytes: &'a [u8], n: u64) -> Option<&'a [u8]>
 {
     let number = behind(bytes, b" ")?;
     behind_number(number, n)
+}
+
+/// What stands behind a space and a number, of which most have up to three digits: these are compared where the call stands.
+#[inline(always)]
+fn behind_next_few<'a>(bytes: &'a [u8], n: u64) -> Option<&'a [u8]>
+    ensures { IfSome result (λ rest. (32 ∷ decimal n) ++ rest.now ≡ bytes.now) }
+{
+    let number = behind(bytes, b" ")?;
+    if n < 1000 {
+        return behind_small(number, n);
+    }
+    behind_longer(number, n)
 }
 
 /// What stands behind a number.
