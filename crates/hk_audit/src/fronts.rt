@@ -3,18 +3,21 @@
 //! Each function gives what stands behind a text with which the bytes begin. None tells nothing: who is to know whether the
 //! bytes begin with the text then makes the text and compares.
 
-ghost use Rattle.std.specs.Prelude.{◌≡◌, ◌++◌, ◌∷◌, ◌<◌, ◌+◌, [], IfSome};
+ghost use Rattle.std.specs.Prelude.{◌≡◌, ◌++◌, ◌∷◌, ◌<◌, ◌+◌, [], IfSome, codes};
 ghost use Rattle.std.specs.List.{flat_map};
 ghost use Rattle.std.specs.Fmt.{decimal};
-ghost use Rattle.hk_format.specs.AuditLines.{call_pieces, line_text, refusal_pieces, reply_pieces, what_pieces};
+ghost use Rattle.hk_rights.specs.Rights.{name_of};
+ghost use Rattle.hk_format.specs.AuditLines.{call_pieces, full_word, line_text, refusal_pieces, reply_pieces, what_pieces};
 ghost use Rattle.hk_format.specs.LineRanges.{IsCall, IsLine, IsPathValue, IsWhat};
 ghost use Rattle.hk_format.specs.Operands.{argument_pieces, path_piece};
-ghost use Rattle.hk_format.specs.Pieces.{spell, Number, Word};
+ghost use Rattle.hk_format.specs.Pieces.{spell, Number, Upper, Word};
 ghost use Rattle.hk_format.specs.Texts.{spell_line};
 ghost use Rattle.hk_audit.specs.ThreeDigits.{three_digits};
 
 use crate::reading::behind;
-use hk_model::{Args, Call, Line, Path, Refusal, Reply, Slot, What};
+use crate::replies::kind_name;
+use hk_model::{Args, Call, Line, Path, Refusal, Reply, Slot, What, What8};
+use hk_rights::Right;
 
 /// What stands behind the text of a line.
 pub(crate) fn behind_line<'a>(bytes: &'a [u8], line: &Line) -> Option<&'a [u8]>
@@ -34,8 +37,8 @@ fn behind_actor<'a>(bytes: &'a [u8], line: &Line) -> Option<&'a [u8]>
     ensures { IfSome result (λ rest. (decimal line.now.cpu.0 ++ 32 ∷ (decimal line.now.proc.0 ++ 32 ∷ (decimal line.now.inc.0 ++ 32 ∷ []))) ++ rest.now ≡ bytes.now) }
 {
     let first = behind_number(bytes, u64::from(line.cpu.0))?;
-    let second = behind_next(first, u64::from(line.proc.0))?;
-    let third = behind_next(second, line.inc.0)?;
+    let second = behind_next_few(first, u64::from(line.proc.0))?;
+    let third = behind_next_few(second, line.inc.0)?;
     behind(third, b" ")
 }
 
@@ -88,7 +91,7 @@ fn behind_call<'a>(bytes: &'a [u8], call: &Call) -> Option<&'a [u8]>
     }
 }
 
-/// What stands behind a reply. None for the refusals that are no step alone.
+/// What stands behind a reply.
 fn behind_reply<'a>(bytes: &'a [u8], reply: &Reply) -> Option<&'a [u8]>
     ensures { IfSome result (λ rest. spell_line (reply_pieces reply.now) ++ rest.now ≡ bytes.now) }
 {
@@ -100,7 +103,7 @@ fn behind_reply<'a>(bytes: &'a [u8], reply: &Reply) -> Option<&'a [u8]>
     }
 }
 
-/// What stands behind a refusal with a step alone. None for the others.
+/// What stands behind a refusal.
 fn behind_refusal<'a>(bytes: &'a [u8], refusal: &Refusal) -> Option<&'a [u8]>
     ensures { IfSome result (λ rest. spell_line (refusal_pieces refusal.now) ++ rest.now ≡ bytes.now) }
 {
@@ -110,8 +113,28 @@ fn behind_refusal<'a>(bytes: &'a [u8], refusal: &Refusal) -> Option<&'a [u8]>
         Refusal::NotCap { step } => behind_with_number(bytes, "notcap", u64::from(*step)),
         Refusal::WrongType { step } => behind_with_number(bytes, "wrongtype", u64::from(*step)),
         Refusal::BadTemplate { step } => behind_with_number(bytes, "badtemplate", u64::from(*step)),
-        _ => None,
+        Refusal::Denied { step, right } => behind_denied(bytes, *step, *right),
+        Refusal::Count => behind_word(bytes, "count"),
+        Refusal::Full { what } => behind_full(bytes, *what),
+        Refusal::Deep => behind_word(bytes, "deep"),
     }
+}
+
+/// What stands behind a refusal for want of a right.
+fn behind_denied(bytes: &[u8], step: u8, right: Right) -> Option<&[u8]>
+    ensures { IfSome result (λ rest. spell_line (Word (codes "denied") ∷ Number step ∷ Upper (name_of right) ∷ []) ++ rest.now ≡ bytes.now) }
+{
+    let space = behind_with_number(bytes, "denied", u64::from(step))?;
+    let name = behind(space, b" ")?;
+    behind(name, right.name().as_bytes())
+}
+
+/// What stands behind a refusal for want of room.
+fn behind_full(bytes: &[u8], what: What8) -> Option<&[u8]>
+    ensures { IfSome result (λ rest. spell_line (Word (codes "full") ∷ Word (full_word what) ∷ []) ++ rest.now ≡ bytes.now) }
+{
+    let word = behind(bytes, b"full ")?;
+    behind(word, kind_name(what).as_bytes())
 }
 
 /// What stands behind a word alone.
@@ -217,6 +240,18 @@ fn behind_next<'a>(bytes: &'a [u8], n: u64) -> Option<&'a [u8]>
 {
     let number = behind(bytes, b" ")?;
     behind_number(number, n)
+}
+
+/// What stands behind a space and a number, of which most have up to three digits: these are compared where the call stands.
+#[inline(always)]
+fn behind_next_few<'a>(bytes: &'a [u8], n: u64) -> Option<&'a [u8]>
+    ensures { IfSome result (λ rest. (32 ∷ decimal n) ++ rest.now ≡ bytes.now) }
+{
+    let number = behind(bytes, b" ")?;
+    if n < 1000 {
+        return behind_small(number, n);
+    }
+    behind_longer(number, n)
 }
 
 /// What stands behind a number.

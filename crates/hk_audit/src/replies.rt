@@ -56,7 +56,7 @@ fn write_full(out: &mut String, what: What8) -> Result<(), NoMemory>
 }
 
 /// The word for what has no room for one more.
-fn kind_name(kind: What8) -> &'static str
+pub(crate) fn kind_name(kind: What8) -> &'static str
     ensures { result.now ≡ full_word kind }
 {
     match kind {
