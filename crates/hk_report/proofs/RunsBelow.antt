@@ -82,6 +82,11 @@ module _ (made : Name → Bool) (level : Name → Latest) (from : Arrived) where
               cut (inl less) = inl (omega (arith, less, e))
               cut (inr more) = inr ((let q : moment_of a.hop ≡ n = omega (arith, more, k, e) in q), i)
 
+  all_sooner : (a : Onward) (s : Span) (run : List Span) → AllByRecursion (λ (later : Span). precedes s later ≡ true) run → IsSooner from s a.hop
+      → AllByRecursion (λ (r : Span). IsSooner from r a.hop) run
+  all_sooner a s [] h l = tt
+  all_sooner a s (r ∷ run) h l = (sooner_later s r a (precedes_so s r h.0) l, all_sooner a s run h.1 l)
+
   stays_all : (a : Onward) (s : Span) (run : List Span) → AllByRecursion (λ (later : Span). precedes s later ≡ true) run → IsSooner from s a.hop
       → first_from made level from (Some a) run ≡ Some a
   stays_all a s [] h l = refl
@@ -97,6 +102,21 @@ module _ (made : Name → Bool) (level : Name → Latest) (from : Arrived) where
       let same : span ≡ s = cc in
       let here : IsSooner from s a.hop = subst (λ (r : Span). IsSooner from r a.hop) same l in
       sym (ap (λ (o : Option Onward). first_from made level from o run) (stays_over made level from s a here) ∙ stays_all a s run h.0 here)
+
+  pub stays_open : (first : Option Onward) (run : List Span) (span : Span) (latest : Latest) (m : Bool) → IsRun run → Some span ≡ slice_get run 0 → StaysFirst from span first
+      → first ≡ first_open_below latest m from first (find (is_open from.moment) run)
+  stays_open None run span latest m h f l = absurd l
+  stays_open (Some a) [] span latest m h f l = absurd (cc)
+  stays_open (Some a) (s ∷ run) span latest m h f l =
+      let same : span ≡ s = cc in
+      let here : IsSooner from s a.hop = subst (λ (r : Span). IsSooner from r a.hop) same l in
+      by (here, all_sooner a s run h.0 here) (find (is_open from.moment) (s ∷ run)) refl
+    where
+      by : AllByRecursion (λ (r : Span). IsSooner from r a.hop) (s ∷ run) → (o : Option Span) → find (is_open from.moment) (s ∷ run) ≡ o
+          → Some a ≡ first_open_below latest m from (Some a) o
+      by all None e = refl
+      by all (Some r) e =
+          sym (stays_over (λ x. m) (λ x. latest) from r a (found_all (λ (x : Span). IsSooner from x a.hop) (is_open from.moment) (s ∷ run) r all e))
 
   -- of the runs in one list that hold an object
   pub seen_held : (histories : List History) (helds : List Stretch) (k : ℕ) (held : Stretch) (run : List Span) (name : Name) (latest : Latest) (m : Bool) (first after : Option Onward)

@@ -436,7 +436,7 @@ fn stays_first(from: &Arrived, span: &Span, first: &Option<Onward>) -> bool
 }
 
 /// The hop that comes first of one and those over a run of one capability, after which the rest can be made below these.
-/// It can go over the first span alone that has not ended.
+/// It can go over the first span alone that has not ended, and over none where the hop that is there comes before all.
 fn first_open_below(
     run: &[Span],
     from: &Arrived,
@@ -447,6 +447,11 @@ fn first_open_below(
     requires { IsRun run.now }
     ensures { result ≡ first_open_below latest made from.now first (find (is_open from.now.moment) run.now) }
 {
+    if let Some(span) = run.first() {
+        if stays_first(from, span, &first) {
+            return first;
+        }
+    }
     match first_open(run, from.moment) {
         Some(span) => earlier(
             first,
