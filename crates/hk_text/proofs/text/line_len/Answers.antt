@@ -1,4 +1,4 @@
-use Rattle.std.proofs.Common.{◌≡◌, ◌+◌, eqb, take, ap, ◌∙◌, arith, refl}
+use Rattle.std.proofs.Common.{eqb, take, ap, ◌∙◌, arith, refl}
 use Rattle.std.specs.List.{position_or_len}
 use Rattle.hk_text.proofs.Cleans.{clean_line, bad_line}
 use Rattle.hk_text.proofs.Marks.{marked_comment}

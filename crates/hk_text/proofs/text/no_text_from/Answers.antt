@@ -1,4 +1,4 @@
-use Rattle.std.proofs.Common.{◌≡◌, ◌-◌, length, take, drop, arith}
+use Rattle.std.proofs.Common.{◌≡◌, ◌-◌, length, drop, arith}
 use Rattle.std.specs.List.{slice_range}
 use Rattle.std.proofs.lemmas.List.{length-drop, take_all}
 use Rattle.hk_text.proofs.Marks.{marked_end, behind_mark}
