@@ -17,6 +17,7 @@ mod Spans
 mod Onwards
 mod Found
 mod Relists
+mod ListLemmas
 mod Unchanged
 mod RunLemmas
 mod RunHops

@@ -89,7 +89,7 @@ histories_one w n k m (x ∷ lines) line histories e =
 
 -- of no line
 pub retold_none : {K : Type 0} (w : WorldValue) (r : Retelling K) → r.machine ≡ opened w → r.count ≡ 0 → r.telling.families.changes.items ≡ []
-    → r.telling.families.calls.items ≡ replicate (opened w).state.next_inc.0 [] → r.telling.params.items ≡ []
+    → r.telling.families.calls ≡ replicate (opened w).state.next_inc.0 [] → r.telling.params ≡ []
     → r.telling.histories.items ≡ opened_below (opened w).state (opened w).state.next_name.0 → IsRetold w [] r
 retold_none w r m n c f p h = record { steps = tt; machine = m; count = n; changes = c; calls = f; params = p; histories = h }
 
@@ -98,8 +98,8 @@ pub retold_more : {K : Type 0} (w : WorldValue) (lines : List Line) (line : Line
     → new.machine ≡ moved w old.machine line.cpu → IsToldMore old new line → IsRetold w (lines ++ line ∷ []) new
 retold_more w lines line old new r steps m told =
     let c = told.changes in
-    let f = told.calls ∙ ap (λ (k : Machine). families_by old.count (doing old.machine.state line k.state) old.telling.families.calls.items) m in
-    let p = told.params ∙ ap (λ (k : Machine). old.telling.params.items ++ params_from line old.machine.state k.state) m in
+    let f = told.calls ∙ ap (λ (k : Machine). families_by old.count (doing old.machine.state line k.state) old.telling.families.calls) m in
+    let p = told.params ∙ ap (λ (k : Machine). old.telling.params ++ params_from line old.machine.state k.state) m in
     let h = told.histories ∙ ap (λ (k : Machine). noted (old.count + 1) (doing old.machine.state line k.state) k.state old.telling.histories.items) m in
     let n = told.count in
     let many : old.count ≡ 0 + length (doings w (opened w) lines) = let a = r.count in let b = doings_as_many w (opened w) lines in omega (arith, a, b) in
@@ -111,7 +111,7 @@ retold_more w lines line old new r steps m told =
       count = let a = r.count in let b = length-append lines (line ∷ []) in omega (arith, n, a, b);
       changes =
           c
-          ∙ ap (λ (cs : List BareChange). cs ++ changes_by old.count (before_line old.machine.state line).changed (slice_index_or old.telling.families.calls.items line.inc.0 [])) r.changes
+          ∙ ap (λ (cs : List BareChange). cs ++ changes_by old.count (before_line old.machine.state line).changed (slice_index_or old.telling.families.calls line.inc.0 [])) r.changes
           ∙ ap (λ (fs : List (List Begun)). changes_from 0 (replicate (opened w).state.next_inc.0 []) (doings w (opened w) lines)
           ++ changes_by old.count (before_line old.machine.state line).changed (slice_index_or fs line.inc.0 [])) r.calls
           ∙ ap (λ (k : Machine). changes_from 0 (replicate (opened w).state.next_inc.0 []) (doings w (opened w) lines)
@@ -121,7 +121,7 @@ retold_more w lines line old new r steps m told =
           ∙ changes_one 0 old.count (replicate (opened w).state.next_inc.0 []) (doings w (opened w) lines) (d (after_lines w (opened w) lines)) many);
       calls =
           f
-          ∙ ap (λ (k : Machine). families_by old.count (d k) old.telling.families.calls.items) r.machine
+          ∙ ap (λ (k : Machine). families_by old.count (d k) old.telling.families.calls) r.machine
           ∙ ap (families_by old.count (d (after_lines w (opened w) lines))) r.calls
           ∙ sym (ap (λ (ds : List Doing). families_after 0 ds (replicate (opened w).state.next_inc.0 [])) (doings_one w (opened w) lines line)
           ∙ families_one 0 old.count (replicate (opened w).state.next_inc.0 []) (doings w (opened w) lines) (d (after_lines w (opened w) lines)) many);
@@ -141,23 +141,23 @@ retold_more w lines line old new r steps m told =
 pub told_more : {K : Type 0} (old new : Retelling K) (line : Line) (t : Machine) (before : Before) → before ≡ before_line old.machine.state line → new.machine ≡ t
     → new.count ≡ old.count + 1
     → new.telling.families.changes.items ≡ old.telling.families.changes.items
-    ++ changes_by old.count before.changed (slice_index_or old.telling.families.calls.items before.inc.0 [])
-    → new.telling.families.calls.items ≡ families_by old.count (doing_behind before t.state) old.telling.families.calls.items
-    → new.telling.params.items ≡ old.telling.params.items ++ kept_params (doing_behind before t.state).entered (given_params line before t.state)
+    ++ changes_by old.count before.changed (slice_index_or old.telling.families.calls before.inc.0 [])
+    → new.telling.families.calls ≡ families_by old.count (doing_behind before t.state) old.telling.families.calls
+    → new.telling.params ≡ old.telling.params ++ kept_params (doing_behind before t.state).entered (given_params line before t.state)
     → new.telling.histories.items ≡ noted (old.count + 1) (doing_behind before t.state) t.state old.telling.histories.items → IsToldMore old new line
 told_more old new line t before e m n c f p h = record {
   count = n;
   changes =
       c
-      ∙ ap (λ (b : Before). old.telling.families.changes.items ++ changes_by old.count b.changed (slice_index_or old.telling.families.calls.items b.inc.0 [])) e;
+      ∙ ap (λ (b : Before). old.telling.families.changes.items ++ changes_by old.count b.changed (slice_index_or old.telling.families.calls b.inc.0 [])) e;
   calls =
       f
-      ∙ ap (λ (b : Before). families_by old.count (doing_behind b t.state) old.telling.families.calls.items) e
-      ∙ ap (λ (k : Machine). families_by old.count (doing old.machine.state line k.state) old.telling.families.calls.items) (sym m);
+      ∙ ap (λ (b : Before). families_by old.count (doing_behind b t.state) old.telling.families.calls) e
+      ∙ ap (λ (k : Machine). families_by old.count (doing old.machine.state line k.state) old.telling.families.calls) (sym m);
   params =
       p
-      ∙ ap (λ (b : Before). old.telling.params.items ++ kept_params (doing_behind b t.state).entered (given_params line b t.state)) e
-      ∙ ap (λ (k : Machine). old.telling.params.items ++ params_from line old.machine.state k.state) (sym m);
+      ∙ ap (λ (b : Before). old.telling.params ++ kept_params (doing_behind b t.state).entered (given_params line b t.state)) e
+      ∙ ap (λ (k : Machine). old.telling.params ++ params_from line old.machine.state k.state) (sym m);
   histories =
       h
       ∙ ap (λ (b : Before). noted (old.count + 1) (doing_behind b t.state) t.state old.telling.histories.items) e
@@ -174,8 +174,8 @@ retold_few w lines r world h = few_told w lines r.telling.families.changes.items
 -- the text of what was told
 pub retold : {K : Type 0} (r : Retelling K) (told histories : List History) (params : List (List Entry)) (families : List (List Begun)) (found : List BareChange)
     (count : ℕ) (none mid text : List ℕ)
-    → told ≡ finished_below (r.count + 1) (length r.telling.histories.items) r.telling.histories.items → AreRearranged told histories → params ≡ r.telling.params.items
-    → families ≡ r.telling.families.calls.items → found ≡ r.telling.families.changes.items
+    → told ≡ finished_below (r.count + 1) (length r.telling.histories.items) r.telling.histories.items → AreRearranged told histories → params ≡ r.telling.params
+    → families ≡ r.telling.families.calls → found ≡ r.telling.families.changes.items
     → count ≡ length found → none ≡ [] → AreWritten families histories params found none mid → text ≡ mid ++ ended_line (codes "changes " ++ decimal count)
     → (w : WorldValue) → (lines : List Line) → IsWorld w → IsRetold w lines r → IsReport w lines text
 retold r told histories params families found count none mid text h same p f c many n is e w lines world t =

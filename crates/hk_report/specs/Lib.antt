@@ -11,3 +11,5 @@ pub mod ChangeTexts
 pub mod Counts
 pub mod Written
 pub mod Retold
+pub mod Lists
+pub mod Params

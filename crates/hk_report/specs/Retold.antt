@@ -14,17 +14,17 @@ pub record IsRetold {K : Type 0} (w : WorldValue) (lines : List Line) (r : Retel
   pub machine : r.machine ≡ after_lines w (opened w) lines
   pub count : r.count ≡ length lines
   pub changes : r.telling.families.changes.items ≡ changes_from 0 (replicate (opened w).state.next_inc.0 []) (doings w (opened w) lines)
-  pub calls : r.telling.families.calls.items ≡ families_after 0 (doings w (opened w) lines) (replicate (opened w).state.next_inc.0 [])
-  pub params : r.telling.params.items ≡ params_given w (opened w) lines
+  pub calls : r.telling.families.calls ≡ families_after 0 (doings w (opened w) lines) (replicate (opened w).state.next_inc.0 [])
+  pub params : r.telling.params ≡ params_given w (opened w) lines
   pub histories : r.telling.histories.items ≡ histories_at_end w lines
 
 -- a line more was told, which led from the one machine to the other
 pub record IsToldMore {K : Type 0} (old new : Retelling K) (line : Line) : Type 0 where
   pub count : new.count ≡ old.count + 1
   pub changes : new.telling.families.changes.items ≡ old.telling.families.changes.items
-      ++ changes_by old.count (before_line old.machine.state line).changed (slice_index_or old.telling.families.calls.items line.inc.0 [])
-  pub calls : new.telling.families.calls.items ≡ families_by old.count (doing old.machine.state line new.machine.state) old.telling.families.calls.items
-  pub params : new.telling.params.items ≡ old.telling.params.items
+      ++ changes_by old.count (before_line old.machine.state line).changed (slice_index_or old.telling.families.calls line.inc.0 [])
+  pub calls : new.telling.families.calls ≡ families_by old.count (doing old.machine.state line new.machine.state) old.telling.families.calls
+  pub params : new.telling.params ≡ old.telling.params
       ++ kept_params (doing old.machine.state line new.machine.state).entered (given_params line (before_line old.machine.state line) new.machine.state)
   pub histories : new.telling.histories.items
       ≡ noted (old.count + 1) (doing old.machine.state line new.machine.state) new.machine.state old.telling.histories.items

@@ -14,6 +14,7 @@ ghost use Rattle.hk_report.specs.Holders.{AreHolders, HoldsAlone, held_at, held_
 use crate::families::{Begun, calls_over};
 use crate::histories::{History, Span};
 use crate::holders::Stretch;
+use crate::lists::Lists;
 use crate::runs::{ends_at, first_open, spans_at};
 use hk_model::{Cap, Hop, Items, Name, NoMemory};
 use hk_rights::Right;
@@ -88,7 +89,7 @@ pub(crate) struct Ground<'a> {
     /// What has stood in the list of each object, by its name.
     pub histories: &'a [History],
     /// The confined calls that each incarnation is under, by its number.
-    pub families: &'a [Items<Begun>],
+    pub families: &'a Lists<Begun>,
     /// The confined call that makes the hops.
     pub begun: Begun,
     /// The places at which the runs of each list end, by the name of its object.

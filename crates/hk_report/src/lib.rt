@@ -6,10 +6,10 @@
 //! writes that text without the list: it makes the steps of a history on a kernel of its own and tells
 //! each as it is made. `counting` counts the changes as the lines of a run come. `shows` has what a
 //! kernel has to show for that, `naming` what a path names, `doings` what each line did, `replay` the
-//! lines of a history once more, `families` the confined calls that each incarnation is under,
-//! `histories` what has stood in lists, `runs` how that is put in order, `holders` which runs hold an
-//! object, `hops` the hops over it, `searching` the search for the least reach, `reasons` each change
-//! with its reason.
+//! lines of a history once more, `families` the confined calls that each incarnation is under, `params`
+//! the merged parameters of each call, `lists` how both stand in memory, `histories` what has stood in
+//! lists, `runs` how that is put in order, `holders` which runs hold an object, `hops` the hops over it,
+//! `searching` the search for the least reach, `reasons` each change with its reason.
 #![tactic(auto)]
 
 mod counting;
@@ -18,7 +18,9 @@ mod families;
 mod histories;
 mod holders;
 mod hops;
+mod lists;
 mod naming;
+mod params;
 mod reasons;
 mod replay;
 mod reporting;

@@ -10,7 +10,9 @@ use crate::families::{BareChange, Begun};
 use crate::histories::History;
 use crate::holders::{Stretch, holders};
 use crate::hops::Ground;
-use crate::replay::{GivenParams, Telling};
+use crate::lists::Lists;
+use crate::params::GivenParams;
+use crate::replay::Telling;
 use crate::runs::{all_ends, rearrange_all};
 use crate::searching::Search;
 use crate::texts::write_change;
@@ -32,9 +34,9 @@ pub(crate) struct Grounds<'a> {
     /// What has stood in the list of each object, by its name.
     pub histories: &'a [History],
     /// The confined calls that each incarnation is under, by its number.
-    pub families: &'a [Items<Begun>],
+    pub families: &'a Lists<Begun>,
     /// The merged parameters of each call that a line has begun, in the order of their incarnations.
-    pub params: &'a [GivenParams],
+    pub params: &'a GivenParams,
     /// The places at which the runs of each list end, by the name of its object.
     pub runs: &'a [Items<usize>],
     /// The runs that hold each object, by its name.
@@ -49,13 +51,13 @@ impl<'a> Grounds<'a> {
         requires cut { AreRuns telling.now.histories.items runs.now.ends.items }
         requires held { AreHolders telling.now.histories.items runs.now.ends.items runs.now.holders.items }
         ensures histories { result.histories.now ≡ telling.now.histories.items }
-        ensures families { result.families.now ≡ telling.now.families.calls.items }
-        ensures params { result.params.now ≡ telling.now.params.items }
+        ensures families { result.families.now ≡ telling.now.families.calls }
+        ensures params { result.params.now ≡ telling.now.params }
     {
         Grounds {
             histories: telling.histories.as_slice(),
-            families: telling.families.calls.as_slice(),
-            params: telling.params.as_slice(),
+            families: &telling.families.calls,
+            params: &telling.params,
             runs: runs.ends.as_slice(),
             holders: runs.holders.as_slice(),
         }
@@ -67,10 +69,7 @@ impl<'a> Grounds<'a> {
         ensures few { length result.now ≤ 8 }
     {
         let opened = self.families.len().saturating_sub(self.params.len());
-        match self.params.get((call.0 as usize).saturating_sub(opened)) {
-            Some(params) => params.as_slice(),
-            None => &[],
-        }
+        self.params.get((call.0 as usize).saturating_sub(opened))
     }
 
     /// Why a change could be made.
@@ -164,7 +163,7 @@ impl Telling {
     pub(crate) fn explain(&mut self, alloc: Global) -> Result<Vec<Change>, NoMemory>
         requires { AreFew self.old.families.changes.items }
         ensures same { AreRearranged self.old.histories.items self.new.histories.items }
-        ensures told { IfOk result (λ changes. AreTold self.old.families.calls.items self.new.histories.items self.old.params.items self.old.families.changes.items changes.items) }
+        ensures told { IfOk result (λ changes. AreTold self.old.families.calls self.new.histories.items self.old.params self.old.families.changes.items changes.items) }
     {
         if self.families.changes.is_empty() {
             return Ok(Vec::new(alloc));
@@ -179,7 +178,7 @@ impl Telling {
         requires { AreFew self.old.families.changes.items }
         ensures same { AreRearranged self.old.histories.items self.new.histories.items }
         ensures count { vec_len self.new.families.changes ≡ length self.old.families.changes.items }
-        ensures written { OnOk result (AreWritten self.old.families.calls.items self.new.histories.items self.old.params.items self.old.families.changes.items (string_bytes out.old) (string_bytes out.new)) }
+        ensures written { OnOk result (AreWritten self.old.families.calls self.new.histories.items self.old.params self.old.families.changes.items (string_bytes out.old) (string_bytes out.new)) }
     {
         if self.families.changes.is_empty() {
             return Ok(());

@@ -15,8 +15,8 @@ use crate::doings::{
 };
 use crate::families::Families;
 use crate::histories::{History, finish, note, opened_histories};
+use crate::params::GivenParams;
 use crate::shows::{Shows, slots_of};
-use hk_model::lists::Limited;
 use hk_model::{
     Call, Cpu, Entry, Inc, Line, Making, NoMemory, Refusal, Reply, Template, What, World,
 };
@@ -24,9 +24,6 @@ use hk_plain::Plain;
 use hk_program::Machine;
 use std::alloc::Global;
 use std::marker::PhantomData;
-
-/// The merged parameters of a call.
-pub type GivenParams = Limited<Entry, 8>;
 
 /// What the lines of a history did.
 #[derive(Drop)]
@@ -43,7 +40,7 @@ pub struct Telling {
     /// The changes under confined calls, and the calls that each incarnation is under.
     pub families: Families,
     /// The merged parameters of each call that a line has begun, in the order of their incarnations.
-    pub params: Vec<GivenParams>,
+    pub params: GivenParams,
     /// What has stood in the list of each object, by its name.
     pub histories: Vec<History>,
 }
@@ -63,57 +60,48 @@ fn param_count(line: &Line) -> usize
 }
 
 /// The entries in the first of these slots, in as many as the call has parameters that a line has begun.
-fn first_params(alloc: Global, line: &Line, slots: &[Entry]) -> Result<GivenParams, NoMemory>
-    ensures { IfOk result (λ params. params ≡ take (param_count (done_call line.now)) slots.now) }
+fn first_params<'a>(line: &Line, slots: &'a [Entry]) -> &'a [Entry]
+    ensures value { result.now ≡ take (param_count (done_call line.now)) slots.now }
+    ensures few { length result.now ≤ 8 }
 {
     let count = param_count(line).min(slots.len());
-    Ok(GivenParams::from_vec(Vec::from_slice(alloc, &slots[..count])?))
+    &slots[..count]
 }
 
 /// The merged parameters of the call that a line has begun, by a kernel in the state behind it.
-fn params_behind(
-    alloc: Global,
-    kernel: &Plain,
-    line: &Line,
-    before: &Before,
-) -> Result<GivenParams, NoMemory>
-    ensures { IfOk result (λ params. params ≡ given_params line.now before.now kernel.now) }
+fn params_behind<'a>(kernel: &'a Plain, line: &Line, before: &Before) -> &'a [Entry]
+    ensures value { result.now ≡ given_params line.now before.now kernel.now }
+    ensures few { length result.now ≤ 8 }
 {
     match before.enters {
-        Some(inc) => first_params(alloc, line, slots_of(kernel, inc)),
-        None => Ok(GivenParams::new(alloc)),
+        Some(inc) => first_params(line, slots_of(kernel, inc)),
+        None => &[],
     }
 }
 
 /// The same, where the processor of the line runs the incarnation that it has made, if it has made one.
-fn params_on<K: Shows>(
-    alloc: Global,
-    kernel: &K,
-    line: &Line,
-    before: &Before,
-) -> Result<GivenParams, NoMemory>
+fn params_on<'a, K: Shows>(kernel: &'a K, line: &Line, before: &Before) -> &'a [Entry]
     requires { RunsEntered (K.state kernel.now) line.now.cpu before.now }
-    ensures { IfOk result (λ params. params ≡ given_params line.now before.now (K.state kernel.now)) }
+    ensures value { result.now ≡ given_params line.now before.now (K.state kernel.now) }
+    ensures few { length result.now ≤ 8 }
 {
     match before.enters {
-        Some(_) => first_params(alloc, line, kernel.running_slots(line.cpu)),
-        None => Ok(GivenParams::new(alloc)),
+        Some(_) => first_params(line, kernel.running_slots(line.cpu)),
+        None => &[],
     }
 }
 
 /// The parameters of one call more, where a line has begun one.
 fn keep_params(
-    all: &mut Vec<GivenParams>,
+    all: &mut GivenParams,
     entered: &Option<Entered>,
-    params: GivenParams,
+    params: &[Entry],
 ) -> Result<(), NoMemory>
-    ensures { OnOk result (all.new.items ≡ all.old.items ++ kept_params entered.now params) }
+    requires { length params.now ≤ 8 }
+    ensures { OnOk result (all.new ≡ all.old ++ kept_params entered.now params.now) }
 {
     match entered {
-        Some(_) => {
-            all.push(params)?;
-            Ok(())
-        }
+        Some(_) => all.push(params),
         None => Ok(()),
     }
 }
@@ -139,13 +127,13 @@ impl Telling {
     /// What no line tells yet, by a kernel in the state of the opening.
     fn begin<K: Shows>(alloc: Global, kernel: &K) -> Result<Telling, NoMemory>
         ensures changes { IfOk result (λ t. t.families.changes.items ≡ []) }
-        ensures calls { IfOk result (λ t. t.families.calls.items ≡ replicate (K.state kernel.now).next_inc.0 []) }
-        ensures params { IfOk result (λ t. t.params.items ≡ []) }
+        ensures calls { IfOk result (λ t. t.families.calls ≡ replicate (K.state kernel.now).next_inc.0 []) }
+        ensures params { IfOk result (λ t. t.params ≡ []) }
         ensures histories { IfOk result (λ t. t.histories.items ≡ opened_below (K.state kernel.now) (K.state kernel.now).next_name.0) }
     {
         Ok(Telling {
             families: Families::begin(alloc, kernel.next_inc())?,
-            params: Vec::new(alloc),
+            params: GivenParams::new(alloc),
             histories: opened_histories(alloc, kernel)?,
         })
     }
@@ -157,18 +145,19 @@ impl Telling {
         alloc: Global,
         kernel: &K,
         doing: &Doing,
-        params: GivenParams,
+        params: &[Entry],
         index: u32,
     ) -> Result<(), NoMemory>
-        requires { index + 1 < 2 ^ 32 }
-        ensures changes { OnOk result (self.new.families.changes.items ≡ self.old.families.changes.items ++ changes_by index doing.now.changed (slice_index_or self.old.families.calls.items doing.now.inc.0 [])) }
-        ensures calls { OnOk result (self.new.families.calls.items ≡ families_by index doing.now self.old.families.calls.items) }
-        ensures params { OnOk result (self.new.params.items ≡ self.old.params.items ++ kept_params doing.now.entered params) }
+        requires moment { index + 1 < 2 ^ 32 }
+        requires few { length params.now ≤ 8 }
+        ensures changes { OnOk result (self.new.families.changes.items ≡ self.old.families.changes.items ++ changes_by index doing.now.changed (slice_index_or self.old.families.calls doing.now.inc.0 [])) }
+        ensures calls { OnOk result (self.new.families.calls ≡ families_by index doing.now self.old.families.calls) }
+        ensures params { OnOk result (self.new.params ≡ self.old.params ++ kept_params doing.now.entered params.now) }
         ensures histories { OnOk result (self.new.histories.items ≡ noted (index + 1) doing.now (K.state kernel.now) self.old.histories.items) }
     {
         note(alloc, &mut self.histories, kernel, index + 1, doing)?;
         keep_params(&mut self.params, &doing.entered, params)?;
-        self.families.add(alloc, index, doing)
+        self.families.add(index, doing)
     }
 }
 
@@ -191,8 +180,8 @@ impl<K: Shows> Retelling<K> {
         ensures sound { IfOk result (λ r. IsSound world.now r.machine) }
         ensures count { IfOk result (λ r. r.count ≡ 0) }
         ensures changes { IfOk result (λ r. r.telling.families.changes.items ≡ []) }
-        ensures calls { IfOk result (λ r. r.telling.families.calls.items ≡ replicate (opened world.now).state.next_inc.0 []) }
-        ensures params { IfOk result (λ r. r.telling.params.items ≡ []) }
+        ensures calls { IfOk result (λ r. r.telling.families.calls ≡ replicate (opened world.now).state.next_inc.0 []) }
+        ensures params { IfOk result (λ r. r.telling.params ≡ []) }
         ensures histories { IfOk result (λ r. r.telling.histories.items ≡ opened_below (opened world.now).state (opened world.now).state.next_name.0) }
     {
         let machine = Machine::open(alloc, world, kernel)?;
@@ -235,15 +224,15 @@ impl<K: Shows> Retelling<K> {
         requires few { self.old.count + 1 < 2 ^ 32 }
         ensures machine { self.new.machine ≡ self.old.machine }
         ensures count { OnOk result (self.new.count ≡ self.old.count + 1) }
-        ensures changes { OnOk result (self.new.telling.families.changes.items ≡ self.old.telling.families.changes.items ++ changes_by self.old.count before.changed (slice_index_or self.old.telling.families.calls.items before.inc.0 [])) }
-        ensures calls { OnOk result (self.new.telling.families.calls.items ≡ families_by self.old.count (doing_behind before self.old.machine.state) self.old.telling.families.calls.items) }
-        ensures params { OnOk result (self.new.telling.params.items ≡ self.old.telling.params.items ++ kept_params (doing_behind before self.old.machine.state).entered (given_params line.now before self.old.machine.state)) }
+        ensures changes { OnOk result (self.new.telling.families.changes.items ≡ self.old.telling.families.changes.items ++ changes_by self.old.count before.changed (slice_index_or self.old.telling.families.calls before.inc.0 [])) }
+        ensures calls { OnOk result (self.new.telling.families.calls ≡ families_by self.old.count (doing_behind before self.old.machine.state) self.old.telling.families.calls) }
+        ensures params { OnOk result (self.new.telling.params ≡ self.old.telling.params ++ kept_params (doing_behind before self.old.machine.state).entered (given_params line.now before self.old.machine.state)) }
         ensures histories { OnOk result (self.new.telling.histories.items ≡ noted (self.old.count + 1) (doing_behind before self.old.machine.state) self.old.machine.state self.old.telling.histories.items) }
     {
         let _ = PhantomData::<(Call, Making, Refusal, Reply, Template, What)>; // Rattle is to know what a Line holds
         let kernel = self.machine.kernel();
         let doing = doing_on(before, kernel, line.cpu);
-        let params = params_on(alloc, kernel, line, &before)?;
+        let params = params_on(kernel, line, &before);
         self.telling.add(alloc, kernel, &doing, params, self.count)?;
         self.count += 1;
         Ok(())
@@ -253,8 +242,8 @@ impl<K: Shows> Retelling<K> {
     pub(crate) fn end(self, alloc: Global) -> Result<Telling, NoMemory>
         requires { self.count + 1 < 2 ^ 32 }
         ensures changes { IfOk result (λ t. t.families.changes.items ≡ self.telling.families.changes.items) }
-        ensures calls { IfOk result (λ t. t.families.calls.items ≡ self.telling.families.calls.items) }
-        ensures params { IfOk result (λ t. t.params.items ≡ self.telling.params.items) }
+        ensures calls { IfOk result (λ t. t.families.calls ≡ self.telling.families.calls) }
+        ensures params { IfOk result (λ t. t.params ≡ self.telling.params) }
         ensures histories { IfOk result (λ t. t.histories.items ≡ finished_below (self.count + 1) (length self.telling.histories.items) self.telling.histories.items) }
     {
         let mut telling = self.telling;
@@ -268,8 +257,8 @@ impl<K: Shows> Retelling<K> {
 pub(crate) fn told(alloc: Global, world: &World, lines: &[Line]) -> Result<Telling, NoMemory>
     requires { length lines.now + 1 < 2 ^ 32 }
     ensures changes { IfOk result (λ t. t.families.changes.items ≡ changes_from 0 (replicate (opened world.now).state.next_inc.0 []) (doings world.now (opened world.now) lines.now)) }
-    ensures calls { IfOk result (λ t. t.families.calls.items ≡ families_after 0 (doings world.now (opened world.now) lines.now) (replicate (opened world.now).state.next_inc.0 [])) }
-    ensures params { IfOk result (λ t. t.params.items ≡ params_given world.now (opened world.now) lines.now) }
+    ensures calls { IfOk result (λ t. t.families.calls ≡ families_after 0 (doings world.now (opened world.now) lines.now) (replicate (opened world.now).state.next_inc.0 [])) }
+    ensures params { IfOk result (λ t. t.params ≡ params_given world.now (opened world.now) lines.now) }
     ensures histories { IfOk result (λ t. t.histories.items ≡ told_histories world.now lines.now) }
 {
     let kernel = Plain::new(alloc, world)?;
@@ -279,7 +268,7 @@ pub(crate) fn told(alloc: Global, world: &World, lines: &[Line]) -> Result<Telli
         let before = before_line(machine.kernel(), line);
         let _made = machine.step(alloc, world, line.cpu)?;
         let kernel = machine.kernel();
-        let params = params_behind(alloc, kernel, line, &before)?;
+        let params = params_behind(kernel, line, &before);
         telling.add(
             alloc,
             kernel,

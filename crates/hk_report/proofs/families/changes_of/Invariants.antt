@@ -6,4 +6,4 @@ use Rattle.hk_report.proofs.families.changes_of.Given as goal
 
 abbrev pub invariant-loop-index : goal.invariant-loop-index
 invariant-loop-index l =
-    l.families.changes.items ++ changes_from l.index l.families.calls.items (drop l.index l.doings) ≡ changes_from 0 (replicate l.fn.first.0 []) l.doings
+    l.families.changes.items ++ changes_from l.index l.families.calls (drop l.index l.doings) ≡ changes_from 0 (replicate l.fn.first.0 []) l.doings

@@ -11,9 +11,9 @@ use Rattle.hk_report.proofs.replay.told.Given as goal
 
 abbrev pub invariant-loop-index : goal.invariant-loop-index
 invariant-loop-index l = Gathered (IsSound l.world l.machine)
-    (l.telling.families.changes.items ++ changes_from l.index l.telling.families.calls.items (doings l.world l.machine (drop l.index l.lines))
+    (l.telling.families.changes.items ++ changes_from l.index l.telling.families.calls (doings l.world l.machine (drop l.index l.lines))
     ≡ changes_from 0 (replicate (opened l.world).state.next_inc.0 []) (doings l.world (opened l.world) l.lines))
-    (families_after l.index (doings l.world l.machine (drop l.index l.lines)) l.telling.families.calls.items
+    (families_after l.index (doings l.world l.machine (drop l.index l.lines)) l.telling.families.calls
     ≡ families_after 0 (doings l.world (opened l.world) l.lines) (replicate (opened l.world).state.next_inc.0 []))
-    (l.telling.params.items ++ params_given l.world l.machine (drop l.index l.lines) ≡ params_given l.world (opened l.world) l.lines)
+    (l.telling.params ++ params_given l.world l.machine (drop l.index l.lines) ≡ params_given l.world (opened l.world) l.lines)
     (histories_after l.world l.index l.machine (drop l.index l.lines) l.telling.histories.items ≡ histories_at_end l.world l.lines)
