@@ -1,16 +1,16 @@
 //! What a line did that the changes under confined calls are told by (`docs/RULES.md`, "Under a
 //! call").
 
-ghost use Rattle.std.specs.Prelude.{◌≡◌, Some, is_some};
+ghost use Rattle.std.specs.Prelude.{◌≡◌, true, None, Some, is_some, option_copied};
 ghost use Rattle.hk_model.specs.Control.{is_refusal};
 ghost use Rattle.hk_model.specs.State.{incarnation};
-ghost use Rattle.hk_model.specs.Lines.{done_call};
+ghost use Rattle.hk_model.specs.Lines.{changes_path, done_call};
 ghost use Rattle.hk_report.specs.Named.{named_change};
-ghost use Rattle.hk_report.specs.Doings.{RunsEntered, before_by, before_call, before_line, before_next, before_none, doing_behind};
+ghost use Rattle.hk_report.specs.Doings.{RunsEntered, before_by, before_call, before_line, before_next, before_none, doing_behind, slots_on};
 
 use crate::naming::{Caller, named_by};
 use crate::shows::{Shows, is_confined, slots_of};
-use hk_model::{Call, Cpu, Inc, Line, Name, Reply, What};
+use hk_model::{Call, Cpu, Inc, Line, Name, Path, Reply, What};
 use hk_plain::Plain;
 
 /// An incarnation that an Enter has made.
@@ -47,27 +47,26 @@ pub struct Before {
     pub enters: Option<Inc>,
 }
 
-/// The object that a call changes where it is done.
-fn named_change<K: Shows>(kernel: &K, caller: Caller<'_>, call: &Call) -> Option<Name>
-    requires { caller.slots.now ≡ (incarnation (K.state kernel.now) caller.inc).slots }
-    ensures { result ≡ named_change (K.state kernel.now) caller.entry.inc (Some call.now) }
+/// The path to the object that a call changes where it is done.
+fn changed_path(call: &Call) -> Option<&Path>
+    ensures { option_copied result ≡ changes_path (Some call.now) }
 {
     match call {
-        Call::Put { of, .. } => Some(named_by(kernel, caller, of)),
-        Call::Add { of, .. } => Some(named_by(kernel, caller, of)),
-        Call::Store { list, .. } => Some(named_by(kernel, caller, list)),
-        Call::Append { list, .. } => Some(named_by(kernel, caller, list)),
-        Call::Erase { list, .. } => Some(named_by(kernel, caller, list)),
-        Call::P { of } => Some(named_by(kernel, caller, of)),
-        Call::V { of } => Some(named_by(kernel, caller, of)),
+        Call::Put { of, .. } => Some(of),
+        Call::Add { of, .. } => Some(of),
+        Call::Store { list, .. } => Some(list),
+        Call::Append { list, .. } => Some(list),
+        Call::Erase { list, .. } => Some(list),
+        Call::P { of } => Some(of),
+        Call::V { of } => Some(of),
         _ => None,
     }
 }
 
-/// What is known of a call that is done, before it.
-fn before_call<K: Shows>(kernel: &K, caller: Caller<'_>, call: &Call) -> Before
-    requires { caller.slots.now ≡ (incarnation (K.state kernel.now) caller.inc).slots }
-    ensures { result ≡ before_call (K.state kernel.now) caller.entry.inc (Some call.now) }
+/// What is known of a call that is done, before it, where this is the object that it changes.
+fn before_call<K: Shows>(kernel: &K, inc: Inc, changed: Option<Name>, call: &Call) -> Before
+    requires { changed ≡ named_change (K.state kernel.now) inc (Some call.now) }
+    ensures { result ≡ before_call (K.state kernel.now) inc (Some call.now) }
 {
     let made = match call {
         Call::Create { .. } => Some(kernel.next_name()),
@@ -79,10 +78,37 @@ fn before_call<K: Shows>(kernel: &K, caller: Caller<'_>, call: &Call) -> Before
         _ => None,
     };
     Before {
-        inc: caller.inc,
-        changed: named_change(kernel, caller, call),
+        inc,
+        changed,
         made,
         enters,
+    }
+}
+
+/// The object that a call of an incarnation changes where it is done.
+fn changed_by(kernel: &Plain, inc: Inc, call: &Call) -> Option<Name>
+    ensures { result ≡ named_change kernel.now inc (Some call.now) }
+{
+    match changed_path(call) {
+        Some(path) => {
+            let slots = slots_of(kernel, inc);
+            Some(named_by(kernel, Caller { inc, slots }, path))
+        }
+        None => None,
+    }
+}
+
+/// The same of the incarnation that the processor runs. Where the call changes nothing its slots are not looked up.
+fn changed_on<K: Shows>(kernel: &K, cpu: Cpu, inc: Inc, call: &Call) -> Option<Name>
+    requires { slots_on (K.state kernel.now) cpu ≡ (incarnation (K.state kernel.now) inc).slots }
+    ensures { result ≡ named_change (K.state kernel.now) inc (Some call.now) }
+{
+    match changed_path(call) {
+        Some(path) => {
+            let slots = kernel.running_slots(cpu);
+            Some(named_by(kernel, Caller { inc, slots }, path))
+        }
+        None => None,
     }
 }
 
@@ -119,11 +145,8 @@ pub(crate) fn before_line(kernel: &Plain, line: &Line) -> Before
             if is_refusal(&line.reply) {
                 before_none(line.inc)
             } else {
-                let caller = Caller {
-                    inc: line.inc,
-                    slots: slots_of(kernel, line.inc),
-                };
-                before_call(kernel, caller, call)
+                let changed = changed_by(kernel, line.inc, call);
+                before_call(kernel, line.inc, changed, call)
             }
         }
     }
@@ -136,8 +159,8 @@ pub(crate) fn before_next<K: Shows>(kernel: &K, cpu: Cpu, next: &Option<Call>) -
     match kernel.current(cpu) {
         Some((_, inc)) => match next {
             Some(call) => {
-                let slots = kernel.running_slots(cpu);
-                Some(before_call(kernel, Caller { inc, slots }, call))
+                let changed = changed_on(kernel, cpu, inc, call);
+                Some(before_call(kernel, inc, changed, call))
             }
             None => None,
         },
@@ -166,6 +189,13 @@ pub(crate) fn before_by(next: Option<Before>, line: &Line) -> Before
         Some(before) => before,
         None => before_none(line.inc),
     }
+}
+
+/// Whether a line of which this is known changes no object, makes none, and enters no procedure.
+pub(crate) fn does_nothing(before: &Before) -> bool
+    ensures { result ≡ true → (before.now.changed ≡ None) × (before.now.made ≡ None) × (before.now.enters ≡ None) }
+{
+    before.changed.is_none() && before.made.is_none() && before.enters.is_none()
 }
 
 /// What a line did, by a kernel in the state behind it.

@@ -11,7 +11,8 @@ ghost use Rattle.hk_report.specs.Histories.{finished_below, noted, opened_below,
 ghost use Rattle.hk_report.specs.Retold.{IsToldMore};
 
 use crate::doings::{
-    Before, Doing, Entered, before_by, before_line, before_next, doing_behind, doing_on,
+    Before, Doing, Entered, before_by, before_line, before_next, does_nothing, doing_behind,
+    doing_on,
 };
 use crate::families::Families;
 use crate::histories::{History, finish, note, opened_histories};
@@ -230,10 +231,12 @@ impl<K: Shows> Retelling<K> {
         ensures histories { OnOk result (self.new.telling.histories.items ≡ noted (self.old.count + 1) (doing_behind before self.old.machine.state) self.old.machine.state self.old.telling.histories.items) }
     {
         let _ = PhantomData::<(Call, Making, Refusal, Reply, Template, What)>; // Rattle is to know what a Line holds
-        let kernel = self.machine.kernel();
-        let doing = doing_on(before, kernel, line.cpu);
-        let params = params_on(kernel, line, &before);
-        self.telling.add(alloc, kernel, &doing, params, self.count)?;
+        if !does_nothing(&before) {
+            let kernel = self.machine.kernel();
+            let doing = doing_on(before, kernel, line.cpu);
+            let params = params_on(kernel, line, &before);
+            self.telling.add(alloc, kernel, &doing, params, self.count)?;
+        }
         self.count += 1;
         Ok(())
     }
