@@ -16,7 +16,7 @@ use Rattle.hk_report.specs.declared.hops.Arrived.{Arrived}
 use Rattle.hk_report.specs.declared.hops.Latest.{Latest}
 use Rattle.hk_report.specs.declared.hops.Onward.{Onward}
 use Rattle.hk_report.specs.Histories.{history_of}
-use Rattle.hk_report.specs.Hops.{first_from, latest_end, next_latest, ends_before, no_latest}
+use Rattle.hk_report.specs.Hops.{alone, first_from, latest_end, next_latest, ends_before, no_latest}
 use Rattle.hk_report.specs.Runs.{AreCut, ends_at, AreRuns}
 use Rattle.hk_report.specs.Holders.{spans_in, stretch_at, stretches, holds, held_at, stands_in, held_in, numbered, stretches_of, stretches_below, AreHolders, HoldsAlone, joined, latest_within, raised_at, raised_over}
 use Rattle.hk_report.proofs.HistoryLemmas.{beyond}
@@ -28,7 +28,7 @@ use Rattle.hk_report.proofs.Stretches.{between_alike, alone_each}
 
 -- ---- they are kept by rising names
 
-abbrev IsRising : List Stretch → Type 0
+abbrev pub IsRising : List Stretch → Type 0
 IsRising [] = Unit {0}
 IsRising (s ∷ ss) = AllByRecursion (λ (t : Stretch). s.by.0 ≤ t.by.0) ss × IsRising ss
 
@@ -111,11 +111,13 @@ module _ (histories : List History) (runs : List (List ℕ)) where
       rising_append n (stretches_below histories runs n) (stretches_of histories runs (numbered n)) (rising_below n) (all_below n)
       (rising_same n (stretches_of histories runs (numbered n)) here) here
 
+  pub held_up : (all : List (List Stretch)) → AreHolders histories runs all → (name : Name) (helds : List Stretch) → helds ≡ held_at all name → IsRising helds
+  held_up all are name helds e =
+      subst IsRising (sym (e ∙ are name)) (rising_filter (holds name) (stretches_below histories runs (length histories)) (rising_below (length histories)))
+
   pub held_rising : (all : List (List Stretch)) → AreHolders histories runs all → (name : Name) (helds : List Stretch) → helds ≡ held_at all name
       → IsNonDecreasingBy (λ (s : Stretch). s.by.0) helds
-  held_rising all are name helds e =
-      rising_at helds
-      (subst IsRising (sym (e ∙ are name)) (rising_filter (holds name) (stretches_below histories runs (length histories)) (rising_below (length histories))))
+  held_rising all are name helds e = rising_at helds (held_up all are name helds e)
 
 dropped : (i : ℕ) (xs : List Stretch) (j : ℕ) → j < length (drop i xs) → i + j < length xs
 dropped zero [] j m = absurd (omega (arith, m))
@@ -349,30 +351,34 @@ module _ (made : Name → Bool) (level : Name → Latest) (from : Arrived) (hist
                 ap (λ (o : Option Onward). over_runs o rest)
                 (sym (skipped made level from span.cap (none span.cap.name f) first run (between_alike spans start end span e cut.1.1.0)))
 
-pub all_over : (made : Name → Bool) (from : Arrived) (histories : List History) (runs : List (List ℕ)) (all : List (List Stretch)) (name by : Name) (before : ℕ) → AreRuns histories runs
-    → AreHolders histories runs all
-    → over_runs made (latest_end name before) from histories None (held_in all name by)
-    ≡ first_from made (latest_end name before) from None (history_of histories by).spans
-all_over made from histories runs all name by before cut are =
-    ap (λ (xs : List Stretch). over_runs made level from histories None (filter (stands_in by) xs)) (are name)
-    ∙ ap (over_runs made level from histories None) (kept_below histories runs name by (length histories))
+pub whole_over : (made : Name → Bool) (level : Name → Latest) (from : Arrived) (histories : List History) (first : Option Onward) (helds : List Stretch)
+    → over_runs made level from histories first (drop 0 helds) ≡ over_runs made level from histories first helds
+whole_over made level from histories first [] = refl
+whole_over made level from histories first (s ∷ ss) = refl
+
+pub all_over : (made : Name → Bool) (from : Arrived) (histories : List History) (runs : List (List ℕ)) (all : List (List Stretch)) (name by : Name) (latest : Latest) → AreRuns histories runs
+    → AreHolders histories runs all → (first : Option Onward)
+    → over_runs made (alone name latest) from histories first (held_in all name by) ≡ first_from made (alone name latest) from first (history_of histories by).spans
+all_over made from histories runs all name by latest cut are first =
+    ap (λ (xs : List Stretch). over_runs made level from histories first (filter (stands_in by) xs)) (are name)
+    ∙ ap (over_runs made level from histories first) (kept_below histories runs name by (length histories))
     ∙ split (nat_lt by.0 (length histories)) refl
   where
     level : Name → Latest
-    level = latest_end name before
+    level = alone name latest
 
     whole : (xs : List Span) → drop 0 xs ≡ xs
     whole [] = refl
     whole (x ∷ xs) = refl
 
     split : (b : Bool) → nat_lt by.0 (length histories) ≡ b
-        → over_runs made level from histories None (cond b (filter (holds name) (stretches_of histories runs by)) [])
-        ≡ first_from made level from None (history_of histories by).spans
+        → over_runs made level from histories first (cond b (filter (holds name) (stretches_of histories runs by)) [])
+        ≡ first_from made level from first (history_of histories by).spans
     split true e =
-        list_is made level from histories name (λ x f. ap (λ (b : Bool). cond b (record { modify = before; unconf = 0 }) no_latest) f) by None 0 (ends_at runs by) (cut by)
-        ∙ ap (λ (xs : List Span). first_from made level from None xs) (whole (history_of histories by).spans)
+        list_is made level from histories name (λ x f. ap (λ (b : Bool). cond b latest no_latest) f) by first 0 (ends_at runs by) (cut by)
+        ∙ ap (λ (xs : List Span). first_from made level from first xs) (whole (history_of histories by).spans)
     split false e =
-        ap (λ (h : History). first_from made level from None h.spans) (sym (beyond histories by.0 (ltb-false by.0 (length histories) e)))
+        ap (λ (h : History). first_from made level from first h.spans) (sym (beyond histories by.0 (ltb-false by.0 (length histories) e)))
 
 -- ---- what they give to the object of the list
 
@@ -417,13 +423,13 @@ near_found made histories runs all name x before cut are latest found m helds k 
     ∙ ap (λ (a : Latest). joined_all histories a m no_latest helds) l ∙ ap (λ (b : Bool). joined_all histories (ends_before before) b no_latest helds) e
     ∙ ap (joined_all histories (ends_before before) (made name) no_latest) same ∙ near_is made histories runs all name x before cut are
 
-pub first_found : (made : Name → Bool) (from : Arrived) (histories : List History) (runs : List (List ℕ)) (all : List (List Stretch)) (name by : Name) (before : ℕ) → AreRuns histories runs
-    → AreHolders histories runs all → (first : Option Onward) (helds : List Stretch) (k : ℕ) → helds ≡ held_in all name by → length helds ≤ k
-    → over_runs made (latest_end name before) from histories first (drop k helds) ≡ over_runs made (latest_end name before) from histories None helds
-    → first ≡ first_from made (latest_end name before) from None (history_of histories by).spans
-first_found made from histories runs all name by before cut are first helds k same done h =
-    sym (ap (over_runs made (latest_end name before) from histories first) (drop_done helds k done)) ∙ h
-    ∙ ap (over_runs made (latest_end name before) from histories None) same ∙ all_over made from histories runs all name by before cut are
+pub first_found : (made : Name → Bool) (from : Arrived) (histories : List History) (runs : List (List ℕ)) (all : List (List Stretch)) (name by : Name) (latest : Latest) → AreRuns histories runs
+    → AreHolders histories runs all → (start first : Option Onward) (helds : List Stretch) (k : ℕ) → helds ≡ held_in all name by → length helds ≤ k
+    → over_runs made (alone name latest) from histories first (drop k helds) ≡ over_runs made (alone name latest) from histories start helds
+    → first ≡ first_from made (alone name latest) from start (history_of histories by).spans
+first_found made from histories runs all name by latest cut are start first helds k same done h =
+    sym (ap (over_runs made (alone name latest) from histories first) (drop_done helds k done)) ∙ h
+    ∙ ap (over_runs made (alone name latest) from histories start) same ∙ all_over made from histories runs all name by latest cut are start
 
-pub end_at : (name : Name) (before : ℕ) → ends_before before ≡ latest_end name before name
-end_at name before = ap (λ (b : Bool). cond b (ends_before before) no_latest) (sym (eq-eqb name.0 name.0 refl))
+pub alone_at : (name : Name) (latest : Latest) → latest ≡ alone name latest name
+alone_at name latest = ap (λ (b : Bool). cond b latest no_latest) (sym (eq-eqb name.0 name.0 refl))

@@ -24,6 +24,9 @@ mod RunHops
 mod RunSkips
 mod HeldIn
 mod RunsBelow
+mod ByObjects
+mod NearObjects
+mod Ordered
 mod Rearranged
 mod Replays
 mod Makers

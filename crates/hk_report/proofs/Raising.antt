@@ -398,7 +398,7 @@ level_next made histories runs holders all cut are found =
 
 -- ---- a level that is raised at one object
 
-same_equal : (a b : ℕ) → is_eq (nat_cmp a b) ≡ (a == b)
+pub same_equal : (a b : ℕ) → is_eq (nat_cmp a b) ≡ (a == b)
 same_equal a b = by (nat_cmp a b) (ranked a b (nat_cmp a b) refl)
   where
     by : (o : Ordering) → MatchOrdering o (a < b) (a ≡ b) (b < a) → is_eq o ≡ (a == b)

@@ -1,5 +1,5 @@
 -- Which runs hold an object, and what a level gives to those in whose lists they stand. docs/RULES.md, "Reaches".
-use Rattle.std.specs.Prelude.{◌≡◌, ℕ, zero, suc, ◌==◌, ◌≤◌, Bool, List, [], ◌∷◌, ◌++◌, length, filter, slice_get, slice_index_or, Option, Some, None, if◌then◌else◌}
+use Rattle.std.specs.Prelude.{◌≡◌, ℕ, zero, suc, ◌==◌, ◌≤◌, Bool, true, not, List, [], ◌∷◌, ◌++◌, length, filter, slice_get, slice_index_or, Option, Some, None, if◌then◌else◌}
 use Rattle.std.specs.List.{AllByRecursion, between}
 use Rattle.hk_rights.specs.Rights.{has, modify_right, unconf_right}
 use Rattle.hk_model.specs.declared.names.Name.{Name}
@@ -38,6 +38,11 @@ stands_in by stretch = stretch.by.0 == by.0
 
 abbrev pub held_in : List (List Stretch) → Name → Name → List Stretch
 held_in all name by = filter (stands_in by) (held_at all name)
+
+-- another than the last one, if there is one
+abbrev pub is_other : Option Name → Name → Bool
+is_other None name = true
+is_other (Some last) name = not (last.0 == name.0)
 
 -- one stretch more is kept, with those that hold its object
 abbrev pub IsOneMore : Stretch → List (List Stretch) → List (List Stretch) → Type 0

@@ -66,6 +66,10 @@ ends_before before = record { modify = before; unconf = 0 }
 abbrev pub latest_end : Name → ℕ → Name → Latest
 latest_end end before name = if name.0 == end.0 then ends_before before else no_latest
 
+-- what is kept for one object, and nothing for any other
+abbrev pub alone : Name → Latest → Name → Latest
+alone object latest name = if name.0 == object.0 then latest else no_latest
+
 abbrev pub bounds_at : Bounds → Name → Latest
 bounds_at bounds name = unwrap_or (get name_cmp bounds.latest name) no_latest
 

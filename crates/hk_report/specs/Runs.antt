@@ -1,9 +1,9 @@
 -- The runs in which one capability stands at one index of a list again and again. docs/RULES.md, "Reaches".
 use Rattle.std.specs.Prelude.{◌≡◌, ℕ, ◌≤◌, ◌==◌, ◌&&◌, Bool, true, List, [], ◌∷◌, length, nat_lt, nat_le, slice_index_or}
 use mathlib.Core.Bool.{Bool-set}
-use Rattle.std.specs.Coded.{×_prop, Π_prop, Unit-prop, le_prop}
+use Rattle.std.specs.Coded.{×_prop, Π_prop, →_prop, Unit-prop, le_prop}
 use Rattle.std.specs.List.{AllByRecursion, AllByRecursion-prop, between}
-use Rattle.std.specs.List.Sorted.{IsPermutation}
+use Rattle.std.specs.List.Sorted.{IsPermutation, IsNonDecreasingBy}
 use Rattle.hk_model.specs.declared.names.Name.{Name}
 use Rattle.hk_report.specs.declared.histories.Span.{Span}
 use Rattle.hk_report.specs.declared.histories.History.{History}
@@ -30,6 +30,13 @@ ends_at all name = slice_index_or all name.0 []
 abbrev pub AreRuns : List History → List (List ℕ) → Type 0
 AreRuns histories all = (name : Name) → AreCut 0 (ends_at all name) (history_of histories name).spans
 
+-- the spans of each list stand in the order of the names of their objects
+abbrev pub AreByName : List Span → Type 0
+AreByName spans = IsNonDecreasingBy (λ (span : Span). span.cap.name.0) spans
+
+abbrev pub AreOrdered : List History → Type 0
+AreOrdered histories = (name : Name) → AreByName (history_of histories name).spans
+
 -- these facts have one proof each
 pub IsRun-prop : (spans : List Span) → IsProp (IsRun spans)
 IsRun-prop [] = Unit-prop
@@ -42,6 +49,13 @@ AreCut-prop first (end ∷ ends) spans = ×_prop (le_prop {n = first} {m = end})
 
 pub AreRuns-prop : (histories : List History) (all : List (List ℕ)) → IsProp (AreRuns histories all)
 AreRuns-prop histories all = Π_prop (λ (name : Name). AreCut-prop 0 (ends_at all name) (history_of histories name).spans)
+
+pub AreOrdered-prop : (histories : List History) → IsProp (AreOrdered histories)
+AreOrdered-prop histories = Π_prop (λ (name : Name). by (history_of histories name).spans)
+  where
+    by : (spans : List Span) → IsProp (AreByName spans)
+    by spans =
+        Π_prop (λ (i : ℕ). Π_prop (λ (j : ℕ). Π_prop (λ (d : Span). →_prop (→_prop (le_prop {n = (slice_index_or spans i d).cap.name.0} {m = (slice_index_or spans j d).cap.name.0})))))
 
 -- a span that has not ended by a moment
 abbrev pub is_open : ℕ → Span → Bool

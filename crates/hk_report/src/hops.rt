@@ -1,15 +1,16 @@
 //! Hops over what has stood in lists, and which of them comes first (`docs/RULES.md`, "Reaches").
 
-ghost use Rattle.std.specs.Prelude.{◌≡◌, ◌≤◌, true, None, IfOk, IfSome, OnOk};
+ghost use Rattle.std.specs.Prelude.{◌≡◌, ◌≤◌, ◌/◌, true, None, length, nat_lt, IfOk, IfSome, OnOk};
 ghost use Rattle.std.specs.Cmp.Lexicographic.{slice_cmp};
 ghost use Rattle.std.specs.List.{find};
 ghost use Rattle.std.specs.Ordering.{nat_cmp, is_lt};
 ghost use Rattle.hk_model.specs.Reaches.{index_of, moment_of};
 ghost use Rattle.hk_model.specs.Changes.{hop_key};
 ghost use Rattle.hk_report.specs.Histories.{history_of};
-ghost use Rattle.hk_report.specs.Runs.{IsRun, AreRuns, AreRuns-prop, is_open};
-ghost use Rattle.hk_report.specs.Hops.{StaysFirst, same_begun, has_begun, is_made, next_latest, later, greater, lesser, arrived_by, arrived_whole, no_latest, ends_before, bounds_at, latest_at, latest_end, is_good, entry_onward, handed_onward, earlier, onward_below, first_open_below, first_from, from_on};
-ghost use Rattle.hk_report.specs.Holders.{AreHolders, HoldsAlone, held_at, held_in, spans_in, joined, latest_within, entry_most, handed_most, most_on, raised_at, raised_over};
+ghost use Rattle.hk_report.specs.Runs.{IsRun, AreRuns, AreRuns-prop, AreOrdered, AreOrdered-prop, ends_at, is_open};
+ghost use Rattle.hk_report.specs.declared.hops.Level.TheVariants.{Behind};
+ghost use Rattle.hk_report.specs.Hops.{StaysFirst, same_begun, has_begun, is_made, next_latest, later, greater, lesser, arrived_by, arrived_whole, no_latest, ends_before, bounds_at, latest_at, latest_end, alone, is_good, entry_onward, handed_onward, earlier, onward_below, first_open_below, first_from, from_on};
+ghost use Rattle.hk_report.specs.Holders.{AreHolders, HoldsAlone, held_at, held_in, is_other, spans_in, joined, latest_within, entry_most, handed_most, most_on, raised_at, raised_over};
 
 use crate::families::{Begun, calls_over};
 use crate::histories::{History, Span};
@@ -20,6 +21,9 @@ use hk_model::{Cap, Hop, Items, Name, NoMemory};
 use hk_rights::Right;
 use std::alloc::Global;
 use std::collections::BTreeMap;
+
+/// To look an object up in a list costs about as much as to go over so many of its runs.
+const LOOK_UP: usize = 8;
 
 /// Where a way has come to.
 #[derive(Clone, Copy, PartialEq, Eq, Debug)]
@@ -98,6 +102,7 @@ pub(crate) struct Ground<'a> {
     pub holders: &'a [Items<Stretch>],
     ghost cut: { AreRuns histories.now runs.now } by { AreRuns-prop histories.now runs.now },
     ghost held: { AreHolders histories.now runs.now holders.now },
+    ghost ordered: { AreOrdered histories.now } by { AreOrdered-prop histories.now },
 }
 
 /// Whether two calls are the same.
@@ -401,6 +406,16 @@ impl Bounds {
     }
 }
 
+/// Whether an object is another than the one that was gone over last.
+fn is_other(last: Option<Name>, name: Name) -> bool
+    ensures { result ≡ is_other last name }
+{
+    match last {
+        Some(last) => last.0 != name.0,
+        None => true,
+    }
+}
+
 /// The way has come, before this moment.
 fn ends_before(before: u32) -> Latest
     ensures { result ≡ ends_before before }
@@ -565,20 +580,72 @@ impl<'a> Ground<'a> {
         ensures { result ≡ first_from (is_made self.now.families.now self.now.begun self.now.histories.now) (latest_at (is_made self.now.families.now self.now.begun self.now.histories.now) self.now.histories.now level.now) from.now None (history_of self.now.histories.now from.now.name).spans }
     {
         match level {
-            Level::End { name, before } => self.first_to(*name, *before, from),
+            Level::End { name, .. } => self.first_held(level, *name, from, None),
+            Level::Near { name, before } if self.are_few(self.holders_of(*name).len(), from) => {
+                self.first_near(*name, *before, from)
+            }
+            Level::Behind(bounds) if self.are_few(bounds.latest.len(), from) => {
+                self.first_behind(level, bounds, from)
+            }
             _ => self.first_by_runs(level, from),
         }
     }
 
-    /// The first hop to an object before a moment: of the runs of the list those that hold it are looked at.
-    fn first_to(&self, end: Name, before: u32, from: &Arrived) -> Option<Onward>
-        ensures { result ≡ first_from (is_made self.now.families.now self.now.begun self.now.histories.now) (latest_end end before) from.now None (history_of self.now.histories.now from.now.name).spans }
+    /// Whether it costs less to look up so many objects in the list than to go over its runs.
+    fn are_few(&self, count: usize, from: &Arrived) -> bool
+        ensures { result ≡ nat_lt count (length (ends_at self.now.runs.now from.now.name) / 8) }
     {
-        let latest = ends_before(before);
-        let made = self.is_made(end);
-        let mut first = None;
-        for held in self.held_in(end, from.name) {
+        count < ends_at(self.runs, from.name).len() / LOOK_UP
+    }
+
+    /// The hop that comes first of one and those to an object, after which the rest can be made: of the runs of the list
+    /// those that hold it are looked at.
+    fn first_held(
+        &self,
+        level: &Level,
+        object: Name,
+        from: &Arrived,
+        first: Option<Onward>,
+    ) -> Option<Onward>
+        ensures { result ≡ first_from (is_made self.now.families.now self.now.begun self.now.histories.now) (alone object (latest_at (is_made self.now.families.now self.now.begun self.now.histories.now) self.now.histories.now level.now object)) from.now first (history_of self.now.histories.now from.now.name).spans }
+    {
+        let runs = self.held_in(object, from.name);
+        if runs.is_empty() {
+            return first;
+        }
+        let latest = self.latest_at(level, object);
+        let made = self.is_made(object);
+        let mut first = first;
+        for held in runs {
             first = first_open_below(self.run_of(held), from, latest, made, first);
+        }
+        first
+    }
+
+    /// The first hop after which one more leads to an object, before a moment: by the objects in whose lists it stood.
+    fn first_near(&self, end: Name, before: u32, from: &Arrived) -> Option<Onward>
+        ensures { result ≡ first_from (is_made self.now.families.now self.now.begun self.now.histories.now) (next_latest (is_made self.now.families.now self.now.begun self.now.histories.now) self.now.histories.now (latest_end end before)) from.now None (history_of self.now.histories.now from.now.name).spans }
+    {
+        let level = Level::Near { name: end, before };
+        let mut first = None;
+        let mut last = None;
+        for held in self.holders_of(end) {
+            if is_other(last, held.by) {
+                first = self.first_held(&level, held.by, from, first);
+                last = Some(held.by);
+            }
+        }
+        first
+    }
+
+    /// The first hop after which the rest can be made, by the objects that have bounds. They are those of the level.
+    fn first_behind(&self, level: &Level, bounds: &Bounds, from: &Arrived) -> Option<Onward>
+        requires { level.now ≡ Behind bounds.now }
+        ensures { result ≡ first_from (is_made self.now.families.now self.now.begun self.now.histories.now) (bounds_at bounds.now) from.now None (history_of self.now.histories.now from.now.name).spans }
+    {
+        let mut first = None;
+        for name in bounds.latest.keys() {
+            first = self.first_held(level, *name, from, first);
         }
         first
     }

@@ -1,7 +1,7 @@
 //! Why a change under a confined call could be made (`docs/RULES.md`, "Changes and their reasons").
 
 ghost use Rattle.std.specs.Prelude.{◌≡◌, ◌<◌, ◌≤◌, ◌^◌, ◌+◌, length, vec_len, IfOk, OnOk, string_bytes};
-ghost use Rattle.hk_report.specs.Runs.{AreRuns, AreRuns-prop, AreRearranged};
+ghost use Rattle.hk_report.specs.Runs.{AreRuns, AreRuns-prop, AreOrdered, AreOrdered-prop, AreRearranged};
 ghost use Rattle.hk_report.specs.Holders.{AreHolders};
 ghost use Rattle.hk_report.specs.Reasons.{params_at, IsReasoned, IsTold, AreFew, AreTold};
 ghost use Rattle.hk_report.specs.Written.{AreWritten};
@@ -43,6 +43,7 @@ pub(crate) struct Grounds<'a> {
     pub holders: &'a [Items<Stretch>],
     ghost cut: { AreRuns histories.now runs.now } by { AreRuns-prop histories.now runs.now },
     ghost held: { AreHolders histories.now runs.now holders.now },
+    ghost ordered: { AreOrdered histories.now } by { AreOrdered-prop histories.now },
 }
 
 impl<'a> Grounds<'a> {
@@ -50,6 +51,7 @@ impl<'a> Grounds<'a> {
     fn of(telling: &'a Telling, runs: &'a Runs) -> Grounds<'a>
         requires cut { AreRuns telling.now.histories.items runs.now.ends.items }
         requires held { AreHolders telling.now.histories.items runs.now.ends.items runs.now.holders.items }
+        requires ordered { AreOrdered telling.now.histories.items }
         ensures histories { result.histories.now ≡ telling.now.histories.items }
         ensures families { result.families.now ≡ telling.now.families.calls }
         ensures params { result.params.now ≡ telling.now.params }
@@ -150,6 +152,7 @@ impl Telling {
         ensures params { self.new.params ≡ self.old.params }
         ensures cut { IfOk result (λ runs. AreRuns self.new.histories.items runs.ends.items) }
         ensures held { IfOk result (λ runs. AreHolders self.new.histories.items runs.ends.items runs.holders.items) }
+        ensures ordered { AreOrdered self.new.histories.items }
     {
         rearrange_all(alloc, &mut self.histories);
         let histories = self.histories.as_slice();

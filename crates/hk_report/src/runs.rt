@@ -5,7 +5,7 @@
 ghost use Rattle.std.specs.Prelude.{◌≡◌, IfOk, option_copied};
 ghost use Rattle.std.specs.List.{find};
 ghost use Rattle.hk_report.specs.Histories.{history_of};
-ghost use Rattle.hk_report.specs.Runs.{precedes, IsRun, AreCut, ends_at, AreRuns, is_open, IsRearranged, AreRearranged};
+ghost use Rattle.hk_report.specs.Runs.{precedes, IsRun, AreCut, ends_at, AreRuns, is_open, IsRearranged, AreRearranged, AreByName, AreOrdered};
 
 use crate::histories::{History, Span, same_cap};
 use hk_model::{Items, Name, NoMemory};
@@ -26,7 +26,8 @@ fn precedes(a: &Span, b: &Span) -> bool
 
 /// Puts what has stood in a list in order, by the object, its index, its rights and its moment.
 fn rearrange(alloc: Global, history: &mut History)
-    ensures { IsRearranged history.old history.new }
+    ensures same { IsRearranged history.old history.new }
+    ensures ordered { AreByName history.new.spans }
 {
     let mut spans = mem::replace(&mut history.spans, Items::new(alloc)).into_vec();
     spans.sort_unstable_by_key(|span| {
@@ -42,7 +43,8 @@ fn rearrange(alloc: Global, history: &mut History)
 
 /// Puts what has stood in each list in order, so that the spans of a run stand together.
 pub(crate) fn rearrange_all(alloc: Global, histories: &mut Vec<History>)
-    ensures { AreRearranged histories.old.items histories.new.items }
+    ensures same { AreRearranged histories.old.items histories.new.items }
+    ensures ordered { AreOrdered histories.new.items }
 {
     for index in 0..histories.len() {
         if let Some(history) = histories.get_mut(index) {
