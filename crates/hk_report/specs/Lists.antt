@@ -1,4 +1,4 @@
--- Lists whose items stand in one list, each from one place of it on up to another.
+-- Lists whose items stand in one list, each from one place of it on up to another. docs/RULES.md, "Changes and their reasons".
 use Rattle.std.specs.Prelude.{ℕ, ◌≤◌, List, map}
 use Rattle.std.specs.List.{AllByRecursion, slice_range}
 use Rattle.hk_report.specs.declared.lists.Place.{Place}

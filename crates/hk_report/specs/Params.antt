@@ -1,4 +1,4 @@
--- The parameters of calls.
+-- The merged parameters of calls. docs/RULES.md, "Changes and their reasons".
 use Rattle.std.specs.Prelude.{◌≤◌, List, length}
 use Rattle.std.specs.List.{AllByRecursion}
 use Rattle.hk_model.specs.declared.entries.Entry.{Entry}

@@ -1,4 +1,4 @@
-//! The merged parameters of the calls that lines have begun.
+//! The merged parameters of the calls that lines have begun (`docs/RULES.md`, "Changes and their reasons").
 
 ghost use Rattle.std.specs.Prelude.{◌≡◌, ◌≤◌, ◌++◌, ◌∷◌, [], length, slice_index_or, OnOk};
 
