@@ -9,13 +9,6 @@ use hk_model::{Born, Entries, Items, Kind, Name, Param, Params, Text, Words};
 use hk_rights::Rights;
 use std::alloc::{AllocError, Global};
 
-/// A text of these letters.
-pub(crate) fn text(alloc: Global, letters: &str) -> Result<Text, AllocError>
-    ensures { IfOk result (λ text. text ≡ letters.now) }
-{
-    Ok(Text::from_string(String::from_str(alloc, letters)?))
-}
-
 /// GETDATA and PUTDATA, to read and write words without the right to change.
 fn reading_and_writing() -> Rights
     ensures { result ≡ GETDATA+PUTDATA }
@@ -65,7 +58,7 @@ fn born(alloc: Global, label: &str, kind: Kind) -> Result<Born, AllocError>
     ensures { IfOk result (λ object. object ≡ born label.now kind) }
 {
     Ok(Born {
-        label: text(alloc, label)?,
+        label: Text::from_str(alloc, label)?,
         kind,
     })
 }

@@ -4,8 +4,7 @@ ghost use Rattle.std.specs.Prelude.{◌≡◌, ◌<◌, ◌∷◌, [], IfOk};
 ghost use Rattle.std.specs.Prelude.{codes as letters};
 ghost use Rattle.hk_model.specs.Generated.{at_slot, bump_steps, main_steps, code};
 
-use crate::contents::text;
-use hk_model::{Args, Code, Index, Indices, Instr, Items, Operand, Route, Slot};
+use hk_model::{Args, Code, Index, Indices, Instr, Items, Operand, Route, Slot, Text};
 use std::alloc::{AllocError, Global};
 
 /// The path of one slot.
@@ -73,11 +72,11 @@ pub(crate) fn codes(alloc: Global) -> Result<Items<Code>, AllocError>
     ensures { IfOk result (λ codes. codes ≡ code (letters "cbump") bump_steps ∷ code (letters "main") main_steps ∷ []) }
 {
     let bump = Code {
-        label: text(alloc, "cbump")?,
+        label: Text::from_str(alloc, "cbump")?,
         steps: bump_steps(alloc)?,
     };
     let main = Code {
-        label: text(alloc, "main")?,
+        label: Text::from_str(alloc, "main")?,
         steps: main_steps(alloc)?,
     };
     Ok(Items::from_vec(vec![in alloc; bump, main]?))

@@ -1,6 +1,6 @@
 //! Lists, as contracts see them.
 
-ghost use Rattle.std.specs.Prelude.{◌≡◌, ◌<◌, ◌≤◌, ◌↔◌, length, slice_get, slice_set, ◌++◌, ◌∷◌, [], OnOk, OnErr, IfOk, IsTrue, string_bytes};
+ghost use Rattle.std.specs.Prelude.{◌≡◌, ◌<◌, ◌≤◌, ◌↔◌, length, slice_get, slice_set, ◌++◌, ◌∷◌, [], OnOk, OnErr, IfOk, IsTrue};
 
 use crate::entries::{Entry, Param};
 use std::alloc::{AllocError, Global};
@@ -187,52 +187,6 @@ impl<T: Drop + Copy, const LIMIT: usize> Limited<T, LIMIT> {
     {
         Ok(Limited {
             items: Vec::from_slice(alloc, self.items.as_slice())?,
-        })
-    }
-}
-
-/// A text. Contracts see its bytes.
-#[derive(Drop)]
-pub struct Text {
-    text: String,
-}
-
-impl Model for Text {
-    ghost use Rattle.std.specs.Prelude.{List, ℕ, string_bytes};
-
-    ghost Value = { List ℕ };
-
-    ghost view = { λ a. string_bytes a.text };
-}
-
-impl Text {
-    /// The text of these letters.
-    pub fn from_string(text: String) -> Text
-        ensures { result ≡ string_bytes text }
-    {
-        Text { text }
-    }
-
-    /// The letters of the text.
-    pub fn as_str(&self) -> &str
-        ensures { result.now ≡ self.now }
-    {
-        self.text.as_str()
-    }
-
-    /// The bytes of the text.
-    pub fn as_bytes(&self) -> &[u8]
-        ensures { result.now ≡ self.now }
-    {
-        self.text.as_bytes()
-    }
-
-    /// An equal text.
-    pub fn copy(&self, alloc: Global) -> Result<Text, AllocError>
-        ensures { IfOk result (λ v. v ≡ self.now) }
-    {
-        Ok(Text {
-            text: String::from_str(alloc, self.text.as_str())?,
         })
     }
 }

@@ -6,8 +6,9 @@ ghost use Rattle.hk_model.specs.WorldValue.{IsWorld, world_value};
 use crate::copying::{Duplicate, duplicates};
 use crate::instructions::Instr;
 use crate::kernel::NoMemory;
-use crate::lists::{Entries, Items, Params, Text, Words};
+use crate::lists::{Entries, Items, Params, Words};
 use crate::names::Name;
+use crate::texts::Text;
 use std::alloc::{AllocError, Global};
 use std::marker::Model;
 

@@ -83,7 +83,7 @@ impl<'a> Line<'a> {
         let piece = self.piece()?;
         match piece.kind {
             PieceKind::Upper => self.text(alloc, piece),
-            PieceKind::Dash => Ok(Text::from_string(String::from_str(alloc, "-")?)),
+            PieceKind::Dash => Ok(Text::from_str(alloc, "-")?),
             _ => Err(LineError::Bad(ParseCause::UnknownWord)),
         }
     }

@@ -94,7 +94,7 @@ impl<'a> Line<'a> {
         ensures memory { IfErr result (λ e. e ≡ line_error.NoMemory) }
     {
         match std::str::from_utf8(self.bytes(piece)) {
-            Ok(text) => Ok(Text::from_string(String::from_str(alloc, text)?)),
+            Ok(text) => Ok(Text::from_str(alloc, text)?),
             Err(_) => unreachable!(),
         }
     }

@@ -1,17 +1,8 @@
 // The plain data: lists, paths and worlds, made and copied.
 
-ghost use Rattle.std.specs.Prelude.{◌≡◌, IfOk};
-
 use hk_model::{Args, Born, Items, Kind, Path, Slot, Text, Words, World};
-use std::alloc::{AllocError, Global};
+use std::alloc::Global;
 use std::test::Fail;
-
-/// A text of its own.
-fn text(alloc: Global, letters: &str) -> Result<Text, AllocError>
-    ensures { IfOk result (λ text. text ≡ letters.now) }
-{
-    Ok(Text::from_string(String::from_str(alloc, letters)?))
-}
 
 #[test]
 fn paths_and_arguments_keep_their_lengths(rt: HostRuntime) -> Result<(), Fail> {
@@ -49,16 +40,27 @@ fn lists_are_written_and_copied(rt: HostRuntime) -> Result<(), Fail> {
         [Slot(2)].as_slice()
     );
     assert_eq!(rt; items.len(), 1);
-    let label = text(alloc, "cell")?;
-    assert_eq!(rt; label.copy(alloc)?.as_str(), "cell");
-    assert_eq!(rt; label.as_bytes(), b"cell".as_slice());
+    Ok(())
+}
+
+#[test]
+fn texts_are_copied_whether_short_or_long(rt: HostRuntime) -> Result<(), Fail> {
+    let alloc = rt.alloc();
+    for letters in ["", "cell", "sixteen_letters_", "seventeen_letters"] {
+        let text = Text::from_str(alloc, letters)?;
+        assert_eq!(rt; text.as_str(), letters);
+        assert_eq!(rt; text.as_bytes(), letters.as_bytes());
+        assert_eq!(rt; text.copy(alloc)?.as_str(), letters);
+    }
+    let text = Text::from_string(String::from_str(alloc, "cell")?);
+    assert_eq!(rt; text.copy(alloc)?.as_bytes(), b"cell".as_slice());
     Ok(())
 }
 
 /// A world of one type.
 fn world(alloc: Global) -> Result<World, Fail> {
     let born = Born {
-        label: text(alloc, "t")?,
+        label: Text::from_str(alloc, "t")?,
         kind: Kind::TypeObject,
     };
     let objects = Items::from_vec(vec![in alloc; born]?);
