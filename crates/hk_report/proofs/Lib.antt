@@ -32,5 +32,7 @@ mod Replays
 mod Makers
 mod ReasonLemmas
 mod Explained
+mod MarkingLemmas
+mod LeftOut
 mod WrittenLemmas
 pub mod Retold

@@ -1,5 +1,5 @@
 -- Lists that are sorted by keys that begin with the name stand in the order of the names.
-use Rattle.std.proofs.Common.{◌≡◌, ℕ, zero, suc, ◌+◌, ◌<◌, ◌≤◌, List, [], ◌∷◌, length, false, refl, sym, ◌∙◌, ap, arith, subst}
+use Rattle.std.proofs.Common.{◌≡◌, ℕ, zero, suc, ◌+◌, ◌<◌, ◌≤◌, List, [], ◌∷◌, length, Bool, true, false, refl, sym, ◌∙◌, ap, arith, subst}
 use Rattle.std.specs.Prelude.{◌⊎◌, slice_set, slice_index_or}
 use mathlib.Core.Logic.{inl, inr}
 use Rattle.std.specs.Cmp.{ranked}
@@ -9,14 +9,14 @@ use Rattle.std.specs.declared.cmp.Ordering.TheVariants.{Less, Equal, Greater}
 use Rattle.std.specs.List.Sorted.{IsSortedByKey}
 use Rattle.std.proofs.lemmas.Bool.{true≢false, cases_lt}
 use Rattle.std.proofs.lemmas.List.{length-set}
-use Rattle.std.proofs.lemmas.List.Sorted.{IsNonDecreasingBy-from_all_adjacent}
+use Rattle.std.proofs.lemmas.List.Sorted.{IsNonDecreasingBy-from_all_adjacent, IsPermutation-refl}
 use Rattle.hk_model.specs.declared.names.Name.{Name}
 use Rattle.hk_report.specs.declared.histories.Span.{Span}
 use Rattle.hk_report.specs.declared.histories.History.{History}
 use Rattle.hk_report.specs.Histories.{no_history, history_of}
-use Rattle.hk_report.specs.Runs.{IsRearranged, AreRearranged, AreByName, AreOrdered}
+use Rattle.hk_report.specs.Reachable.{is_marked, IsKept, AreKept}
+use Rattle.hk_report.specs.Runs.{AreByName, AreOrdered}
 use Rattle.hk_report.proofs.HistoryLemmas.{beyond}
-use Rattle.hk_report.proofs.Rearranged.{rearranged_one, rearranged_none}
 
 -- ---- one list
 
@@ -43,40 +43,99 @@ by_name spans h = IsNonDecreasingBy-from_all_adjacent (λ (s : Span). s.cap.name
 
 -- ---- one list after another
 
-pub record AreOrderedBelow (first histories : List History) (n : ℕ) : Type 0 where
-  pub same : AreRearranged first histories
+pub record AreOrderedBelow (marks : List Bool) (first histories : List History) (n : ℕ) : Type 0 where
   pub many : length histories ≡ length first
+  pub kept : (name : Name) → name.0 < n → IsKept (is_marked marks name) (history_of first name) (history_of histories name)
+  pub left : (name : Name) → n ≤ name.0 → history_of histories name ≡ history_of first name
   pub ordered : (name : Name) → name.0 < n → AreByName (history_of histories name).spans
 
-pub ordered_none : (histories : List History) → AreOrderedBelow histories histories 0
-ordered_none histories = record { same = rearranged_none histories; many = refl; ordered = λ name l. absurd (omega (arith, l)) }
-
-set_ordered : (hs : List History) (i j : ℕ) (new : History) → i < length hs → AreByName new.spans → (j < i → AreByName (slice_index_or hs j no_history).spans) → j < suc i
-    → AreByName (slice_index_or (slice_set hs i new) j no_history).spans
-set_ordered [] i j new l h f m = absurd (omega (arith, l))
-set_ordered (x ∷ hs) zero zero new l h f m = h
-set_ordered (x ∷ hs) zero (suc j) new l h f m = absurd (omega (arith, m))
-set_ordered (x ∷ hs) (suc i) zero new l h f m = f (omega arith)
-set_ordered (x ∷ hs) (suc i) (suc j) new l h f m = set_ordered hs i j new (omega (arith, l)) h (λ k. f (omega (arith, k))) (omega (arith, m))
-
-pub ordered_one : (first before after : List History) (n : ℕ) (old new : History) → AreOrderedBelow first before n → n < length before → old ≡ slice_index_or before n old
-    → IsRearranged old new → AreByName new.spans → after ≡ slice_set before n new → AreOrderedBelow first after (n + 1)
-ordered_one first before after n old new h l e r up is = record {
-  same = rearranged_one first before after n old new h.same l e r is;
-  many = ap length is ∙ length-set before n new ∙ h.many;
-  ordered = λ name m.
-      subst (λ (hs : List History). AreByName (history_of hs name).spans) (sym is)
-      (set_ordered before n name.0 new l up (λ k. h.ordered name k) (omega (arith, m)));
+ordered_none : (marks : List Bool) (histories : List History) → AreOrderedBelow marks histories histories 0
+ordered_none marks histories = record {
+  many = refl;
+  kept = λ name l. absurd (omega (arith, l));
+  left = λ name l. refl;
+  ordered = λ name l. absurd (omega (arith, l));
 }
 
-pub ordered_all : (first histories : List History) (n : ℕ) → AreOrderedBelow first histories n → length first ≤ n → AreOrdered histories
-ordered_all first histories n h l name = by (cases_lt name.0 n)
-  where
-    nothing : AreByName no_history.spans
-    nothing i j d k m = absurd (omega (arith, m))
+set_there : (hs : List History) (i : ℕ) (new : History) → i < length hs → slice_index_or (slice_set hs i new) i no_history ≡ new
+set_there [] i new l = absurd (omega (arith, l))
+set_there (x ∷ hs) zero new l = refl
+set_there (x ∷ hs) (suc i) new l = set_there hs i new (omega (arith, l))
 
-    by : (name.0 < n) ⊎ (n ≤ name.0) → AreByName (history_of histories name).spans
-    by (inl low) = h.ordered name low
-    by (inr high) =
-        let many = h.many in
-        subst (λ (x : History). AreByName x.spans) (sym (beyond histories name.0 (omega (arith, l, high, many)))) nothing
+set_apart : (hs : List History) (i j : ℕ) (new : History) → (i < j) ⊎ (j < i) → slice_index_or (slice_set hs i new) j no_history ≡ slice_index_or hs j no_history
+set_apart [] i j new l = refl
+set_apart (x ∷ hs) zero zero new (inl l) = absurd (omega (arith, l))
+set_apart (x ∷ hs) zero zero new (inr l) = absurd (omega (arith, l))
+set_apart (x ∷ hs) zero (suc j) new l = refl
+set_apart (x ∷ hs) (suc i) zero new l = refl
+set_apart (x ∷ hs) (suc i) (suc j) new (inl l) = set_apart hs i j new (inl (omega (arith, l)))
+set_apart (x ∷ hs) (suc i) (suc j) new (inr l) = set_apart hs i j new (inr (omega (arith, l)))
+
+any_default : (hs : List History) (n : ℕ) (d e : History) → n < length hs → slice_index_or hs n d ≡ slice_index_or hs n e
+any_default [] n d e l = absurd (omega (arith, l))
+any_default (x ∷ hs) zero d e l = refl
+any_default (x ∷ hs) (suc n) d e l = any_default hs n d e (omega (arith, l))
+
+pub ordered_one : (marks : List Bool) (first before after : List History) (n : ℕ) (old new : History) → AreOrderedBelow marks first before n → n < length before
+    → old ≡ slice_index_or before n old → IsKept (slice_index_or marks n true) old new → AreByName new.spans → after ≡ slice_set before n new
+    → AreOrderedBelow marks first after (n + 1)
+ordered_one marks first before after n old new h l e kept up is = record {
+  many = ap length is ∙ length-set before n new ∙ h.many;
+  kept = λ name m. kept_by name m (cases_lt name.0 n);
+  left = λ name m. apart name (inl (omega (arith, m))) ∙ h.left name (omega (arith, m));
+  ordered = λ name m. up_by name m (cases_lt name.0 n);
+}
+  where
+    apart : (name : Name) → (n < name.0) ⊎ (name.0 < n) → history_of after name ≡ history_of before name
+    apart name m = ap (λ (hs : List History). history_of hs name) is ∙ set_apart before n name.0 new m
+
+    there : slice_index_or after n no_history ≡ new
+    there = ap (λ (hs : List History). slice_index_or hs n no_history) is ∙ set_there before n new l
+
+    was : old ≡ slice_index_or first n no_history
+    was = e ∙ any_default before n old no_history l ∙ h.left (record { 0 = n }) (omega arith)
+
+    here : IsKept (slice_index_or marks n true) (slice_index_or first n no_history) (slice_index_or after n no_history)
+    here = subst (λ (x : History). IsKept (slice_index_or marks n true) x (slice_index_or after n no_history)) was (subst (λ (x : History). IsKept (slice_index_or marks n true) old x) (sym there) kept)
+
+    kept_by : (name : Name) → name.0 < n + 1 → (name.0 < n) ⊎ (n ≤ name.0) → IsKept (is_marked marks name) (history_of first name) (history_of after name)
+    kept_by name m (inl low) = subst (λ (x : History). IsKept (is_marked marks name) (history_of first name) x) (sym (apart name (inr low))) (h.kept name low)
+    kept_by name m (inr high) =
+        let same : n ≡ name.0 = omega (arith, m, high) in
+        subst (λ (k : ℕ). IsKept (slice_index_or marks k true) (slice_index_or first k no_history) (slice_index_or after k no_history)) same here
+
+    up_by : (name : Name) → name.0 < n + 1 → (name.0 < n) ⊎ (n ≤ name.0) → AreByName (history_of after name).spans
+    up_by name m (inl low) = subst (λ (x : History). AreByName x.spans) (sym (apart name (inr low))) (h.ordered name low)
+    up_by name m (inr high) =
+        let same : n ≡ name.0 = omega (arith, m, high) in
+        subst (λ (k : ℕ). AreByName (slice_index_or after k no_history).spans) same (subst (λ (x : History). AreByName x.spans) (sym there) up)
+
+module _ (marks : List Bool) (first histories : List History) (n : ℕ) (h : AreOrderedBelow marks first histories n) (l : length first ≤ n) where
+  beyond_both : (name : Name) → n ≤ name.0 → (history_of first name ≡ no_history) × (history_of histories name ≡ no_history)
+  beyond_both name high =
+      let none : history_of first name ≡ no_history = beyond first name.0 (omega (arith, l, high)) in
+      (none, h.left name high ∙ none)
+
+  pub kept_all : AreKept marks first histories
+  kept_all name = by (cases_lt name.0 n)
+    where
+      nothing : (b : Bool) → IsKept b no_history no_history
+      nothing true = record { maker_is = refl; spans_are = IsPermutation-refl [] }
+      nothing false = record { maker_is = refl; spans_are = refl }
+
+      by : (name.0 < n) ⊎ (n ≤ name.0) → IsKept (is_marked marks name) (history_of first name) (history_of histories name)
+      by (inl low) = h.kept name low
+      by (inr high) =
+          let none = beyond_both name high in
+          subst (λ (x : History). IsKept (is_marked marks name) x (history_of histories name)) (sym none.0)
+          (subst (λ (x : History). IsKept (is_marked marks name) no_history x) (sym none.1) (nothing (is_marked marks name)))
+
+  pub ordered_all : AreOrdered histories
+  ordered_all name = by (cases_lt name.0 n)
+    where
+      nothing : AreByName no_history.spans
+      nothing i j d k m = absurd (omega (arith, m))
+
+      by : (name.0 < n) ⊎ (n ≤ name.0) → AreByName (history_of histories name).spans
+      by (inl low) = h.ordered name low
+      by (inr high) = let none = beyond_both name high in subst (λ (x : History). AreByName x.spans) (sym none.1) nothing

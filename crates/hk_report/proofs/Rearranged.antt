@@ -1,10 +1,10 @@
 -- Lists whose spans are kept in another order tell the same.
 use Rattle.std.proofs.Common.{◌≡◌, ℕ, zero, suc, ◌+◌, ◌<◌, ◌≤◌, List, [], ◌∷◌, ◌++◌, length, Bool, false, Option, Some, None, refl, sym, ◌∙◌, ap, arith, subst}
-use Rattle.std.specs.Prelude.{◌⊎◌, slice_set, slice_index_or}
+use Rattle.std.specs.Prelude.{◌⊎◌, slice_index_or}
 use mathlib.Core.Logic.{inl, inr}
 use Rattle.std.specs.List.Sorted.{IsPermutation}
 use Rattle.std.proofs.lemmas.Bool.{cases_lt}
-use Rattle.std.proofs.lemmas.List.Sorted.{IsPermutation-refl, IsPermutation-sym, IsPermutation-trans, Contains-permutation}
+use Rattle.std.proofs.lemmas.List.Sorted.{IsPermutation-sym, Contains-permutation}
 use Rattle.hk_model.specs.declared.names.Name.{Name}
 use Rattle.hk_model.specs.declared.names.Inc.{Inc}
 use Rattle.hk_model.specs.State.{State}
@@ -14,37 +14,9 @@ use Rattle.hk_report.specs.declared.histories.Span.{Span}
 use Rattle.hk_report.specs.declared.histories.History.{History}
 use Rattle.hk_report.specs.Histories.{no_history, history_of}
 use Rattle.hk_report.specs.Hops.{has_begun, is_made}
-use Rattle.hk_report.specs.Runs.{AreCut, ends_at, AreRuns, IsRearranged, AreRearranged}
+use Rattle.hk_report.specs.Runs.{AreCut, ends_at, AreRuns, AreRearranged}
 use Rattle.hk_report.proofs.Spans.{all_has, has_all, Stood, SpansTell}
 use Rattle.hk_report.proofs.HistoryLemmas.{beyond}
-
--- ---- one list after another is put in order
-
-same_history : (h : History) → IsRearranged h h
-same_history h = record { maker_is = refl; spans_are = IsPermutation-refl h.spans }
-
-after_more : (a b c : History) → IsRearranged a b → IsRearranged b c → IsRearranged a c
-after_more a b c f g = record {
-  maker_is = g.maker_is ∙ f.maker_is;
-  spans_are = IsPermutation-trans a.spans b.spans c.spans f.spans_are g.spans_are;
-}
-
-set_one : (hs : List History) (i j : ℕ) (old new : History) → i < length hs → old ≡ slice_index_or hs i old → IsRearranged old new
-    → IsRearranged (slice_index_or hs j no_history) (slice_index_or (slice_set hs i new) j no_history)
-set_one [] i j old new l e h = absurd (omega (arith, l))
-set_one (x ∷ hs) zero zero old new l e h = subst (λ (y : History). IsRearranged y new) e h
-set_one (x ∷ hs) zero (suc j) old new l e h = same_history (slice_index_or hs j no_history)
-set_one (x ∷ hs) (suc i) zero old new l e h = same_history x
-set_one (x ∷ hs) (suc i) (suc j) old new l e h = set_one hs i j old new (omega (arith, l)) e h
-
-pub rearranged_none : (hs : List History) → AreRearranged hs hs
-rearranged_none hs name = same_history (history_of hs name)
-
-pub rearranged_one : (first before after : List History) (i : ℕ) (old new : History) → AreRearranged first before → i < length before → old ≡ slice_index_or before i old
-    → IsRearranged old new → after ≡ slice_set before i new → AreRearranged first after
-rearranged_one first before after i old new h l e r is name =
-    after_more (history_of first name) (history_of before name) (history_of after name) (h name)
-    (subst (λ (hs : List History). IsRearranged (history_of before name) (history_of hs name)) (sym is) (set_one before i name.0 old new l e r))
 
 -- ---- one list after another is cut
 

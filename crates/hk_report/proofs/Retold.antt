@@ -20,7 +20,7 @@ use Rattle.hk_report.specs.Families.{changes_by, changes_from, families_after, f
 use Rattle.hk_report.specs.Histories.{finished_below, histories_after, noted, opened_below}
 use Rattle.hk_report.specs.Reasons.{AreFew}
 use Rattle.hk_report.specs.Retold.{IsRetold, IsToldMore}
-use Rattle.hk_report.specs.Runs.{AreRearranged}
+use Rattle.hk_report.specs.Reachable.{IsEnough}
 use Rattle.hk_report.specs.Written.{AreWritten, IsReport}
 use Rattle.hk_report.proofs.Lengths.{lines_few}
 use Rattle.hk_report.proofs.Explained.{few_told}
@@ -174,7 +174,7 @@ retold_few w lines r world h = few_told w lines r.telling.families.changes.items
 -- the text of what was told
 pub retold : {K : Type 0} (r : Retelling K) (told histories : List History) (params : List (List Entry)) (families : List (List Begun)) (found : List BareChange)
     (count : ℕ) (none mid text : List ℕ)
-    → told ≡ finished_below (r.count + 1) (length r.telling.histories.items) r.telling.histories.items → AreRearranged told histories → params ≡ r.telling.params
+    → told ≡ finished_below (r.count + 1) (length r.telling.histories.items) r.telling.histories.items → IsEnough families params found told histories → params ≡ r.telling.params
     → families ≡ r.telling.families.calls → found ≡ r.telling.families.changes.items
     → count ≡ length found → none ≡ [] → AreWritten families histories params found none mid → text ≡ mid ++ ended_line (codes "changes " ++ decimal count)
     → (w : WorldValue) → (lines : List Line) → IsWorld w → IsRetold w lines r → IsReport w lines text

@@ -17,11 +17,11 @@ use Rattle.hk_report.specs.ChangeTexts.{change_text}
 use Rattle.hk_report.specs.Doings.{doings, params_given}
 use Rattle.hk_report.specs.Families.{changes_from, families_after}
 use Rattle.hk_report.specs.Histories.{told_histories}
-use Rattle.hk_report.specs.Runs.{AreRearranged}
+use Rattle.hk_report.specs.Reachable.{IsEnough}
 use Rattle.hk_report.specs.Reasons.{IsTold, AreTold}
 use Rattle.hk_report.specs.Written.{AreWritten, IsReport}
 use Rattle.hk_report.proofs.ReasonLemmas.{told_none, told_more}
-use Rattle.hk_report.proofs.Explained.{report_is}
+use Rattle.hk_report.proofs.LeftOut.{report_enough}
 
 written_one : (changes : List Change) (change : Change) → flat_map change_text (changes ++ change ∷ []) ≡ flat_map change_text changes ++ change_text change
 written_one [] change = append-nil (change_text change)
@@ -71,13 +71,13 @@ told_empty families histories params (b ∷ bares) changes e h = absurd (omega (
 -- the whole text
 pub reported : (w : WorldValue) (lines : List Line) (told histories : List History) (params : List (List Entry)) (families : List (List Begun)) (found : List BareChange)
     (count : ℕ) (none mid text : List ℕ) → IsWorld w → AreStepsOf w lines
-    → told ≡ told_histories w lines → AreRearranged told histories → params ≡ params_given w (opened w) lines
+    → told ≡ told_histories w lines → IsEnough families params found told histories → params ≡ params_given w (opened w) lines
     → families ≡ families_after 0 (doings w (opened w) lines) (replicate (opened w).state.next_inc.0 [])
     → found ≡ changes_from 0 (replicate (opened w).state.next_inc.0 []) (doings w (opened w) lines)
     → count ≡ length found → none ≡ [] → AreWritten families histories params found none mid → text ≡ mid ++ ended_line (codes "changes " ++ decimal count) → IsReport w lines text
 reported w lines told histories params families found count none mid text world steps h same p g c many n is e = (
   is.changes,
-  report_is w lines told histories params families found is.changes world steps h same p g c is.told,
+  report_enough w lines told histories params families found is.changes world steps h same p g c is.told,
   e
       ∙ ap (λ (xs : List ℕ). xs ++ ended_line (codes "changes " ++ decimal count)) (is.text_is ∙ ap (λ (xs : List ℕ). xs ++ flat_map change_text is.changes) n)
       ∙ ap (λ (k : ℕ). flat_map change_text is.changes ++ ended_line (codes "changes " ++ decimal k)) (many ∙ sym (told_many families histories params found is.changes is.told)),

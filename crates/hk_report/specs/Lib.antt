@@ -13,3 +13,5 @@ pub mod Written
 pub mod Retold
 pub mod Lists
 pub mod Params
+pub mod Reachable
+pub mod Marking

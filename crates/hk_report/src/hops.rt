@@ -22,7 +22,7 @@ use hk_rights::Right;
 use std::alloc::Global;
 use std::collections::BTreeMap;
 
-/// To look an object up in a list costs about as much as to go over so many of its runs.
+/// Objects are looked up in a list where it has so many runs for each of them, else its runs are gone over.
 const LOOK_UP: usize = 8;
 
 /// Where a way has come to.

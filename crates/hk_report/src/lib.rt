@@ -8,8 +8,9 @@
 //! kernel has to show for that, `naming` what a path names, `doings` what each line did, `replay` the
 //! lines of a history once more, `families` the confined calls that each incarnation is under, `params`
 //! the merged parameters of each call, `lists` how both stand in memory, `histories` what has stood in
-//! lists, `runs` how that is put in order, `holders` which runs hold an object, `hops` the hops over it,
-//! `searching` the search for the least reach, `reasons` each change with its reason.
+//! lists, `reachable` which lists ways can come to, `runs` how what stood in these is put in order, `holders`
+//! which runs hold an object, `hops` the hops over it, `searching` the search for the least reach, `reasons`
+//! each change with its reason.
 #![tactic(auto)]
 
 mod counting;
@@ -21,6 +22,7 @@ mod hops;
 mod lists;
 mod naming;
 mod params;
+mod reachable;
 mod reasons;
 mod replay;
 mod reporting;

@@ -1,9 +1,11 @@
 //! The merged parameters of the calls that lines have begun (`docs/RULES.md`, "Changes and their reasons").
 
 ghost use Rattle.std.specs.Prelude.{◌≡◌, ◌≤◌, ◌++◌, ◌∷◌, [], length, slice_index_or, OnOk};
+ghost use Rattle.hk_report.specs.Reasons.{params_at};
 
+use crate::families::Begun;
 use crate::lists::Lists;
-use hk_model::{Entry, NoMemory};
+use hk_model::{Entry, Inc, NoMemory};
 use std::alloc::Global;
 use std::marker::Model;
 
@@ -36,7 +38,7 @@ impl GivenParams {
     }
 
     /// How many calls have begun.
-    pub(crate) fn len(&self) -> usize
+    fn len(&self) -> usize
         ensures { result ≡ length self.now }
     {
         self.lists.len()
@@ -44,11 +46,21 @@ impl GivenParams {
 
     /// The parameters of the call with so many before it; none where there is no such call.
     #[tactic(auto, using(crate::proofs::ListLemmas::few_each_at))]
-    pub(crate) fn get(&self, number: usize) -> &[Entry]
+    fn get(&self, number: usize) -> &[Entry]
         ensures value { result.now ≡ slice_index_or self.now number [] }
         ensures few { length result.now ≤ 8 }
     {
         self.lists.get(number)
+    }
+
+    /// The parameters of a call, by its incarnation. Those of the opening, of which none are kept, have the first numbers, and
+    /// `families` is of all incarnations.
+    pub(crate) fn of(&self, families: &Lists<Begun>, call: Inc) -> &[Entry]
+        ensures same { result.now ≡ params_at families.now self.now call }
+        ensures few { length result.now ≤ 8 }
+    {
+        let opened = families.len().saturating_sub(self.len());
+        self.get((call.0 as usize).saturating_sub(opened))
     }
 
     /// One call more, with these parameters. NoMemory is want of memory.

@@ -1,9 +1,10 @@
 //! Why a change under a confined call could be made (`docs/RULES.md`, "Changes and their reasons").
 
 ghost use Rattle.std.specs.Prelude.{◌≡◌, ◌<◌, ◌≤◌, ◌^◌, ◌+◌, length, vec_len, IfOk, OnOk, string_bytes};
-ghost use Rattle.hk_report.specs.Runs.{AreRuns, AreRuns-prop, AreOrdered, AreOrdered-prop, AreRearranged};
+ghost use Rattle.hk_report.specs.Runs.{AreRuns, AreRuns-prop, AreOrdered, AreOrdered-prop};
+ghost use Rattle.hk_report.specs.Reachable.{IsEnough};
 ghost use Rattle.hk_report.specs.Holders.{AreHolders};
-ghost use Rattle.hk_report.specs.Reasons.{params_at, IsReasoned, IsTold, AreFew, AreTold};
+ghost use Rattle.hk_report.specs.Reasons.{IsReasoned, IsTold, AreFew, AreTold};
 ghost use Rattle.hk_report.specs.Written.{AreWritten};
 
 use crate::families::{BareChange, Begun};
@@ -12,11 +13,12 @@ use crate::holders::{Stretch, holders};
 use crate::hops::Ground;
 use crate::lists::Lists;
 use crate::params::GivenParams;
+use crate::reachable::reachable;
 use crate::replay::Telling;
 use crate::runs::{all_ends, rearrange_all};
 use crate::searching::Search;
 use crate::texts::write_change;
-use hk_model::{Change, Entry, Inc, Items, NoMemory, Reach};
+use hk_model::{Change, Items, NoMemory, Reach};
 use std::alloc::Global;
 
 /// The runs of what has stood in lists.
@@ -65,15 +67,6 @@ impl<'a> Grounds<'a> {
         }
     }
 
-    /// The merged parameters of a call that a line has begun. The incarnations of the opening have the first numbers.
-    fn params_of(&self, call: Inc) -> &[Entry]
-        ensures same { result.now ≡ params_at self.now.families.now self.now.params.now call }
-        ensures few { length result.now ≤ 8 }
-    {
-        let opened = self.families.len().saturating_sub(self.params.len());
-        self.params.get((call.0 as usize).saturating_sub(opened))
-    }
-
     /// Why a change could be made.
     fn reason(&self, alloc: Global, bare: &BareChange) -> Result<Reach, NoMemory>
         requires { bare.now.moment + 1 < 2 ^ 32 }
@@ -91,7 +84,7 @@ impl<'a> Grounds<'a> {
         }
         let search = Search {
             ground,
-            params: self.params_of(bare.under.call),
+            params: self.params.of(self.families, bare.under.call),
             wanted: bare.object,
             before: bare.moment + 1,
         };
@@ -145,16 +138,20 @@ impl<'a> Grounds<'a> {
 }
 
 impl Telling {
-    /// Puts what has stood in each list in order, and finds the runs of it.
+    /// Puts what has stood in the lists in order that ways can come to, leaves out what has stood in the others, and
+    /// finds the runs of it.
     fn order(&mut self, alloc: Global) -> Result<Runs, NoMemory>
-        ensures same { AreRearranged self.old.histories.items self.new.histories.items }
+        ensures enough { IfOk result (λ runs. IsEnough self.old.families.calls self.old.params self.old.families.changes.items self.old.histories.items self.new.histories.items) }
         ensures families { self.new.families ≡ self.old.families }
         ensures params { self.new.params ≡ self.old.params }
         ensures cut { IfOk result (λ runs. AreRuns self.new.histories.items runs.ends.items) }
         ensures held { IfOk result (λ runs. AreHolders self.new.histories.items runs.ends.items runs.holders.items) }
-        ensures ordered { AreOrdered self.new.histories.items }
+        ensures ordered { IfOk result (λ runs. AreOrdered self.new.histories.items) }
     {
-        rearrange_all(alloc, &mut self.histories);
+        let changes = self.families.changes.as_slice();
+        let (families, params) = (&self.families.calls, &self.params);
+        let marks = reachable(alloc, self.histories.as_slice(), families, params, changes)?;
+        rearrange_all(alloc, &mut self.histories, marks.as_slice());
         let histories = self.histories.as_slice();
         let ends = all_ends(alloc, histories)?;
         let holders = holders(alloc, histories, ends.as_slice())?;
@@ -165,7 +162,7 @@ impl Telling {
     /// change. NoMemory is want of memory.
     pub(crate) fn explain(&mut self, alloc: Global) -> Result<Vec<Change>, NoMemory>
         requires { AreFew self.old.families.changes.items }
-        ensures same { AreRearranged self.old.histories.items self.new.histories.items }
+        ensures enough { IfOk result (λ changes. IsEnough self.old.families.calls self.old.params self.old.families.changes.items self.old.histories.items self.new.histories.items) }
         ensures told { IfOk result (λ changes. AreTold self.old.families.calls self.new.histories.items self.old.params self.old.families.changes.items changes.items) }
     {
         if self.families.changes.is_empty() {
@@ -179,7 +176,7 @@ impl Telling {
     /// Writes them. NoMemory is want of memory.
     pub(crate) fn write(&mut self, alloc: Global, out: &mut String) -> Result<(), NoMemory>
         requires { AreFew self.old.families.changes.items }
-        ensures same { AreRearranged self.old.histories.items self.new.histories.items }
+        ensures enough { OnOk result (IsEnough self.old.families.calls self.old.params self.old.families.changes.items self.old.histories.items self.new.histories.items) }
         ensures count { vec_len self.new.families.changes ≡ length self.old.families.changes.items }
         ensures written { OnOk result (AreWritten self.old.families.calls self.new.histories.items self.old.params self.old.families.changes.items (string_bytes out.old) (string_bytes out.new)) }
     {

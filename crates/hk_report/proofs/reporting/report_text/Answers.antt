@@ -9,5 +9,5 @@ returns c =
     let x = c.in_ok-write.ensures in
     let after = c.write.new.self in
     reported c.args.world.now c.args.lines.now told.histories.items after.histories.items told.params told.families.calls told.families.changes.items c.len.result
-    (string_bytes c.new-out.result) (string_bytes c.write.new.out) c.from_string.result c.limit-limit.ensures.valid c.requires t.histories x.same t.params t.calls t.changes
+    (string_bytes c.new-out.result) (string_bytes c.write.new.out) c.from_string.result c.limit-limit.ensures.valid c.requires t.histories x.enough t.params t.calls t.changes
     (c.len.ensures ∙ x.count) c.new-out.ensures.bytes x.written (c.from_string.ensures ∙ c.in_ok-write_count.ensures)

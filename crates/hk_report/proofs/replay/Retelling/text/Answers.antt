@@ -9,5 +9,5 @@ returns g c w lines world t =
     let x = c.in_ok-write.ensures in
     let after = c.write.new.self in
     retold c.args.self told.histories.items after.histories.items told.params told.families.calls told.families.changes.items c.len.result
-    (string_bytes c.new-out.result) (string_bytes c.write.new.out) c.from_string.result e.histories x.same e.params e.calls e.changes (c.len.ensures ∙ x.count)
+    (string_bytes c.new-out.result) (string_bytes c.write.new.out) c.from_string.result e.histories x.enough e.params e.calls e.changes (c.len.ensures ∙ x.count)
     c.new-out.ensures.bytes x.written (c.from_string.ensures ∙ c.in_ok-write_count.ensures) w lines world t
