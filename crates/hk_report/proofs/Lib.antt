@@ -21,6 +21,7 @@ mod ListLemmas
 mod Unchanged
 mod RunLemmas
 mod RunHops
+mod LateRuns
 mod RunSkips
 mod HeldIn
 mod RunsBelow

@@ -61,7 +61,7 @@ both_ways a b f g =
     let y : a.unconf ≡ b.unconf = omega (arith, u, v) in
     ap (λ (k : ℕ). let l : Latest = record { modify = k; unconf = a.unconf } in l) x ∙ ap (λ (k : ℕ). let l : Latest = record { modify = b.modify; unconf = k } in l) y
 
-none_at_most : (a : Latest) → AtMost no_latest a
+pub none_at_most : (a : Latest) → AtMost no_latest a
 none_at_most a = record { modify = omega arith; unconf = omega arith }
 
 -- two numbers that compare the same
@@ -87,7 +87,7 @@ right_within a b = by (nat_lt a b) refl
     by true e = omega arith
     by false e = let l = ltb-false a b e in omega (arith, l)
 
-both_within : (a b c : ℕ) → a ≤ c → b ≤ c → greater a b ≤ c
+pub both_within : (a b c : ℕ) → a ≤ c → b ≤ c → greater a b ≤ c
 both_within a b c f g = by (nat_lt a b)
   where
     by : (o : Bool) → cond o b a ≤ c
@@ -175,7 +175,7 @@ over_off run most x y =
     ∙ ap (λ (n : ℕ). bounds (most_on run most.modify) n) (y ∙ sym (most_none run) ∙ ap (most_on run) (sym y))
 
 -- none can be gone over below more than a bound
-on_within : (span : Span) (bound : ℕ) → from_on span bound ≤ bound
+pub on_within : (span : Span) (bound : ℕ) → from_on span bound ≤ bound
 on_within span bound = by (nat_lt span.until bound) refl
   where
     kept : (k : ℕ) → k ≤ bound → (o : Bool) → cond o k 0 ≤ bound
@@ -209,7 +209,7 @@ module _ (made : Name → Bool) (level : Name → Latest) where
       (from_keeps spans (joined all (over first))))
   from_has (first ∷ spans) all span (inr h) = from_has spans (joined all (over first)) span h
 
-  from_least : (spans : List Span) (all most : Latest) → AtMost all most → ((span : Span) → Has spans span → AtMost (over span) most)
+  pub from_least : (spans : List Span) (all most : Latest) → AtMost all most → ((span : Span) → Has spans span → AtMost (over span) most)
       → AtMost (latest_from made level all spans) most
   from_least [] all most h each = h
   from_least (span ∷ spans) all most h each =

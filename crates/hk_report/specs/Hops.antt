@@ -1,6 +1,6 @@
 -- Hops over what has stood in lists, which of them comes first, and from which moments the rest of a way can be made.
 -- docs/RULES.md, "Reaches".
-use Rattle.std.specs.Prelude.{◌≡◌, ◌<◌, ◌⊎◌, ℕ, ◌==◌, ◌&&◌, ◌||◌, Bool, true, false, List, [], ◌∷◌, nat_lt, slice_index_or, Option, Some, None, if◌then◌else◌}
+use Rattle.std.specs.Prelude.{◌≡◌, ◌<◌, ◌≤◌, ◌⊎◌, ℕ, ◌==◌, ◌&&◌, ◌||◌, Bool, true, false, List, [], ◌∷◌, nat_lt, slice_index_or, Option, Some, None, if◌then◌else◌}
 use Rattle.std.specs.List.{list_any}
 use Rattle.std.specs.BTreeMap.{get}
 use Rattle.std.specs.Option.{unwrap_or}
@@ -72,6 +72,10 @@ alone object latest name = if name.0 == object.0 then latest else no_latest
 
 abbrev pub bounds_at : Bounds → Name → Latest
 bounds_at bounds name = unwrap_or (get name_cmp bounds.latest name) no_latest
+
+-- from no moment from this one on
+abbrev pub IsBy : ℕ → Latest → Type 0
+IsBy moment latest = (latest.modify ≤ moment) × (latest.unconf ≤ moment)
 
 -- the rest can be made from there
 abbrev pub is_good : Arrived → Latest → Bool

@@ -1,4 +1,4 @@
-//! Hops over what has stood in lists, and which of them comes first (`docs/RULES.md`, "Reaches").
+//! Hops over what has stood in lists, and from which moments the rest of a way can be made (`docs/RULES.md`, "Reaches").
 
 ghost use Rattle.std.specs.Prelude.{◌≡◌, ◌≤◌, ◌/◌, true, None, length, nat_lt, IfOk, IfSome, OnOk};
 ghost use Rattle.std.specs.Cmp.Lexicographic.{slice_cmp};
@@ -21,9 +21,6 @@ use hk_model::{Cap, Hop, Items, Name, NoMemory};
 use hk_rights::Right;
 use std::alloc::Global;
 use std::collections::BTreeMap;
-
-/// Objects are looked up in a list where it has so many runs for each of them, else its runs are gone over.
-const LOOK_UP: usize = 8;
 
 /// Where a way has come to.
 #[derive(Clone, Copy, PartialEq, Eq, Debug)]
@@ -125,7 +122,7 @@ fn has_begun(begun: Begun, calls: &[Begun]) -> bool
 }
 
 /// The later of two moments.
-fn later(a: u32, b: u32) -> u32
+pub(crate) fn later(a: u32, b: u32) -> u32
     ensures { result ≡ later a b }
 {
     if a < b { b } else { a }
@@ -170,7 +167,7 @@ fn is_good(to: &Arrived, latest: Latest) -> bool
 }
 
 /// The hop by the entry, where it can be made and the rest after it.
-fn entry_onward(from: &Arrived, span: &Span, latest: Latest) -> Option<Onward>
+pub(crate) fn entry_onward(from: &Arrived, span: &Span, latest: Latest) -> Option<Onward>
     ensures { result ≡ entry_onward from.now span.now latest }
 {
     let moment = later(from.moment, span.from);
@@ -187,7 +184,12 @@ fn entry_onward(from: &Arrived, span: &Span, latest: Latest) -> Option<Onward>
 }
 
 /// The hop to what was made under the call, where it can be made and the rest after it.
-fn handed_onward(from: &Arrived, span: &Span, latest: Latest, made: bool) -> Option<Onward>
+pub(crate) fn handed_onward(
+    from: &Arrived,
+    span: &Span,
+    latest: Latest,
+    made: bool,
+) -> Option<Onward>
     ensures { result ≡ handed_onward from.now span.now latest made }
 {
     let moment = later(from.moment, span.from);
@@ -204,7 +206,7 @@ fn handed_onward(from: &Arrived, span: &Span, latest: Latest, made: bool) -> Opt
 }
 
 /// The index of a hop.
-fn index_of(hop: &Hop) -> u16
+pub(crate) fn index_of(hop: &Hop) -> u16
     ensures { result ≡ index_of hop.now }
 {
     match hop {
@@ -214,7 +216,7 @@ fn index_of(hop: &Hop) -> u16
 }
 
 /// The moment of a hop.
-fn moment_of(hop: &Hop) -> u32
+pub(crate) fn moment_of(hop: &Hop) -> u32
     ensures { result ≡ moment_of hop.now }
 {
     match hop {
@@ -241,7 +243,7 @@ fn comes_before(a: &Hop, b: &Hop) -> bool
 }
 
 /// The hop that comes first of those that there are.
-fn earlier(a: Option<Onward>, b: Option<Onward>) -> Option<Onward>
+pub(crate) fn earlier(a: Option<Onward>, b: Option<Onward>) -> Option<Onward>
     ensures { result ≡ earlier a b }
 {
     match a {
@@ -406,16 +408,6 @@ impl Bounds {
     }
 }
 
-/// Whether an object is another than the one that was gone over last.
-fn is_other(last: Option<Name>, name: Name) -> bool
-    ensures { result ≡ is_other last name }
-{
-    match last {
-        Some(last) => last.0 != name.0,
-        None => true,
-    }
-}
-
 /// The way has come, before this moment.
 fn ends_before(before: u32) -> Latest
     ensures { result ≡ ends_before before }
@@ -437,49 +429,6 @@ fn latest_end(end: Name, before: u32, name: Name) -> Latest
     }
 }
 
-/// Whether a hop comes before all over a run that begins with this span.
-fn stays_first(from: &Arrived, span: &Span, first: &Option<Onward>) -> bool
-    ensures { result ≡ true → StaysFirst from.now span.now first.now }
-{
-    match first {
-        Some(onward) => {
-            let moment = later(from.moment, span.from);
-            moment_of(&onward.hop) < moment
-                || (moment_of(&onward.hop) == moment && index_of(&onward.hop) < span.index)
-        }
-        None => false,
-    }
-}
-
-/// The hop that comes first of one and those over a run of one capability, after which the rest can be made below these.
-/// It can go over the first span alone that has not ended, and over none where the hop that is there comes before all.
-fn first_open_below(
-    run: &[Span],
-    from: &Arrived,
-    latest: Latest,
-    made: bool,
-    first: Option<Onward>,
-) -> Option<Onward>
-    requires { IsRun run.now }
-    ensures { result ≡ first_open_below latest made from.now first (find (is_open from.now.moment) run.now) }
-{
-    if let Some(span) = run.first() {
-        if stays_first(from, span, &first) {
-            return first;
-        }
-    }
-    match first_open(run, from.moment) {
-        Some(span) => earlier(
-            first,
-            earlier(
-                entry_onward(from, span, latest),
-                handed_onward(from, span, latest, made),
-            ),
-        ),
-        None => first,
-    }
-}
-
 impl<'a> Ground<'a> {
     /// Whether an object was made under the call.
     pub(crate) fn is_made(&self, name: Name) -> bool
@@ -495,7 +444,7 @@ impl<'a> Ground<'a> {
     }
 
     /// From which moments the rest can be made at an object.
-    fn latest_at(&self, level: &Level, name: Name) -> Latest
+    pub(crate) fn latest_at(&self, level: &Level, name: Name) -> Latest
         ensures { result ≡ latest_at (is_made self.now.families.now self.now.begun self.now.histories.now) self.now.histories.now level.now name }
     {
         match level {
@@ -530,143 +479,8 @@ impl<'a> Ground<'a> {
         joined(all, self.latest_over(held, most))
     }
 
-    /// The hop that comes first of one and those over a run. `known` keeps what was asked of a level last: runs that hold
-    /// one object stand together.
-    fn first_over(
-        &self,
-        level: &Level,
-        known: &mut Option<Raise>,
-        from: &Arrived,
-        run: &[Span],
-        first: Option<Onward>,
-    ) -> Option<Onward>
-        requires run { IsRun run.now }
-        requires known { IfSome known.old (λ kept. kept.latest ≡ latest_at (is_made self.now.families.now self.now.begun self.now.histories.now) self.now.histories.now level.now kept.name) }
-        ensures first { result ≡ first_from (is_made self.now.families.now self.now.begun self.now.histories.now) (latest_at (is_made self.now.families.now self.now.begun self.now.histories.now) self.now.histories.now level.now) from.now first run.now }
-        ensures known { IfSome known.new (λ kept. kept.latest ≡ latest_at (is_made self.now.families.now self.now.begun self.now.histories.now) self.now.histories.now level.now kept.name) }
-    {
-        let Some(span) = run.first() else {
-            return first;
-        };
-        if stays_first(from, span, &first) {
-            return first;
-        }
-        let name = span.cap.name;
-        let latest = self.latest_known(level, known, name);
-        if latest.modify == 0 && latest.unconf == 0 {
-            return first;
-        }
-        first_open_below(run, from, latest, self.is_made(name), first)
-    }
-
-    /// From which moments the rest can be made at an object, by what was asked last where it was the same.
-    fn latest_known(&self, level: &Level, known: &mut Option<Raise>, name: Name) -> Latest
-        requires { IfSome known.old (λ kept. kept.latest ≡ latest_at (is_made self.now.families.now self.now.begun self.now.histories.now) self.now.histories.now level.now kept.name) }
-        ensures value { result ≡ latest_at (is_made self.now.families.now self.now.begun self.now.histories.now) self.now.histories.now level.now name }
-        ensures known { IfSome known.new (λ kept. kept.latest ≡ latest_at (is_made self.now.families.now self.now.begun self.now.histories.now) self.now.histories.now level.now kept.name) }
-    {
-        if let Some(kept) = *known {
-            if kept.name.0 == name.0 {
-                return kept.latest;
-            }
-        }
-        let latest = self.latest_at(level, name);
-        *known = Some(Raise { name, latest });
-        latest
-    }
-
-    /// The first hop after which the rest can be made.
-    pub(crate) fn first_onward(&self, level: &Level, from: &Arrived) -> Option<Onward>
-        ensures { result ≡ first_from (is_made self.now.families.now self.now.begun self.now.histories.now) (latest_at (is_made self.now.families.now self.now.begun self.now.histories.now) self.now.histories.now level.now) from.now None (history_of self.now.histories.now from.now.name).spans }
-    {
-        match level {
-            Level::End { name, .. } => self.first_held(level, *name, from, None),
-            Level::Near { name, before } if self.are_few(self.holders_of(*name).len(), from) => {
-                self.first_near(*name, *before, from)
-            }
-            Level::Behind(bounds) if self.are_few(bounds.latest.len(), from) => {
-                self.first_behind(level, bounds, from)
-            }
-            _ => self.first_by_runs(level, from),
-        }
-    }
-
-    /// Whether it costs less to look up so many objects in the list than to go over its runs.
-    fn are_few(&self, count: usize, from: &Arrived) -> bool
-        ensures { result ≡ nat_lt count (length (ends_at self.now.runs.now from.now.name) / 8) }
-    {
-        count < ends_at(self.runs, from.name).len() / LOOK_UP
-    }
-
-    /// The hop that comes first of one and those to an object, after which the rest can be made: of the runs of the list
-    /// those that hold it are looked at.
-    fn first_held(
-        &self,
-        level: &Level,
-        object: Name,
-        from: &Arrived,
-        first: Option<Onward>,
-    ) -> Option<Onward>
-        ensures { result ≡ first_from (is_made self.now.families.now self.now.begun self.now.histories.now) (alone object (latest_at (is_made self.now.families.now self.now.begun self.now.histories.now) self.now.histories.now level.now object)) from.now first (history_of self.now.histories.now from.now.name).spans }
-    {
-        let runs = self.held_in(object, from.name);
-        if runs.is_empty() {
-            return first;
-        }
-        let latest = self.latest_at(level, object);
-        let made = self.is_made(object);
-        let mut first = first;
-        for held in runs {
-            first = first_open_below(self.run_of(held), from, latest, made, first);
-        }
-        first
-    }
-
-    /// The first hop after which one more leads to an object, before a moment: by the objects in whose lists it stood.
-    fn first_near(&self, end: Name, before: u32, from: &Arrived) -> Option<Onward>
-        ensures { result ≡ first_from (is_made self.now.families.now self.now.begun self.now.histories.now) (next_latest (is_made self.now.families.now self.now.begun self.now.histories.now) self.now.histories.now (latest_end end before)) from.now None (history_of self.now.histories.now from.now.name).spans }
-    {
-        let level = Level::Near { name: end, before };
-        let mut first = None;
-        let mut last = None;
-        for held in self.holders_of(end) {
-            if is_other(last, held.by) {
-                first = self.first_held(&level, held.by, from, first);
-                last = Some(held.by);
-            }
-        }
-        first
-    }
-
-    /// The first hop after which the rest can be made, by the objects that have bounds. They are those of the level.
-    fn first_behind(&self, level: &Level, bounds: &Bounds, from: &Arrived) -> Option<Onward>
-        requires { level.now ≡ Behind bounds.now }
-        ensures { result ≡ first_from (is_made self.now.families.now self.now.begun self.now.histories.now) (bounds_at bounds.now) from.now None (history_of self.now.histories.now from.now.name).spans }
-    {
-        let mut first = None;
-        for name in bounds.latest.keys() {
-            first = self.first_held(level, *name, from, first);
-        }
-        first
-    }
-
-    /// The first hop after which the rest can be made, by all runs of the list.
-    fn first_by_runs(&self, level: &Level, from: &Arrived) -> Option<Onward>
-        ensures { result ≡ first_from (is_made self.now.families.now self.now.begun self.now.histories.now) (latest_at (is_made self.now.families.now self.now.begun self.now.histories.now) self.now.histories.now level.now) from.now None (history_of self.now.histories.now from.now.name).spans }
-    {
-        let spans = spans_at(self.histories, from.name);
-        let mut first = None;
-        let mut known = None;
-        let mut start = 0;
-        for end in ends_at(self.runs, from.name) {
-            first = self.first_over(level, &mut known, from, &spans[start..*end], first);
-            start = *end;
-        }
-        first
-    }
-
     /// The runs that hold an object.
-    fn holders_of(&self, name: Name) -> &[Stretch]
+    pub(crate) fn holders_of(&self, name: Name) -> &[Stretch]
         ensures { result.now ≡ held_at self.now.holders.now name }
     {
         match self.holders.get(name.0 as usize) {
@@ -676,7 +490,7 @@ impl<'a> Ground<'a> {
     }
 
     /// Those of them in the list of an object. The runs of each list stand together, in the order of the names.
-    fn held_in(&self, name: Name, by: Name) -> &[Stretch]
+    pub(crate) fn held_in(&self, name: Name, by: Name) -> &[Stretch]
         ensures { result.now ≡ held_in self.now.holders.now name by }
     {
         let held = self.holders_of(name);
@@ -687,7 +501,7 @@ impl<'a> Ground<'a> {
     }
 
     /// The spans of a run.
-    fn run_of(&self, held: &Stretch) -> &[Span]
+    pub(crate) fn run_of(&self, held: &Stretch) -> &[Span]
         requires { (name : Name) × HoldsAlone self.now.histories.now name held.now }
         ensures { result.now ≡ spans_in self.now.histories.now held.now }
     {

@@ -9,13 +9,14 @@
 //! lines of a history once more, `families` the confined calls that each incarnation is under, `params`
 //! the merged parameters of each call, `lists` how both stand in memory, `histories` what has stood in
 //! lists, `reachable` which lists ways can come to, `runs` how what stood in these is put in order, `holders`
-//! which runs hold an object, `hops` the hops over it, `searching` the search for the least reach, `reasons`
-//! each change with its reason.
+//! which runs hold an object, `hops` the hops over it, `first_hops` which of them comes first, `searching` the
+//! search for the least reach, `reasons` each change with its reason.
 #![tactic(auto)]
 
 mod counting;
 mod doings;
 mod families;
+mod first_hops;
 mod histories;
 mod holders;
 mod hops;

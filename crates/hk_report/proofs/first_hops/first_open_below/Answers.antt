@@ -1,5 +1,5 @@
 use Rattle.hk_report.proofs.RunsBelow.{stays_open}
-use Rattle.hk_report.proofs.hops.first_open_below.Goals as goal
+use Rattle.hk_report.proofs.first_hops.first_open_below.Goals as goal
 
 pub returns-then-stays_first : goal.returns-then-stays_first
 returns-then-stays_first c =
