@@ -6,6 +6,7 @@ import subprocess
 from pathlib import Path
 
 SOURCE = """
+#include <errno.h>
 #include <stdio.h>
 #include <stdlib.h>
 extern void *__libc_malloc(size_t); extern void *__libc_calloc(size_t, size_t); extern void *__libc_realloc(void *, size_t);
@@ -13,7 +14,9 @@ static long left = -1, made;
 static int refused(void) {
   __sync_add_and_fetch(&made, 1);
   if (left < 0) { const char *n = getenv("REFUSED_ALLOCATION"); left = n ? atol(n) : 0; }
-  return left > 0 && __sync_sub_and_fetch(&left, 1) == 0;
+  if (left <= 0 || __sync_sub_and_fetch(&left, 1) != 0) return 0;
+  errno = ENOMEM; /* the C library relies on it where it starts a thread */
+  return 1;
 }
 void *malloc(size_t n) { return refused() ? 0 : __libc_malloc(n); }
 void *calloc(size_t m, size_t n) { return refused() ? 0 : __libc_calloc(m, n); }
