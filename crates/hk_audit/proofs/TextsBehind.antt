@@ -6,6 +6,7 @@ use Rattle.std.specs.Fmt.{decimal}
 use Rattle.std.proofs.lemmas.List.{take_all}
 use mathlib.Core.List.{append-nil}
 use Rattle.hk_model.specs.declared.instructions.Index.TheVariants.{Fixed}
+use Rattle.hk_model.specs.declared.calls.Reply.{Reply}
 use Rattle.hk_model.specs.declared.lines.Line.{Line}
 use Rattle.hk_model.specs.declared.names.Slot.{Slot}
 use Rattle.hk_format.specs.AuditLines.{line_text, reply_pieces, what_pieces}
@@ -67,12 +68,19 @@ with_arguments w path args into bytes slots last rest front middle back =
 line_joined : (a b c d e rest : List ℕ) → ((((a ++ b) ++ c) ++ d) ++ e) ++ rest ≡ a ++ (b ++ (c ++ (d ++ (e ++ rest))))
 line_joined a b c d e rest = simp append_assoc
 
--- a line: who acts, what happened, the arrow, the reply and the line feed
-pub whole_line : (line : Line) (bytes said pointed replied ended rest : List ℕ)
+-- the end of a line: the arrow, the reply and the line feed
+pub whole_end : (reply : Reply) (bytes told ended rest : List ℕ) → (32 ∷ 45 ∷ 62 ∷ 32 ∷ []) ++ told ≡ bytes → spell_line (reply_pieces reply) ++ ended ≡ told
+    → (10 ∷ []) ++ rest ≡ ended → (32 ∷ 45 ∷ 62 ∷ 32 ∷ []) ++ (spell_line (reply_pieces reply) ++ 10 ∷ rest) ≡ bytes
+whole_end reply bytes told ended rest a b c =
+    let arrow : List ℕ = 32 ∷ 45 ∷ 62 ∷ 32 ∷ [] in
+    ap (λ (t : List ℕ). arrow ++ (spell_line (reply_pieces reply) ++ t)) c ∙ ap (λ (t : List ℕ). arrow ++ t) b ∙ a
+
+-- a line: who acts, what happened, and the end
+pub whole_line : (line : Line) (bytes said pointed rest : List ℕ)
     → (decimal line.cpu.0 ++ 32 ∷ (decimal line.proc.0 ++ 32 ∷ (decimal line.inc.0 ++ 32 ∷ []))) ++ said ≡ bytes
-    → spell_line (what_pieces line.what) ++ pointed ≡ said → (32 ∷ 45 ∷ 62 ∷ 32 ∷ []) ++ replied ≡ pointed → spell_line (reply_pieces line.reply) ++ ended ≡ replied
-    → (10 ∷ []) ++ rest ≡ ended → line_text line ++ rest ≡ bytes
-whole_line line bytes said pointed replied ended rest a b c d e =
+    → spell_line (what_pieces line.what) ++ pointed ≡ said → (32 ∷ 45 ∷ 62 ∷ 32 ∷ []) ++ (spell_line (reply_pieces line.reply) ++ 10 ∷ rest) ≡ pointed
+    → line_text line ++ rest ≡ bytes
+whole_line line bytes said pointed rest a b c =
     let actor = decimal line.cpu.0 ++ 32 ∷ (decimal line.proc.0 ++ 32 ∷ (decimal line.inc.0 ++ 32 ∷ [])) in
     let what = spell_line (what_pieces line.what) in
     let arrow : List ℕ = 32 ∷ 45 ∷ 62 ∷ 32 ∷ [] in
@@ -80,8 +88,6 @@ whole_line line bytes said pointed replied ended rest a b c d e =
     sym (ap (λ (t : List ℕ). t ++ rest) (written_line line [] actor (actor ++ what) ((actor ++ what) ++ arrow) (((actor ++ what) ++ arrow) ++ reply)
     ((((actor ++ what) ++ arrow) ++ reply) ++ 10 ∷ []) refl refl refl refl refl))
     ∙ line_joined actor what arrow reply (10 ∷ []) rest
-    ∙ ap (λ (t : List ℕ). actor ++ (what ++ (arrow ++ (reply ++ t)))) e
-    ∙ ap (λ (t : List ℕ). actor ++ (what ++ (arrow ++ t))) d
     ∙ ap (λ (t : List ℕ). actor ++ (what ++ t)) c
     ∙ ap (λ (t : List ℕ). actor ++ t) b
     ∙ a

@@ -26,8 +26,27 @@ pub(crate) fn behind_line<'a>(bytes: &'a [u8], line: &Line) -> Option<&'a [u8]>
 {
     let what = behind_actor(bytes, line)?;
     let arrow = behind_what(what, &line.what)?;
-    let reply = behind(arrow, b" -> ")?;
-    let end = behind_reply(reply, &line.reply)?;
+    let rest = behind_end(arrow, &line.reply)?;
+    Some(rest)
+}
+
+/// What stands behind an arrow, a reply and a line feed. Most calls are answered Done, so of these all is compared at once.
+#[inline(always)]
+fn behind_end<'a>(bytes: &'a [u8], reply: &Reply) -> Option<&'a [u8]>
+    ensures { IfSome result (λ rest. (32 ∷ 45 ∷ 62 ∷ 32 ∷ []) ++ (spell_line (reply_pieces reply.now) ++ 10 ∷ rest.now) ≡ bytes.now) }
+{
+    match reply {
+        Reply::Done => behind(bytes, b" -> done\n"),
+        _ => behind_told(bytes, reply),
+    }
+}
+
+/// The same, piece by piece.
+fn behind_told<'a>(bytes: &'a [u8], reply: &Reply) -> Option<&'a [u8]>
+    ensures { IfSome result (λ rest. (32 ∷ 45 ∷ 62 ∷ 32 ∷ []) ++ (spell_line (reply_pieces reply.now) ++ 10 ∷ rest.now) ≡ bytes.now) }
+{
+    let told = behind(bytes, b" -> ")?;
+    let end = behind_reply(told, reply)?;
     let rest = behind(end, b"\n")?;
     Some(rest)
 }

@@ -1,6 +1,6 @@
 //! What the lines of a script say, before any name is looked up (`docs/FORMATS.md`, "Grammar").
 
-use hk_model::{Args, Items, Operand, Route, Slot, Text};
+use hk_model::{Args, BoxedText, Items, Operand, Route, Slot, Text};
 
 /// A word that a line of a script begins with. `Amplify` and `Create` also stand inside the line
 /// of `Template`; `Create` begins an entry in one place and an instruction in another.
@@ -52,8 +52,8 @@ pub enum Verb {
 /// The kind of template that an instruction makes. The rights are texts, as they were written.
 #[derive(Drop)]
 pub enum MakingText {
-    Amplify { check: Text, give: Text },
-    Create { give: Text },
+    Amplify { check: BoxedText, give: BoxedText },
+    Create { give: BoxedText },
 }
 
 /// An instruction as it was written: rights are texts, and jumps name labels. The rest is that of
@@ -187,10 +187,24 @@ pub enum Body {
     /// Words of an object, one at least.
     WordsAre(Items<u32>),
     EmptyEntry,
-    CapEntry { object: Text, rights: Text },
-    AmplifyEntry { kind: Text, check: Text, give: Text },
-    CreateEntry { of: Text, give: Text },
-    ParamIs { kind: Text, check: Text, give: Text },
+    CapEntry {
+        object: Text,
+        rights: Text,
+    },
+    AmplifyEntry {
+        kind: Text,
+        check: BoxedText,
+        give: BoxedText,
+    },
+    CreateEntry {
+        of: Text,
+        give: BoxedText,
+    },
+    ParamIs {
+        kind: Text,
+        check: BoxedText,
+        give: BoxedText,
+    },
     LabelIs(Text),
     StepIs(Written),
 }

@@ -9,7 +9,7 @@ use crate::errors::LineError;
 use crate::names::Declared;
 use crate::rights::rights;
 use hk_format::{Body, LoadCause};
-use hk_model::{Cap, Entry, Param, Template, Text};
+use hk_model::{BoxedText, Cap, Entry, Param, Template, Text};
 
 impl<'a> Declared<'a> {
     /// The entry of a line. UnknownName and BadRights come from the left; WrongPart where the line is
@@ -36,31 +36,36 @@ impl<'a> Declared<'a> {
     }
 
     /// `amplify KIND CHECK GIVE`
-    fn amplify(&self, kind: &Text, check: &Text, give: &Text) -> Result<Entry, LineError>
+    fn amplify(&self, kind: &Text, check: &BoxedText, give: &BoxedText) -> Result<Entry, LineError>
         ensures { Gives (λ x. x) result (entry_meant self.now (AmplifyEntry kind.now check.now give.now)) }
     {
         let of = self.kind(kind)?;
-        let check = rights(check)?;
-        let give = rights(give)?;
+        let check = rights(check.as_text())?;
+        let give = rights(give.as_text())?;
         Ok(Entry::Form(Template::Amplify { of, check, give }))
     }
 
     /// `create TYPE GIVE`
-    fn create(&self, of: &Text, give: &Text) -> Result<Entry, LineError>
+    fn create(&self, of: &Text, give: &BoxedText) -> Result<Entry, LineError>
         ensures { Gives (λ x. x) result (entry_meant self.now (CreateEntry of.now give.now)) }
     {
         let of = self.type_named(of)?;
-        let give = rights(give)?;
+        let give = rights(give.as_text())?;
         Ok(Entry::Form(Template::Create { of, give }))
     }
 
     /// `param KIND CHECK GIVE`
-    pub fn param(&self, kind: &Text, check: &Text, give: &Text) -> Result<Param, LineError>
+    pub fn param(
+        &self,
+        kind: &Text,
+        check: &BoxedText,
+        give: &BoxedText,
+    ) -> Result<Param, LineError>
         ensures { Gives (λ x. x) result (param_of self.now kind.now check.now give.now) }
     {
         let of = self.kind(kind)?;
-        let check = rights(check)?;
-        let give = rights(give)?;
+        let check = rights(check.as_text())?;
+        let give = rights(give.as_text())?;
         Ok(Param { of, check, give })
     }
 }

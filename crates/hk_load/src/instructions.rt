@@ -101,12 +101,12 @@ fn making_of(making: &MakingText) -> Result<Making, LineError>
 {
     match making {
         MakingText::Amplify { check, give } => {
-            let check = rights(check)?;
-            let give = rights(give)?;
+            let check = rights(check.as_text())?;
+            let give = rights(give.as_text())?;
             Ok(Making::Amplify { check, give })
         }
         MakingText::Create { give } => {
-            let give = rights(give)?;
+            let give = rights(give.as_text())?;
             Ok(Making::Create { give })
         }
     }

@@ -35,7 +35,7 @@ pub use objects::{Incarnation, Object, Process, ProcessState};
 pub use paths::{Args, Path};
 pub use reaches::{Change, Hop, Reach};
 pub use snapshot::{Live, Seen, Snapshot};
-pub use texts::Text;
+pub use texts::{BoxedText, Text};
 pub use vanishing::{kept_are_greatest_supported, rooted_are_least_closed};
 pub use verdicts::{Misstep, Verdict};
 pub use world::{Born, Code, Kind, Task, World};

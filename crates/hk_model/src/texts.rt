@@ -78,3 +78,43 @@ impl Text {
         Text::from_str(alloc, self.as_str())
     }
 }
+
+/// A text that stands apart, so that what holds it stays small: for the texts that are rare where they stand. Contracts see
+/// its bytes.
+#[derive(Drop)]
+pub struct BoxedText {
+    text: Box<Text>,
+}
+
+impl Model for BoxedText {
+    ghost use Rattle.std.specs.Prelude.{List, ℕ};
+
+    ghost Value = { List ℕ };
+
+    ghost view = { λ a. a.text.value };
+}
+
+impl BoxedText {
+    /// This text, set apart. The only error is want of memory.
+    pub fn new(alloc: Global, text: Text) -> Result<BoxedText, AllocError>
+        ensures { IfOk result (λ v. v ≡ text) }
+    {
+        Ok(BoxedText {
+            text: Box::new(alloc, text)?,
+        })
+    }
+
+    /// The text.
+    pub fn as_text(&self) -> &Text
+        ensures { result.now ≡ self.now }
+    {
+        &self.text
+    }
+
+    /// An equal text. The only error is want of memory.
+    pub fn copy(&self, alloc: Global) -> Result<BoxedText, AllocError>
+        ensures { IfOk result (λ v. v ≡ self.now) }
+    {
+        BoxedText::new(alloc, self.text.copy(alloc)?)
+    }
+}

@@ -1,22 +1,22 @@
 -- The call of a step is the one that was next.
-use Rattle.std.specs.Prelude.{◌≡◌, Option, Some, None, IfSome}
+use Rattle.std.specs.Prelude.{◌≡◌, Option, Some, IfSome}
 use Rattle.std.specs.Option.{option_and_then}
-use Rattle.std.proofs.Common.{get_or, ap, sym, refl, ◌∙◌, subst, option_map}
+use Rattle.std.proofs.Common.{get_or, ap, sym, ◌∙◌, subst, option_map}
 use Rattle.hk_model.specs.declared.names.Inc.{Inc}
 use Rattle.hk_model.specs.declared.names.Proc.{Proc}
 use Rattle.hk_model.specs.declared.names.Cpu.{Cpu}
 use Rattle.hk_model.specs.declared.calls.Call.{Call}
 use Rattle.hk_model.specs.declared.frames.Todo.{Todo}
-use Rattle.hk_model.specs.declared.lines.What.{What}
 use Rattle.hk_model.specs.declared.lines.What.TheVariants as what
 use Rattle.hk_model.specs.declared.lines.Line.{Line}
 use Rattle.hk_model.specs.WorldValue.{WorldValue}
-use Rattle.hk_model.specs.State.{process}
+use Rattle.hk_model.specs.State.{State, process}
 use Rattle.hk_model.specs.Processors.{running_on}
 use Rattle.hk_model.specs.Control.{Context, next}
 use Rattle.hk_model.specs.Running.{Machine, context_of, step}
 use Rattle.hk_program.specs.Machines.{IsSound, called, next_call}
-use Rattle.hk_program.proofs.Events.{context_read, runner_is}
+use Rattle.hk_program.specs.Watching.{seen_by, seen_in_step, seen_of}
+use Rattle.hk_program.proofs.Events.{context_read}
 use Rattle.hk_program.proofs.StepCases.{step_by}
 
 -- a call of a line was the next one of its processor, which ran the incarnation that the line names
@@ -41,9 +41,10 @@ call_was_next w m cpu line after made =
       dispatches = λ first rest may e d h. absurd (cc);
     }))
 
--- the call that is next of the process that a processor runs, by its context
-pub next_call_is : (w : WorldValue) (m : Machine) (cpu : Cpu) (proc : Proc) (inc : Inc) → IsSound w m → running_on m.state cpu ≡ Some (proc, inc) → (frames : Context)
-    → frames ≡ get_or m.contexts proc.0 frames → called (next w frames).0 ≡ next_call w m cpu
-next_call_is w m cpu proc inc sound runs frames h =
-    ap (λ (x : Context). called (next w x).0) (sym (context_read w m cpu proc inc sound runs frames h))
-    ∙ sym (ap (option_and_then (λ (p : Proc). called (next w (context_of m p)).0)) (runner_is m.state cpu proc inc runs))
+-- what is seen in a step of a processor that runs a process, by its context
+pub seen_read : {A : Type 0} (see : A → State → Inc → Call → A) (w : WorldValue) (m : Machine) (cpu : Cpu) (proc : Proc) (inc : Inc) → IsSound w m
+    → running_on m.state cpu ≡ Some (proc, inc) → (frames : Context) → frames ≡ get_or m.contexts proc.0 frames → (x : A)
+    → seen_of see m.state inc (next w frames).0 x ≡ seen_in_step see w m cpu x
+seen_read see w m cpu proc inc sound runs frames h x =
+    ap (λ (f : Context). seen_of see m.state inc (next w f).0 x) (sym (context_read w m cpu proc inc sound runs frames h))
+    ∙ ap (λ (o : Option (Proc × Inc)). seen_by see w m o x) (sym runs)

@@ -2,3 +2,4 @@ pub mod Carrying
 pub mod Contexts
 pub mod Machines
 pub mod Meanings
+pub mod Watching

@@ -3,7 +3,6 @@
 //! `docs/RULES.md`, "Control of a process", states the rules that the contracts name.
 #![tactic(auto)]
 
-mod ahead;
 mod answering;
 mod calling;
 mod carrying;
@@ -16,6 +15,7 @@ mod operands;
 mod running;
 mod stepping;
 mod vanishing;
+mod watching;
 
 pub use answering::after;
 pub use carrying::{Carried, blank_line, carry_out};
@@ -26,3 +26,4 @@ pub use laws::shapes_law;
 pub use machine::{Machine, beginnings};
 pub use running::next;
 pub use vanishing::kept_law;
+pub use watching::{Nobody, Watch};

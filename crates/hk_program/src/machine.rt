@@ -11,9 +11,11 @@ ghost use Rattle.hk_model.specs.Processors.{runner, running_on, may_step, proces
 ghost use Rattle.hk_model.specs.Running.{opened, step, turn};
 ghost use Rattle.hk_program.specs.Contexts.{AreFrames};
 ghost use Rattle.hk_program.specs.Machines.{IsSound};
+ghost use Rattle.hk_program.specs.Watching.{seen_in_step, seen_of};
 
 use crate::carrying::{blank_line, carry_into};
 use crate::context::Context;
+use crate::watching::{Nobody, Watch};
 use hk_model::limits::CPU_LIMIT;
 use hk_model::{Call, Cpu, Kernel, Line, NoMemory, Proc, Reply, Task, Todo, What, World};
 use std::alloc::Global;
@@ -83,6 +85,27 @@ impl<K: Kernel> Machine<K> {
         ensures err { OnErr result (self.new ≡ self.old) }
         ensures sound { IsSound world.now self.new }
     {
+        self.step_watched(alloc, world, cpu, line, &mut Nobody)
+    }
+
+    /// The same, where somebody is shown the call that is made, if one is, before the kernel answers it. Where no event
+    /// was made, it is free what they have seen.
+    #[inline(always)]
+    pub fn step_watched<W: Watch<K>>(
+        &mut self,
+        alloc: Global,
+        world: &World,
+        cpu: Cpu,
+        line: &mut Line,
+        watch: &mut W,
+    ) -> Result<bool, NoMemory>
+        requires { IsSound world.now self.old }
+        ensures made { IfOk result (λ made. made ≡ true → step world.now self.old cpu ≡ Some (line.new, self.new)) }
+        ensures seen { IfOk result (λ made. made ≡ true → watch.new ≡ seen_in_step W.seen world.now self.old cpu watch.old) }
+        ensures none { IfOk result (λ made. made ≡ false → (step world.now self.old cpu ≡ None) × (self.new ≡ self.old)) }
+        ensures err { OnErr result (self.new ≡ self.old) }
+        ensures sound { IsSound world.now self.new }
+    {
         if cpu.0 >= CPU_LIMIT {
             return Ok(false);
         }
@@ -94,7 +117,7 @@ impl<K: Kernel> Machine<K> {
                 line.cpu = cpu;
                 line.proc = proc;
                 line.inc = inc;
-                self.event(alloc, world, line)?;
+                self.event(alloc, world, line, watch)?;
                 Ok(true)
             }
             None => Ok(self.dispatch(world, cpu, line)),
@@ -103,16 +126,23 @@ impl<K: Kernel> Machine<K> {
 
     /// The event of the process that the processor of a line runs, in its current incarnation, which the line
     /// names.
-    fn event(&mut self, alloc: Global, world: &World, line: &mut Line) -> Result<(), NoMemory>
+    fn event<W: Watch<K>>(
+        &mut self,
+        alloc: Global,
+        world: &World,
+        line: &mut Line,
+        watch: &mut W,
+    ) -> Result<(), NoMemory>
         requires sound { IsSound world.now self.old }
         requires cpu { line.old.cpu.0 < 16 }
         requires below { IsTrue (may_step self.old.state) }
         requires runs { running_on self.old.state line.old.cpu ≡ Some (line.old.proc, line.old.inc) }
         ensures made { OnOk result (step world.now self.old line.old.cpu ≡ Some (line.new, self.new)) }
+        ensures seen { OnOk result (watch.new ≡ seen_in_step W.seen world.now self.old line.old.cpu watch.old) }
         ensures err { OnErr result (self.new ≡ self.old) }
     {
         let context = &mut self.contexts[line.proc.0 as usize];
-        turn(alloc, &mut self.kernel, context, world, line)?;
+        turn(alloc, &mut self.kernel, context, world, line, watch)?;
         Ok(())
     }
 
@@ -172,25 +202,28 @@ pub fn beginnings(alloc: Global, tasks: &[Task]) -> Result<Vec<Context>, NoMemor
 
 /// The event of the process that the processor of a line runs, whose context this is. The line then tells
 /// what was done, and the reply. After NoMemory nothing but the line has changed.
-fn turn<K: Kernel>(
+fn turn<K: Kernel, W: Watch<K>>(
     alloc: Global,
     kernel: &mut K,
     context: &mut Context,
     world: &World,
     line: &mut Line,
+    watch: &mut W,
 ) -> Result<(), NoMemory>
     requires frames { AreFrames world.now context.old }
-    requires runs { IsSome (runner (K.state kernel.old) line.old.cpu) }
+    requires runs { running_on (K.state kernel.old) line.old.cpu ≡ Some (line.old.proc, line.old.inc) }
     requires below { IsTrue (may_step (K.state kernel.old)) }
     requires code { (call : Call) → (reply : Reply) → IfSome (entered_on (K.state kernel.old) line.old.cpu call reply) (λ code. code < length world.now.codes) }
     requires room { (call : Call) → IfSome (entered_on (K.state kernel.old) line.old.cpu call (acted_on (K.state kernel.old) line.old.cpu call).0) (λ _. length context.old < 64) }
     ensures made { OnOk result (turn world.now (K.state kernel.old) (process_on (K.state kernel.old) line.old.cpu) (control.next world.now context.old) ≡ (line.new.what, line.new.reply, K.state kernel.new, context.new)) }
     ensures who { OnOk result (line.new ≡ record line.old { what = line.new.what; reply = line.new.reply }) }
+    ensures seen { OnOk result (watch.new ≡ seen_of W.seen (K.state kernel.old) line.old.inc (control.next world.now context.old).0 watch.old) }
     ensures err { OnErr result ((K.state kernel.new ≡ K.state kernel.old) × (context.new ≡ context.old)) }
 {
     let frame = context.top();
     let mut todo = Todo::Halt;
     context.run_top(world, &mut todo);
+    show(kernel, line, &todo, watch);
     match carry_into(alloc, kernel, context, world, &todo, line) {
         Ok(_gone) => Ok(()),
         Err(error) => {
@@ -199,5 +232,17 @@ fn turn<K: Kernel>(
             }
             Err(error)
         }
+    }
+}
+
+/// Shows the call that is next of the process of a line, if one is.
+#[inline(always)]
+fn show<K: Kernel, W: Watch<K>>(kernel: &K, line: &Line, todo: &Todo, watch: &mut W)
+    requires { running_on (K.state kernel.now) line.now.cpu ≡ Some (line.now.proc, line.now.inc) }
+    ensures { watch.new ≡ seen_of W.seen (K.state kernel.now) line.now.inc todo.now watch.old }
+{
+    match todo {
+        Todo::Do(call) => watch.see(kernel, line.cpu, line.inc, call),
+        Todo::Halt => {}
     }
 }

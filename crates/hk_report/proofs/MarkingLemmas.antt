@@ -4,7 +4,7 @@ use Rattle.std.specs.Prelude.{◌⊎◌, drop, take, replicate, slice_set, slice
 use mathlib.Core.Logic.{inl, inr}
 use Rattle.std.specs.List.{AllByRecursion, Contains}
 use Rattle.std.proofs.lemmas.Bool.{true≢false, cases_lt}
-use Rattle.std.proofs.lemmas.List.{append-nil}
+use Rattle.std.proofs.lemmas.List.{append-nil, get_or_default}
 use Rattle.hk_model.specs.declared.names.Name.{Name}
 use Rattle.hk_model.specs.declared.entries.Entry.{Entry}
 use Rattle.hk_model.specs.Places.{cap_of}
@@ -160,11 +160,6 @@ taken_all P (x ∷ xs) (suc n) l h = (h.0, taken_all P xs n (omega (arith, l)) h
 
 -- ---- a step of each loop
 
-any_default : {X : Type 0} (xs : List X) (n : ℕ) (d e : X) → n < length xs → slice_index_or xs n d ≡ slice_index_or xs n e
-any_default [] n d e l = absurd (omega (arith, l))
-any_default (x ∷ xs) zero d e l = refl
-any_default (x ∷ xs) (suc n) d e l = any_default xs n d e (omega (arith, l))
-
 pub held_next : (first a b : Marking) (spans : List Span) (n : ℕ) (span : Span) → IsMarkedMore first a (AreMarked a.marks.items (take n spans)) → n < length spans
     → span ≡ slice_index_or spans n span → IsMore a b → marked_in b span.cap.name ≡ true → IsMarkedMore first b (AreMarked b.marks.items (take (n + 1) spans))
 held_next first a b spans n span h l e f g = record {
@@ -186,7 +181,7 @@ starts_next families given first a b bares n d params h l f same g = record {
   more = more_through first a b h.more f;
   holds =
       taken_more (λ (x : BareChange). AreMarkedParams b.marks.items (params_at families given x.under.call)) bares n (slice_index_or bares n d) l
-      (any_default bares n d (slice_index_or bares n d) l) (starts_stay families given a b f (take n bares) h.holds)
+      (get_or_default bares n d (slice_index_or bares n d) l) (starts_stay families given a b f (take n bares) h.holds)
       (subst (AreMarkedParams b.marks.items) same g);
 }
 

@@ -7,22 +7,26 @@ use Rattle.hk_model.specs.declared.names.Proc.{Proc}
 use Rattle.hk_model.specs.declared.names.Cpu.{Cpu}
 use Rattle.hk_model.specs.declared.calls.Call.{Call}
 use Rattle.hk_model.specs.declared.calls.Reply.{Reply}
+use Rattle.hk_model.specs.declared.frames.Todo.{Todo}
+use Rattle.hk_model.specs.declared.frames.Todo.TheVariants.{Do, Halt}
 use Rattle.hk_model.specs.declared.lines.What.{What}
 use Rattle.hk_model.specs.declared.lines.What.TheVariants as what
 use Rattle.hk_model.specs.declared.lines.Line.{Line}
 use Rattle.hk_model.specs.WorldValue.{WorldValue}
-use Rattle.hk_model.specs.State.{State, incarnation}
-use Rattle.hk_model.specs.Control.{is_refusal}
-use Rattle.hk_model.specs.Processors.{running_on}
-use Rattle.hk_model.specs.Running.{Machine, line_of, moved, step}
+use Rattle.hk_model.specs.State.{State, incarnation, process}
+use Rattle.hk_model.specs.Control.{is_refusal, next}
+use Rattle.hk_model.specs.Processors.{runner, running_on}
+use Rattle.hk_model.specs.Running.{Machine, context_of, line_of, moved, step}
 use Rattle.hk_model.specs.Lines.{done_by, done_call, enters_call}
 use Rattle.hk_model.proofs.Steps.{moved_holds}
-use Rattle.hk_program.specs.Machines.{next_call}
+use Rattle.hk_program.specs.Machines.{called, next_call}
+use Rattle.hk_program.specs.Watching.{seen_by, seen_in_step, seen_of}
 use Rattle.hk_program.proofs.NextCalls.{call_was_next}
 use Rattle.hk_program.proofs.Machines.{step_cpu}
 use Rattle.hk_report.specs.declared.doings.Before.{Before}
+use Rattle.hk_report.specs.declared.doings.Known.{Known}
 use Rattle.hk_report.specs.Counts.{confined_on}
-use Rattle.hk_report.specs.Doings.{RunsEntered, before_by, before_call, before_line, before_next, before_none, slots_on}
+use Rattle.hk_report.specs.Doings.{RunsEntered, before_by, before_call, before_line, before_next, before_none, known_of, slots_on}
 use Rattle.hk_report.proofs.Counts.{RunsNew, runs_each}
 
 -- ---- what is told of the incarnation that a processor runs
@@ -81,13 +85,24 @@ module _ (w : WorldValue) (m : Machine) (cpu : Cpu) (line : Line) (after : Machi
           ∙ ap (λ (o : Option (Proc × Inc)). unwrap_or
           (option_and_then (λ (x : Proc × Inc). let known : Option Before = Some (before_call m.state x.1 (Some c)) in known) o) (before_none line.inc)) was.runs
 
-  -- of a line of which this was known
-  pub line_known : (s : State) (next : Option Call) (known : Option Before) (before : Before) → s ≡ m.state → next ≡ next_call w m cpu
-      → known ≡ before_next s cpu next → before ≡ before_by known line → before ≡ before_line m.state line
-  line_known s next known before a b c d =
-      d
-      ∙ ap (λ (k : Option Before). before_by k line) (c ∙ ap (λ (t : State). before_next t cpu next) a ∙ ap (λ (o : Option Call). before_next m.state cpu o) b)
-      ∙ before_known
+  -- of a line of whose call this was known
+  pub line_known : (known : Known) (before : Before) → known ≡ seen_in_step (λ (k : Known) (s : State) (inc : Inc) (c : Call). known_of s inc c) w m cpu (record { before = None })
+      → before ≡ before_by known.before line → before ≡ before_line m.state line
+  line_known known before a b =
+      b ∙ ap (λ (k : Option Before). before_by k line) (ap (λ (k : Known). k.before) a ∙ seen_next (runner m.state cpu) refl) ∙ before_known
+    where
+      shown : (proc : Proc) (todo : Todo)
+          → (seen_of (λ (k : Known) (s : State) (inc : Inc) (c : Call). known_of s inc c) m.state (process m.state proc).current todo (record { before = None })).before
+          ≡ option_map (λ (c : Call). before_call m.state (process m.state proc).current (Some c)) (called todo)
+      shown proc (Do c) = refl
+      shown proc Halt = refl
+
+      seen_next : (found : Option Proc) → runner m.state cpu ≡ found
+          → (seen_by (λ (k : Known) (s : State) (inc : Inc) (c : Call). known_of s inc c) w m (option_map (λ (proc : Proc). (proc, (process m.state proc).current)) found) (record { before = None })).before
+          ≡ option_and_then (λ (x : Proc × Inc). option_map (λ (c : Call). before_call m.state x.1 (Some c)) (option_and_then (λ (proc : Proc). called (next w (context_of m proc)).0) found))
+          (option_map (λ (proc : Proc). (proc, (process m.state proc).current)) found)
+      seen_next None e = refl
+      seen_next (Some proc) e = shown proc (next w (context_of m proc)).0
 
   pub step_enters : RunsEntered after.state line.cpu (before_line m.state line)
   step_enters = by (enters_call (done_call line)) refl

@@ -8,7 +8,7 @@ use Rattle.std.specs.declared.cmp.Ordering.{Ordering}
 use Rattle.std.specs.declared.cmp.Ordering.TheVariants.{Less, Equal, Greater}
 use Rattle.std.specs.List.Sorted.{IsSortedByKey}
 use Rattle.std.proofs.lemmas.Bool.{true≢false, cases_lt}
-use Rattle.std.proofs.lemmas.List.{length-set}
+use Rattle.std.proofs.lemmas.List.{length-set, get_or_default}
 use Rattle.std.proofs.lemmas.List.Sorted.{IsNonDecreasingBy-from_all_adjacent, IsPermutation-refl}
 use Rattle.hk_model.specs.declared.names.Name.{Name}
 use Rattle.hk_report.specs.declared.histories.Span.{Span}
@@ -71,11 +71,6 @@ set_apart (x ∷ hs) (suc i) zero new l = refl
 set_apart (x ∷ hs) (suc i) (suc j) new (inl l) = set_apart hs i j new (inl (omega (arith, l)))
 set_apart (x ∷ hs) (suc i) (suc j) new (inr l) = set_apart hs i j new (inr (omega (arith, l)))
 
-any_default : (hs : List History) (n : ℕ) (d e : History) → n < length hs → slice_index_or hs n d ≡ slice_index_or hs n e
-any_default [] n d e l = absurd (omega (arith, l))
-any_default (x ∷ hs) zero d e l = refl
-any_default (x ∷ hs) (suc n) d e l = any_default hs n d e (omega (arith, l))
-
 pub ordered_one : (marks : List Bool) (first before after : List History) (n : ℕ) (old new : History) → AreOrderedBelow marks first before n → n < length before
     → old ≡ slice_index_or before n old → IsKept (slice_index_or marks n true) old new → AreByName new.spans → after ≡ slice_set before n new
     → AreOrderedBelow marks first after (n + 1)
@@ -93,7 +88,7 @@ ordered_one marks first before after n old new h l e kept up is = record {
     there = ap (λ (hs : List History). slice_index_or hs n no_history) is ∙ set_there before n new l
 
     was : old ≡ slice_index_or first n no_history
-    was = e ∙ any_default before n old no_history l ∙ h.left (record { 0 = n }) (omega arith)
+    was = e ∙ get_or_default before n old no_history l ∙ h.left (record { 0 = n }) (omega arith)
 
     here : IsKept (slice_index_or marks n true) (slice_index_or first n no_history) (slice_index_or after n no_history)
     here = subst (λ (x : History). IsKept (slice_index_or marks n true) x (slice_index_or after n no_history)) was (subst (λ (x : History). IsKept (slice_index_or marks n true) old x) (sym there) kept)

@@ -4,6 +4,7 @@ use Rattle.std.specs.Prelude.{◌⊎◌, slice_index_or}
 use mathlib.Core.Logic.{inl, inr}
 use Rattle.std.specs.List.Sorted.{IsPermutation}
 use Rattle.std.proofs.lemmas.Bool.{cases_lt}
+use Rattle.std.proofs.lemmas.List.{get_or_default}
 use Rattle.std.proofs.lemmas.List.Sorted.{IsPermutation-sym, Contains-permutation}
 use Rattle.hk_model.specs.declared.names.Name.{Name}
 use Rattle.hk_model.specs.declared.names.Inc.{Inc}
@@ -41,11 +42,6 @@ push_many : (all : List (List ℕ)) (xs : List ℕ) → length (all ++ xs ∷ []
 push_many [] xs = refl
 push_many (ys ∷ all) xs = let l = push_many all xs in omega (arith, l)
 
-any_history : (hs : List History) (n : ℕ) (d e : History) → n < length hs → slice_index_or hs n d ≡ slice_index_or hs n e
-any_history [] n d e l = absurd (omega (arith, l))
-any_history (x ∷ hs) zero d e l = refl
-any_history (x ∷ hs) (suc n) d e l = any_history hs n d e (omega (arith, l))
-
 pub cut_below_more : (histories : List History) (all after : List (List ℕ)) (n : ℕ) (history : History) (spans : List Span) (ends : List ℕ) → AreCutBelow histories all n
     → n < length histories → history ≡ slice_index_or histories n history → spans ≡ history.spans → AreCut 0 ends spans → after ≡ all ++ ends ∷ []
     → AreCutBelow histories after (n + 1)
@@ -55,7 +51,7 @@ cut_below_more histories all after n history spans ends h l e s c is = record {
 }
   where
     here : AreCut 0 ends (slice_index_or histories n no_history).spans
-    here = subst (λ (xs : List Span). AreCut 0 ends xs) (s ∙ ap (λ (x : History). x.spans) (e ∙ any_history histories n history no_history l)) c
+    here = subst (λ (xs : List Span). AreCut 0 ends xs) (s ∙ ap (λ (x : History). x.spans) (e ∙ get_or_default histories n history no_history l)) c
 
     by : (name : Name) → name.0 < n + 1 → (name.0 < n) ⊎ (n ≤ name.0) → AreCut 0 (ends_at after name) (history_of histories name).spans
     by name m (inl low) =

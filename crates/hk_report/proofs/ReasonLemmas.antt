@@ -1,6 +1,7 @@
 -- Changes that are told one after another.
 use Rattle.std.proofs.Common.{◌≡◌, ℕ, zero, suc, ◌+◌, ◌<◌, ◌^◌, List, [], ◌∷◌, ◌++◌, length, take, refl, sym, arith, subst}
 use Rattle.std.specs.Prelude.{slice_index_or}
+use Rattle.std.proofs.lemmas.List.{get_or_default}
 use Rattle.hk_model.specs.declared.entries.Entry.{Entry}
 use Rattle.hk_model.specs.declared.reaches.Change.{Change}
 use Rattle.hk_report.specs.declared.families.Begun.{Begun}
@@ -37,12 +38,6 @@ module _ (families : List (List Begun)) (histories : List History) (params : Lis
   more (x ∷ bares) (suc n) b [] change l e h g = absurd h
   more (x ∷ bares) (suc n) b (c ∷ changes) change l e h g = (h.0, more bares n b changes change (omega (arith, l)) e h.1 g)
 
-  -- what stands at a place stands there whatever else were to
-  any_default : (bares : List BareChange) (n : ℕ) (d e : BareChange) → n < length bares → slice_index_or bares n d ≡ slice_index_or bares n e
-  any_default [] n d e l = absurd (omega (arith, l))
-  any_default (x ∷ bares) zero d e l = refl
-  any_default (x ∷ bares) (suc n) d e l = any_default bares n d e (omega (arith, l))
-
   pub told_more : (bares : List BareChange) (n : ℕ) (d : BareChange) (changes all : List Change) (change : Change) → n < length bares
       → AreTold families histories params (take n bares) changes → IsTold families histories params (slice_index_or bares n d) change → all ≡ changes ++ change ∷ []
       → AreTold families histories params (take (n + 1) bares) all
@@ -50,7 +45,7 @@ module _ (families : List (List Begun)) (histories : List History) (params : Lis
       let number : suc n ≡ n + 1 = omega arith in
       subst (λ (k : ℕ). AreTold families histories params (take k bares) all) number
       (subst (λ (cs : List Change). AreTold families histories params (take (suc n) bares) cs) (sym same)
-      (more bares n (slice_index_or bares n d) changes change l (any_default bares n d (slice_index_or bares n d) l) h g))
+      (more bares n (slice_index_or bares n d) changes change l (get_or_default bares n d (slice_index_or bares n d) l) h g))
 
   pub told_all : (bares : List BareChange) (n : ℕ) (changes : List Change) → take n bares ≡ bares → AreTold families histories params (take n bares) changes
       → AreTold families histories params bares changes

@@ -7,7 +7,7 @@ use Rattle.std.specs.List.{AllByRecursion, between, find}
 use Rattle.std.specs.List.Sorted.{IsPartitionedBy, IsPartitionPoint}
 use Rattle.std.specs.Cmp.{first_so, second_so}
 use Rattle.std.proofs.lemmas.Bool.{true≢false, lt-ltb, ltb-true, le-ltb, ltb-false, leb-true, le-leb, eqb-true, eq-eqb, cases_lt}
-use Rattle.std.proofs.lemmas.List.{append-nil, length-drop, get_or-drop}
+use Rattle.std.proofs.lemmas.List.{append-nil, length-drop, get_or-drop, get_or_default}
 use Rattle.std.proofs.lemmas.Option.{slice_get_past}
 use Rattle.hk_model.specs.declared.entries.Cap.{Cap}
 use Rattle.hk_report.specs.declared.histories.Span.{Span}
@@ -67,11 +67,6 @@ through a b c f g =
 
 abbrev pub at : List Span → ℕ → Span → Span
 at spans i d = slice_index_or spans i d
-
-any_default : (spans : List Span) (i : ℕ) (d e : Span) → i < length spans → at spans i d ≡ at spans i e
-any_default [] i d e l = absurd (omega (arith, l))
-any_default (s ∷ spans) zero d e l = refl
-any_default (s ∷ spans) (suc i) d e l = any_default spans i d e (omega (arith, l))
 
 abbrev pub RunTo : List Span → ℕ → ℕ → Type 0
 RunTo spans first end = (i j : ℕ) (d : Span) → first ≤ i → i < j → j < end → Precedes (at spans i d) (at spans j d)
@@ -134,8 +129,8 @@ cut_more spans ends place a b cutting l e f h =
     step : (d : Span) → Precedes (at spans (place - 1) d) (at spans place d)
     step d =
         let some = cutting.before in
-        subst (λ (y : Span). Precedes (at spans (place - 1) d) y) (f ∙ any_default spans place b d l)
-        (subst (λ (x : Span). Precedes x b) (e ∙ any_default spans (place - 1) a d (omega (arith, l, some))) (precedes_so a b h))
+        subst (λ (y : Span). Precedes (at spans (place - 1) d) y) (f ∙ get_or_default spans place b d l)
+        (subst (λ (x : Span). Precedes x b) (e ∙ get_or_default spans (place - 1) a d (omega (arith, l, some))) (precedes_so a b h))
 
     last : (i : ℕ) (d : Span) → cutting.start ≤ i → (i < place - 1) ⊎ (place - 1 ≤ i) → i < place → Precedes (at spans i d) (at spans place d)
     last i d x (inl early) y =
@@ -355,7 +350,7 @@ all_begun run bound span h e l =
     ltb-true (at run k d).from bound
     (started_first run bound h k (length run - 1) d m place.0
     (lt-ltb (at run (length run - 1) d).from bound
-    (subst (λ (s : Span). s.from < bound) (place.1 ∙ any_default run (length run - 1) span d place.0) l))))
+    (subst (λ (s : Span). s.from < bound) (place.1 ∙ get_or_default run (length run - 1) span d place.0) l))))
     (λ k d m i. absurd (omega (arith, m, i))))
   where
     got : (xs : List Span) (n : ℕ) → Some span ≡ slice_get xs n → (n < length xs) × (span ≡ at xs n span)

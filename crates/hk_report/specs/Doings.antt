@@ -15,6 +15,7 @@ use Rattle.hk_model.specs.Lines.{done_call, makes_object, enters_call, param_cou
 use Rattle.hk_report.specs.declared.doings.Before.{Before}
 use Rattle.hk_report.specs.declared.doings.Doing.{Doing}
 use Rattle.hk_report.specs.declared.doings.Entered.{Entered}
+use Rattle.hk_report.specs.declared.doings.Known.{Known}
 use Rattle.hk_report.specs.Named.{named_change}
 
 -- what is known of a call, or of none, before it is done: what it makes takes the next name, or the next number
@@ -37,6 +38,10 @@ before_none inc = record { inc = inc; changed = None; made = None; enters = None
 -- what is known of the call that a processor's process makes next, if it makes one, before it
 abbrev pub before_next : State → Cpu → Option Call → Option Before
 before_next s cpu next = option_and_then (λ (x : Proc × Inc). option_map (λ (c : Call). before_call s x.1 (Some c)) next) (running_on s cpu)
+
+-- what is known once a call is shown that an incarnation makes in this state
+abbrev pub known_of : State → Inc → Call → Known
+known_of s inc c = record { before = Some (before_call s inc (Some c)) }
 
 -- what is known of a line, where this was known of its processor's next call before it
 abbrev pub before_by : Option Before → Line → Before

@@ -6,12 +6,13 @@ ghost use Rattle.hk_model.specs.Control.{is_refusal};
 ghost use Rattle.hk_model.specs.State.{incarnation};
 ghost use Rattle.hk_model.specs.Lines.{changes_path, done_call};
 ghost use Rattle.hk_report.specs.Named.{named_change};
-ghost use Rattle.hk_report.specs.Doings.{RunsEntered, before_by, before_call, before_line, before_next, before_none, doing_behind, slots_on};
+ghost use Rattle.hk_report.specs.Doings.{RunsEntered, before_by, before_call, before_line, before_none, doing_behind, slots_on};
 
 use crate::naming::{Caller, named_by};
 use crate::shows::{Shows, is_confined, slots_of};
 use hk_model::{Call, Cpu, Inc, Line, Name, Path, Reply, What};
 use hk_plain::Plain;
+use hk_program::Watch;
 
 /// An incarnation that an Enter has made.
 #[derive(Clone, Copy, PartialEq, Eq, Debug)]
@@ -152,19 +153,20 @@ pub(crate) fn before_line(kernel: &Plain, line: &Line) -> Before
     }
 }
 
-/// What is known of the call that a processor's process makes next, if it makes one, by a kernel in the state before it.
-pub(crate) fn before_next<K: Shows>(kernel: &K, cpu: Cpu, next: &Option<Call>) -> Option<Before>
-    ensures { result ≡ before_next (K.state kernel.now) cpu next.now }
-{
-    match kernel.current(cpu) {
-        Some((_, inc)) => match next {
-            Some(call) => {
-                let changed = changed_on(kernel, cpu, inc, call);
-                Some(before_call(kernel, inc, changed, call))
-            }
-            None => None,
-        },
-        None => None,
+/// What is known of the call that a step makes, if it makes one.
+#[derive(Drop)]
+pub(crate) struct Known {
+    pub before: Option<Before>,
+}
+
+impl<K: Shows> Watch<K> for Known {
+    ghost use Rattle.hk_report.specs.Doings.{known_of};
+
+    ghost seen = { λ known s inc call. known_of s inc call };
+
+    fn see(&mut self, kernel: &K, cpu: Cpu, inc: Inc, call: &Call) {
+        let changed = changed_on(kernel, cpu, inc, call);
+        self.before = Some(before_call(kernel, inc, changed, call));
     }
 }
 

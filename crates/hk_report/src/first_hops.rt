@@ -3,9 +3,9 @@
 //! A list is gone over run by run, or object by object: both stand in the order of the objects' names.
 
 ghost use Rattle.std.specs.Prelude.{◌≡◌, ◌/◌, Bool, List, true, None, length, nat_lt, IfSome};
+ghost use Rattle.std.specs.List.{find};
 ghost use Rattle.hk_model.specs.declared.names.Name.{Name};
 ghost use Rattle.hk_report.specs.declared.histories.History.{History};
-ghost use Rattle.std.specs.List.{find};
 ghost use Rattle.hk_report.specs.Histories.{history_of};
 ghost use Rattle.hk_report.specs.Runs.{IsRun, ends_at, is_open};
 ghost use Rattle.hk_report.specs.declared.hops.Level.TheVariants.{Behind};

@@ -11,8 +11,7 @@ ghost use Rattle.hk_report.specs.Histories.{finished_below, noted, opened_below,
 ghost use Rattle.hk_report.specs.Retold.{IsToldMore};
 
 use crate::doings::{
-    Before, Doing, Entered, before_by, before_line, before_next, does_nothing, doing_behind,
-    doing_on,
+    Before, Doing, Entered, Known, before_by, before_line, does_nothing, doing_behind, doing_on,
 };
 use crate::families::Families;
 use crate::histories::{History, finish, note, opened_histories};
@@ -210,12 +209,14 @@ impl<K: Shows> Retelling<K> {
         ensures none { IfOk result (λ made. made ≡ false → (step world.now self.old.machine cpu ≡ None) × (self.new ≡ self.old)) }
         ensures sound { IsSound world.now self.new.machine }
     {
-        let next = self.machine.next_call(world, cpu);
-        let known = before_next(self.machine.kernel(), cpu, &next);
-        if !self.machine.step_into(alloc, world, cpu, line)? {
+        let mut known = Known { before: None };
+        if !self
+            .machine
+            .step_watched(alloc, world, cpu, line, &mut known)?
+        {
             return Ok(false);
         }
-        self.tell(alloc, line, before_by(known, line))?;
+        self.tell(alloc, line, before_by(known.before, line))?;
         Ok(true)
     }
 

@@ -17,7 +17,7 @@ use crate::line::Line;
 use crate::verbs::verb_of;
 use hk_format::{ParseCause, Verb};
 use hk_model::limits::{INDEX_BOUND, SLOT_LIMIT};
-use hk_model::{Index, Indices, Items, Operand, Route, Slot, Text};
+use hk_model::{BoxedText, Index, Indices, Items, Operand, Route, Slot, Text};
 use hk_text::{PieceKind, first_of, is_register, value};
 use std::alloc::Global;
 
@@ -86,6 +86,14 @@ impl<'a> Line<'a> {
             PieceKind::Dash => Ok(Text::from_str(alloc, "-")?),
             _ => Err(LineError::Bad(ParseCause::UnknownWord)),
         }
+    }
+
+    /// Rights, set apart.
+    pub fn boxed_rights(&mut self, alloc: Global) -> Result<BoxedText, LineError>
+        ensures { Reads (λ x. x) result (rest self.new) (wanted as_rights (rest self.old)) }
+    {
+        let rights = self.rights(alloc)?;
+        Ok(BoxedText::new(alloc, rights)?)
     }
 
     /// Any number.

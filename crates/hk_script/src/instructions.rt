@@ -292,12 +292,12 @@ impl<'a> Line<'a> {
     {
         match kind {
             Verb::Amplify => {
-                let check = self.rights(alloc)?;
-                let give = self.rights(alloc)?;
+                let check = self.boxed_rights(alloc)?;
+                let give = self.boxed_rights(alloc)?;
                 self.template_end(of, MakingText::Amplify { check, give })
             }
             Verb::Create => {
-                let give = self.rights(alloc)?;
+                let give = self.boxed_rights(alloc)?;
                 self.template_end(of, MakingText::Create { give })
             }
             _ => Err(LineError::Bad(ParseCause::UnknownWord)),

@@ -100,8 +100,8 @@ impl<'a> Line<'a> {
         ensures { Reads (λ x. x) result (rest self.new) (entry_of verb.Amplify (rest self.old)) }
     {
         let kind = self.type_text(alloc)?;
-        let check = self.rights(alloc)?;
-        let give = self.rights(alloc)?;
+        let check = self.boxed_rights(alloc)?;
+        let give = self.boxed_rights(alloc)?;
         self.end()?;
         Ok(Body::AmplifyEntry { kind, check, give })
     }
@@ -111,7 +111,7 @@ impl<'a> Line<'a> {
         ensures { Reads (λ x. x) result (rest self.new) (entry_of verb.Create (rest self.old)) }
     {
         let of = self.type_text(alloc)?;
-        let give = self.rights(alloc)?;
+        let give = self.boxed_rights(alloc)?;
         self.end()?;
         Ok(Body::CreateEntry { of, give })
     }
@@ -121,8 +121,8 @@ impl<'a> Line<'a> {
         ensures { Reads (λ x. x) result (rest self.new) (procedure_part verb.Param (rest self.old)) }
     {
         let kind = self.type_text(alloc)?;
-        let check = self.rights(alloc)?;
-        let give = self.rights(alloc)?;
+        let check = self.boxed_rights(alloc)?;
+        let give = self.boxed_rights(alloc)?;
         self.end()?;
         Ok(Body::ParamIs { kind, check, give })
     }

@@ -7,7 +7,9 @@ use Rattle.hk_model.specs.State.{State}
 use Rattle.hk_model.specs.Processors.{process_on, acted_on, entered_on}
 use Rattle.hk_model.specs.Control.{Context, next}
 use Rattle.hk_model.specs.Running.{Machine, turn}
+use Rattle.hk_program.specs.Watching.{seen_of}
 use Rattle.hk_program.proofs.Events.{context_within, read_frames, read_code, read_room, turn_steps}
+use Rattle.hk_program.proofs.NextCalls.{seen_read}
 use Rattle.hk_program.proofs.machine.Machine.event.Goals as goal
 
 pub index_mut-context-requires : goal.index_mut-context-requires
@@ -47,3 +49,11 @@ returns-clause-made g c =
     let named = ap (λ (l : Line). let made : Line × Machine = (l, record { state = state; contexts = slice_set c.args.self.now.contexts c.args.line.now.proc.0 frames }) in Some made) (sym c.in_ok-turn.ensures.who) in
     steps ∙ named
     ∙ ap (λ (m : Machine). let made : Line × Machine = (line, record { state = state; contexts = slice_set m.contexts c.args.line.now.proc.0 frames }) in Some made) (sym c.self.view_is)
+
+pub returns-clause-seen : goal.returns-clause-seen
+returns-clause-seen g c =
+    let frames : Context = c.index_mut-context.result.now in
+    c.in_ok-turn.ensures.seen
+    ∙ ap (λ (m : Machine). seen_of g.W.Watch.seen m.state c.args.line.now.inc (next c.args.world.now frames).0 c.args.watch.now) c.self.view_is
+    ∙ seen_read g.W.Watch.seen c.args.world.now c.args.self.now c.args.line.now.cpu c.args.line.now.proc c.args.line.now.inc c.requires.sound c.requires.runs frames
+    (subst (λ (m : Machine). frames ≡ get_or m.contexts c.args.line.now.proc.0 frames) c.self.view_is c.index_mut-context.ensures.value) c.args.watch.now

@@ -8,18 +8,18 @@ use Rattle.hk_report.proofs.replay.Retelling.step_into.Goals as goal
 pub tell-requires-clause-runs : goal.tell-requires-clause-runs
 tell-requires-clause-runs g c =
     let old = c.args.self.now in
-    let line = c.step_into.new.line in
-    let made = c.in_ok-step_into.ensures.made c.if-not-branch.false in
-    let known = line_known c.args.world.now old.machine c.args.cpu line c.step_into.new.self made (g.K.Kernel.state c.kernel.result.now) c.next_call-next.result
-    c.before_next-known.result c.before_by.result c.kernel.ensures c.next_call-next.ensures c.before_next-known.ensures c.before_by.ensures in
-    subst (λ (b : Before). RunsEntered c.step_into.new.self.state line.cpu b) (sym known) (step_enters c.args.world.now old.machine c.args.cpu line c.step_into.new.self made)
+    let line = c.step_watched.new.line in
+    let made = c.in_ok-step_watched.ensures.made c.if-not-branch.false in
+    let seen = c.in_ok-step_watched.ensures.seen c.if-not-branch.false in
+    let known = line_known c.args.world.now old.machine c.args.cpu line c.step_watched.new.self made c.step_watched.new.watch c.before_by.result seen c.before_by.ensures in
+    subst (λ (b : Before). RunsEntered c.step_watched.new.self.state line.cpu b) (sym known) (step_enters c.args.world.now old.machine c.args.cpu line c.step_watched.new.self made)
 
 pub returns-clause-told : goal.returns-clause-told
 returns-clause-told g c _ =
     let old = c.args.self.now in
-    let line = c.step_into.new.line in
-    let made = c.in_ok-step_into.ensures.made c.if-not-branch.false in
-    let known = line_known c.args.world.now old.machine c.args.cpu line c.step_into.new.self made (g.K.Kernel.state c.kernel.result.now) c.next_call-next.result
-    c.before_next-known.result c.before_by.result c.kernel.ensures c.next_call-next.ensures c.before_next-known.ensures c.before_by.ensures in
+    let line = c.step_watched.new.line in
+    let made = c.in_ok-step_watched.ensures.made c.if-not-branch.false in
+    let seen = c.in_ok-step_watched.ensures.seen c.if-not-branch.false in
+    let known = line_known c.args.world.now old.machine c.args.cpu line c.step_watched.new.self made c.step_watched.new.watch c.before_by.result seen c.before_by.ensures in
     let e = c.in_ok-tell.ensures in
-    told_more old c.tell.new.self line c.step_into.new.self c.before_by.result known c.tell.ensures.machine e.count e.changes e.calls e.params e.histories
+    told_more old c.tell.new.self line c.step_watched.new.self c.before_by.result known c.tell.ensures.machine e.count e.changes e.calls e.params e.histories

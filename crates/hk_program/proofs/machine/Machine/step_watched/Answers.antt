@@ -5,7 +5,7 @@ use Rattle.hk_model.specs.Running.{Machine}
 use Rattle.hk_program.proofs.Events.{not_reached, dispatch_sound}
 use Rattle.hk_program.proofs.Machines.{step_sound}
 use Rattle.hk_program.proofs.StepCases.{no_processor, no_step}
-use Rattle.hk_program.proofs.machine.Machine.step_into.Goals as goal
+use Rattle.hk_program.proofs.machine.Machine.step_watched.Goals as goal
 
 pub returns-then-cpu-ge-CPU_LIMIT-clause-none : goal.returns-then-cpu-ge-CPU_LIMIT-clause-none
 returns-then-cpu-ge-CPU_LIMIT-clause-none g c _ = (no_processor c.args.world.now c.args.self.now c.args.cpu c.if-cpu-ge-CPU_LIMIT.true, refl)
