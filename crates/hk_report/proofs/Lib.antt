@@ -29,6 +29,7 @@ mod ByObjects
 mod NearObjects
 mod Ordered
 mod Rearranged
+mod ListsKept
 mod Replays
 mod Makers
 mod ReasonLemmas

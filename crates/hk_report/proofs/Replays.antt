@@ -6,6 +6,7 @@ use mathlib.Core.Logic.{inl, inr}
 use Rattle.std.specs.Option.{unwrap_or}
 use Rattle.std.proofs.lemmas.Bool.{true≢false, eqb-true, eq-eqb, cases_lt}
 use Rattle.hk_model.specs.declared.names.Name.{Name}
+use Rattle.hk_model.specs.declared.entries.Entry.{Entry}
 use Rattle.hk_model.specs.declared.calls.Call.{Call}
 use Rattle.hk_model.specs.declared.calls.Call.TheVariants as call
 use Rattle.hk_model.specs.declared.lines.Line.{Line}
@@ -23,7 +24,9 @@ use Rattle.hk_model.proofs.CallShown.{ShownIf, shown_each}
 use Rattle.hk_model.proofs.KindsStay.{leaves_others, objects_given_at}
 use Rattle.hk_report.specs.declared.histories.History.{History}
 use Rattle.hk_report.specs.Doings.{doing}
+use Rattle.hk_report.specs.Named.{lists_path}
 use Rattle.hk_report.specs.Histories.{relisted, no_history, history_of, touched, touched_name, maker_of, noted, opened_below, histories_after, histories_at_end, told_histories}
+use Rattle.hk_report.proofs.ListsKept.{KeepsLists, lists_each}
 use Rattle.hk_report.proofs.Listed.{changed_named, drop_get, drop_next, take_zero, drop_zero}
 use Rattle.hk_report.proofs.HistoryLemmas.{name_is, touched_same, touched_other, opened_beyond, opened_within, ended_history}
 use Rattle.hk_report.proofs.Spans.{SpansTell}
@@ -31,8 +34,8 @@ use Rattle.hk_report.proofs.Relists.{Listed, past_none, never, touches, IsSame, 
 
 -- ---- what a line touches
 
--- what makes an object changes none
-pub makes_only : (c : Option Call) → makes_object c ≡ true → changes_path c ≡ None
+-- what makes an object changes no list
+makes_only : (c : Option Call) → makes_object c ≡ true → lists_path c ≡ None
 makes_only (Some (call.Create by into)) h = refl
 makes_only (Some (call.Copy of into)) h = refl
 makes_only c h = absurd (true≢false (sym h))
@@ -43,19 +46,38 @@ made_name s line t h =
     (ap (option_map (named_by s line.inc)) (makes_only (done_call line) h))
     ∙ ap (λ (b : Bool). elim b as (λ x. Option Name) [ true ↦ Some s.next_name | false ↦ None ]) h
 
+-- what changes a list is told to change the object
+lists_only : (c : Option Call) (path : List ℕ) → lists_path c ≡ Some path → changes_path c ≡ Some path
+lists_only (Some (call.Store list at from)) path h = h
+lists_only (Some (call.Append list from)) path h = h
+lists_only (Some (call.Erase list at)) path h = h
+lists_only c path h = absurd (cc)
+
 -- an object is touched, or it stands with the list that it had
-touched_or_same : (s : State) (line : Line) (t : State) → ShownIf s line.inc (done_call line) → (x : Name) → Becomes s line t.objects x
+touched_or_same : (s : State) (line : Line) (t : State) → ShownIf s line.inc (done_call line) → KeepsLists s line t → (x : Name) → Becomes s line t.objects x
     → (touched_name (doing s line t) ≡ Some x) ⊎ (stands t x ≡ true → (stands s x ≡ true) × ((index : ℕ) → listed_cap t x index ≡ listed_cap s x index))
-touched_or_same s line t shown x (Stays e) =
+touched_or_same s line t shown kept x (Stays e) =
     inr (λ standing. (
       ap (λ (o : Option Object). is_some o) (sym e) ∙ standing,
       λ index. ap (λ (o : Option Object). option_and_then cap_of (slice_get (unwrap_or o no_object).entries index)) e,
     ))
-touched_or_same s line t shown x (Goes before lets opening was gone) = inr (λ standing. absurd (true≢false (sym standing ∙ ap (λ (o : Option Object). is_some o) gone)))
-touched_or_same s line t shown x (Changes before after change was is kind) =
-    inl (ap (λ (o : Option Name). elim o as (λ y. Option Name) [ Some name ↦ Some name | None ↦ (doing s line t).made ])
-    (sym (changed_named s line.inc (done_call line) shown) ∙ change))
-touched_or_same s line t shown x (IsNew new makes is none at kind how) = inl (made_name s line t makes ∙ ap Some (sym is))
+touched_or_same s line t shown kept x (Goes before lets opening was gone) = inr (λ standing. absurd (true≢false (sym standing ∙ ap (λ (o : Option Object). is_some o) gone)))
+touched_or_same s line t shown kept x (Changes before after change was is kind) = by (lists_path (done_call line)) refl
+  where
+    by : (o : Option (List ℕ)) → lists_path (done_call line) ≡ o
+        → (touched_name (doing s line t) ≡ Some x) ⊎ (stands t x ≡ true → (stands s x ≡ true) × ((index : ℕ) → listed_cap t x index ≡ listed_cap s x index))
+    by (Some path) e =
+        let named : Some (named_by s line.inc path) ≡ Some x =
+        sym (ap (option_map (named_by s line.inc)) (lists_only (done_call line) path e)) ∙ sym (changed_named s line.inc (done_call line) shown) ∙ change in
+        inl (ap (λ (o : Option (List ℕ)). elim (option_map (named_by s line.inc) o) as (λ y. Option Name) [ Some name ↦ Some name | None ↦ (doing s line t).made ]) e ∙ named)
+    by None e =
+        inr (λ standing. (
+          ap (λ (o : Option Object). is_some o) was,
+          λ index. ap (λ (o : Option Object). option_and_then cap_of (slice_get (unwrap_or o no_object).entries index)) is
+              ∙ ap (λ (es : List Entry). option_and_then cap_of (slice_get es index)) (kept e x change before after was is)
+              ∙ sym (ap (λ (o : Option Object). option_and_then cap_of (slice_get (unwrap_or o no_object).entries index)) was),
+        ))
+touched_or_same s line t shown kept x (IsNew new makes is none at kind how) = inl (made_name s line t makes ∙ ap Some (sym is))
 
 module _ (w : WorldValue) (lines : List Line) (steps : AreStepsOf w lines) where
   abbrev at : ℕ → State
@@ -100,6 +122,11 @@ module _ (w : WorldValue) (lines : List Line) (steps : AreStepsOf w lines) where
         subst (λ (s : State). ShownIf s line.inc (done_call line)) before
         (moved_holds (λ s l u. ShownIf s l.inc (done_call l)) shown_each w (machine_at w lines n) line (line_steps w (opened w) lines n line steps is))
 
+    kept : KeepsLists m.state line t
+    kept =
+        subst (λ (k : Machine). KeepsLists k.state line (moved w k line.cpu).state) from.machine
+        (moved_holds KeepsLists lists_each w (machine_at w lines n) line (line_steps w (opened w) lines n line steps is))
+
     becomes : (x : Name) → Becomes m.state line t.objects x
     becomes x =
         subst (λ (s : State). Becomes s line t.objects x) before
@@ -107,7 +134,7 @@ module _ (w : WorldValue) (lines : List Line) (steps : AreStepsOf w lines) where
         (subst (λ (k : ℕ). Becomes (at n) line (at k).objects x) (sym (one_more n)) (leaves_others w lines steps n line is x)))
 
     same_then : (x : Name) → (touched_name (doing m.state line t) ≡ Some x → ⊥) → stands (at (n + 1)) x ≡ true → IsSame at x n
-    same_then x apart standing = by (touched_or_same m.state line t shown x (becomes x))
+    same_then x apart standing = by (touched_or_same m.state line t shown kept x (becomes x))
       where
         by : (touched_name (doing m.state line t) ≡ Some x) ⊎ (stands t x ≡ true → (stands m.state x ≡ true) × ((index : ℕ) → listed_cap t x index ≡ listed_cap m.state x index))
             → IsSame at x n

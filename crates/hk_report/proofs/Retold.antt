@@ -22,6 +22,7 @@ use Rattle.hk_report.specs.Reasons.{AreFew}
 use Rattle.hk_report.specs.Retold.{IsRetold, IsToldMore}
 use Rattle.hk_report.specs.Reachable.{IsEnough}
 use Rattle.hk_report.specs.Written.{AreWritten, IsReport}
+use Rattle.hk_report.proofs.NextLines.{IsAsked}
 use Rattle.hk_report.proofs.Lengths.{lines_few}
 use Rattle.hk_report.proofs.Explained.{few_told}
 use Rattle.hk_report.proofs.WrittenLemmas.{reported}
@@ -137,19 +138,20 @@ retold_more w lines line old new r steps m told =
           ∙ sym (histories_one w 0 old.count (opened w) lines line (opened_below (opened w).state (opened w).state.next_name.0) few);
     }
 
--- a line more, of which this was known before it
-pub told_more : {K : Type 0} (old new : Retelling K) (line : Line) (t : Machine) (before : Before) → before ≡ before_line old.machine.state line → new.machine ≡ t
+-- a line more, of which this was asked before it
+pub told_more : {K : Type 0} (old new : Retelling K) (line : Line) (t : Machine) (before : Before) → IsAsked old.telling.families.calls old.machine.state line before → new.machine ≡ t
     → new.count ≡ old.count + 1
     → new.telling.families.changes.items ≡ old.telling.families.changes.items
     ++ changes_by old.count before.changed (slice_index_or old.telling.families.calls before.inc.0 [])
     → new.telling.families.calls ≡ families_by old.count (doing_behind before t.state) old.telling.families.calls
     → new.telling.params ≡ old.telling.params ++ kept_params (doing_behind before t.state).entered (given_params line before t.state)
     → new.telling.histories.items ≡ noted (old.count + 1) (doing_behind before t.state) t.state old.telling.histories.items → IsToldMore old new line
-told_more old new line t before e m n c f p h = record {
+told_more old new line t before asked m n c f p h = let e = asked.is in record {
   count = n;
   changes =
       c
-      ∙ ap (λ (b : Before). old.telling.families.changes.items ++ changes_by old.count b.changed (slice_index_or old.telling.families.calls b.inc.0 [])) e;
+      ∙ ap (λ (b : Before). old.telling.families.changes.items ++ changes_by old.count before.changed (slice_index_or old.telling.families.calls b.inc.0 [])) e
+      ∙ ap (λ (cs : List BareChange). old.telling.families.changes.items ++ cs) (asked.same old.count);
   calls =
       f
       ∙ ap (λ (b : Before). families_by old.count (doing_behind b t.state) old.telling.families.calls) e

@@ -1,9 +1,10 @@
 -- What each line did that the changes under confined calls are told by. docs/RULES.md, "Under a call".
-use Rattle.std.specs.Prelude.{◌≡◌, true, false, List, [], ◌∷◌, ◌++◌, take, Option, Some, None, IfSome, is_some, option_map}
-use Rattle.std.specs.Option.{option_and_then, unwrap_or}
+use Rattle.std.specs.Prelude.{◌≡◌, true, false, List, [], ◌∷◌, ◌++◌, take, Option, Some, None, IfSome, is_some, option_map, slice_index_or}
+use Rattle.std.specs.Option.{unwrap_or}
 use Rattle.hk_model.specs.declared.calls.Call.{Call}
 use Rattle.hk_model.specs.declared.entries.Entry.{Entry}
 use Rattle.hk_model.specs.declared.lines.Line.{Line}
+use Rattle.hk_model.specs.declared.names.Name.{Name}
 use Rattle.hk_model.specs.declared.names.Inc.{Inc}
 use Rattle.hk_model.specs.declared.names.Proc.{Proc}
 use Rattle.hk_model.specs.declared.names.Cpu.{Cpu}
@@ -16,13 +17,15 @@ use Rattle.hk_report.specs.declared.doings.Before.{Before}
 use Rattle.hk_report.specs.declared.doings.Doing.{Doing}
 use Rattle.hk_report.specs.declared.doings.Entered.{Entered}
 use Rattle.hk_report.specs.declared.doings.Known.{Known}
-use Rattle.hk_report.specs.Named.{named_change}
+use Rattle.hk_report.specs.declared.families.Begun.{Begun}
+use Rattle.hk_report.specs.Named.{named_change, named_list}
 
 -- what is known of a call, or of none, before it is done: what it makes takes the next name, or the next number
 abbrev pub before_call : State → Inc → Option Call → Before
 before_call s inc c = record {
   inc = inc;
   changed = named_change s inc c;
+  listed = named_list s inc c;
   made = elim (makes_object c) [ true ↦ Some s.next_name | false ↦ None ];
   enters = elim (enters_call c) [ true ↦ Some s.next_inc | false ↦ None ];
 }
@@ -33,15 +36,17 @@ before_line s line = before_call s line.inc (done_call line)
 
 -- the same before a line that does no call
 abbrev pub before_none : Inc → Before
-before_none inc = record { inc = inc; changed = None; made = None; enters = None }
+before_none inc = record { inc = inc; changed = None; listed = None; made = None; enters = None }
 
--- what is known of the call that a processor's process makes next, if it makes one, before it
-abbrev pub before_next : State → Cpu → Option Call → Option Before
-before_next s cpu next = option_and_then (λ (x : Proc × Inc). option_map (λ (c : Call). before_call s x.1 (Some c)) next) (running_on s cpu)
+-- the object that is asked for which a call changes of an incarnation under these calls: where it is under none, only one whose list it changes
+abbrev pub asked_change : List Begun → State → Inc → Call → Option Name
+asked_change [] s inc c = named_list s inc (Some c)
+asked_change (call ∷ calls) s inc c = named_change s inc (Some c)
 
 -- what is known once a call is shown that an incarnation makes in this state
-abbrev pub known_of : State → Inc → Call → Known
-known_of s inc c = record { before = Some (before_call s inc (Some c)) }
+abbrev pub known_of : Known → State → Inc → Call → Known
+known_of known s inc c =
+    record known { before = Some (record (before_call s inc (Some c)) { changed = asked_change (slice_index_or known.calls.now inc.0 []) s inc c }) }
 
 -- what is known of a line, where this was known of its processor's next call before it
 abbrev pub before_by : Option Before → Line → Before
@@ -52,6 +57,7 @@ abbrev pub doing_behind : Before → State → Doing
 doing_behind before t = record {
   inc = before.inc;
   changed = before.changed;
+  listed = before.listed;
   made = before.made;
   entered = option_map (λ (inc : Inc). record { inc = inc; confined = (incarnation t inc).confined }) before.enters;
 }

@@ -95,9 +95,9 @@ touched moment maker entries name histories = elim (nat_lt name.0 (length histor
   | false ↦ (histories ++ replicate (name.0 - length histories) no_history) ++ relisted moment maker entries no_history ∷ []
 ]
 
--- the object whose list a line can have changed or made, and who made it
+-- the object whose list a line has changed or made, and who made it
 abbrev pub touched_name : Doing → Option Name
-touched_name doing = elim doing.changed [ Some name ↦ Some name | None ↦ doing.made ]
+touched_name doing = elim doing.listed [ Some name ↦ Some name | None ↦ doing.made ]
 
 abbrev pub maker_of : Doing → Option Inc
 maker_of doing = elim doing.made [ Some name ↦ Some doing.inc | None ↦ None ]

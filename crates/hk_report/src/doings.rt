@@ -1,13 +1,16 @@
 //! What a line did that the changes under confined calls are told by (`docs/RULES.md`, "Under a
 //! call").
 
-ghost use Rattle.std.specs.Prelude.{◌≡◌, true, None, Some, is_some, option_copied};
+ghost use Rattle.std.specs.Prelude.{◌≡◌, true, [], None, Some, is_some, option_copied, option_map, slice_index_or};
 ghost use Rattle.hk_model.specs.Control.{is_refusal};
 ghost use Rattle.hk_model.specs.State.{incarnation};
 ghost use Rattle.hk_model.specs.Lines.{changes_path, done_call};
-ghost use Rattle.hk_report.specs.Named.{named_change};
-ghost use Rattle.hk_report.specs.Doings.{RunsEntered, before_by, before_call, before_line, before_none, doing_behind, slots_on};
+ghost use Rattle.hk_model.specs.Places.{named_by};
+ghost use Rattle.hk_report.specs.Named.{lists_path, named_list};
+ghost use Rattle.hk_report.specs.Doings.{RunsEntered, asked_change, before_by, before_call, before_line, before_none, doing_behind, slots_on};
 
+use crate::families::{Begun, calls_over};
+use crate::lists::Lists;
 use crate::naming::{Caller, named_by};
 use crate::shows::{Shows, is_confined, slots_of};
 use hk_model::{Call, Cpu, Inc, Line, Name, Path, Reply, What};
@@ -29,6 +32,8 @@ pub struct Doing {
     pub inc: Inc,
     /// The object that it changed.
     pub changed: Option<Name>,
+    /// The object whose list it changed.
+    pub listed: Option<Name>,
     /// The object that it made.
     pub made: Option<Name>,
     /// The incarnation that it made.
@@ -42,6 +47,8 @@ pub struct Before {
     pub inc: Inc,
     /// The object that it changes.
     pub changed: Option<Name>,
+    /// The object whose list it changes.
+    pub listed: Option<Name>,
     /// The object that it makes.
     pub made: Option<Name>,
     /// The number of the incarnation that it makes.
@@ -64,10 +71,28 @@ fn changed_path(call: &Call) -> Option<&Path>
     }
 }
 
-/// What is known of a call that is done, before it, where this is the object that it changes.
-fn before_call<K: Shows>(kernel: &K, inc: Inc, changed: Option<Name>, call: &Call) -> Before
-    requires { changed ≡ named_change (K.state kernel.now) inc (Some call.now) }
-    ensures { result ≡ before_call (K.state kernel.now) inc (Some call.now) }
+/// The path to the object whose list a call changes where it is done.
+fn listed_path(call: &Call) -> Option<&Path>
+    ensures { option_copied result ≡ lists_path (Some call.now) }
+{
+    match call {
+        Call::Store { list, .. } => Some(list),
+        Call::Append { list, .. } => Some(list),
+        Call::Erase { list, .. } => Some(list),
+        _ => None,
+    }
+}
+
+/// What is known of a call that is done, before it, where it changes this object and this object's list.
+fn before_call<K: Shows>(
+    kernel: &K,
+    inc: Inc,
+    changed: Option<Name>,
+    listed: Option<Name>,
+    call: &Call,
+) -> Before
+    requires { listed ≡ named_list (K.state kernel.now) inc (Some call.now) }
+    ensures { result ≡ record (before_call (K.state kernel.now) inc (Some call.now)) { changed = changed } }
 {
     let made = match call {
         Call::Create { .. } => Some(kernel.next_name()),
@@ -81,16 +106,17 @@ fn before_call<K: Shows>(kernel: &K, inc: Inc, changed: Option<Name>, call: &Cal
     Before {
         inc,
         changed,
+        listed,
         made,
         enters,
     }
 }
 
-/// The object that a call of an incarnation changes where it is done.
-fn changed_by(kernel: &Plain, inc: Inc, call: &Call) -> Option<Name>
-    ensures { result ≡ named_change kernel.now inc (Some call.now) }
+/// The object that an incarnation's path names, if there is a path.
+fn named(kernel: &Plain, inc: Inc, path: Option<&Path>) -> Option<Name>
+    ensures { result ≡ option_map (named_by kernel.now inc) (option_copied path.entry) }
 {
-    match changed_path(call) {
+    match path {
         Some(path) => {
             let slots = slots_of(kernel, inc);
             Some(named_by(kernel, Caller { inc, slots }, path))
@@ -99,12 +125,13 @@ fn changed_by(kernel: &Plain, inc: Inc, call: &Call) -> Option<Name>
     }
 }
 
-/// The same of the incarnation that the processor runs. Where the call changes nothing its slots are not looked up.
-fn changed_on<K: Shows>(kernel: &K, cpu: Cpu, inc: Inc, call: &Call) -> Option<Name>
+/// The same of the incarnation that the processor runs. Where there is no path, as for most calls, its slots are not looked up.
+#[inline(always)]
+fn named_on<K: Shows>(kernel: &K, cpu: Cpu, inc: Inc, path: Option<&Path>) -> Option<Name>
     requires { slots_on (K.state kernel.now) cpu ≡ (incarnation (K.state kernel.now) inc).slots }
-    ensures { result ≡ named_change (K.state kernel.now) inc (Some call.now) }
+    ensures { result ≡ option_map (named_by (K.state kernel.now) inc) (option_copied path.entry) }
 {
-    match changed_path(call) {
+    match path {
         Some(path) => {
             let slots = kernel.running_slots(cpu);
             Some(named_by(kernel, Caller { inc, slots }, path))
@@ -120,6 +147,7 @@ fn before_none(inc: Inc) -> Before
     Before {
         inc,
         changed: None,
+        listed: None,
         made: None,
         enters: None,
     }
@@ -146,27 +174,56 @@ pub(crate) fn before_line(kernel: &Plain, line: &Line) -> Before
             if is_refusal(&line.reply) {
                 before_none(line.inc)
             } else {
-                let changed = changed_by(kernel, line.inc, call);
-                before_call(kernel, line.inc, changed, call)
+                let changed = named(kernel, line.inc, changed_path(call));
+                let listed = named(kernel, line.inc, listed_path(call));
+                before_call(kernel, line.inc, changed, listed, call)
             }
         }
     }
 }
 
-/// What is known of the call that a step makes, if it makes one.
+/// What is known of the call that a step makes, if it makes one. Of an incarnation that is under no confined call it is not
+/// asked which object it changes, unless it changes the object's list.
 #[derive(Drop)]
-pub(crate) struct Known {
+pub(crate) struct Known<'a> {
     pub before: Option<Before>,
+    /// The confined calls that each incarnation is under, by its number.
+    pub calls: &'a Lists<Begun>,
 }
 
-impl<K: Shows> Watch<K> for Known {
+impl<'a> Known<'a> {
+    /// The object that a call of the incarnation that the processor runs changes, where it changes this object's list.
+    fn asked<K: Shows>(
+        &self,
+        kernel: &K,
+        cpu: Cpu,
+        inc: Inc,
+        call: &Call,
+        listed: Option<Name>,
+    ) -> Option<Name>
+        requires slots { slots_on (K.state kernel.now) cpu ≡ (incarnation (K.state kernel.now) inc).slots }
+        requires listed { listed ≡ named_list (K.state kernel.now) inc (Some call.now) }
+        ensures { result ≡ asked_change (slice_index_or self.now.calls.now inc.0 []) (K.state kernel.now) inc call.now }
+    {
+        if listed.is_some() {
+            return listed;
+        }
+        if calls_over(self.calls, inc).is_empty() {
+            return None;
+        }
+        named_on(kernel, cpu, inc, changed_path(call))
+    }
+}
+
+impl<'a, K: Shows> Watch<K> for Known<'a> {
     ghost use Rattle.hk_report.specs.Doings.{known_of};
 
-    ghost seen = { λ known s inc call. known_of s inc call };
+    ghost seen = { λ known s inc call. known_of known s inc call };
 
     fn see(&mut self, kernel: &K, cpu: Cpu, inc: Inc, call: &Call) {
-        let changed = changed_on(kernel, cpu, inc, call);
-        self.before = Some(before_call(kernel, inc, changed, call));
+        let listed = named_on(kernel, cpu, inc, listed_path(call));
+        let changed = self.asked(kernel, cpu, inc, call, listed);
+        self.before = Some(before_call(kernel, inc, changed, listed, call));
     }
 }
 
@@ -195,9 +252,12 @@ pub(crate) fn before_by(next: Option<Before>, line: &Line) -> Before
 
 /// Whether a line of which this is known changes no object, makes none, and enters no procedure.
 pub(crate) fn does_nothing(before: &Before) -> bool
-    ensures { result ≡ true → (before.now.changed ≡ None) × (before.now.made ≡ None) × (before.now.enters ≡ None) }
+    ensures { result ≡ true → (before.now.changed ≡ None) × (before.now.listed ≡ None) × (before.now.made ≡ None) × (before.now.enters ≡ None) }
 {
-    before.changed.is_none() && before.made.is_none() && before.enters.is_none()
+    before.changed.is_none()
+        && before.listed.is_none()
+        && before.made.is_none()
+        && before.enters.is_none()
 }
 
 /// What a line did, by a kernel in the state behind it.
@@ -214,6 +274,7 @@ pub(crate) fn doing_behind(before: Before, kernel: &Plain) -> Doing
     Doing {
         inc: before.inc,
         changed: before.changed,
+        listed: before.listed,
         made: before.made,
         entered,
     }
@@ -234,6 +295,7 @@ pub(crate) fn doing_on<K: Shows>(before: Before, kernel: &K, cpu: Cpu) -> Doing
     Doing {
         inc: before.inc,
         changed: before.changed,
+        listed: before.listed,
         made: before.made,
         entered,
     }

@@ -268,11 +268,11 @@ pub(crate) fn opened_histories<K: Shows>(
     Ok(all)
 }
 
-/// The object whose list a line can have changed or made.
+/// The object whose list a line has changed or made.
 fn touched_name(doing: &Doing) -> Option<Name>
     ensures { result ≡ touched_name doing.now }
 {
-    match doing.changed {
+    match doing.listed {
         Some(name) => Some(name),
         None => doing.made,
     }

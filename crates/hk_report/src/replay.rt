@@ -209,14 +209,18 @@ impl<K: Shows> Retelling<K> {
         ensures none { IfOk result (λ made. made ≡ false → (step world.now self.old.machine cpu ≡ None) × (self.new ≡ self.old)) }
         ensures sound { IsSound world.now self.new.machine }
     {
-        let mut known = Known { before: None };
+        let mut known = Known {
+            before: None,
+            calls: &self.telling.families.calls,
+        };
         if !self
             .machine
             .step_watched(alloc, world, cpu, line, &mut known)?
         {
             return Ok(false);
         }
-        self.tell(alloc, line, before_by(known.before, line))?;
+        let before = before_by(known.before, line);
+        self.tell(alloc, line, before)?;
         Ok(true)
     }
 

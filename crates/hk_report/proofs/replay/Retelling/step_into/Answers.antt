@@ -1,7 +1,7 @@
-use Rattle.std.proofs.Common.{sym, subst}
+use Rattle.std.proofs.Common.{refl, sym, subst}
 use Rattle.hk_report.specs.declared.doings.Before.{Before}
 use Rattle.hk_report.specs.Doings.{RunsEntered}
-use Rattle.hk_report.proofs.NextLines.{line_known, step_enters}
+use Rattle.hk_report.proofs.NextLines.{line_asked, step_enters}
 use Rattle.hk_report.proofs.Retold.{told_more}
 use Rattle.hk_report.proofs.replay.Retelling.step_into.Goals as goal
 
@@ -11,8 +11,8 @@ tell-requires-clause-runs g c =
     let line = c.step_watched.new.line in
     let made = c.in_ok-step_watched.ensures.made c.if-not-branch.false in
     let seen = c.in_ok-step_watched.ensures.seen c.if-not-branch.false in
-    let known = line_known c.args.world.now old.machine c.args.cpu line c.step_watched.new.self made c.step_watched.new.watch c.before_by.result seen c.before_by.ensures in
-    subst (λ (b : Before). RunsEntered c.step_watched.new.self.state line.cpu b) (sym known) (step_enters c.args.world.now old.machine c.args.cpu line c.step_watched.new.self made)
+    let asked = line_asked c.args.world.now old.machine c.args.cpu line c.step_watched.new.self made _ c.step_watched.new.watch c.before_by-before.result refl seen c.before_by-before.ensures in
+    subst (λ (b : Before). RunsEntered c.step_watched.new.self.state line.cpu b) (sym asked.is) (step_enters c.args.world.now old.machine c.args.cpu line c.step_watched.new.self made)
 
 pub returns-clause-told : goal.returns-clause-told
 returns-clause-told g c _ =
@@ -20,6 +20,6 @@ returns-clause-told g c _ =
     let line = c.step_watched.new.line in
     let made = c.in_ok-step_watched.ensures.made c.if-not-branch.false in
     let seen = c.in_ok-step_watched.ensures.seen c.if-not-branch.false in
-    let known = line_known c.args.world.now old.machine c.args.cpu line c.step_watched.new.self made c.step_watched.new.watch c.before_by.result seen c.before_by.ensures in
+    let asked = line_asked c.args.world.now old.machine c.args.cpu line c.step_watched.new.self made _ c.step_watched.new.watch c.before_by-before.result refl seen c.before_by-before.ensures in
     let e = c.in_ok-tell.ensures in
-    told_more old c.tell.new.self line c.step_watched.new.self c.before_by.result known c.tell.ensures.machine e.count e.changes e.calls e.params e.histories
+    told_more old c.tell.new.self line c.step_watched.new.self c.before_by-before.result asked c.tell.ensures.machine e.count e.changes e.calls e.params e.histories
