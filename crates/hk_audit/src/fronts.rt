@@ -3,7 +3,7 @@
 //! Each function gives what stands behind a text with which the bytes begin. None tells nothing: who is to know whether the
 //! bytes begin with the text then makes the text and compares.
 
-ghost use Rattle.std.specs.Prelude.{◌≡◌, ◌++◌, ◌∷◌, ◌<◌, ◌+◌, [], IfSome, codes};
+ghost use Rattle.std.specs.Prelude.{◌≡◌, ◌++◌, ◌∷◌, ◌<◌, ◌≤◌, ◌+◌, [], IfSome, codes};
 ghost use Rattle.std.specs.List.{flat_map};
 ghost use Rattle.std.specs.Fmt.{decimal};
 ghost use Rattle.hk_rights.specs.Rights.{name_of};
@@ -30,13 +30,18 @@ pub(crate) fn behind_line<'a>(bytes: &'a [u8], line: &Line) -> Option<&'a [u8]>
     Some(rest)
 }
 
-/// What stands behind an arrow, a reply and a line feed. Most calls are answered Done, so of these all is compared at once.
+/// What stands behind an arrow, a reply and a line feed. Most calls are answered Done, so of these the arrow and the word are
+/// compared at once.
 #[inline(always)]
 fn behind_end<'a>(bytes: &'a [u8], reply: &Reply) -> Option<&'a [u8]>
     ensures { IfSome result (λ rest. (32 ∷ 45 ∷ 62 ∷ 32 ∷ []) ++ (spell_line (reply_pieces reply.now) ++ 10 ∷ rest.now) ≡ bytes.now) }
 {
     match reply {
-        Reply::Done => behind(bytes, b" -> done\n"),
+        Reply::Done => {
+            let end = behind(bytes, b" -> done")?;
+            let rest = behind(end, b"\n")?;
+            Some(rest)
+        }
         _ => behind_told(bytes, reply),
     }
 }
@@ -285,7 +290,8 @@ fn behind_number<'a>(bytes: &'a [u8], n: u64) -> Option<&'a [u8]>
     behind_longer(bytes, n)
 }
 
-/// What stands behind a number of any length, which stands apart for those of more than one digit.
+/// What stands behind a number of any length, which stands apart for those of more than one digit. Most of these have up to
+/// six digits.
 #[inline(never)]
 fn behind_longer<'a>(bytes: &'a [u8], n: u64) -> Option<&'a [u8]>
     ensures { IfSome result (λ rest. decimal n ++ rest.now ≡ bytes.now) }
@@ -293,7 +299,22 @@ fn behind_longer<'a>(bytes: &'a [u8], n: u64) -> Option<&'a [u8]>
     if n < 1000 {
         return behind_small(bytes, n);
     }
+    if n < 1_000_000 {
+        return behind_thousands(bytes, n);
+    }
     let last = behind_longer(bytes, n / 1000)?;
+    let rest = behind_three(last, n % 1000)?;
+    Some(rest)
+}
+
+/// What stands behind a number of four to six digits.
+#[inline(always)]
+fn behind_thousands<'a>(bytes: &'a [u8], n: u64) -> Option<&'a [u8]>
+    requires more { 1000 ≤ n }
+    requires few { n < 1000000 }
+    ensures { IfSome result (λ rest. decimal n ++ rest.now ≡ bytes.now) }
+{
+    let last = behind_small(bytes, n / 1000)?;
     let rest = behind_three(last, n % 1000)?;
     Some(rest)
 }
