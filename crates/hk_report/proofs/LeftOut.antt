@@ -1,23 +1,19 @@
--- What stood in lists that no way can come to is not missed: the reasons that are found without it are those that are found with it.
-use Rattle.std.proofs.Common.{◌≡◌, ℕ, zero, suc, ◌+◌, ◌<◌, ◌≤◌, List, [], ◌∷◌, length, Bool, true, false, Option, Some, None, refl, sym, ◌∙◌, ap, arith, cond, subst, option_and_then}
-use Rattle.std.specs.Prelude.{◌⊎◌, replicate, slice_index_or}
+-- What stood in lists before ways could be there is not missed: the reasons that are found without it are those that are found with it.
+use Rattle.std.proofs.Common.{◌≡◌, ℕ, zero, suc, ◌+◌, ◌<◌, ◌≤◌, List, [], ◌∷◌, ◌++◌, length, Bool, true, false, Option, Some, None, refl, sym, ◌∙◌, ap, arith, cond, subst}
+use Rattle.std.specs.Prelude.{◌⊎◌, nat_lt, nat_le, not, filter, replicate, slice_index_or}
 use mathlib.Core.Logic.{inl, inr}
 use Rattle.std.specs.List.{AllByRecursion}
 use Rattle.std.specs.List.Sorted.{IsPermutation}
-use Rattle.std.proofs.lemmas.Bool.{cases_lt}
-use Rattle.std.proofs.lemmas.List.{nil_from_length}
-use Rattle.std.proofs.lemmas.List.Sorted.{IsPermutation-refl, IsPermutation-sym, Contains-permutation, length_permutation}
+use Rattle.std.proofs.lemmas.Bool.{cases_lt, le-ltb, leb-false, le-leb}
+use Rattle.std.proofs.lemmas.List.{append-nil, nil_from_length}
+use Rattle.std.proofs.lemmas.List.Sorted.{IsPermutation-refl, IsPermutation-sym, IsPermutation-trans, IsPermutation-append_left, IsPermutation-filter_both, Contains-permutation, length_permutation}
 use Rattle.hk_model.specs.declared.names.Name.{Name}
 use Rattle.hk_model.specs.declared.names.Inc.{Inc}
-use Rattle.hk_model.specs.declared.entries.Cap.{Cap}
 use Rattle.hk_model.specs.declared.entries.Entry.{Entry}
 use Rattle.hk_model.specs.declared.lines.Line.{Line}
-use Rattle.hk_model.specs.declared.reaches.Hop.{Hop}
 use Rattle.hk_model.specs.declared.reaches.Reach.{Reach}
-use Rattle.hk_model.specs.declared.reaches.Reach.TheVariants.{Param}
 use Rattle.hk_model.specs.declared.reaches.Change.{Change}
 use Rattle.hk_model.specs.WorldValue.{WorldValue, IsWorld}
-use Rattle.hk_model.specs.Places.{cap_of}
 use Rattle.hk_model.specs.Running.{opened, AreStepsOf}
 use Rattle.hk_model.specs.Changes.{AreExplained, bare_changes}
 use Rattle.hk_model.proofs.Members.{Has, has_from, contains_from}
@@ -25,174 +21,37 @@ use Rattle.hk_report.specs.declared.families.Begun.{Begun}
 use Rattle.hk_report.specs.declared.families.BareChange.{BareChange}
 use Rattle.hk_report.specs.declared.histories.Span.{Span}
 use Rattle.hk_report.specs.declared.histories.History.{History}
-use Rattle.hk_report.specs.declared.hops.Arrived.{Arrived}
-use Rattle.hk_report.specs.declared.hops.Latest.{Latest}
-use Rattle.hk_report.specs.declared.hops.Onward.{Onward}
-use Rattle.hk_report.specs.declared.searching.Start.{Start}
+use Rattle.hk_report.specs.declared.reachable.Side.TheVariants.{First}
 use Rattle.hk_report.specs.Doings.{doings, params_given}
 use Rattle.hk_report.specs.Families.{changes_from, families_after}
 use Rattle.hk_report.specs.Histories.{no_history, history_of, told_histories}
-use Rattle.hk_report.specs.Hops.{has_begun, is_made, arrived_by, entry_onward, handed_onward, comes_before, earlier, onward_below, onward_over, first_from, no_latest, raised, latest_from}
-use Rattle.hk_report.specs.Holders.{joined, latest_over}
+use Rattle.hk_report.specs.Hops.{later, has_begun, is_made}
 use Rattle.hk_report.specs.Reasons.{params_at, IsReasonedBy, IsTold, AreTold}
-use Rattle.hk_report.specs.Reachable.{is_marked, AreMarked, is_held_marked, AreMarkedParams, IsClosed, AreKeptSpans, AreKept, IsEnough}
+use Rattle.hk_report.specs.Reachable.{IsByThen, goes_on, AreGoneOver, AreHeldBy, IsClosed, can_matter, IsKept, AreKept, IsEnough}
 use Rattle.hk_report.specs.Runs.{IsRearranged, AreRearranged}
-use Rattle.hk_report.specs.Searches.{direct_param, first_onward, onward_at, first_start, level_at, hops_down, IsFoundBehind, IsFoundBy, IsFound}
+use Rattle.hk_report.specs.Searches.{IsFound}
+use Rattle.hk_report.proofs.Agreeing.{IsThinned, IsThinnedBy, found_same}
 use Rattle.hk_report.proofs.Explained.{report_is}
 use Rattle.hk_report.proofs.HistoryLemmas.{beyond}
 
--- ---- a hop leads to what is marked
+-- ---- reasons by reasons
 
-module _ (marks : List Bool) where
-  abbrev LeadsToMarked : Option Onward → Type 0
-  LeadsToMarked None = Unit {0}
-  LeadsToMarked (Some onward) = is_marked marks onward.to.name ≡ true
-
-  where_it_is : (b : Bool) (onward : Onward) → is_marked marks onward.to.name ≡ true → LeadsToMarked (cond b (Some onward) None)
-  where_it_is true onward h = h
-  where_it_is false onward h = tt
-
-  earlier_leads : (a b : Option Onward) → LeadsToMarked a → LeadsToMarked b → LeadsToMarked (earlier a b)
-  earlier_leads None b g h = h
-  earlier_leads (Some a) None g h = g
-  earlier_leads (Some a) (Some b) g h = by (comes_before b.hop a.hop)
-    where
-      by : (c : Bool) → LeadsToMarked (cond c (Some b) (Some a))
-      by true = h
-      by false = g
-
-  below_leads : (latest : Latest) (made : Bool) (from : Arrived) (span : Span) → is_marked marks span.cap.name ≡ true → LeadsToMarked (onward_below latest made from span)
-  below_leads latest made from span h =
-      earlier_leads (entry_onward from span latest) (handed_onward from span latest made) (where_it_is _ _ h) (where_it_is _ _ h)
-
-  first_leads : (made : Name → Bool) (level : Name → Latest) (from : Arrived) (first : Option Onward) (spans : List Span) → LeadsToMarked first → AreMarked marks spans
-      → LeadsToMarked (first_from made level from first spans)
-  first_leads made level from first [] g h = g
-  first_leads made level from first (s ∷ spans) g h =
-      first_leads made level from (earlier first (onward_over made level from s)) spans
-      (earlier_leads first (onward_over made level from s) g (below_leads (level s.cap.name) (made s.cap.name) from s h.0)) h.1
-
--- ---- the search goes over marked lists alone
-
-module _ (made : Name → Bool) (marks : List Bool) (few all : List History) (same : (x : Name) → is_marked marks x ≡ true → (history_of few x).spans ≡ (history_of all x).spans)
-    (closed : IsClosed all marks) where
-  module _ (l m : Name → Latest) (agree : (x : Name) → is_marked marks x ≡ true → l x ≡ m x) where
-    latest_same : (so_far : Latest) (spans : List Span) → AreMarked marks spans → latest_from made l so_far spans ≡ latest_from made m so_far spans
-    latest_same so_far [] h = refl
-    latest_same so_far (s ∷ spans) h =
-        ap (λ (x : Latest). latest_from made l (joined so_far (latest_over s x (made s.cap.name))) spans) (agree s.cap.name h.0)
-        ∙ latest_same (raised made m so_far s) spans h.1
-
-    first_same : (from : Arrived) (first : Option Onward) (spans : List Span) → AreMarked marks spans → first_from made l from first spans ≡ first_from made m from first spans
-    first_same from first [] h = refl
-    first_same from first (s ∷ spans) h =
-        ap (λ (x : Latest). first_from made l from (earlier first (onward_below x (made s.cap.name) from s)) spans) (agree s.cap.name h.0)
-        ∙ first_same from (earlier first (onward_over made m from s)) spans h.1
-
-  module _ (wanted : Name) (before k : ℕ) where
-    abbrev by_few : ℕ → Name → Latest
-    by_few = level_at made few wanted before
-
-    abbrev by_all : ℕ → Name → Latest
-    by_all = level_at made all wanted before
-
-    levels_same : (n : ℕ) (x : Name) → is_marked marks x ≡ true → by_few n x ≡ by_all n x
-    levels_same zero x h = refl
-    levels_same (suc n) x h =
-        ap (latest_from made (by_few n) no_latest) (same x h)
-        ∙ latest_same (by_few n) (by_all n) (levels_same n) no_latest (history_of all x).spans (closed x h)
-
-    onward_same : (n : ℕ) (from : Arrived) → is_marked marks from.name ≡ true → first_onward made few (by_few n) from ≡ first_onward made all (by_all n) from
-    onward_same n from h =
-        ap (first_from made (by_few n) from None) (same from.name h)
-        ∙ first_same (by_few n) (by_all n) (levels_same n) from None (history_of all from.name).spans (closed from.name h)
-
-    onward_leads : (n : ℕ) (from : Arrived) → is_marked marks from.name ≡ true → LeadsToMarked marks (first_onward made all (by_all n) from)
-    onward_leads n from h = first_leads marks made (by_all n) from None (history_of all from.name).spans tt (closed from.name h)
-
-    hops_same : (n : ℕ) (from : Arrived) → is_marked marks from.name ≡ true → hops_down made few wanted before n from ≡ hops_down made all wanted before n from
-    hops_same zero from h = refl
-    hops_same (suc n) from h =
-        ap (λ (o : Option Onward). elim o as (λ y. List Hop) [ None ↦ [] | Some onward ↦ onward.hop ∷ hops_down made few wanted before n onward.to ]) (onward_same n from h)
-        ∙ by (hops_same n) (first_onward made all (by_all n) from) (onward_leads n from h)
-      where
-        by : ((to : Arrived) → is_marked marks to.name ≡ true → hops_down made few wanted before n to ≡ hops_down made all wanted before n to) → (o : Option Onward)
-            → LeadsToMarked marks o
-            → ◌≡◌ {A = List Hop} (elim o as (λ y. List Hop) [ None ↦ [] | Some onward ↦ onward.hop ∷ hops_down made few wanted before n onward.to ])
-            (elim o as (λ y. List Hop) [ None ↦ [] | Some onward ↦ onward.hop ∷ hops_down made all wanted before n onward.to ])
-        by more None g = refl
-        by more (Some onward) g = ap (λ (hops : List Hop). onward.hop ∷ hops) (more onward.to g)
-
-    at_same : (n : ℕ) (o : Option Cap) → is_held_marked marks o ≡ true
-        → option_and_then (λ (cap : Cap). first_onward made few (by_few n) (arrived_by k cap)) o ≡ option_and_then (λ (cap : Cap). first_onward made all (by_all n) (arrived_by k cap)) o
-    at_same n None h = refl
-    at_same n (Some cap) h = onward_same n (arrived_by k cap) h
-
-    at_leads : (n : ℕ) (o : Option Cap) → is_held_marked marks o ≡ true
-        → LeadsToMarked marks (option_and_then (λ (cap : Cap). first_onward made all (by_all n) (arrived_by k cap)) o)
-    at_leads n None h = tt
-    at_leads n (Some cap) h = onward_leads n (arrived_by k cap) h
-
-    abbrev chosen : ℕ → Option Onward → Option Start → Option Start
-    chosen index o rest = elim o as (λ y. Option Start) [ Some onward ↦ Some (record { arg = index; onward = onward }) | None ↦ rest ]
-
-    start_same : (n index : ℕ) (params : List Entry) → AreMarkedParams marks params → first_start made few k (by_few n) index params ≡ first_start made all k (by_all n) index params
-    start_same n index [] h = refl
-    start_same n index (e ∷ params) h =
-        ap (λ (o : Option Onward). chosen index o (first_start made few k (by_few n) (index + 1) params)) (at_same n (cap_of e) h.0)
-        ∙ ap (chosen index (onward_at made all k (by_all n) e)) (start_same n (index + 1) params h.1)
-
-    abbrev StartsMarked : Option Start → Type 0
-    StartsMarked None = Unit {0}
-    StartsMarked (Some start) = is_marked marks start.onward.to.name ≡ true
-
-    start_leads : (n index : ℕ) (params : List Entry) → AreMarkedParams marks params → StartsMarked (first_start made all k (by_all n) index params)
-    start_leads n index [] h = tt
-    start_leads n index (e ∷ params) h = by (start_leads n (index + 1) params h.1) (onward_at made all k (by_all n) e) (at_leads n (cap_of e) h.0)
-      where
-        by : StartsMarked (first_start made all k (by_all n) (index + 1) params) → (o : Option Onward) → LeadsToMarked marks o
-            → StartsMarked (chosen index o (first_start made all k (by_all n) (index + 1) params))
-        by more None g = more
-        by more (Some onward) g = g
-
-    behind_same : (params : List Entry) (reach : Reach) → AreMarkedParams marks params → IsFoundBehind made few wanted before k params reach
-        → IsFoundBehind made all wanted before k params reach
-    behind_same params reach h f = record {
-      left = f.left;
-      start = f.start;
-      starts = starts;
-      fewest = λ less l. sym (start_same less 0 params h) ∙ f.fewest less l;
-      is = f.is ∙ ap (λ (hops : List Hop). Param f.start.arg (f.start.onward.hop ∷ hops)) (hops_same f.left f.start.onward.to (subst StartsMarked starts (start_leads f.left 0 params h)));
-    }
-      where
-        starts : first_start made all k (by_all f.left) 0 params ≡ Some f.start
-        starts = sym (start_same f.left 0 params h) ∙ f.starts
-
-    found_same : (params : List Entry) (reach : Reach) → AreMarkedParams marks params → IsFound made few wanted before k params reach → IsFound made all wanted before k params reach
-    found_same params reach h f = by (direct_param wanted 0 params) f
-      where
-        by : (o : Option ℕ) → IsFoundBy made few wanted before k params reach o → IsFoundBy made all wanted before k params reach o
-        by (Some arg) g = g
-        by None g = behind_same params reach h g
-
--- ---- so do the reasons
-
-module _ (families : List (List Begun)) (params : List (List Entry)) (marks : List Bool) (few all : List History) (makers : (x : Name) → (history_of few x).maker ≡ (history_of all x).maker)
-    (same : (x : Name) → is_marked marks x ≡ true → (history_of few x).spans ≡ (history_of all x).spans) (closed : IsClosed all marks) where
+module _ (families : List (List Begun)) (params : List (List Entry)) (firsts : Name → Option ℕ) (few all : List History) (makers : (x : Name) → (history_of few x).maker ≡ (history_of all x).maker)
+    (thin : (x : Name) → IsThinnedBy (firsts x) (history_of few x).spans (history_of all x).spans) (closed : IsClosed First all firsts) where
   made_one : (begun : Begun) (x : Name) → is_made families begun few x ≡ is_made families begun all x
   made_one begun x = ap (λ (o : Option Inc). elim o as (λ y. Bool) [ None ↦ false | Some inc ↦ has_begun begun (slice_index_or families inc.0 []) ]) (makers x)
 
   made_same : (begun : Begun) → is_made families begun few ≡ is_made families begun all
   made_same begun = λ i x. made_one begun x i
 
-  reason_same : (bare : BareChange) (reach : Reach) (b : Bool) → AreMarkedParams marks (params_at families params bare.under.call) → IsReasonedBy families few params bare reach b
+  reason_same : (bare : BareChange) (reach : Reach) (b : Bool) → AreHeldBy firsts bare.under.moment (params_at families params bare.under.call) → IsReasonedBy families few params bare reach b
       → IsReasonedBy families all params bare reach b
   reason_same bare reach true h g = g
   reason_same bare reach false h g =
-      found_same (is_made families bare.under all) marks few all same closed bare.object (bare.moment + 1) bare.under.moment (params_at families params bare.under.call) reach h
+      found_same (is_made families bare.under all) firsts few all thin closed bare.object (bare.moment + 1) bare.under.moment (params_at families params bare.under.call) reach h
       (subst (λ (made : Name → Bool). IsFound made few bare.object (bare.moment + 1) bare.under.moment (params_at families params bare.under.call) reach) (made_same bare.under) g)
 
-  told_same : (bare : BareChange) (change : Change) → AreMarkedParams marks (params_at families params bare.under.call) → IsTold families few params bare change
+  told_same : (bare : BareChange) (change : Change) → AreHeldBy firsts bare.under.moment (params_at families params bare.under.call) → IsTold families few params bare change
       → IsTold families all params bare change
   told_same bare change h g = record {
     line = g.line;
@@ -204,7 +63,7 @@ module _ (families : List (List Begun)) (params : List (List Entry)) (marks : Li
   }
 
   told_all_same : (bares : List BareChange) (changes : List Change)
-      → AllByRecursion (λ (bare : BareChange). AreMarkedParams marks (params_at families params bare.under.call)) bares → AreTold families few params bares changes
+      → AllByRecursion (λ (bare : BareChange). AreHeldBy firsts bare.under.moment (params_at families params bare.under.call)) bares → AreTold families few params bares changes
       → AreTold families all params bares changes
   told_all_same [] [] h g = tt
   told_all_same [] (c ∷ changes) h g = absurd g
@@ -213,64 +72,87 @@ module _ (families : List (List Begun)) (params : List (List Entry)) (marks : Li
 
 -- ---- the lists with what was left out
 
-module _ (marks : List Bool) (after : List History) where
+abbrev pub left_out : Option ℕ → Span → Bool
+left_out first span = not (can_matter first span)
+
+-- what has ended can be left out behind what is kept
+thinned_more : (m : ℕ) (spans more : List Span) → IsThinned m [] more → IsThinned m spans (spans ++ more)
+thinned_more m [] more g = g
+thinned_more m (s ∷ spans) more g = inr (spans, (refl, thinned_more m spans more g))
+
+thinned_left : (m : ℕ) (spans : List Span) → IsThinned m [] (filter (left_out (Some m)) spans)
+thinned_left m [] = refl
+thinned_left m (s ∷ spans) = by (nat_le m s.until) refl (thinned_left m spans)
+  where
+    by : (b : Bool) → nat_le m s.until ≡ b → IsThinned m [] (filter (left_out (Some m)) spans)
+        → IsThinned m [] (cond (not b) (s ∷ filter (left_out (Some m)) spans) (filter (left_out (Some m)) spans))
+    by true e more = more
+    by false e more = inl (le-ltb m s.until (let l = leb-false m s.until e in omega (arith, l)), more)
+
+thinned_by : (first : Option ℕ) (spans before : List Span) → IsThinnedBy first spans (spans ++ filter (left_out first) before)
+thinned_by None spans before = tt
+thinned_by (Some m) spans before = thinned_more m spans (filter (left_out (Some m)) before) (thinned_left m before)
+
+module _ (firsts : Name → Option ℕ) (after : List History) where
+  abbrev with_left : ℕ → History → History
+  with_left n h = record {
+    maker = h.maker;
+    now = h.now;
+    spans = (slice_index_or after n no_history).spans ++ filter (left_out (firsts (record { 0 = n }))) h.spans;
+  }
+
   abbrev put_back : ℕ → List History → List History
   put_back n [] = []
-  put_back n (h ∷ hs) = cond (slice_index_or marks n true) (slice_index_or after n no_history) h ∷ put_back (suc n) hs
+  put_back n (h ∷ hs) = with_left n h ∷ put_back (suc n) hs
 
-  back_at : (n j : ℕ) (hs : List History) → j < length hs
-      → slice_index_or (put_back n hs) j no_history ≡ cond (slice_index_or marks (n + j) true) (slice_index_or after (n + j) no_history) (slice_index_or hs j no_history)
+  back_at : (n j : ℕ) (hs : List History) → j < length hs → slice_index_or (put_back n hs) j no_history ≡ with_left (n + j) (slice_index_or hs j no_history)
   back_at n j [] l = absurd (omega (arith, l))
   back_at n zero (h ∷ hs) l =
       let number : n ≡ n + 0 = omega arith in
-      ap (λ (i : ℕ). cond (slice_index_or marks i true) (slice_index_or after i no_history) h) number
+      ap (λ (i : ℕ). with_left i h) number
   back_at n (suc j) (h ∷ hs) l =
       let number : suc n + j ≡ n + suc j = omega arith in
-      back_at (suc n) j hs (omega (arith, l))
-      ∙ ap (λ (i : ℕ). cond (slice_index_or marks i true) (slice_index_or after i no_history) (slice_index_or hs j no_history)) number
+      back_at (suc n) j hs (omega (arith, l)) ∙ ap (λ (i : ℕ). with_left i (slice_index_or hs j no_history)) number
 
   back_beyond : (n j : ℕ) (hs : List History) → length hs ≤ j → slice_index_or (put_back n hs) j no_history ≡ no_history
   back_beyond n j [] l = refl
   back_beyond n zero (h ∷ hs) l = absurd (omega (arith, l))
   back_beyond n (suc j) (h ∷ hs) l = back_beyond (suc n) j hs (omega (arith, l))
 
-  module _ (before : List History) (kept : AreKept marks before after) where
+  module _ (before : List History) (kept : AreKept firsts before after) where
     abbrev whole : List History
     whole = put_back 0 before
 
     -- what stands there of an object
     data At (x : Name) : Type 0 where
-      kept_at : is_marked marks x ≡ true → history_of whole x ≡ history_of after x → At x
-      left_at : is_marked marks x ≡ false → history_of whole x ≡ history_of before x → At x
+      here_at : history_of whole x ≡ with_left x.0 (history_of before x) → At x
       none_at : history_of before x ≡ no_history → history_of whole x ≡ no_history → At x
 
     at : (x : Name) → At x
     at x = by (cases_lt x.0 (length before))
       where
-        here : x.0 < length before → history_of whole x ≡ cond (is_marked marks x) (history_of after x) (history_of before x)
-        here l =
-            let number : 0 + x.0 ≡ x.0 = omega arith in
-            back_at 0 x.0 before l ∙ ap (λ (i : ℕ). cond (slice_index_or marks i true) (slice_index_or after i no_history) (history_of before x)) number
-
-        marked : x.0 < length before → (b : Bool) → is_marked marks x ≡ b → At x
-        marked l true e = kept_at e (here l ∙ ap (λ (b : Bool). cond b (history_of after x) (history_of before x)) e)
-        marked l false e = left_at e (here l ∙ ap (λ (b : Bool). cond b (history_of after x) (history_of before x)) e)
-
         by : (x.0 < length before) ⊎ (length before ≤ x.0) → At x
-        by (inl l) = marked l (is_marked marks x) refl
+        by (inl l) =
+            let number : 0 + x.0 ≡ x.0 = omega arith in
+            here_at (back_at 0 x.0 before l ∙ ap (λ (i : ℕ). with_left i (history_of before x)) number)
         by (inr l) = none_at (beyond before x.0 l) (back_beyond 0 x.0 before l)
 
-    as_marked : (x : Name) (b : Bool) → is_marked marks x ≡ b → AreKeptSpans b (history_of before x).spans (history_of after x).spans
-    as_marked x b e = subst (λ (c : Bool). AreKeptSpans c (history_of before x).spans (history_of after x).spans) e (kept x).spans_are
+    abbrev put_with : (x : Name) → List Span
+    put_with x = (history_of after x).spans ++ filter (left_out (firsts x)) (history_of before x).spans
+
+    with_rearranged : (x : Name) → IsPermutation (history_of before x).spans (put_with x)
+    with_rearranged x =
+        IsPermutation-trans (history_of before x).spans
+        (filter (can_matter (firsts x)) (history_of before x).spans ++ filter (left_out (firsts x)) (history_of before x).spans) (put_with x)
+        (IsPermutation-filter_both (can_matter (firsts x)) (left_out (firsts x)) (λ s. refl) (history_of before x).spans)
+        (IsPermutation-append_left (filter (left_out (firsts x)) (history_of before x).spans) (filter (can_matter (firsts x)) (history_of before x).spans) (history_of after x).spans
+        (kept x).spans_are)
 
     whole_rearranged : AreRearranged before whole
     whole_rearranged x = by (at x)
       where
         by : At x → IsRearranged (history_of before x) (history_of whole x)
-        by (kept_at e f) =
-            subst (λ (h : History). IsRearranged (history_of before x) h) (sym f) (record { maker_is = (kept x).maker_is; spans_are = as_marked x true e })
-        by (left_at e f) =
-            subst (λ (h : History). IsRearranged (history_of before x) h) (sym f) (record { maker_is = refl; spans_are = IsPermutation-refl (history_of before x).spans })
+        by (here_at f) = subst (λ (h : History). IsRearranged (history_of before x) h) (sym f) (record { maker_is = refl; spans_are = with_rearranged x })
         by (none_at e f) =
             subst (λ (h : History). IsRearranged h (history_of whole x)) (sym e)
             (subst (λ (h : History). IsRearranged no_history h) (sym f) (record { maker_is = refl; spans_are = IsPermutation-refl [] }))
@@ -279,35 +161,37 @@ module _ (marks : List Bool) (after : List History) where
     whole_makers x = by (at x)
       where
         by : At x → (history_of after x).maker ≡ (history_of whole x).maker
-        by (kept_at e f) = sym (ap (λ (h : History). h.maker) f)
-        by (left_at e f) = (kept x).maker_is ∙ sym (ap (λ (h : History). h.maker) f)
+        by (here_at f) = (kept x).maker_is ∙ sym (ap (λ (h : History). h.maker) f)
         by (none_at e f) = (kept x).maker_is ∙ ap (λ (h : History). h.maker) e ∙ sym (ap (λ (h : History). h.maker) f)
 
-    whole_same : (x : Name) → is_marked marks x ≡ true → (history_of after x).spans ≡ (history_of whole x).spans
-    whole_same x m = by (at x)
+    whole_thin : (x : Name) → IsThinnedBy (firsts x) (history_of after x).spans (history_of whole x).spans
+    whole_thin x = by (at x)
       where
-        nothing : (b a : List Span) → b ≡ [] → IsPermutation b a → a ≡ []
-        nothing b a e p = nil_from_length a (length_permutation b a p ∙ ap length e)
+        no_more : (first : Option ℕ) (spans : List Span) → IsPermutation [] spans → IsThinnedBy first spans []
+        no_more None spans p = tt
+        no_more (Some m) spans p = nil_from_length spans (length_permutation [] spans p)
 
-        by : At x → (history_of after x).spans ≡ (history_of whole x).spans
-        by (kept_at e f) = sym (ap (λ (h : History). h.spans) f)
-        by (left_at e f) = absurd (cc)
+        by : At x → IsThinnedBy (firsts x) (history_of after x).spans (history_of whole x).spans
+        by (here_at f) =
+            subst (λ (h : History). IsThinnedBy (firsts x) (history_of after x).spans h.spans) (sym f) (thinned_by (firsts x) (history_of after x).spans (history_of before x).spans)
         by (none_at e f) =
-            nothing (history_of before x).spans (history_of after x).spans (ap (λ (h : History). h.spans) e) (as_marked x true m) ∙ sym (ap (λ (h : History). h.spans) f)
+            subst (λ (h : History). IsThinnedBy (firsts x) (history_of after x).spans h.spans) (sym f)
+            (no_more (firsts x) (history_of after x).spans
+            (subst (λ (h : History). IsPermutation (filter (can_matter (firsts x)) h.spans) (history_of after x).spans) e (kept x).spans_are))
 
-    each_marked : (spans : List Span) → AreMarked marks spans → (s : Span) → Has spans s → is_marked marks s.cap.name ≡ true
-    each_marked [] h s g = absurd g
-    each_marked (t ∷ spans) h s (inl e) = subst (λ (u : Span). is_marked marks u.cap.name ≡ true) e h.0
-    each_marked (t ∷ spans) h s (inr g) = each_marked spans h.1 s g
+    each_over : (at : Option ℕ) (spans : List Span) → AreGoneOver First firsts at spans → (s : Span) → Has spans s → IsByThen (firsts s.cap.name) (goes_on First at s)
+    each_over at [] h s g = absurd g
+    each_over at (t ∷ spans) h s (inl e) = subst (λ (u : Span). IsByThen (firsts u.cap.name) (goes_on First at u)) e h.0
+    each_over at (t ∷ spans) h s (inr g) = each_over at spans h.1 s g
 
-    marked_each : (spans : List Span) → ((s : Span) → Has spans s → is_marked marks s.cap.name ≡ true) → AreMarked marks spans
-    marked_each [] f = tt
-    marked_each (s ∷ spans) f = (f s (inl refl), marked_each spans (λ t g. f t (inr g)))
+    over_each : (at : Option ℕ) (spans : List Span) → ((s : Span) → Has spans s → IsByThen (firsts s.cap.name) (goes_on First at s)) → AreGoneOver First firsts at spans
+    over_each at [] f = tt
+    over_each at (s ∷ spans) f = (f s (inl refl), over_each at spans (λ t g. f t (inr g)))
 
-    whole_closed : IsClosed before marks → IsClosed whole marks
-    whole_closed closed x m =
-        marked_each (history_of whole x).spans (λ s h.
-        each_marked (history_of before x).spans (closed x m) s
+    whole_closed : IsClosed First before firsts → IsClosed First whole firsts
+    whole_closed closed x =
+        over_each (firsts x) (history_of whole x).spans (λ s h.
+        each_over (firsts x) (history_of before x).spans (closed x) s
         (has_from (history_of before x).spans s
         (Contains-permutation (history_of whole x).spans (history_of before x).spans s
         (IsPermutation-sym (history_of before x).spans (history_of whole x).spans (whole_rearranged x).spans_are) (contains_from (history_of whole x).spans s h))))
@@ -321,20 +205,33 @@ pub report_enough : (w : WorldValue) (lines : List Line) (told histories : List 
     → found ≡ changes_from 0 (replicate (opened w).state.next_inc.0 []) (doings w (opened w) lines)
     → AreTold families histories params found all → AreExplained w lines (bare_changes w lines) all
 report_enough w lines told histories params families found all world steps h enough p g c is =
-    report_is w lines told (whole enough.marks histories told enough.kept) params families found all world steps h (whole_rearranged enough.marks histories told enough.kept) p g c
-    (told_all_same families params enough.marks histories (whole enough.marks histories told enough.kept) (whole_makers enough.marks histories told enough.kept)
-    (whole_same enough.marks histories told enough.kept) (whole_closed enough.marks histories told enough.kept enough.reachable.closed) found all enough.reachable.starts is)
+    report_is w lines told (whole enough.firsts histories told enough.kept) params families found all world steps h (whole_rearranged enough.firsts histories told enough.kept) p g c
+    (told_all_same families params enough.firsts histories (whole enough.firsts histories told enough.kept) (whole_makers enough.firsts histories told enough.kept)
+    (whole_thin enough.firsts histories told enough.kept) (whole_closed enough.firsts histories told enough.kept enough.reachable.closed) found all enough.reachable.starts is)
 
 -- where there is no change, all is enough
 pub enough_none : (families : List (List Begun)) (params : List (List Entry)) (bares : List BareChange) (histories : List History) → length bares ≡ 0
     → IsEnough families params bares histories histories
 enough_none families params [] histories e = record {
-  marks = [];
-  reachable = record { starts = tt; closed = λ name h. all_so (history_of histories name).spans };
-  kept = λ name. record { maker_is = refl; spans_are = IsPermutation-refl (history_of histories name).spans };
+  firsts = λ name. Some 0;
+  reachable = record { starts = tt; closed = λ name. all_so (history_of histories name).spans };
+  kept = λ name. record { maker_is = refl; spans_are = all_kept (history_of histories name).spans };
 }
   where
-    all_so : (spans : List Span) → AreMarked [] spans
+    all_so : (spans : List Span) → AreGoneOver First (λ name. Some 0) (Some 0) spans
     all_so [] = tt
-    all_so (s ∷ spans) = (refl, all_so spans)
+    all_so (s ∷ spans) = (by (nat_lt 0 s.until), all_so spans)
+      where
+        by : (b : Bool) → IsByThen (Some 0) (cond b (Some (later 0 s.from)) None)
+        by true = omega arith
+        by false = tt
+
+    all_matter : (spans : List Span) → filter (can_matter (Some 0)) spans ≡ spans
+    all_matter [] = refl
+    all_matter (s ∷ spans) =
+        ap (λ (b : Bool). cond b (s ∷ filter (can_matter (Some 0)) spans) (filter (can_matter (Some 0)) spans)) (le-leb 0 s.until (omega arith))
+        ∙ ap (λ (xs : List Span). s ∷ xs) (all_matter spans)
+
+    all_kept : (spans : List Span) → IsPermutation (filter (can_matter (Some 0)) spans) spans
+    all_kept spans = subst (λ (xs : List Span). IsPermutation xs spans) (sym (all_matter spans)) (IsPermutation-refl spans)
 enough_none families params (b ∷ bares) histories e = absurd (omega (arith, e))

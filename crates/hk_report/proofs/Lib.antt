@@ -34,7 +34,8 @@ mod Replays
 mod Makers
 mod ReasonLemmas
 mod Explained
-mod MarkingLemmas
+mod MomentLemmas
+mod Agreeing
 mod LeftOut
 mod WrittenLemmas
 pub mod Retold

@@ -1,5 +1,5 @@
 -- Lists that are sorted by keys that begin with the name stand in the order of the names.
-use Rattle.std.proofs.Common.{◌≡◌, ℕ, zero, suc, ◌+◌, ◌<◌, ◌≤◌, List, [], ◌∷◌, length, Bool, true, false, refl, sym, ◌∙◌, ap, arith, subst}
+use Rattle.std.proofs.Common.{◌≡◌, ℕ, zero, suc, ◌+◌, ◌<◌, ◌≤◌, List, [], ◌∷◌, length, Bool, true, false, Option, Some, refl, sym, ◌∙◌, ap, arith, subst}
 use Rattle.std.specs.Prelude.{◌⊎◌, slice_set, slice_index_or}
 use mathlib.Core.Logic.{inl, inr}
 use Rattle.std.specs.Cmp.{ranked}
@@ -14,7 +14,7 @@ use Rattle.hk_model.specs.declared.names.Name.{Name}
 use Rattle.hk_report.specs.declared.histories.Span.{Span}
 use Rattle.hk_report.specs.declared.histories.History.{History}
 use Rattle.hk_report.specs.Histories.{no_history, history_of}
-use Rattle.hk_report.specs.Reachable.{is_marked, IsKept, AreKept}
+use Rattle.hk_report.specs.Reachable.{moment_at, can_matter, IsKept, AreKept}
 use Rattle.hk_report.specs.Runs.{AreByName, AreOrdered}
 use Rattle.hk_report.proofs.HistoryLemmas.{beyond}
 
@@ -43,14 +43,14 @@ by_name spans h = IsNonDecreasingBy-from_all_adjacent (λ (s : Span). s.cap.name
 
 -- ---- one list after another
 
-pub record AreOrderedBelow (marks : List Bool) (first histories : List History) (n : ℕ) : Type 0 where
+pub record AreOrderedBelow (firsts : List (Option ℕ)) (first histories : List History) (n : ℕ) : Type 0 where
   pub many : length histories ≡ length first
-  pub kept : (name : Name) → name.0 < n → IsKept (is_marked marks name) (history_of first name) (history_of histories name)
+  pub kept : (name : Name) → name.0 < n → IsKept (moment_at firsts name) (history_of first name) (history_of histories name)
   pub left : (name : Name) → n ≤ name.0 → history_of histories name ≡ history_of first name
   pub ordered : (name : Name) → name.0 < n → AreByName (history_of histories name).spans
 
-ordered_none : (marks : List Bool) (histories : List History) → AreOrderedBelow marks histories histories 0
-ordered_none marks histories = record {
+ordered_none : (firsts : List (Option ℕ)) (histories : List History) → AreOrderedBelow firsts histories histories 0
+ordered_none firsts histories = record {
   many = refl;
   kept = λ name l. absurd (omega (arith, l));
   left = λ name l. refl;
@@ -71,10 +71,10 @@ set_apart (x ∷ hs) (suc i) zero new l = refl
 set_apart (x ∷ hs) (suc i) (suc j) new (inl l) = set_apart hs i j new (inl (omega (arith, l)))
 set_apart (x ∷ hs) (suc i) (suc j) new (inr l) = set_apart hs i j new (inr (omega (arith, l)))
 
-pub ordered_one : (marks : List Bool) (first before after : List History) (n : ℕ) (old new : History) → AreOrderedBelow marks first before n → n < length before
-    → old ≡ slice_index_or before n old → IsKept (slice_index_or marks n true) old new → AreByName new.spans → after ≡ slice_set before n new
-    → AreOrderedBelow marks first after (n + 1)
-ordered_one marks first before after n old new h l e kept up is = record {
+pub ordered_one : (firsts : List (Option ℕ)) (first before after : List History) (n : ℕ) (old new : History) → AreOrderedBelow firsts first before n → n < length before
+    → old ≡ slice_index_or before n old → IsKept (slice_index_or firsts n (Some 0)) old new → AreByName new.spans → after ≡ slice_set before n new
+    → AreOrderedBelow firsts first after (n + 1)
+ordered_one firsts first before after n old new h l e kept up is = record {
   many = ap length is ∙ length-set before n new ∙ h.many;
   kept = λ name m. kept_by name m (cases_lt name.0 n);
   left = λ name m. apart name (inl (omega (arith, m))) ∙ h.left name (omega (arith, m));
@@ -90,14 +90,14 @@ ordered_one marks first before after n old new h l e kept up is = record {
     was : old ≡ slice_index_or first n no_history
     was = e ∙ get_or_default before n old no_history l ∙ h.left (record { 0 = n }) (omega arith)
 
-    here : IsKept (slice_index_or marks n true) (slice_index_or first n no_history) (slice_index_or after n no_history)
-    here = subst (λ (x : History). IsKept (slice_index_or marks n true) x (slice_index_or after n no_history)) was (subst (λ (x : History). IsKept (slice_index_or marks n true) old x) (sym there) kept)
+    here : IsKept (slice_index_or firsts n (Some 0)) (slice_index_or first n no_history) (slice_index_or after n no_history)
+    here = subst (λ (x : History). IsKept (slice_index_or firsts n (Some 0)) x (slice_index_or after n no_history)) was (subst (λ (x : History). IsKept (slice_index_or firsts n (Some 0)) old x) (sym there) kept)
 
-    kept_by : (name : Name) → name.0 < n + 1 → (name.0 < n) ⊎ (n ≤ name.0) → IsKept (is_marked marks name) (history_of first name) (history_of after name)
-    kept_by name m (inl low) = subst (λ (x : History). IsKept (is_marked marks name) (history_of first name) x) (sym (apart name (inr low))) (h.kept name low)
+    kept_by : (name : Name) → name.0 < n + 1 → (name.0 < n) ⊎ (n ≤ name.0) → IsKept (moment_at firsts name) (history_of first name) (history_of after name)
+    kept_by name m (inl low) = subst (λ (x : History). IsKept (moment_at firsts name) (history_of first name) x) (sym (apart name (inr low))) (h.kept name low)
     kept_by name m (inr high) =
         let same : n ≡ name.0 = omega (arith, m, high) in
-        subst (λ (k : ℕ). IsKept (slice_index_or marks k true) (slice_index_or first k no_history) (slice_index_or after k no_history)) same here
+        subst (λ (k : ℕ). IsKept (slice_index_or firsts k (Some 0)) (slice_index_or first k no_history) (slice_index_or after k no_history)) same here
 
     up_by : (name : Name) → name.0 < n + 1 → (name.0 < n) ⊎ (n ≤ name.0) → AreByName (history_of after name).spans
     up_by name m (inl low) = subst (λ (x : History). AreByName x.spans) (sym (apart name (inr low))) (h.ordered name low)
@@ -105,25 +105,24 @@ ordered_one marks first before after n old new h l e kept up is = record {
         let same : n ≡ name.0 = omega (arith, m, high) in
         subst (λ (k : ℕ). AreByName (slice_index_or after k no_history).spans) same (subst (λ (x : History). AreByName x.spans) (sym there) up)
 
-module _ (marks : List Bool) (first histories : List History) (n : ℕ) (h : AreOrderedBelow marks first histories n) (l : length first ≤ n) where
+module _ (firsts : List (Option ℕ)) (first histories : List History) (n : ℕ) (h : AreOrderedBelow firsts first histories n) (l : length first ≤ n) where
   beyond_both : (name : Name) → n ≤ name.0 → (history_of first name ≡ no_history) × (history_of histories name ≡ no_history)
   beyond_both name high =
       let none : history_of first name ≡ no_history = beyond first name.0 (omega (arith, l, high)) in
       (none, h.left name high ∙ none)
 
-  pub kept_all : AreKept marks first histories
+  pub kept_all : AreKept (moment_at firsts) first histories
   kept_all name = by (cases_lt name.0 n)
     where
-      nothing : (b : Bool) → IsKept b no_history no_history
-      nothing true = record { maker_is = refl; spans_are = IsPermutation-refl [] }
-      nothing false = record { maker_is = refl; spans_are = refl }
+      nothing : (first : Option ℕ) → IsKept first no_history no_history
+      nothing first = record { maker_is = refl; spans_are = IsPermutation-refl [] }
 
-      by : (name.0 < n) ⊎ (n ≤ name.0) → IsKept (is_marked marks name) (history_of first name) (history_of histories name)
+      by : (name.0 < n) ⊎ (n ≤ name.0) → IsKept (moment_at firsts name) (history_of first name) (history_of histories name)
       by (inl low) = h.kept name low
       by (inr high) =
           let none = beyond_both name high in
-          subst (λ (x : History). IsKept (is_marked marks name) x (history_of histories name)) (sym none.0)
-          (subst (λ (x : History). IsKept (is_marked marks name) no_history x) (sym none.1) (nothing (is_marked marks name)))
+          subst (λ (x : History). IsKept (moment_at firsts name) x (history_of histories name)) (sym none.0)
+          (subst (λ (x : History). IsKept (moment_at firsts name) no_history x) (sym none.1) (nothing (moment_at firsts name)))
 
   pub ordered_all : AreOrdered histories
   ordered_all name = by (cases_lt name.0 n)

@@ -14,4 +14,4 @@ pub mod Retold
 pub mod Lists
 pub mod Params
 pub mod Reachable
-pub mod Marking
+pub mod Moments

@@ -1,6 +1,5 @@
--- Which lists ways from parameters can come to, whatever the moments, and what is left where the others are left out.
--- docs/RULES.md, "Reaches".
-use Rattle.std.specs.Prelude.{◌≡◌, Bool, true, false, List, [], slice_index_or, Option, Some, None}
+-- When ways can be at objects, and what is left where the rest is left out. docs/RULES.md, "Reaches".
+use Rattle.std.specs.Prelude.{◌≡◌, ◌≤◌, ◌-◌, ◌^◌, ℕ, Bool, false, List, nat_lt, nat_le, filter, slice_index_or, Option, Some, None, if◌then◌else◌}
 use Rattle.std.specs.List.{AllByRecursion}
 use Rattle.std.specs.List.Sorted.{IsPermutation}
 use Rattle.hk_model.specs.declared.names.Name.{Name}
@@ -11,48 +10,76 @@ use Rattle.hk_report.specs.declared.families.Begun.{Begun}
 use Rattle.hk_report.specs.declared.families.BareChange.{BareChange}
 use Rattle.hk_report.specs.declared.histories.Span.{Span}
 use Rattle.hk_report.specs.declared.histories.History.{History}
+use Rattle.hk_report.specs.declared.reachable.Side.{Side}
+use Rattle.hk_report.specs.declared.reachable.Side.TheVariants.{First, Last}
 use Rattle.hk_report.specs.Histories.{history_of}
+use Rattle.hk_report.specs.Hops.{later}
 use Rattle.hk_report.specs.Reasons.{params_at}
 
--- whether an object is marked, by its name; what has no mark has no list, and counts as marked
-abbrev pub is_marked : List Bool → Name → Bool
-is_marked marks name = slice_index_or marks name.0 true
+-- the moment that is told of an object, by its name, if ways can be at it at all; what has none has no list
+abbrev pub moment_at : List (Option ℕ) → Name → Option ℕ
+moment_at moments name = slice_index_or moments name.0 (Some 0)
 
--- all that these spans hold, and all that these parameters name
-abbrev pub AreMarked : List Bool → List Span → Type 0
-AreMarked marks spans = AllByRecursion (λ (span : Span). is_marked marks span.cap.name ≡ true) spans
+-- a moment that is told, and not after this one
+abbrev pub IsBy : Option ℕ → ℕ → Type 0
+IsBy None bound = ⊥
+IsBy (Some moment) bound = moment ≤ bound
 
-abbrev pub is_held_marked : List Bool → Option Cap → Bool
-is_held_marked marks None = true
-is_held_marked marks (Some cap) = is_marked marks cap.name
+-- counted back from the last moment that there can be
+abbrev pub from_end : ℕ → ℕ
+from_end moment = (2 ^ 32 - 1) - moment
 
-abbrev pub AreMarkedParams : List Bool → List Entry → Type 0
-AreMarkedParams marks params = AllByRecursion (λ (entry : Entry). is_held_marked marks (cap_of entry) ≡ true) params
+-- what is told at the latest of the object of a parameter, where the call begins at a moment
+abbrev pub begins_at : Side → ℕ → ℕ
+begins_at First moment = moment
+begins_at Last moment = from_end moment
 
--- what has ever stood in the list of an object that is marked is marked, too
-abbrev pub IsClosed : List History → List Bool → Type 0
-IsClosed histories marks = (name : Name) → is_marked marks name ≡ true → AreMarked marks (history_of histories name).spans
+-- what is told at the latest of the object of a span, where this is told of its list
+abbrev pub goes_on : Side → Option ℕ → Span → Option ℕ
+goes_on side None span = None
+goes_on First (Some moment) span = if nat_lt moment span.until then Some (later moment span.from) else None
+goes_on Last (Some moment) span = Some (later moment (from_end span.until))
 
--- all is marked that ways can come to from the parameters of the calls under which there were these changes
-pub record AreReachable (families : List (List Begun)) (params : List (List Entry)) (bares : List BareChange) (histories : List History) (marks : List Bool) : Type 0 where
-  pub starts : AllByRecursion (λ (bare : BareChange). AreMarkedParams marks (params_at families params bare.under.call)) bares
-  pub closed : IsClosed histories marks
+abbrev pub IsByThen : Option ℕ → Option ℕ → Type 0
+IsByThen told None = Unit {0}
+IsByThen told (Some moment) = IsBy told moment
 
--- an object has the same maker. Where it is marked, the same has stood in its list, in whatever order it is kept, and else
--- it is left out
-abbrev pub AreKeptSpans : Bool → List Span → List Span → Type 0
-AreKeptSpans true before after = IsPermutation before after
-AreKeptSpans false before after = after ≡ []
+-- by these moments ways go on over these spans of a list of which this is told
+abbrev pub AreGoneOver : Side → (Name → Option ℕ) → Option ℕ → List Span → Type 0
+AreGoneOver side told at spans = AllByRecursion (λ (span : Span). IsByThen (told span.cap.name) (goes_on side at span)) spans
 
-pub record IsKept (marked : Bool) (before after : History) : Type 0 where
+abbrev pub IsClosed : Side → List History → (Name → Option ℕ) → Type 0
+IsClosed side histories told = (name : Name) → AreGoneOver side told (told name) (history_of histories name).spans
+
+-- by then ways are at the objects of these parameters
+abbrev pub IsHeldBy : (Name → Option ℕ) → ℕ → Option Cap → Type 0
+IsHeldBy told moment None = Unit {0}
+IsHeldBy told moment (Some cap) = IsBy (told cap.name) moment
+
+abbrev pub AreHeldBy : (Name → Option ℕ) → ℕ → List Entry → Type 0
+AreHeldBy told moment params = AllByRecursion (λ (entry : Entry). IsHeldBy told moment (cap_of entry)) params
+
+-- the moments of all objects that ways can come to from the parameters of the calls under which there were these changes
+pub record AreReachable (side : Side) (families : List (List Begun)) (params : List (List Entry)) (bares : List BareChange) (histories : List History) (told : Name → Option ℕ)
+    : Type 0 where
+  pub starts : AllByRecursion (λ (bare : BareChange). AreHeldBy told (begins_at side bare.under.moment) (params_at families params bare.under.call)) bares
+  pub closed : IsClosed side histories told
+
+-- a span that has not ended before the first way can be at its list, if one can
+abbrev pub can_matter : Option ℕ → Span → Bool
+can_matter None span = false
+can_matter (Some first) span = nat_le first span.until
+
+-- an object has the same maker, and of what has stood in its list that is left which can matter, in whatever order it is kept
+pub record IsKept (first : Option ℕ) (before after : History) : Type 0 where
   pub maker_is : after.maker ≡ before.maker
-  pub spans_are : AreKeptSpans marked before.spans after.spans
+  pub spans_are : IsPermutation (filter (can_matter first) before.spans) after.spans
 
-abbrev pub AreKept : List Bool → List History → List History → Type 0
-AreKept marks before after = (name : Name) → IsKept (is_marked marks name) (history_of before name) (history_of after name)
+abbrev pub AreKept : (Name → Option ℕ) → List History → List History → Type 0
+AreKept firsts before after = (name : Name) → IsKept (firsts name) (history_of before name) (history_of after name)
 
 -- what is left is enough for the reasons of these changes
 pub record IsEnough (families : List (List Begun)) (params : List (List Entry)) (bares : List BareChange) (before after : List History) : Type 0 where
-  pub marks : List Bool
-  pub reachable : AreReachable families params bares before marks
-  pub kept : AreKept marks before after
+  pub firsts : Name → Option ℕ
+  pub reachable : AreReachable First families params bares before firsts
+  pub kept : AreKept firsts before after

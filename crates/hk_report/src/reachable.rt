@@ -1,163 +1,236 @@
-//! Which lists ways from parameters can come to, whatever the moments (`docs/RULES.md`, "Reaches").
+//! When ways from parameters can be at objects (`docs/RULES.md`, "Reaches").
 //!
-//! No way goes over what has stood in the others, so no search has to.
+//! No way goes over what stood in a list before one could be there, so no search has to.
 
-ghost use Rattle.std.specs.Prelude.{◌≡◌, ◌∷◌, [], true, false, replicate, IfOk, OnOk};
+ghost use Rattle.std.specs.Prelude.{◌≡◌, ℕ, ◌∷◌, [], Some, None, replicate, IfOk, OnOk};
 ghost use Rattle.std.specs.List.{AllByRecursion};
-ghost use Rattle.hk_report.specs.Marking.{IsMore, IsMarkedUpTo};
-ghost use Rattle.hk_report.specs.Reachable.{is_marked, AreMarked, AreMarkedParams, IsClosed, AreReachable};
+ghost use Rattle.hk_model.specs.declared.names.Name.{Name};
+ghost use Rattle.hk_report.specs.Histories.{history_of};
+ghost use Rattle.hk_report.specs.Moments.{IsEarlier, IsUnderway, is_by, told_by};
+ghost use Rattle.hk_report.specs.Reachable.{moment_at, from_end, begins_at, goes_on, IsBy, AreGoneOver, AreHeldBy, IsClosed, AreReachable};
 ghost use Rattle.hk_report.specs.Reasons.{params_at};
 
 use crate::families::{BareChange, Begun};
 use crate::histories::{History, Span};
+use crate::hops::later;
 use crate::lists::Lists;
 use crate::params::GivenParams;
 use crate::runs::spans_at;
 use hk_model::{Entry, Name, NoMemory, Template};
 use std::alloc::Global;
+use std::cmp::Reverse;
+use std::collections::BinaryHeap;
 use std::marker::PhantomData;
 
-/// The objects that ways can come to, as far as they are found.
+/// What is told of each object.
+#[derive(Clone, Copy, PartialEq, Eq, Debug)]
+pub enum Side {
+    /// The first moment at which a way can be at it.
+    First,
+    /// The last moment at which a call can begin that comes to it, counted back from the last that there can be.
+    Last,
+}
+
+/// An object whose list is to be gone over, and what was told of it.
+#[derive(Clone, Copy, PartialEq, Eq, PartialOrd, Ord, Debug)]
+pub struct Due {
+    pub moment: u32,
+    pub name: Name,
+}
+
+/// What is told of objects, as far as it is found.
 #[derive(Drop)]
-pub struct Marking {
-    /// Whether an object is among them, by its name.
-    pub marks: Vec<bool>,
-    /// They themselves, in the order in which they were found.
-    pub order: Vec<Name>,
+pub struct Moments {
+    /// What is told of each object that ways can come to, by its name.
+    pub told: Vec<Option<u32>>,
+    /// The objects whose lists are to be gone over: what is told of the first is the least.
+    pub due: BinaryHeap<Reverse<Due>>,
 }
 
-/// Whether an object is marked. What has no mark has no list, and counts as marked.
-pub(crate) fn is_marked(marks: &[bool], name: Name) -> bool
-    ensures { result ≡ is_marked marks.now name }
+/// A moment, counted back from the last that there can be.
+fn from_end(moment: u32) -> u32
+    ensures { result ≡ from_end moment }
 {
-    match marks.get(name.0 as usize) {
-        Some(mark) => *mark,
-        None => true,
-    }
+    u32::MAX - moment
 }
 
-/// No marks on so many objects.
-fn no_marks(alloc: Global, count: usize) -> Result<Vec<bool>, NoMemory>
-    ensures { IfOk result (λ marks. marks.items ≡ replicate count false) }
-{
-    let mut marks = Vec::with_capacity(alloc, count)?;
-    for _ in 0..count {
-        marks.push(false)?;
-    }
-    Ok(marks)
-}
-
-impl Marking {
-    /// None of the objects of these lists.
-    #[tactic(auto, using(crate::proofs::MarkingLemmas::up_to_none))]
-    fn none(alloc: Global, histories: &[History]) -> Result<Marking, NoMemory>
-        ensures { IfOk result (λ marking. IsMarkedUpTo histories.now 0 marking) }
+impl Side {
+    /// What is told at the latest of the object of a parameter of a call that begins at a moment.
+    fn begins_at(self, moment: u32) -> u32
+        ensures { result ≡ begins_at self moment }
     {
-        Ok(Marking {
-            marks: no_marks(alloc, histories.len())?,
-            order: Vec::new(alloc),
+        match self {
+            Side::First => moment,
+            Side::Last => from_end(moment),
+        }
+    }
+
+    /// What is told at the latest of the object of a span, where this is told of its list.
+    fn goes_on(self, moment: u32, span: &Span) -> Option<u32>
+        ensures { result ≡ goes_on self (Some moment) span.now }
+    {
+        match self {
+            Side::First if moment < span.until => Some(later(moment, span.from)),
+            Side::First => None,
+            Side::Last => Some(later(moment, from_end(span.until))),
+        }
+    }
+}
+
+/// What is told of an object, if ways can come to it. What has no place has no list.
+pub(crate) fn moment_at(told: &[Option<u32>], name: Name) -> Option<u32>
+    ensures { result ≡ moment_at told.now name }
+{
+    match told.get(name.0 as usize) {
+        Some(moment) => *moment,
+        None => Some(0),
+    }
+}
+
+/// Nothing is told of so many objects.
+fn nothing_told(alloc: Global, count: usize) -> Result<Vec<Option<u32>>, NoMemory>
+    ensures { IfOk result (λ told. told.items ≡ replicate count None) }
+{
+    let mut told = Vec::with_capacity(alloc, count)?;
+    for _ in 0..count {
+        told.push(None)?;
+    }
+    Ok(told)
+}
+
+impl Moments {
+    /// Nothing is told of the objects of these lists.
+    #[tactic(auto, using(crate::proofs::MomentLemmas::underway_none))]
+    fn none(alloc: Global, side: Side, histories: &[History]) -> Result<Moments, NoMemory>
+        ensures { IfOk result (λ moments. IsUnderway side histories.now moments) }
+    {
+        Ok(Moments {
+            told: nothing_told(alloc, histories.len())?,
+            due: BinaryHeap::new(alloc),
         })
     }
 
-    /// One object more.
-    #[tactic(auto, using(crate::proofs::MarkingLemmas::more_none, crate::proofs::MarkingLemmas::more_one, crate::proofs::MarkingLemmas::one_marked, crate::proofs::MarkingLemmas::within_marks))]
-    fn mark(&mut self, name: Name) -> Result<(), NoMemory>
-        ensures more { OnOk result (IsMore self.old self.new) }
-        ensures marked { OnOk result (is_marked self.new.marks.items name ≡ true) }
+    /// Whether what is told of an object is not after a moment.
+    fn is_by(&self, name: Name, moment: u32) -> bool
+        ensures { result ≡ is_by (told_by self.now name) moment }
     {
-        if is_marked(self.marks.as_slice(), name) {
+        match moment_at(self.told.as_slice(), name) {
+            Some(told) => told <= moment,
+            None => false,
+        }
+    }
+
+    /// This is told at the latest of an object.
+    fn tell(&mut self, name: Name, moment: u32) -> Result<(), NoMemory>
+        ensures earlier { OnOk result (IsEarlier self.old self.new) }
+        ensures told { OnOk result (IsBy (told_by self.new name) moment) }
+    {
+        if self.is_by(name, moment) {
             return Ok(());
         }
-        self.marks[name.0 as usize] = true;
-        self.order.push(name)?;
+        self.told[name.0 as usize] = Some(moment);
+        self.due.push(Reverse(Due { moment, name }))?;
         Ok(())
     }
 
-    /// All objects that stood in a list.
-    #[tactic(auto, using(crate::proofs::MarkingLemmas::more_none, crate::proofs::MarkingLemmas::taken_none, crate::proofs::MarkingLemmas::taken_all))]
-    fn mark_held(&mut self, spans: &[Span]) -> Result<(), NoMemory>
-        ensures more { OnOk result (IsMore self.old self.new) }
-        ensures marked { OnOk result (AreMarked self.new.marks.items spans.now) }
+    /// What follows for the objects of these spans from what is told of their list.
+    fn go_over(&mut self, side: Side, moment: u32, spans: &[Span]) -> Result<(), NoMemory>
+        ensures earlier { OnOk result (IsEarlier self.old self.new) }
+        ensures told { OnOk result (AreGoneOver side (told_by self.new) (Some moment) spans.now) }
     {
         for span in spans {
-            self.mark(span.cap.name)?;
+            if let Some(next) = side.goes_on(moment, span) {
+                self.tell(span.cap.name, next)?;
+            }
         }
         Ok(())
     }
 
-    /// The object of an entry, if it holds one.
-    #[tactic(auto, using(crate::proofs::MarkingLemmas::more_none))]
-    fn mark_entry(&mut self, entry: &Entry) -> Result<(), NoMemory>
-        ensures more { OnOk result (IsMore self.old self.new) }
-        ensures marked { OnOk result (AreMarkedParams self.new.marks.items (entry.now ∷ [])) }
+    /// This is told at the latest of the object of an entry, if it holds one.
+    fn tell_entry(&mut self, entry: &Entry, moment: u32) -> Result<(), NoMemory>
+        ensures earlier { OnOk result (IsEarlier self.old self.new) }
+        ensures told { OnOk result (AreHeldBy (told_by self.new) moment (entry.now ∷ [])) }
     {
         let _ = PhantomData::<Template>; // Rattle is to know what an Entry holds
         match entry {
-            Entry::Held(cap) => self.mark(cap.name),
+            Entry::Held(cap) => self.tell(cap.name, moment),
             _ => Ok(()),
         }
     }
 
-    /// All objects of the parameters of a call.
-    #[tactic(auto, using(crate::proofs::MarkingLemmas::more_none, crate::proofs::MarkingLemmas::taken_none, crate::proofs::MarkingLemmas::taken_all))]
-    fn mark_params(&mut self, params: &[Entry]) -> Result<(), NoMemory>
-        ensures more { OnOk result (IsMore self.old self.new) }
-        ensures marked { OnOk result (AreMarkedParams self.new.marks.items params.now) }
+    /// It is told at the latest of the objects of these parameters.
+    fn tell_params(&mut self, params: &[Entry], moment: u32) -> Result<(), NoMemory>
+        ensures earlier { OnOk result (IsEarlier self.old self.new) }
+        ensures told { OnOk result (AreHeldBy (told_by self.new) moment params.now) }
     {
         for entry in params {
-            self.mark_entry(entry)?;
+            self.tell_entry(entry, moment)?;
         }
         Ok(())
     }
 
-    /// All objects of the parameters of the calls under which there were these changes.
-    #[tactic(auto, using(crate::proofs::MarkingLemmas::more_none, crate::proofs::MarkingLemmas::taken_none, crate::proofs::MarkingLemmas::taken_all))]
-    fn mark_starts(
+    /// What is told of the objects of the parameters of the calls under which there were these changes.
+    fn begin(
         &mut self,
+        side: Side,
         families: &Lists<Begun>,
         params: &GivenParams,
         changes: &[BareChange],
     ) -> Result<(), NoMemory>
-        ensures more { OnOk result (IsMore self.old self.new) }
-        ensures marked { OnOk result (AllByRecursion (λ bare. AreMarkedParams self.new.marks.items (params_at families.now params.now bare.under.call)) changes.now) }
+        ensures earlier { OnOk result (IsEarlier self.old self.new) }
+        ensures told { OnOk result (AllByRecursion (λ bare. AreHeldBy (told_by self.new) (begins_at side bare.under.moment) (params_at families.now params.now bare.under.call)) changes.now) }
     {
         for bare in changes {
-            self.mark_params(params.of(families, bare.under.call))?;
+            let moment = side.begins_at(bare.under.moment);
+            self.tell_params(params.of(families, bare.under.call), moment)?;
         }
         Ok(())
     }
 
-    /// All that stood in the lists of those that are marked, and in the lists of these, and so on.
-    #[tactic(auto, using(crate::proofs::MarkingLemmas::more_none, crate::proofs::MarkingLemmas::closed_all))]
-    fn spread(&mut self, histories: &[History]) -> Result<(), NoMemory>
-        requires { IsMarkedUpTo histories.now 0 self.old }
-        ensures closed { OnOk result (IsClosed histories.now self.new.marks.items) }
-        ensures keeps { OnOk result (IsMore self.old self.new) }
+    /// What follows for the objects in the list of one that is due. Of an object of which less was told since, the list is
+    /// due by that.
+    fn go_on(&mut self, side: Side, histories: &[History], due: Due) -> Result<(), NoMemory>
+        ensures earlier { OnOk result (IsEarlier self.old self.new) }
+        ensures told { OnOk result (told_by self.new due.name ≡ Some due.moment → AreGoneOver side (told_by self.new) (Some due.moment) (history_of histories.now due.name).spans) }
     {
-        for done in 0..usize::MAX {
-            if done >= self.order.len() {
-                return Ok(());
+        match moment_at(self.told.as_slice(), due.name) {
+            Some(moment) if moment == due.moment => {
+                self.go_over(side, due.moment, spans_at(histories, due.name))
             }
-            let name = self.order[done];
-            self.mark_held(spans_at(histories, name))?;
+            _ => Ok(()),
+        }
+    }
+
+    /// What follows for all that stood in the lists of those of which something is told, and in the lists of these, and so on.
+    fn spread(&mut self, side: Side, histories: &[History]) -> Result<(), NoMemory>
+        requires { IsUnderway side histories.now self.old }
+        ensures closed { OnOk result (IsClosed side histories.now (told_by self.new)) }
+        ensures earlier { OnOk result ((name : Name) → (bound : ℕ) → IsBy (told_by self.old name) bound → IsBy (told_by self.new name) bound) }
+    {
+        for _ in 0..usize::MAX {
+            let Some(Reverse(due)) = self.due.pop() else {
+                return Ok(());
+            };
+            self.go_on(side, histories, due)?;
         }
         Err(NoMemory)
     }
 }
 
-/// What ways can come to from the parameters of the calls under which there were these changes, by name. NoMemory is
-/// want of memory.
+/// When ways can be at objects, from the parameters of the calls under which there were these changes, by name. NoMemory
+/// is want of memory.
 pub(crate) fn reachable(
     alloc: Global,
+    side: Side,
     histories: &[History],
     families: &Lists<Begun>,
     params: &GivenParams,
     changes: &[BareChange],
-) -> Result<Vec<bool>, NoMemory>
-    ensures { IfOk result (λ marks. AreReachable families.now params.now changes.now histories.now marks.items) }
+) -> Result<Vec<Option<u32>>, NoMemory>
+    ensures { IfOk result (λ told. AreReachable side families.now params.now changes.now histories.now (moment_at told.items)) }
 {
-    let mut marking = Marking::none(alloc, histories)?;
-    marking.mark_starts(families, params, changes)?;
-    marking.spread(histories)?;
-    Ok(marking.marks)
+    let mut moments = Moments::none(alloc, side, histories)?;
+    moments.begin(side, families, params, changes)?;
+    moments.spread(side, histories)?;
+    Ok(moments.told)
 }

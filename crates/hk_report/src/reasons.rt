@@ -13,7 +13,7 @@ use crate::holders::{Stretch, holders};
 use crate::hops::Ground;
 use crate::lists::Lists;
 use crate::params::GivenParams;
-use crate::reachable::reachable;
+use crate::reachable::{Side, reachable};
 use crate::replay::Telling;
 use crate::runs::{all_ends, rearrange_all};
 use crate::searching::Search;
@@ -138,8 +138,8 @@ impl<'a> Grounds<'a> {
 }
 
 impl Telling {
-    /// Puts what has stood in the lists in order that ways can come to, leaves out what has stood in the others, and
-    /// finds the runs of it.
+    /// Puts what has stood in the lists in order, leaves out what had ended before a way could be there, and finds the runs
+    /// of the rest.
     fn order(&mut self, alloc: Global) -> Result<Runs, NoMemory>
         ensures enough { IfOk result (λ runs. IsEnough self.old.families.calls self.old.params self.old.families.changes.items self.old.histories.items self.new.histories.items) }
         ensures families { self.new.families ≡ self.old.families }
@@ -150,8 +150,9 @@ impl Telling {
     {
         let changes = self.families.changes.as_slice();
         let (families, params) = (&self.families.calls, &self.params);
-        let marks = reachable(alloc, self.histories.as_slice(), families, params, changes)?;
-        rearrange_all(alloc, &mut self.histories, marks.as_slice());
+        let before = self.histories.as_slice();
+        let firsts = reachable(alloc, Side::First, before, families, params, changes)?;
+        rearrange_all(alloc, &mut self.histories, firsts.as_slice());
         let histories = self.histories.as_slice();
         let ends = all_ends(alloc, histories)?;
         let holders = holders(alloc, histories, ends.as_slice())?;

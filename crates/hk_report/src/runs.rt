@@ -5,11 +5,11 @@
 ghost use Rattle.std.specs.Prelude.{◌≡◌, IfOk, option_copied};
 ghost use Rattle.std.specs.List.{find};
 ghost use Rattle.hk_report.specs.Histories.{history_of};
-ghost use Rattle.hk_report.specs.Reachable.{IsKept, AreKept};
+ghost use Rattle.hk_report.specs.Reachable.{can_matter, moment_at, IsKept, AreKept};
 ghost use Rattle.hk_report.specs.Runs.{precedes, IsRun, AreCut, ends_at, AreRuns, is_open, AreByName, AreOrdered};
 
 use crate::histories::{History, Span, same_cap};
-use crate::reachable::is_marked;
+use crate::reachable::moment_at;
 use hk_model::{Items, Name, NoMemory};
 use std::alloc::Global;
 use std::mem;
@@ -26,16 +26,24 @@ fn precedes(a: &Span, b: &Span) -> bool
         && b.from < b.until
 }
 
-/// Puts what has stood in a list in order, by the object, its index, its rights and its moment; leaves it out where the
-/// list is not marked.
-fn rearrange(alloc: Global, history: &mut History, marked: bool)
-    ensures kept { IsKept marked history.old history.new }
+/// Whether a span can matter in a list at which ways can be from this moment on, if they can.
+fn can_matter(first: Option<u32>, span: &Span) -> bool
+    ensures { result ≡ can_matter first span.now }
+{
+    match first {
+        Some(first) => first <= span.until,
+        None => false,
+    }
+}
+
+/// Puts what has stood in a list in order, by the object, its index, its rights and its moment; leaves out what cannot
+/// matter.
+fn rearrange(alloc: Global, history: &mut History, first: Option<u32>)
+    ensures kept { IsKept first history.old history.new }
     ensures ordered { AreByName history.new.spans }
 {
     let mut spans = mem::replace(&mut history.spans, Items::new(alloc)).into_vec();
-    if !marked {
-        return;
-    }
+    spans.retain(|span| can_matter(first, span));
     spans.sort_unstable_by_key(|span| {
         (
             span.cap.name.0,
@@ -47,15 +55,15 @@ fn rearrange(alloc: Global, history: &mut History, marked: bool)
     history.spans = Items::from_vec(spans);
 }
 
-/// Puts what has stood in each list that is marked in order, so that the spans of a run stand together, and leaves out
-/// what has stood in the others.
-pub(crate) fn rearrange_all(alloc: Global, histories: &mut Vec<History>, marks: &[bool])
-    ensures kept { AreKept marks.now histories.old.items histories.new.items }
+/// Puts what has stood in each list in order, so that the spans of a run stand together, and leaves out what cannot
+/// matter, by the first moments at which ways can be at the objects.
+pub(crate) fn rearrange_all(alloc: Global, histories: &mut Vec<History>, firsts: &[Option<u32>])
+    ensures kept { AreKept (moment_at firsts.now) histories.old.items histories.new.items }
     ensures ordered { AreOrdered histories.new.items }
 {
     for index in 0..histories.len() {
         if let Some(history) = histories.get_mut(index) {
-            rearrange(alloc, history, is_marked(marks, Name(index as u64)));
+            rearrange(alloc, history, moment_at(firsts, Name(index as u64)));
         }
     }
 }

@@ -1,11 +1,12 @@
-use Rattle.hk_report.proofs.MarkingLemmas.{up_to_more, reached_all}
-use Rattle.std.proofs.Common.{arith, refl}
+use Rattle.hk_report.proofs.MomentLemmas.{underway_more, begun_later}
 use Rattle.hk_report.proofs.reachable.reachable.Goals as goal
 
 pub spread-requires : goal.spread-requires
-spread-requires c = up_to_more c.args.histories.now c.in_ok-marking.marking c.mark_starts.new.self c.in_ok-mark_starts.ensures.more 0 (omega arith) c.in_ok-marking.ensures
+spread-requires c = underway_more c.args.side c.args.histories.now c.in_ok-moments.moments c.begin.new.self c.in_ok-begin.ensures.earlier c.in_ok-moments.ensures
 
 pub returns : goal.returns
-returns c =
-    reached_all c.args.families.now c.args.params.now c.args.changes.now c.args.histories.now c.mark_starts.new.self c.spread.new.self c.spread.new.self.marks.items
-    c.in_ok-mark_starts.ensures.marked c.in_ok-spread.ensures.keeps c.in_ok-spread.ensures.closed refl
+returns c = record {
+  starts =
+      begun_later c.args.side c.args.families.now c.args.params.now c.begin.new.self c.spread.new.self c.in_ok-spread.ensures.earlier c.args.changes.now c.in_ok-begin.ensures.told;
+  closed = c.in_ok-spread.ensures.closed;
+}
