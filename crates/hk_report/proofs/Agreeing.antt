@@ -1,9 +1,9 @@
 -- Searches that go over lists without what has ended when the first way can be at them, by levels that are the same from then on, find the same.
-use Rattle.std.proofs.Common.{◌≡◌, ℕ, zero, suc, ◌+◌, ◌<◌, ◌≤◌, List, [], ◌∷◌, Bool, true, false, Option, Some, None, refl, sym, ◌∙◌, ap, arith, cond, subst, option_and_then}
-use Rattle.std.specs.Prelude.{◌⊎◌, ◌&&◌, ◌||◌, nat_lt}
+use Rattle.std.proofs.Common.{◌≡◌, ℕ, zero, suc, ◌+◌, ◌-◌, ◌^◌, ◌<◌, ◌≤◌, List, [], ◌∷◌, Bool, true, false, Option, Some, None, refl, sym, ◌∙◌, ap, arith, cond, subst, option_and_then}
+use Rattle.std.specs.Prelude.{◌⊎◌, ◌&&◌, ◌||◌, nat_lt, Result, Ok, Err, IfOk}
 use mathlib.Core.Logic.{inl, inr}
 use Rattle.std.specs.List.{AllByRecursion}
-use Rattle.std.proofs.lemmas.Bool.{true≢false, ltb-true, ltb-false, lt-ltb, le-ltb}
+use Rattle.std.proofs.lemmas.Bool.{true≢false, ltb-true, ltb-false, lt-ltb, le-ltb, le-leb, leb-true}
 use Rattle.hk_model.specs.declared.names.Name.{Name}
 use Rattle.hk_model.specs.declared.entries.Cap.{Cap}
 use Rattle.hk_model.specs.declared.entries.Entry.{Entry}
@@ -17,20 +17,21 @@ use Rattle.hk_report.specs.declared.histories.History.{History}
 use Rattle.hk_report.specs.declared.hops.Arrived.{Arrived}
 use Rattle.hk_report.specs.declared.hops.Latest.{Latest}
 use Rattle.hk_report.specs.declared.hops.Onward.{Onward}
-use Rattle.hk_report.specs.declared.reachable.Side.TheVariants.{First}
+use Rattle.hk_report.specs.declared.reachable.Side.TheVariants.{First, Last}
 use Rattle.hk_report.specs.declared.searching.Start.{Start}
 use Rattle.hk_report.specs.Histories.{history_of}
 use Rattle.hk_report.specs.Hops.{later, greater, arrived_by, arrived_whole, is_good, entry_onward, handed_onward, comes_before, earlier, onward_below, onward_over, first_from}
 use Rattle.hk_report.specs.Hops.{entry_bound, handed_bound, no_latest, raised, latest_from, next_latest}
-use Rattle.hk_report.specs.Reachable.{IsBy, IsByThen, goes_on, AreGoneOver, IsHeldBy, AreHeldBy}
+use Rattle.hk_report.specs.Reachable.{is_by, IsBy, from_end, IsByThen, goes_on, AreGoneOver, IsClosed, IsHeldBy, AreHeldBy, can_come, comes_at, SameAt, Agree}
 use Rattle.hk_report.specs.Searches.{direct_param, first_onward, onward_at, first_start, level_at, hops_down, IsFoundBehind, IsFoundBy, IsFound}
 use Rattle.hk_report.proofs.Bounds.{below_greater, below_entry, below_handed}
 
--- ---- bounds that are the same at a moment
+-- what follows from what is so of a value, where there is one
+pub if_ok : {X E : Type 0} {P Q : X → Type 0} → (r : Result X E) → IfOk r P → ((x : X) → P x → Q x) → IfOk r Q
+if_ok (Ok x) h f = f x h
+if_ok (Err e) h f = tt
 
-pub record SameAt (t : ℕ) (a b : Latest) : Type 0 where
-  pub modify : nat_lt t a.modify ≡ nat_lt t b.modify
-  pub unconf : nat_lt t a.unconf ≡ nat_lt t b.unconf
+-- ---- bounds that are the same at a moment
 
 pub same_at : (t : ℕ) (a : Latest) → SameAt t a a
 same_at t a = record { modify = refl; unconf = refl }
@@ -78,10 +79,6 @@ IsThinnedBy None few all = Unit {0}
 IsThinnedBy (Some m) few all = IsThinned m few all
 
 module _ (made : Name → Bool) (told : Name → Option ℕ) where
-  -- levels that are the same at each object, from when a way can be there
-  abbrev pub Agree : (Name → Latest) → (Name → Latest) → Type 0
-  Agree l n = (x : Name) (t : ℕ) → IsBy (told x) t → SameAt t (l x) (n x)
-
   -- a way can be at the object of a span that has not ended
   abbrev pub LeadsOn : ℕ → Span → Type 0
   LeadsOn m s = nat_lt m s.until ≡ true → IsBy (told s.cap.name) (later m s.from)
@@ -139,7 +136,7 @@ module _ (made : Name → Bool) (told : Name → Option ℕ) where
       first_leads n m from (earlier first (onward_over made n from s)) spans le h.1
       (earlier_leads first (onward_over made n from s) g (over_leads n m from s le (leads_on m s h.0)))
 
-  module _ (l n : Name → Latest) (agree : Agree l n) where
+  module _ (l n : Name → Latest) (agree : Agree told l n) where
     -- at the moment at which a hop goes over a span
     there_same : (m t : ℕ) (s : Span) → m ≤ t → LeadsOn m s → nat_lt (later t s.from) s.until ≡ true → SameAt (later t s.from) (l s.cap.name) (n s.cap.name)
     there_same m t s le h e = agree s.cap.name (later t s.from) (by_later (told s.cap.name) (later m s.from) (later t s.from) (h (open_at m t s le e)) (later_more m t s.from le))
@@ -272,7 +269,7 @@ module _ (made : Name → Bool) (told : Name → Option ℕ) where
 
   module _ (few all : List History) (thin : (x : Name) → IsThinnedBy (told x) (history_of few x).spans (history_of all x).spans)
       (closed : (x : Name) → AreGoneOver First told (told x) (history_of all x).spans) where
-    pub next_same : (l n : Name → Latest) → Agree l n → Agree (next_latest made few l) (next_latest made all n)
+    pub next_same : (l n : Name → Latest) → Agree told l n → Agree told (next_latest made few l) (next_latest made all n)
     next_same l n agree x t h = by (told x) h (thin x) (closed x)
       where
         by : (o : Option ℕ) → IsBy o t → IsThinnedBy o (history_of few x).spans (history_of all x).spans → AreGoneOver First told o (history_of all x).spans
@@ -280,7 +277,7 @@ module _ (made : Name → Bool) (told : Name → Option ℕ) where
         by None g f c = absurd g
         by (Some m) g f c = latest_same l n agree m t (history_of few x).spans (history_of all x).spans no_latest no_latest g f c (same_at t no_latest)
 
-    pub onward_same : (l n : Name → Latest) → Agree l n → (from : Arrived) → IsBy (told from.name) from.moment → first_onward made few l from ≡ first_onward made all n from
+    pub onward_same : (l n : Name → Latest) → Agree told l n → (from : Arrived) → IsBy (told from.name) from.moment → first_onward made few l from ≡ first_onward made all n from
     onward_same l n agree from h = by (told from.name) h (thin from.name) (closed from.name)
       where
         by : (o : Option ℕ) → IsBy o from.moment → IsThinnedBy o (history_of few from.name).spans (history_of all from.name).spans
@@ -295,6 +292,41 @@ module _ (made : Name → Bool) (told : Name → Option ℕ) where
         by None g c = absurd g
         by (Some m) g c = first_leads n m from None (history_of all from.name).spans g c tt
 
+    -- ---- from parameters
+
+    module _ (k : ℕ) where
+      at_same : (l n : Name → Latest) → Agree told l n → (o : Option Cap) → IsHeldBy told k o
+          → option_and_then (λ (cap : Cap). first_onward made few l (arrived_by k cap)) o ≡ option_and_then (λ (cap : Cap). first_onward made all n (arrived_by k cap)) o
+      at_same l n agree None h = refl
+      at_same l n agree (Some cap) h = onward_same l n agree (arrived_by k cap) h
+
+      at_leads : (n : Name → Latest) (o : Option Cap) → IsHeldBy told k o → LeadsTo (option_and_then (λ (cap : Cap). first_onward made all n (arrived_by k cap)) o)
+      at_leads n None h = tt
+      at_leads n (Some cap) h = onward_leads n (arrived_by k cap) h
+
+      abbrev chosen : ℕ → Option Onward → Option Start → Option Start
+      chosen index o rest = elim o as (λ y. Option Start) [ Some onward ↦ Some (record { arg = index; onward = onward }) | None ↦ rest ]
+
+      pub start_same : (l n : Name → Latest) → Agree told l n → (index : ℕ) (params : List Entry) → AreHeldBy told k params
+          → first_start made few k l index params ≡ first_start made all k n index params
+      start_same l n agree index [] h = refl
+      start_same l n agree index (e ∷ params) h =
+          ap (λ (o : Option Onward). chosen index o (first_start made few k l (index + 1) params)) (at_same l n agree (cap_of e) h.0)
+          ∙ ap (chosen index (onward_at made all k n e)) (start_same l n agree (index + 1) params h.1)
+
+      abbrev pub StartsThere : Option Start → Type 0
+      StartsThere None = Unit {0}
+      StartsThere (Some start) = IsBy (told start.onward.to.name) start.onward.to.moment
+
+      pub start_leads : (n : Name → Latest) (index : ℕ) (params : List Entry) → AreHeldBy told k params → StartsThere (first_start made all k n index params)
+      start_leads n index [] h = tt
+      start_leads n index (e ∷ params) h = by (start_leads n (index + 1) params h.1) (onward_at made all k n e) (at_leads n (cap_of e) h.0)
+        where
+          by : StartsThere (first_start made all k n (index + 1) params) → (o : Option Onward) → LeadsTo o
+              → StartsThere (chosen index o (first_start made all k n (index + 1) params))
+          by more None g = more
+          by more (Some onward) g = g
+
     -- ---- a whole search
 
     module _ (wanted : Name) (before k : ℕ) where
@@ -304,7 +336,7 @@ module _ (made : Name → Bool) (told : Name → Option ℕ) where
       abbrev by_all : ℕ → Name → Latest
       by_all = level_at made all wanted before
 
-      levels_same : (n : ℕ) → Agree (by_few n) (by_all n)
+      levels_same : (n : ℕ) → Agree told (by_few n) (by_all n)
       levels_same zero x t h = same_at t (by_all 0 x)
       levels_same (suc n) x t h = next_same (by_few n) (by_all n) (levels_same n) x t h
 
@@ -321,50 +353,18 @@ module _ (made : Name → Bool) (told : Name → Option ℕ) where
           by more None g = refl
           by more (Some onward) g = ap (λ (hops : List Hop). onward.hop ∷ hops) (more onward.to g)
 
-      at_same : (n : ℕ) (o : Option Cap) → IsHeldBy told k o
-          → option_and_then (λ (cap : Cap). first_onward made few (by_few n) (arrived_by k cap)) o
-          ≡ option_and_then (λ (cap : Cap). first_onward made all (by_all n) (arrived_by k cap)) o
-      at_same n None h = refl
-      at_same n (Some cap) h = onward_same (by_few n) (by_all n) (levels_same n) (arrived_by k cap) h
-
-      at_leads : (n : ℕ) (o : Option Cap) → IsHeldBy told k o → LeadsTo (option_and_then (λ (cap : Cap). first_onward made all (by_all n) (arrived_by k cap)) o)
-      at_leads n None h = tt
-      at_leads n (Some cap) h = onward_leads (by_all n) (arrived_by k cap) h
-
-      abbrev chosen : ℕ → Option Onward → Option Start → Option Start
-      chosen index o rest = elim o as (λ y. Option Start) [ Some onward ↦ Some (record { arg = index; onward = onward }) | None ↦ rest ]
-
-      start_same : (n index : ℕ) (params : List Entry) → AreHeldBy told k params → first_start made few k (by_few n) index params ≡ first_start made all k (by_all n) index params
-      start_same n index [] h = refl
-      start_same n index (e ∷ params) h =
-          ap (λ (o : Option Onward). chosen index o (first_start made few k (by_few n) (index + 1) params)) (at_same n (cap_of e) h.0)
-          ∙ ap (chosen index (onward_at made all k (by_all n) e)) (start_same n (index + 1) params h.1)
-
-      abbrev StartsThere : Option Start → Type 0
-      StartsThere None = Unit {0}
-      StartsThere (Some start) = IsBy (told start.onward.to.name) start.onward.to.moment
-
-      start_leads : (n index : ℕ) (params : List Entry) → AreHeldBy told k params → StartsThere (first_start made all k (by_all n) index params)
-      start_leads n index [] h = tt
-      start_leads n index (e ∷ params) h = by (start_leads n (index + 1) params h.1) (onward_at made all k (by_all n) e) (at_leads n (cap_of e) h.0)
-        where
-          by : StartsThere (first_start made all k (by_all n) (index + 1) params) → (o : Option Onward) → LeadsTo o
-              → StartsThere (chosen index o (first_start made all k (by_all n) (index + 1) params))
-          by more None g = more
-          by more (Some onward) g = g
-
       behind_same : (params : List Entry) (reach : Reach) → AreHeldBy told k params → IsFoundBehind made few wanted before k params reach
           → IsFoundBehind made all wanted before k params reach
       behind_same params reach h f = record {
         left = f.left;
         start = f.start;
         starts = starts;
-        fewest = λ less l. sym (start_same less 0 params h) ∙ f.fewest less l;
-        is = f.is ∙ ap (λ (hops : List Hop). Param f.start.arg (f.start.onward.hop ∷ hops)) (hops_same f.left f.start.onward.to (subst StartsThere starts (start_leads f.left 0 params h)));
+        fewest = λ less l. sym (start_same k (by_few less) (by_all less) (levels_same less) 0 params h) ∙ f.fewest less l;
+        is = f.is ∙ ap (λ (hops : List Hop). Param f.start.arg (f.start.onward.hop ∷ hops)) (hops_same f.left f.start.onward.to (subst (StartsThere k) starts (start_leads k (by_all f.left) 0 params h)));
       }
         where
           starts : first_start made all k (by_all f.left) 0 params ≡ Some f.start
-          starts = sym (start_same f.left 0 params h) ∙ f.starts
+          starts = sym (start_same k (by_few f.left) (by_all f.left) (levels_same f.left) 0 params h) ∙ f.starts
 
       pub found_same : (params : List Entry) (reach : Reach) → AreHeldBy told k params → IsFound made few wanted before k params reach → IsFound made all wanted before k params reach
       found_same params reach h f = by (direct_param wanted 0 params) f
@@ -372,3 +372,98 @@ module _ (made : Name → Bool) (told : Name → Option ℕ) where
           by : (o : Option ℕ) → IsFoundBy made few wanted before k params reach o → IsFoundBy made all wanted before k params reach o
           by (Some arg) g = g
           by None g = behind_same params reach h g
+
+-- ---- by the last moments at which calls can begin that come to objects
+
+by_is : (o : Option ℕ) (m : ℕ) → IsBy o m → is_by o m ≡ true
+by_is None m h = absurd h
+by_is (Some x) m h = le-leb x m h
+
+by_says : (o : Option ℕ) (m : ℕ) → is_by o m ≡ true → IsBy o m
+by_says None m h = absurd (true≢false (sym h))
+by_says (Some x) m h = leb-true x m h
+
+later_within : (a b c : ℕ) → a ≤ c → b ≤ c → later a b ≤ c
+later_within a b c g h = by (nat_lt a b)
+  where
+    by : (o : Bool) → cond o b a ≤ c
+    by true = h
+    by false = g
+
+module _ (lasts : Name → Option ℕ) (k : ℕ) where
+  comes_by : (x : Name) (b : Bool) → can_come lasts k x ≡ b → comes_at lasts k x ≡ cond b (Some k) None
+  comes_by x b e = ap (λ (c : Bool). cond c (Some k) None) e
+
+  comes_then : (x : Name) (t : ℕ) → k ≤ t → IsBy (lasts x) (from_end k) → IsBy (comes_at lasts k x) t
+  comes_then x t l h = subst (λ (o : Option ℕ). IsBy o t) (sym (comes_by x true (by_is (lasts x) (from_end k) h))) l
+
+  -- where a way can be, the call can come to
+  pub there_comes : (x : Name) (t : ℕ) → IsBy (comes_at lasts k x) t → can_come lasts k x ≡ true
+  there_comes x t h = by (can_come lasts k x) refl
+    where
+      by : (b : Bool) → can_come lasts k x ≡ b → b ≡ true
+      by true e = refl
+      by false e = absurd (subst (λ (o : Option ℕ). IsBy o t) (comes_by x false e) h)
+
+  pub held_comes : (params : List Entry) → AreHeldBy lasts (from_end k) params → AreHeldBy (comes_at lasts k) k params
+  held_comes [] h = tt
+  held_comes (e ∷ params) h = (by (cap_of e) h.0, held_comes params h.1)
+    where
+      by : (o : Option Cap) → IsHeldBy lasts (from_end k) o → IsHeldBy (comes_at lasts k) k o
+      by None g = tt
+      by (Some cap) g = let here : k ≤ k = omega arith in comes_then cap.name k here g
+
+  goes_on_then : (at : Option ℕ) (s : Span) → IsBy at (from_end k) → IsByThen (lasts s.cap.name) (goes_on Last at s)
+      → IsByThen (comes_at lasts k s.cap.name) (goes_on First (Some k) s)
+  goes_on_then None s g h = absurd g
+  goes_on_then (Some m) s g h = by (nat_lt k s.until) refl
+    where
+      by : (b : Bool) → nat_lt k s.until ≡ b → IsByThen (comes_at lasts k s.cap.name) (cond b (Some (later k s.from)) None)
+      by false e = tt
+      by true e =
+          let l = ltb-true k s.until e in
+          let left : from_end s.until ≤ from_end k = omega (arith, l) in
+          comes_then s.cap.name (later k s.from) (later_from k s.from)
+          (by_later (lasts s.cap.name) (later m (from_end s.until)) (from_end k) h (later_within m (from_end s.until) (from_end k) g left))
+
+  module _ (histories : List History) (closed : IsClosed Last histories lasts) where
+    all_then : (at : Option ℕ) (spans : List Span) → IsBy at (from_end k) → AreGoneOver Last lasts at spans → AreGoneOver First (comes_at lasts k) (Some k) spans
+    all_then at [] g h = tt
+    all_then at (s ∷ spans) g h = (goes_on_then at s g h.0, all_then at spans g h.1)
+
+    none_over : (spans : List Span) → AreGoneOver First (comes_at lasts k) None spans
+    none_over [] = tt
+    none_over (s ∷ spans) = (tt, none_over spans)
+
+    pub comes_closed : (x : Name) → AreGoneOver First (comes_at lasts k) (comes_at lasts k x) (history_of histories x).spans
+    comes_closed x = by (can_come lasts k x) refl
+      where
+        by : (b : Bool) → can_come lasts k x ≡ b → AreGoneOver First (comes_at lasts k) (comes_at lasts k x) (history_of histories x).spans
+        by true e =
+            subst (λ (o : Option ℕ). AreGoneOver First (comes_at lasts k) o (history_of histories x).spans) (sym (comes_by x true e))
+            (all_then (lasts x) (history_of histories x).spans (by_says (lasts x) (from_end k) e) (closed x))
+        by false e =
+            subst (λ (o : Option ℕ). AreGoneOver First (comes_at lasts k) o (history_of histories x).spans) (sym (comes_by x false e)) (none_over (history_of histories x).spans)
+
+    pub comes_thin : (x : Name) → IsThinnedBy (comes_at lasts k x) (history_of histories x).spans (history_of histories x).spans
+    comes_thin x = by (comes_at lasts k x)
+      where
+        by : (o : Option ℕ) → IsThinnedBy o (history_of histories x).spans (history_of histories x).spans
+        by None = tt
+        by (Some m) = thinned_none m (history_of histories x).spans
+
+    -- levels that are the same where the call can come to
+    pub agree_live : (l n : Name → Latest) → ((x : Name) → can_come lasts k x ≡ true → l x ≡ n x) → Agree (comes_at lasts k) l n
+    agree_live l n same x t h = subst (λ (y : Latest). SameAt t (l x) y) (same x (there_comes x t h)) (same_at t (l x))
+
+    pub agree_none : (l : Name → Latest) → Agree (comes_at lasts k) l l
+    agree_none l x t h = same_at t (l x)
+
+    pub agree_through : (l n p : Name → Latest) → Agree (comes_at lasts k) l n → Agree (comes_at lasts k) n p → Agree (comes_at lasts k) l p
+    agree_through l n p f g x t h =
+        let a = f x t h in
+        let b = g x t h in
+        record { modify = a.modify ∙ b.modify; unconf = a.unconf ∙ b.unconf }
+
+    pub agree_next : (made : Name → Bool) (l n : Name → Latest) → Agree (comes_at lasts k) l n → Agree (comes_at lasts k) (next_latest made histories l) (next_latest made histories n)
+    agree_next made l n agree = next_same made (comes_at lasts k) histories histories comes_thin comes_closed l n agree

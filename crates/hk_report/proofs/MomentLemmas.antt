@@ -1,6 +1,6 @@
 -- What is told of objects one after another, and what follows where all lists have been gone over.
 use Rattle.std.proofs.Common.{◌≡◌, ℕ, zero, suc, ◌+◌, ◌<◌, ◌≤◌, List, [], ◌∷◌, length, Bool, true, false, Option, Some, None, refl, sym, ◌∙◌, ap, arith, subst}
-use Rattle.std.specs.Prelude.{◌⊎◌, Result, Ok, Err, OnOk, nat_le, take, replicate, slice_set, slice_index_or}
+use Rattle.std.specs.Prelude.{◌⊎◌, nat_le, take, replicate, slice_set, slice_index_or}
 use mathlib.Core.Logic.{inl, inr}
 use Rattle.std.specs.List.{AllByRecursion, Contains}
 use Rattle.std.specs.List.Sorted.{IsPermutation}
@@ -23,8 +23,8 @@ use Rattle.hk_report.specs.declared.reachable.Moments.{Moments}
 use Rattle.hk_report.specs.declared.reachable.Side.{Side}
 use Rattle.hk_report.specs.Histories.{history_of}
 use Rattle.hk_report.specs.Reasons.{params_at}
-use Rattle.hk_report.specs.Moments.{told_by, due_at, is_by, IsDue, IsEarlier, IsUnderway}
-use Rattle.hk_report.specs.Reachable.{moment_at, IsBy, begins_at, goes_on, IsByThen, AreGoneOver, IsClosed, IsHeldBy, AreHeldBy, AreReachable}
+use Rattle.hk_report.specs.Moments.{told_by, due_at, IsDue, IsEarlier, IsUnderway}
+use Rattle.hk_report.specs.Reachable.{moment_at, is_by, IsBy, begins_at, goes_on, IsByThen, AreGoneOver, IsClosed, IsHeldBy, AreHeldBy, AreReachable}
 use Rattle.hk_report.proofs.HistoryLemmas.{beyond}
 
 -- ---- no less is told of any object
@@ -51,11 +51,6 @@ earlier_through a b c f g = record {
 pub record IsEarlierAnd (before after : Moments) (besides : Type 0) : Type 0 where
   pub earlier : IsEarlier before after
   pub holds : besides
-
--- what follows from what is so where memory is not wanting
-pub on_ok : {X E P Q : Type 0} → (r : Result X E) → OnOk r P → (P → Q) → OnOk r Q
-on_ok (Ok x) h f = f h
-on_ok (Err e) h f = tt
 
 -- ---- one object
 

@@ -1,6 +1,6 @@
 -- The level of one hop more, by those that hold what a level has.
-use Rattle.std.proofs.Common.{◌≡◌, ℕ, suc, ◌-◌, ◌<◌, ◌≤◌, List, [], ◌∷◌, Bool, true, false, Option, Some, None, refl, sym, ◌∙◌, ap, arith, cond, subst}
-use Rattle.std.specs.Prelude.{◌==◌, ◌&&◌, ◌||◌, nat_lt}
+use Rattle.std.proofs.Common.{◌≡◌, ℕ, suc, ◌+◌, ◌-◌, ◌<◌, ◌≤◌, List, [], ◌∷◌, Bool, true, false, Option, Some, None, refl, sym, ◌∙◌, ap, arith, cond, subst}
+use Rattle.std.specs.Prelude.{◌==◌, ◌&&◌, ◌||◌, length, filter, drop, nat_lt, slice_index_or}
 use mathlib.Core.Logic.{inl, inr}
 use Rattle.std.specs.List.{All, AllByRecursion, between}
 use Rattle.std.specs.Cmp.{ranked}
@@ -25,7 +25,8 @@ use Rattle.hk_report.specs.Histories.{history_of}
 use Rattle.hk_report.specs.Hops.{later, arrived_by, arrived_whole, is_good, entry_onward, handed_onward, earlier, onward_over}
 use Rattle.hk_report.specs.Hops.{greater, from_on, entry_bound, handed_bound, no_latest, ends_before, latest_end, latest_from, next_latest}
 use Rattle.hk_report.specs.Runs.{AreRuns}
-use Rattle.hk_report.specs.Holders.{spans_in, held_at, HoldsAlone, AreHolders, joined, latest_over, latest_within, entry_most, handed_most, most_on, raised_at, raised_over}
+use Rattle.hk_report.specs.Holders.{spans_in, held_at, live_at, HoldsAlone, AreHolders, joined, latest_over, latest_within, entry_most, handed_most, most_on, raised_at, raised_over}
+use Rattle.hk_report.proofs.HolderLemmas.{drop_more}
 use Rattle.hk_report.proofs.Stretches.{all_each, alone_each, held_one, has_place, got_has, between_get, has_between}
 
 -- ---- what all that a level keeps gives
@@ -521,6 +522,81 @@ end_next made histories runs holders name before cut are =
         subst (λ (y : Name × Latest). lookup (same_name y.0) ((name, ends_before before) ∷ []) ≡ Some y.1) e
         (alone (same_name name name) (same_equal name.0 name.0 ∙ eq-eqb name.0 name.0 refl))
     kept k (inr h) = absurd h
+
+-- ---- at the objects of which a test is true
+
+module _ (live : Name → Bool) (histories : List History) (latest : Latest) (made : Bool) (x : Name) (lives : live x ≡ true) where
+  abbrev living : List Stretch → List Stretch
+  living held = filter (λ (stretch : Stretch). live stretch.by) held
+
+  raised_same : (l n : Name → Latest) (by : Name) (more : Latest) → l x ≡ n x → raised_at l by more x ≡ raised_at n by more x
+  raised_same l n by more e = ap (λ (y : Latest). cond (by.0 == x.0) (joined y more) y) e
+
+  raised_apart : (n : Name → Latest) (by : Name) (more : Latest) → live by ≡ false → n x ≡ raised_at n by more x
+  raised_apart n by more off = other (by.0 == x.0) refl
+    where
+      other : (b : Bool) → (by.0 == x.0) ≡ b → n x ≡ cond b (joined (n x) more) (n x)
+      other true e = absurd (true≢false (sym lives ∙ ap live (sym (name_is by x (eqb-true by.0 x.0 e))) ∙ off))
+      other false e = refl
+
+  over_living : (held : List Stretch) (l n : Name → Latest) → l x ≡ n x
+      → raised_over histories latest made l (living held) x ≡ raised_over histories latest made n held x
+  over_living [] l n e = e
+  over_living (s ∷ held) l n e = one (live s.by) refl (λ l' n' e'. over_living held l' n' e')
+    where
+      one : (b : Bool) → live s.by ≡ b
+          → ((l' n' : Name → Latest) → l' x ≡ n' x → raised_over histories latest made l' (living held) x ≡ raised_over histories latest made n' held x)
+          → raised_over histories latest made l (cond b (s ∷ living held) (living held)) x
+          ≡ raised_over histories latest made (raised_at n s.by (latest_within (spans_in histories s) latest made)) held x
+      one true f later =
+          later (raised_at l s.by (latest_within (spans_in histories s) latest made)) (raised_at n s.by (latest_within (spans_in histories s) latest made))
+          (raised_same l n s.by (latest_within (spans_in histories s) latest made) e)
+      one false f later =
+          later l (raised_at n s.by (latest_within (spans_in histories s) latest made)) (e ∙ raised_apart n s.by (latest_within (spans_in histories s) latest made) f)
+
+module _ (live : Name → Bool) (made : Name → Bool) (histories : List History) (holders : List (List Stretch)) (x : Name) (lives : live x ≡ true) where
+  by_living : (all : List (Name × Latest)) (l n : Name → Latest) → l x ≡ n x
+      → raised_by made histories (live_at live holders) l all x ≡ raised_by made histories (held_at holders) n all x
+  by_living [] l n e = e
+  by_living (kept ∷ all) l n e =
+      by_living all (raised_over histories kept.1 (made kept.0) l (live_at live holders kept.0)) (raised_over histories kept.1 (made kept.0) n (held_at holders kept.0))
+      (over_living live histories kept.1 (made kept.0) x lives (held_at holders kept.0) l n e)
+
+  pub level_live : (runs : List (List ℕ)) (all : List (Name × Latest)) → AreRuns histories runs → AreHolders histories runs holders
+      → All (λ kept. lookup (same_name kept.0) all ≡ Some kept.1) all
+      → raised_by made histories (live_at live holders) (λ name. no_latest) all x ≡ next_latest made histories (λ name. unwrap_or (lookup (same_name name) all) no_latest) x
+  level_live runs all cut are found =
+      by_living all (λ name. no_latest) (λ name. no_latest) refl ∙ ap (λ (level : Name → Latest). level x) (level_next made histories runs holders all cut are found)
+
+  pub end_live : (runs : List (List ℕ)) (name : Name) (before : ℕ) → AreRuns histories runs → AreHolders histories runs holders
+      → raised_over histories (ends_before before) (made name) (λ y. no_latest) (live_at live holders name) x ≡ next_latest made histories (latest_end name before) x
+  end_live runs name before cut are =
+      over_living live histories (ends_before before) (made name) x lives (held_at holders name) (λ y. no_latest) (λ y. no_latest) refl
+      ∙ ap (λ (level : Name → Latest). level x) (end_next made histories runs holders name before cut are)
+
+-- one run more is gone over, or passed over
+pub living_more : (live : Name → Bool) (histories : List History) (latest : Latest) (made : Bool) (held : List Stretch) (n : ℕ) (one : Stretch) (before after all : Name → Latest)
+    → n < length held → one ≡ slice_index_or held n one
+    → ((b : Bool) → live one.by ≡ b → after ≡ cond b (raised_at before one.by (latest_within (spans_in histories one) latest made)) before)
+    → raised_over histories latest made before (filter (λ (s : Stretch). live s.by) (drop n held)) ≡ all
+    → raised_over histories latest made after (filter (λ (s : Stretch). live s.by) (drop (n + 1) held)) ≡ all
+living_more live histories latest made held n one before after all l is step h =
+    by (live one.by) refl (ap (filter (λ (s : Stretch). live s.by)) (drop_more held n one l is))
+  where
+    by : (b : Bool) → live one.by ≡ b
+        → filter (λ (s : Stretch). live s.by) (drop n held)
+        ≡ cond (live one.by) (one ∷ filter (λ (s : Stretch). live s.by) (drop (n + 1) held)) (filter (λ (s : Stretch). live s.by) (drop (n + 1) held))
+        → raised_over histories latest made after (filter (λ (s : Stretch). live s.by) (drop (n + 1) held)) ≡ all
+    by true e more =
+        ap (λ (level : Name → Latest). raised_over histories latest made level (filter (λ (s : Stretch). live s.by) (drop (n + 1) held))) (step true e)
+        ∙ sym (ap (raised_over histories latest made before)
+        (more ∙ ap (λ (b : Bool). cond b (one ∷ filter (λ (s : Stretch). live s.by) (drop (n + 1) held)) (filter (λ (s : Stretch). live s.by) (drop (n + 1) held))) e))
+        ∙ h
+    by false e more =
+        ap (λ (level : Name → Latest). raised_over histories latest made level (filter (λ (s : Stretch). live s.by) (drop (n + 1) held))) (step false e)
+        ∙ sym (ap (raised_over histories latest made before)
+        (more ∙ ap (λ (b : Bool). cond b (one ∷ filter (λ (s : Stretch). live s.by) (drop (n + 1) held)) (filter (λ (s : Stretch). live s.by) (drop (n + 1) held))) e))
+        ∙ h
 
 -- ---- where the rest cannot be made
 

@@ -32,6 +32,10 @@ holds name stretch = stretch.cap.name.0 == name.0
 abbrev pub held_at : List (List Stretch) → Name → List Stretch
 held_at all name = slice_index_or all name.0 []
 
+-- those of them in the lists of objects of which a test is true
+abbrev pub live_at : (Name → Bool) → List (List Stretch) → Name → List Stretch
+live_at live all name = filter (λ (stretch : Stretch). live stretch.by) (held_at all name)
+
 -- those of them in the list of one object
 abbrev pub stands_in : Name → Stretch → Bool
 stands_in by stretch = stretch.by.0 == by.0

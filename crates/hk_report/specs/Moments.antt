@@ -1,5 +1,5 @@
 -- What is told so far of when ways can be at objects. docs/RULES.md, "Reaches".
-use Rattle.std.specs.Prelude.{◌≡◌, ◌⊎◌, ℕ, Bool, false, nat_le, List, Option, Some, None}
+use Rattle.std.specs.Prelude.{◌≡◌, ◌⊎◌, ℕ, List, Option, Some}
 use Rattle.std.specs.List.{Contains}
 use Rattle.std.specs.BinaryHeap.{heap_items}
 use Rattle.std.specs.declared.cmp.Reverse.{Reverse}
@@ -13,11 +13,6 @@ use Rattle.hk_report.specs.Reachable.{moment_at, IsBy, AreGoneOver}
 
 abbrev pub told_by : Moments → Name → Option ℕ
 told_by moments name = moment_at moments.told.items name
-
--- whether a moment is told, and not after this one
-abbrev pub is_by : Option ℕ → ℕ → Bool
-is_by None moment = false
-is_by (Some told) moment = nat_le told moment
 
 -- an object whose list is to be gone over, and what was told of it then
 abbrev pub due_at : ℕ → Name → Reverse Due

@@ -1,6 +1,7 @@
 -- When ways can be at objects, and what is left where the rest is left out. docs/RULES.md, "Reaches".
-use Rattle.std.specs.Prelude.{◌≡◌, ◌≤◌, ◌-◌, ◌^◌, ℕ, Bool, false, List, nat_lt, nat_le, filter, slice_index_or, Option, Some, None, if◌then◌else◌}
-use Rattle.std.specs.List.{AllByRecursion}
+use Rattle.std.specs.Prelude.{◌≡◌, ◌≤◌, ◌-◌, ◌^◌, ℕ, Bool, false, List, [], ◌∷◌, nat_lt, nat_le, filter, slice_index_or, Option, Some, None, if◌then◌else◌}
+use Rattle.std.specs.Coded.{Π_prop, Unit-prop, le_prop}
+use Rattle.std.specs.List.{AllByRecursion, AllByRecursion-prop}
 use Rattle.std.specs.List.Sorted.{IsPermutation}
 use Rattle.hk_model.specs.declared.names.Name.{Name}
 use Rattle.hk_model.specs.declared.entries.Cap.{Cap}
@@ -10,6 +11,7 @@ use Rattle.hk_report.specs.declared.families.Begun.{Begun}
 use Rattle.hk_report.specs.declared.families.BareChange.{BareChange}
 use Rattle.hk_report.specs.declared.histories.Span.{Span}
 use Rattle.hk_report.specs.declared.histories.History.{History}
+use Rattle.hk_report.specs.declared.hops.Latest.{Latest}
 use Rattle.hk_report.specs.declared.reachable.Side.{Side}
 use Rattle.hk_report.specs.declared.reachable.Side.TheVariants.{First, Last}
 use Rattle.hk_report.specs.Histories.{history_of}
@@ -24,6 +26,11 @@ moment_at moments name = slice_index_or moments name.0 (Some 0)
 abbrev pub IsBy : Option ℕ → ℕ → Type 0
 IsBy None bound = ⊥
 IsBy (Some moment) bound = moment ≤ bound
+
+-- whether a moment is told, and not after this one
+abbrev pub is_by : Option ℕ → ℕ → Bool
+is_by None moment = false
+is_by (Some told) moment = nat_le told moment
 
 -- counted back from the last moment that there can be
 abbrev pub from_end : ℕ → ℕ
@@ -83,3 +90,38 @@ pub record IsEnough (families : List (List Begun)) (params : List (List Entry)) 
   pub firsts : Name → Option ℕ
   pub reachable : AreReachable First families params bares before firsts
   pub kept : AreKept firsts before after
+
+-- whether a call that begins at a moment can come to an object, and from when it can
+abbrev pub can_come : (Name → Option ℕ) → ℕ → Name → Bool
+can_come lasts moment name = is_by (lasts name) (from_end moment)
+
+abbrev pub comes_at : (Name → Option ℕ) → ℕ → Name → Option ℕ
+comes_at lasts moment name = if can_come lasts moment name then Some moment else None
+
+-- bounds are the same at a moment
+pub record SameAt (moment : ℕ) (a b : Latest) : Type 0 where
+  pub modify : nat_lt moment a.modify ≡ nat_lt moment b.modify
+  pub unconf : nat_lt moment a.unconf ≡ nat_lt moment b.unconf
+
+-- levels are, at each object, from when a way can be there, and one level after another
+abbrev pub Agree : (Name → Option ℕ) → (Name → Latest) → (Name → Latest) → Type 0
+Agree told a b = (name : Name) → (moment : ℕ) → IsBy (told name) moment → SameAt moment (a name) (b name)
+
+abbrev pub AgreeEach : (Name → Option ℕ) → List (Name → Latest) → List (Name → Latest) → Type 0
+AgreeEach told [] [] = Unit {0}
+AgreeEach told (a ∷ firsts) (b ∷ seconds) = Agree told a b × AgreeEach told firsts seconds
+AgreeEach told [] (b ∷ seconds) = ⊥
+AgreeEach told (a ∷ firsts) [] = ⊥
+
+-- these facts have one proof each
+pub IsByThen-prop : (told bound : Option ℕ) → IsProp (IsByThen told bound)
+IsByThen-prop told None = Unit-prop
+IsByThen-prop None (Some moment) = λ a b. absurd a
+IsByThen-prop (Some told) (Some moment) = le_prop {n = told} {m = moment}
+
+pub IsClosed-prop : (side : Side) (histories : List History) (told : Name → Option ℕ) → IsProp (IsClosed side histories told)
+IsClosed-prop side histories told = Π_prop (λ (name : Name). by (told name) (history_of histories name).spans)
+  where
+    by : (at : Option ℕ) (spans : List Span) → IsProp (AreGoneOver side told at spans)
+    by at spans =
+        AllByRecursion-prop (λ (span : Span). IsByThen (told span.cap.name) (goes_on side at span)) (λ span. IsByThen-prop (told span.cap.name) (goes_on side at span)) spans

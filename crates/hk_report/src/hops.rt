@@ -10,12 +10,15 @@ ghost use Rattle.hk_report.specs.Histories.{history_of};
 ghost use Rattle.hk_report.specs.Runs.{IsRun, AreRuns, AreRuns-prop, AreOrdered, AreOrdered-prop, ends_at, is_open};
 ghost use Rattle.hk_report.specs.declared.hops.Level.TheVariants.{Behind};
 ghost use Rattle.hk_report.specs.Hops.{StaysFirst, same_begun, has_begun, is_made, next_latest, later, greater, lesser, arrived_by, arrived_whole, no_latest, ends_before, bounds_at, latest_at, latest_end, alone, is_good, entry_onward, handed_onward, earlier, onward_below, first_open_below, first_from, from_on};
-ghost use Rattle.hk_report.specs.Holders.{AreHolders, HoldsAlone, held_at, held_in, is_other, spans_in, joined, latest_within, entry_most, handed_most, most_on, raised_at, raised_over};
+ghost use Rattle.hk_report.specs.declared.reachable.Side.TheVariants.{Last};
+ghost use Rattle.hk_report.specs.Reachable.{moment_at, can_come, comes_at, Agree, IsClosed, IsClosed-prop};
+ghost use Rattle.hk_report.specs.Holders.{AreHolders, HoldsAlone, held_at, live_at, held_in, is_other, spans_in, joined, latest_within, entry_most, handed_most, most_on, raised_at, raised_over};
 
 use crate::families::{Begun, calls_over};
 use crate::histories::{History, Span};
 use crate::holders::Stretch;
 use crate::lists::Lists;
+use crate::reachable::{from_end, moment_at};
 use crate::runs::{ends_at, first_open, spans_at};
 use hk_model::{Cap, Hop, Items, Name, NoMemory};
 use hk_rights::Right;
@@ -97,9 +100,12 @@ pub(crate) struct Ground<'a> {
     pub runs: &'a [Items<usize>],
     /// The runs that hold each object, by its name.
     pub holders: &'a [Items<Stretch>],
+    /// The last moments at which a call can begin that comes to each object, by its name, counted back.
+    pub lasts: &'a [Option<u32>],
     ghost cut: { AreRuns histories.now runs.now } by { AreRuns-prop histories.now runs.now },
     ghost held: { AreHolders histories.now runs.now holders.now },
     ghost ordered: { AreOrdered histories.now } by { AreOrdered-prop histories.now },
+    ghost closed: { IsClosed Last histories.now (moment_at lasts.now) } by { IsClosed-prop Last histories.now (moment_at lasts.now) },
 }
 
 /// Whether two calls are the same.
@@ -545,11 +551,21 @@ impl<'a> Ground<'a> {
         Ok(())
     }
 
-    /// What is kept for an object gives to those that held it. The runs of one list stand together, so a list is
-    /// looked up once.
+    /// Whether the call can come to an object.
+    fn can_come(&self, name: Name) -> bool
+        ensures { result ≡ can_come (moment_at self.now.lasts.now) self.now.begun.moment name }
+    {
+        match moment_at(self.lasts, name) {
+            Some(last) => last <= from_end(self.begun.moment),
+            None => false,
+        }
+    }
+
+    /// What is kept for an object gives to those that held it and that the call can come to. The runs of one list stand
+    /// together, so a list is looked up once.
     #[tactic(auto, using(crate::proofs::Raising::nothing_raised))]
     fn raise_holders(&self, next: &mut Bounds, name: Name, latest: Latest) -> Result<(), NoMemory>
-        ensures { OnOk result (bounds_at next.new ≡ raised_over self.now.histories.now latest (is_made self.now.families.now self.now.begun self.now.histories.now name) (bounds_at next.old) (held_at self.now.holders.now name)) }
+        ensures { OnOk result (bounds_at next.new ≡ raised_over self.now.histories.now latest (is_made self.now.families.now self.now.begun self.now.histories.now name) (bounds_at next.old) (live_at (can_come (moment_at self.now.lasts.now) self.now.begun.moment) self.now.holders.now name)) }
     {
         let made = self.is_made(name);
         let mut waiting = Raise {
@@ -557,14 +573,16 @@ impl<'a> Ground<'a> {
             latest: no_latest(),
         };
         for held in self.holders_of(name) {
-            self.raise_over(next, &mut waiting, held, latest, made)?;
+            if self.can_come(held.by) {
+                self.raise_over(next, &mut waiting, held, latest, made)?;
+            }
         }
         next.raise(waiting.name, waiting.latest)
     }
 
-    /// The bounds of one hop more than these.
+    /// The bounds of one hop more than these, at each object that the call can come to.
     fn bounds_behind(&self, alloc: Global, bounds: &Bounds) -> Result<Bounds, NoMemory>
-        ensures { IfOk result (λ next. bounds_at next ≡ next_latest (is_made self.now.families.now self.now.begun self.now.histories.now) self.now.histories.now (bounds_at bounds.now)) }
+        ensures { IfOk result (λ next. (name : Name) → can_come (moment_at self.now.lasts.now) self.now.begun.moment name ≡ true → bounds_at next name ≡ next_latest (is_made self.now.families.now self.now.begun self.now.histories.now) self.now.histories.now (bounds_at bounds.now) name) }
     {
         let mut next = Bounds::none(alloc);
         for (name, latest) in bounds.latest.iter() {
@@ -573,26 +591,26 @@ impl<'a> Ground<'a> {
         Ok(next)
     }
 
-    /// The bounds of one hop to an object, before a moment.
+    /// The bounds of one hop to an object, before a moment, at each object that the call can come to.
     fn bounds_before(&self, alloc: Global, name: Name, before: u32) -> Result<Bounds, NoMemory>
-        ensures { IfOk result (λ next. bounds_at next ≡ next_latest (is_made self.now.families.now self.now.begun self.now.histories.now) self.now.histories.now (latest_end name before)) }
+        ensures { IfOk result (λ next. (x : Name) → can_come (moment_at self.now.lasts.now) self.now.begun.moment x ≡ true → bounds_at next x ≡ next_latest (is_made self.now.families.now self.now.begun self.now.histories.now) self.now.histories.now (latest_end name before) x) }
     {
         let mut next = Bounds::none(alloc);
         self.raise_holders(&mut next, name, ends_before(before))?;
         Ok(next)
     }
 
-    /// The bounds of two hops to an object, before a moment.
+    /// The bounds of two hops to an object, before a moment, from when the call can come to each.
     fn bounds_of_two(&self, alloc: Global, name: Name, before: u32) -> Result<Bounds, NoMemory>
-        ensures { IfOk result (λ next. bounds_at next ≡ next_latest (is_made self.now.families.now self.now.begun self.now.histories.now) self.now.histories.now (next_latest (is_made self.now.families.now self.now.begun self.now.histories.now) self.now.histories.now (latest_end name before))) }
+        ensures { IfOk result (λ next. Agree (comes_at (moment_at self.now.lasts.now) self.now.begun.moment) (bounds_at next) (next_latest (is_made self.now.families.now self.now.begun self.now.histories.now) self.now.histories.now (next_latest (is_made self.now.families.now self.now.begun self.now.histories.now) self.now.histories.now (latest_end name before)))) }
     {
         let near = self.bounds_before(alloc, name, before)?;
         self.bounds_behind(alloc, &near)
     }
 
-    /// The level of one hop more. NoMemory is want of memory.
+    /// The level of one hop more, from when the call can come to each object. NoMemory is want of memory.
     pub(crate) fn next_level(&self, alloc: Global, level: &Level) -> Result<Level, NoMemory>
-        ensures { IfOk result (λ next. latest_at (is_made self.now.families.now self.now.begun self.now.histories.now) self.now.histories.now next ≡ next_latest (is_made self.now.families.now self.now.begun self.now.histories.now) self.now.histories.now (latest_at (is_made self.now.families.now self.now.begun self.now.histories.now) self.now.histories.now level.now)) }
+        ensures { IfOk result (λ next. Agree (comes_at (moment_at self.now.lasts.now) self.now.begun.moment) (latest_at (is_made self.now.families.now self.now.begun self.now.histories.now) self.now.histories.now next) (next_latest (is_made self.now.families.now self.now.begun self.now.histories.now) self.now.histories.now (latest_at (is_made self.now.families.now self.now.begun self.now.histories.now) self.now.histories.now level.now))) }
     {
         match level {
             Level::End { name, before } => {

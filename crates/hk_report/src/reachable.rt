@@ -6,17 +6,19 @@ ghost use Rattle.std.specs.Prelude.{◌≡◌, ℕ, ◌∷◌, [], Some, None, r
 ghost use Rattle.std.specs.List.{AllByRecursion};
 ghost use Rattle.hk_model.specs.declared.names.Name.{Name};
 ghost use Rattle.hk_report.specs.Histories.{history_of};
-ghost use Rattle.hk_report.specs.Moments.{IsEarlier, IsUnderway, is_by, told_by};
-ghost use Rattle.hk_report.specs.Reachable.{moment_at, from_end, begins_at, goes_on, IsBy, AreGoneOver, AreHeldBy, IsClosed, AreReachable};
+ghost use Rattle.hk_report.specs.Moments.{IsEarlier, IsUnderway, told_by};
+ghost use Rattle.hk_report.specs.Reachable.{moment_at, from_end, begins_at, goes_on, is_by, IsBy, AreGoneOver, AreHeldBy, IsClosed, AreReachable};
+ghost use Rattle.hk_report.specs.declared.reachable.Side.TheVariants.{Last};
 ghost use Rattle.hk_report.specs.Reasons.{params_at};
 
 use crate::families::{BareChange, Begun};
 use crate::histories::{History, Span};
+use crate::holders::Stretch;
 use crate::hops::later;
 use crate::lists::Lists;
 use crate::params::GivenParams;
 use crate::runs::spans_at;
-use hk_model::{Entry, Name, NoMemory, Template};
+use hk_model::{Entry, Items, Name, NoMemory, Template};
 use std::alloc::Global;
 use std::cmp::Reverse;
 use std::collections::BinaryHeap;
@@ -48,7 +50,7 @@ pub struct Moments {
 }
 
 /// A moment, counted back from the last that there can be.
-fn from_end(moment: u32) -> u32
+pub(crate) fn from_end(moment: u32) -> u32
     ensures { result ≡ from_end moment }
 {
     u32::MAX - moment
@@ -233,4 +235,31 @@ pub(crate) fn reachable(
     moments.begin(side, families, params, changes)?;
     moments.spread(side, histories)?;
     Ok(moments.told)
+}
+
+/// An object has to be held by so many runs before it pays to know the last moments at which calls can begin that come to
+/// objects.
+const MANY: usize = 256;
+
+/// Whether an object is held by many runs.
+fn are_many(holders: &[Items<Stretch>]) -> bool {
+    holders.iter().any(|held| held.len() >= MANY)
+}
+
+/// The last moments at which calls can begin that come to objects, counted back, by name; where no object is held by many
+/// runs, nothing is asked, and each call passes for one that can come to all. NoMemory is want of memory.
+pub(crate) fn lasts(
+    alloc: Global,
+    histories: &[History],
+    families: &Lists<Begun>,
+    params: &GivenParams,
+    changes: &[BareChange],
+    holders: &[Items<Stretch>],
+) -> Result<Vec<Option<u32>>, NoMemory>
+    ensures { IfOk result (λ told. AreReachable Last families.now params.now changes.now histories.now (moment_at told.items)) }
+{
+    if !are_many(holders) {
+        return Ok(Vec::new(alloc));
+    }
+    reachable(alloc, Side::Last, histories, families, params, changes)
 }

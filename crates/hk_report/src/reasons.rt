@@ -2,9 +2,11 @@
 
 ghost use Rattle.std.specs.Prelude.{◌≡◌, ◌<◌, ◌≤◌, ◌^◌, ◌+◌, length, vec_len, IfOk, OnOk, string_bytes};
 ghost use Rattle.hk_report.specs.Runs.{AreRuns, AreRuns-prop, AreOrdered, AreOrdered-prop};
-ghost use Rattle.hk_report.specs.Reachable.{IsEnough};
+ghost use Rattle.std.specs.List.{AllByRecursion};
+ghost use Rattle.hk_report.specs.declared.reachable.Side.TheVariants.{Last};
+ghost use Rattle.hk_report.specs.Reachable.{moment_at, from_end, AreHeldBy, AreReachable, IsClosed, IsClosed-prop, IsEnough};
 ghost use Rattle.hk_report.specs.Holders.{AreHolders};
-ghost use Rattle.hk_report.specs.Reasons.{IsReasoned, IsTold, AreFew, AreTold};
+ghost use Rattle.hk_report.specs.Reasons.{params_at, IsReasoned, IsTold, AreFew, AreTold};
 ghost use Rattle.hk_report.specs.Written.{AreWritten};
 
 use crate::families::{BareChange, Begun};
@@ -13,7 +15,7 @@ use crate::holders::{Stretch, holders};
 use crate::hops::Ground;
 use crate::lists::Lists;
 use crate::params::GivenParams;
-use crate::reachable::{Side, reachable};
+use crate::reachable::{Side, lasts, reachable};
 use crate::replay::Telling;
 use crate::runs::{all_ends, rearrange_all};
 use crate::searching::Search;
@@ -28,6 +30,8 @@ pub(crate) struct Runs {
     pub ends: Vec<Items<usize>>,
     /// Those that hold each object, by its name.
     pub holders: Vec<Items<Stretch>>,
+    /// The last moments at which calls can begin that come to each object, by its name, counted back.
+    pub lasts: Vec<Option<u32>>,
 }
 
 /// What the reasons of changes are found in.
@@ -43,9 +47,12 @@ pub(crate) struct Grounds<'a> {
     pub runs: &'a [Items<usize>],
     /// The runs that hold each object, by its name.
     pub holders: &'a [Items<Stretch>],
+    /// The last moments at which calls can begin that come to each object, by its name, counted back.
+    pub lasts: &'a [Option<u32>],
     ghost cut: { AreRuns histories.now runs.now } by { AreRuns-prop histories.now runs.now },
     ghost held: { AreHolders histories.now runs.now holders.now },
     ghost ordered: { AreOrdered histories.now } by { AreOrdered-prop histories.now },
+    ghost closed: { IsClosed Last histories.now (moment_at lasts.now) } by { IsClosed-prop Last histories.now (moment_at lasts.now) },
 }
 
 impl<'a> Grounds<'a> {
@@ -54,9 +61,11 @@ impl<'a> Grounds<'a> {
         requires cut { AreRuns telling.now.histories.items runs.now.ends.items }
         requires held { AreHolders telling.now.histories.items runs.now.ends.items runs.now.holders.items }
         requires ordered { AreOrdered telling.now.histories.items }
+        requires closed { IsClosed Last telling.now.histories.items (moment_at runs.now.lasts.items) }
         ensures histories { result.histories.now ≡ telling.now.histories.items }
         ensures families { result.families.now ≡ telling.now.families.calls }
         ensures params { result.params.now ≡ telling.now.params }
+        ensures lasts { result.lasts.now ≡ runs.now.lasts.items }
     {
         Grounds {
             histories: telling.histories.as_slice(),
@@ -64,12 +73,14 @@ impl<'a> Grounds<'a> {
             params: &telling.params,
             runs: runs.ends.as_slice(),
             holders: runs.holders.as_slice(),
+            lasts: runs.lasts.as_slice(),
         }
     }
 
     /// Why a change could be made.
     fn reason(&self, alloc: Global, bare: &BareChange) -> Result<Reach, NoMemory>
-        requires { bare.now.moment + 1 < 2 ^ 32 }
+        requires few { bare.now.moment + 1 < 2 ^ 32 }
+        requires held { AreHeldBy (moment_at self.now.lasts.now) (from_end bare.now.under.moment) (params_at self.now.families.now self.now.params.now bare.now.under.call) }
         ensures { IfOk result (λ reach. IsReasoned self.now.families.now self.now.histories.now self.now.params.now bare.now reach) }
     {
         let ground = Ground {
@@ -78,6 +89,7 @@ impl<'a> Grounds<'a> {
             begun: bare.under,
             runs: self.runs,
             holders: self.holders,
+            lasts: self.lasts,
         };
         if ground.is_made(bare.object) {
             return Ok(Reach::Made);
@@ -93,7 +105,8 @@ impl<'a> Grounds<'a> {
 
     /// A change with its reason.
     fn explain(&self, alloc: Global, bare: &BareChange) -> Result<Change, NoMemory>
-        requires { bare.now.moment + 1 < 2 ^ 32 }
+        requires few { bare.now.moment + 1 < 2 ^ 32 }
+        requires held { AreHeldBy (moment_at self.now.lasts.now) (from_end bare.now.under.moment) (params_at self.now.families.now self.now.params.now bare.now.under.call) }
         ensures { IfOk result (λ change. IsTold self.now.families.now self.now.histories.now self.now.params.now bare.now change) }
     {
         let reach = self.reason(alloc, bare)?;
@@ -106,9 +119,10 @@ impl<'a> Grounds<'a> {
     }
 
     /// These changes, each with its reason. NoMemory is want of memory.
-    #[tactic(auto, using(crate::proofs::ReasonLemmas::few_at, crate::proofs::ReasonLemmas::told_none, crate::proofs::ReasonLemmas::told_all))]
+    #[tactic(auto, using(crate::proofs::ReasonLemmas::few_at, crate::proofs::ReasonLemmas::all_at, crate::proofs::ReasonLemmas::told_none, crate::proofs::ReasonLemmas::told_all))]
     fn explain_all(&self, alloc: Global, bares: &[BareChange]) -> Result<Vec<Change>, NoMemory>
-        requires { AreFew bares.now }
+        requires few { AreFew bares.now }
+        requires held { AllByRecursion (λ bare. AreHeldBy (moment_at self.now.lasts.now) (from_end bare.under.moment) (params_at self.now.families.now self.now.params.now bare.under.call)) bares.now }
         ensures { IfOk result (λ changes. AreTold self.now.families.now self.now.histories.now self.now.params.now bares.now changes.items) }
     {
         let mut changes = Vec::with_capacity(alloc, bares.len())?;
@@ -119,14 +133,15 @@ impl<'a> Grounds<'a> {
     }
 
     /// Writes these changes, each with its reason. NoMemory is want of memory.
-    #[tactic(auto, using(crate::proofs::WrittenLemmas::written_none, crate::proofs::WrittenLemmas::written_all, crate::proofs::ReasonLemmas::few_at))]
+    #[tactic(auto, using(crate::proofs::WrittenLemmas::written_none, crate::proofs::WrittenLemmas::written_all, crate::proofs::ReasonLemmas::few_at, crate::proofs::ReasonLemmas::all_at))]
     fn write_all(
         &self,
         alloc: Global,
         out: &mut String,
         bares: &[BareChange],
     ) -> Result<(), NoMemory>
-        requires { AreFew bares.now }
+        requires few { AreFew bares.now }
+        requires held { AllByRecursion (λ bare. AreHeldBy (moment_at self.now.lasts.now) (from_end bare.under.moment) (params_at self.now.families.now self.now.params.now bare.under.call)) bares.now }
         ensures { OnOk result (AreWritten self.now.families.now self.now.histories.now self.now.params.now bares.now (string_bytes out.old) (string_bytes out.new)) }
     {
         for bare in bares {
@@ -147,6 +162,7 @@ impl Telling {
         ensures cut { IfOk result (λ runs. AreRuns self.new.histories.items runs.ends.items) }
         ensures held { IfOk result (λ runs. AreHolders self.new.histories.items runs.ends.items runs.holders.items) }
         ensures ordered { IfOk result (λ runs. AreOrdered self.new.histories.items) }
+        ensures reachable { IfOk result (λ runs. AreReachable Last self.old.families.calls self.old.params self.old.families.changes.items self.new.histories.items (moment_at runs.lasts.items)) }
     {
         let changes = self.families.changes.as_slice();
         let (families, params) = (&self.families.calls, &self.params);
@@ -156,7 +172,12 @@ impl Telling {
         let histories = self.histories.as_slice();
         let ends = all_ends(alloc, histories)?;
         let holders = holders(alloc, histories, ends.as_slice())?;
-        Ok(Runs { ends, holders })
+        let lasts = lasts(alloc, histories, families, params, changes, holders.as_slice())?;
+        Ok(Runs {
+            ends,
+            holders,
+            lasts,
+        })
     }
 
     /// The changes that were told, each with its reason. What has stood in a list is put in order for it, where there is a

@@ -2,6 +2,7 @@
 
 ghost use Rattle.std.specs.Prelude.{map, ◌≡◌, ◌∷◌, ◌++◌, ◌≤◌, ◌<◌, [], length, IfOk, OnOk, Some};
 ghost use Rattle.hk_report.specs.Hops.{is_made, latest_at};
+ghost use Rattle.hk_report.specs.Reachable.{moment_at, from_end, comes_at, IsBy, AreHeldBy, AgreeEach};
 ghost use Rattle.hk_report.specs.Searches.{is_direct, direct_param, onward_at, first_start, level_at, levels_below, hops_down, IsFoundBehind, IsFound};
 
 use crate::hops::{Arrived, Ground, Level, Onward, arrived_by};
@@ -83,14 +84,14 @@ impl<'a> Search<'a> {
     }
 
     /// The hops that are left, behind those that are there, with these levels.
-    #[tactic(auto, using(crate::proofs::SearchLemmas::level_is, crate::proofs::SearchLemmas::goes_some, crate::proofs::SearchLemmas::goes_none))]
     fn go_down(
         &self,
         hops: &mut Items<Hop>,
         levels: &[Level],
         from: Arrived,
     ) -> Result<(), NoMemory>
-        requires { map (latest_at (is_made self.now.ground.families.now self.now.ground.begun self.now.ground.histories.now) self.now.ground.histories.now) levels.now ≡ levels_below (is_made self.now.ground.families.now self.now.ground.begun self.now.ground.histories.now) self.now.ground.histories.now self.now.wanted self.now.before (length levels.now) }
+        requires levels { AgreeEach (comes_at (moment_at self.now.ground.lasts.now) self.now.ground.begun.moment) (map (latest_at (is_made self.now.ground.families.now self.now.ground.begun self.now.ground.histories.now) self.now.ground.histories.now) levels.now) (levels_below (is_made self.now.ground.families.now self.now.ground.begun self.now.ground.histories.now) self.now.ground.histories.now self.now.wanted self.now.before (length levels.now)) }
+        requires there { IsBy (comes_at (moment_at self.now.ground.lasts.now) self.now.ground.begun.moment from.name) from.moment }
         ensures { OnOk result (hops.new ≡ hops.old ++ hops_down (is_made self.now.ground.families.now self.now.ground.begun self.now.ground.histories.now) self.now.ground.histories.now self.now.wanted self.now.before (length levels.now) from) }
     {
         let mut left = levels.len();
@@ -110,9 +111,9 @@ impl<'a> Search<'a> {
 
     /// The least reach of at least one hop: with fewer hops first. Where a reach is there, the levels
     /// end at the number of its hops.
-    #[tactic(auto, using(crate::proofs::SearchLemmas::as_many, crate::proofs::SearchLemmas::none_fewer))]
     fn least_behind(&self, alloc: Global) -> Result<Reach, NoMemory>
-        requires { length self.now.params.now ≤ 8 }
+        requires few { length self.now.params.now ≤ 8 }
+        requires held { AreHeldBy (moment_at self.now.ground.lasts.now) (from_end self.now.ground.begun.moment) self.now.params.now }
         ensures { IfOk result (λ reach. IsFoundBehind (is_made self.now.ground.families.now self.now.ground.begun self.now.ground.histories.now) self.now.ground.histories.now self.now.wanted self.now.before self.now.ground.begun.moment self.now.params.now reach) }
     {
         let mut levels = Vec::new(alloc);
@@ -139,7 +140,8 @@ impl<'a> Search<'a> {
     /// hops, then from the least parameter, then hop by hop the first. NoMemory is want of memory, and
     /// nothing else where a reach is there.
     pub(crate) fn least(&self, alloc: Global) -> Result<Reach, NoMemory>
-        requires { length self.now.params.now ≤ 8 }
+        requires few { length self.now.params.now ≤ 8 }
+        requires held { AreHeldBy (moment_at self.now.ground.lasts.now) (from_end self.now.ground.begun.moment) self.now.params.now }
         ensures { IfOk result (λ reach. IsFound (is_made self.now.ground.families.now self.now.ground.begun self.now.ground.histories.now) self.now.ground.histories.now self.now.wanted self.now.before self.now.ground.begun.moment self.now.params.now reach) }
     {
         match direct_param(self.params, self.wanted) {
