@@ -1,8 +1,7 @@
 -- Searches that go over lists without what has ended when the first way can be at them, by levels that are the same from then on, find the same.
-use Rattle.std.proofs.Common.{◌≡◌, ℕ, zero, suc, ◌+◌, ◌-◌, ◌^◌, ◌<◌, ◌≤◌, List, [], ◌∷◌, Bool, true, false, Option, Some, None, refl, sym, ◌∙◌, ap, arith, cond, subst, option_and_then}
+use Rattle.std.proofs.Common.{◌≡◌, ℕ, zero, suc, ◌+◌, ◌≤◌, List, [], ◌∷◌, Bool, true, false, Option, Some, None, refl, sym, ◌∙◌, ap, arith, cond, subst, option_and_then}
 use Rattle.std.specs.Prelude.{◌⊎◌, ◌&&◌, ◌||◌, nat_lt, Result, Ok, Err, IfOk}
 use mathlib.Core.Logic.{inl, inr}
-use Rattle.std.specs.List.{AllByRecursion}
 use Rattle.std.proofs.lemmas.Bool.{true≢false, ltb-true, ltb-false, lt-ltb, le-ltb, le-leb, leb-true}
 use Rattle.hk_model.specs.declared.names.Name.{Name}
 use Rattle.hk_model.specs.declared.entries.Cap.{Cap}
@@ -20,7 +19,7 @@ use Rattle.hk_report.specs.declared.hops.Onward.{Onward}
 use Rattle.hk_report.specs.declared.reachable.Side.TheVariants.{First, Last}
 use Rattle.hk_report.specs.declared.searching.Start.{Start}
 use Rattle.hk_report.specs.Histories.{history_of}
-use Rattle.hk_report.specs.Hops.{later, greater, arrived_by, arrived_whole, is_good, entry_onward, handed_onward, comes_before, earlier, onward_below, onward_over, first_from}
+use Rattle.hk_report.specs.Hops.{later, arrived_by, arrived_whole, is_good, entry_onward, handed_onward, comes_before, earlier, onward_over, first_from}
 use Rattle.hk_report.specs.Hops.{entry_bound, handed_bound, no_latest, raised, latest_from, next_latest}
 use Rattle.hk_report.specs.Reachable.{is_by, IsBy, from_end, IsByThen, goes_on, AreGoneOver, IsClosed, IsHeldBy, AreHeldBy, can_come, comes_at, SameAt, Agree}
 use Rattle.hk_report.specs.Searches.{direct_param, first_onward, onward_at, first_start, level_at, hops_down, IsFoundBehind, IsFoundBy, IsFound}

@@ -342,7 +342,7 @@ module _ (made : Name → Bool) (level : Name → Latest) (from : Arrived) (hist
         one (Some span) e = split (span.cap.name.0 == name.0) refl
           where
             s : Stretch
-            s = record { by = by; cap = span.cap; first = start; end = end }
+            s = record { by = by; cap = span.cap; from = span.from; first = start; end = end }
 
             split : (b : Bool) → (span.cap.name.0 == name.0) ≡ b
                 → over_runs first (cond b (s ∷ []) [] ++ rest) ≡ over_runs (first_from made level from first run) rest

@@ -5,7 +5,7 @@ use mathlib.Core.Logic.{inl, inr}
 use Rattle.std.specs.List.{AllByRecursion}
 use Rattle.std.specs.List.Sorted.{IsPermutation}
 use Rattle.std.proofs.lemmas.Bool.{cases_lt, le-ltb, leb-false, le-leb}
-use Rattle.std.proofs.lemmas.List.{append-nil, nil_from_length}
+use Rattle.std.proofs.lemmas.List.{nil_from_length}
 use Rattle.std.proofs.lemmas.List.Sorted.{IsPermutation-refl, IsPermutation-sym, IsPermutation-trans, IsPermutation-append_left, IsPermutation-filter_both, Contains-permutation, length_permutation}
 use Rattle.hk_model.specs.declared.names.Name.{Name}
 use Rattle.hk_model.specs.declared.names.Inc.{Inc}
@@ -27,7 +27,7 @@ use Rattle.hk_report.specs.Families.{changes_from, families_after}
 use Rattle.hk_report.specs.Histories.{no_history, history_of, told_histories}
 use Rattle.hk_report.specs.Hops.{later, has_begun, is_made}
 use Rattle.hk_report.specs.Reasons.{params_at, IsReasonedBy, IsTold, AreTold}
-use Rattle.hk_report.specs.Reachable.{IsByThen, goes_on, AreGoneOver, AreHeldBy, IsClosed, can_matter, IsKept, AreKept, IsEnough}
+use Rattle.hk_report.specs.Reachable.{IsByThen, goes_on, AreGoneOver, AreHeldBy, IsClosed, can_matter, AreKept, IsEnough}
 use Rattle.hk_report.specs.Runs.{IsRearranged, AreRearranged}
 use Rattle.hk_report.specs.Searches.{IsFound}
 use Rattle.hk_report.proofs.Agreeing.{IsThinned, IsThinnedBy, found_same}

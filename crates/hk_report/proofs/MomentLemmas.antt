@@ -1,13 +1,13 @@
 -- What is told of objects one after another, and what follows where all lists have been gone over.
-use Rattle.std.proofs.Common.{◌≡◌, ℕ, zero, suc, ◌+◌, ◌<◌, ◌≤◌, List, [], ◌∷◌, length, Bool, true, false, Option, Some, None, refl, sym, ◌∙◌, ap, arith, subst}
-use Rattle.std.specs.Prelude.{◌⊎◌, nat_le, take, replicate, slice_set, slice_index_or}
+use Rattle.std.proofs.Common.{◌≡◌, ℕ, zero, suc, ◌+◌, ◌<◌, ◌≤◌, List, [], ◌∷◌, length, true, false, Option, Some, None, refl, sym, ◌∙◌, ap, arith, subst}
+use Rattle.std.specs.Prelude.{◌⊎◌, take, replicate, slice_set, slice_index_or}
 use mathlib.Core.Logic.{inl, inr}
 use Rattle.std.specs.List.{AllByRecursion, Contains}
 use Rattle.std.specs.List.Sorted.{IsPermutation}
 use Rattle.std.specs.BinaryHeap.{heap_items}
 use Rattle.std.specs.declared.cmp.Reverse.{Reverse}
 use Rattle.std.proofs.lemmas.Bool.{true≢false, cases_lt, le-leb, leb-true, leb-false}
-use Rattle.std.proofs.lemmas.List.{get_or_default, nil_from_length}
+use Rattle.std.proofs.lemmas.List.{get_or_default}
 use Rattle.std.proofs.lemmas.List.Sorted.{Contains-permutation}
 use Rattle.hk_model.specs.declared.names.Name.{Name}
 use Rattle.hk_model.specs.declared.entries.Cap.{Cap}
@@ -24,7 +24,7 @@ use Rattle.hk_report.specs.declared.reachable.Side.{Side}
 use Rattle.hk_report.specs.Histories.{history_of}
 use Rattle.hk_report.specs.Reasons.{params_at}
 use Rattle.hk_report.specs.Moments.{told_by, due_at, IsDue, IsEarlier, IsUnderway}
-use Rattle.hk_report.specs.Reachable.{moment_at, is_by, IsBy, begins_at, goes_on, IsByThen, AreGoneOver, IsClosed, IsHeldBy, AreHeldBy, AreReachable}
+use Rattle.hk_report.specs.Reachable.{moment_at, is_by, IsBy, begins_at, goes_on, IsByThen, AreGoneOver, IsClosed, IsHeldBy, AreHeldBy}
 use Rattle.hk_report.proofs.HistoryLemmas.{beyond}
 
 -- ---- no less is told of any object

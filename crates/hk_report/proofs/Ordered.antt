@@ -1,5 +1,5 @@
 -- Lists that are sorted by keys that begin with the name stand in the order of the names.
-use Rattle.std.proofs.Common.{◌≡◌, ℕ, zero, suc, ◌+◌, ◌<◌, ◌≤◌, List, [], ◌∷◌, length, Bool, true, false, Option, Some, refl, sym, ◌∙◌, ap, arith, subst}
+use Rattle.std.proofs.Common.{◌≡◌, ℕ, zero, suc, ◌+◌, ◌<◌, ◌≤◌, List, [], ◌∷◌, length, false, Option, Some, refl, sym, ◌∙◌, ap, arith, subst}
 use Rattle.std.specs.Prelude.{◌⊎◌, slice_set, slice_index_or}
 use mathlib.Core.Logic.{inl, inr}
 use Rattle.std.specs.Cmp.{ranked}
@@ -14,7 +14,7 @@ use Rattle.hk_model.specs.declared.names.Name.{Name}
 use Rattle.hk_report.specs.declared.histories.Span.{Span}
 use Rattle.hk_report.specs.declared.histories.History.{History}
 use Rattle.hk_report.specs.Histories.{no_history, history_of}
-use Rattle.hk_report.specs.Reachable.{moment_at, can_matter, IsKept, AreKept}
+use Rattle.hk_report.specs.Reachable.{moment_at, IsKept, AreKept}
 use Rattle.hk_report.specs.Runs.{AreByName, AreOrdered}
 use Rattle.hk_report.proofs.HistoryLemmas.{beyond}
 

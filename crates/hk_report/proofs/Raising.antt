@@ -23,7 +23,7 @@ use Rattle.hk_report.specs.declared.hops.Latest.{Latest}
 use Rattle.hk_report.specs.declared.hops.Onward.{Onward}
 use Rattle.hk_report.specs.Histories.{history_of}
 use Rattle.hk_report.specs.Hops.{later, arrived_by, arrived_whole, is_good, entry_onward, handed_onward, earlier, onward_over}
-use Rattle.hk_report.specs.Hops.{greater, from_on, entry_bound, handed_bound, no_latest, ends_before, latest_end, latest_from, next_latest}
+use Rattle.hk_report.specs.Hops.{greater, lesser, from_on, entry_bound, handed_bound, no_latest, ends_before, latest_end, latest_from, next_latest}
 use Rattle.hk_report.specs.Runs.{AreRuns}
 use Rattle.hk_report.specs.Holders.{spans_in, held_at, live_at, HoldsAlone, AreHolders, joined, latest_over, latest_within, entry_most, handed_most, most_on, raised_at, raised_over}
 use Rattle.hk_report.proofs.HolderLemmas.{drop_more}
@@ -497,6 +497,33 @@ pub over_run : (run : List Span) (cap : Cap) (latest : Latest) (made : Bool) (mo
     → over ≡ latest_within run latest made
 over_run run cap latest made most over alike e f =
     f ∙ ap (λ (l : Latest). bounds (most_on run l.modify) (most_on run l.unconf)) e ∙ latest_run run cap latest made alike
+
+-- a run that begins when a hop over it has to have been made gives nothing
+late_on : (run : List Span) (from bound : ℕ) → AllByRecursion (λ (s : Span). from ≤ s.from) run → bound ≤ from → most_on run bound ≡ 0
+late_on [] from bound h l = refl
+late_on (s ∷ run) from bound h l = rw (none, late_on run from bound h.1 l) refl
+  where
+    within : lesser s.until bound ≤ bound
+    within = by (nat_lt s.until bound) refl
+      where
+        by : (b : Bool) → nat_lt s.until bound ≡ b → cond b s.until bound ≤ bound
+        by true e = let m = ltb-true s.until bound e in omega (arith, m)
+        by false e = omega arith
+
+    none : from_on s bound ≡ 0
+    none =
+        let begun = h.0 in
+        let less = within in
+        ap (λ (b : Bool). cond b (lesser s.until bound) 0) (le-ltb s.from (lesser s.until bound) (omega (arith, begun, l, less)))
+
+pub late : (level : Name → Latest) (by : Name) (from : ℕ) (most : Latest) (run : List Span) (cap : Cap) (latest : Latest) (made : Bool)
+    → AllByRecursion (λ (s : Span). s.cap ≡ cap) run → AllByRecursion (λ (s : Span). from ≤ s.from) run → most ≡ bounds (handed_most made latest) (entry_most cap latest)
+    → most.modify ≤ from → most.unconf ≤ from → level ≡ raised_at level by (latest_within run latest made)
+late level by from most run cap latest made alike begun e m u =
+    sym (nothing_raised level by)
+    ∙ ap (raised_at level by)
+    (ap (λ (x : ℕ). bounds x 0) (sym (late_on run from most.modify begun m)) ∙ ap (bounds (most_on run most.modify)) (sym (late_on run from most.unconf begun u))
+    ∙ over_run run cap latest made most (bounds (most_on run most.modify) (most_on run most.unconf)) alike e refl)
 
 -- the level of no hop, as it is kept for one object
 pub end_kept : (name x : Name) (before : ℕ) → unwrap_or (lookup (same_name x) ((name, ends_before before) ∷ [])) no_latest ≡ latest_end name before x

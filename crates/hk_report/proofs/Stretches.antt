@@ -86,6 +86,25 @@ run_alike (s ∷ run) span h f =
     let same = ap (λ (x : Span). x.cap) (f s refl) in
     (same, each_all (λ (x : Span). x.cap ≡ span.cap) run (λ x g. let p = precedes_so s x (all_each (λ (y : Span). precedes s y ≡ true) run x h.0 g) in sym p.cap_is ∙ same))
 
+-- and of no span that began before the first
+run_begun : (run : List Span) (span : Span) → IsRun run → ((x : Span) → slice_get run 0 ≡ Some x → x ≡ span) → AllByRecursion (λ (s : Span). span.from ≤ s.from) run
+run_begun [] span h f = tt
+run_begun (s ∷ run) span h f = (first, each_all (λ (x : Span). span.from ≤ x.from) run (λ x g. next x (all_each (λ (y : Span). precedes s y ≡ true) run x h.0 g)))
+  where
+    same : s.from ≡ span.from
+    same = ap (λ (x : Span). x.from) (f s refl)
+
+    first : span.from ≤ s.from
+    first = let e = same in omega (arith, e)
+
+    next : (x : Span) → precedes s x ≡ true → span.from ≤ x.from
+    next x g =
+        let p = precedes_so s x g in
+        let stood = p.stood in
+        let gone = p.gone in
+        let e = same in
+        omega (arith, stood, gone, e)
+
 -- a stretch of these spans
 record IsStretchOf (by : Name) (spans : List Span) (s : Stretch) : Type 0 where
   by_is : s.by ≡ by
@@ -93,11 +112,20 @@ record IsStretchOf (by : Name) (spans : List Span) (s : Stretch) : Type 0 where
   ends : s.end ≤ length spans
   run : IsRun (between s.first s.end spans)
   alike : AllByRecursion (λ (span : Span). span.cap ≡ s.cap) (between s.first s.end spans)
+  begun : AllByRecursion (λ (span : Span). s.from ≤ span.from) (between s.first s.end spans)
 
 pub between_alike : (spans : List Span) (first end : ℕ) (span : Span) → slice_get spans first ≡ Some span → IsRun (between first end spans)
     → AllByRecursion (λ (s : Span). s.cap ≡ span.cap) (between first end spans)
 between_alike spans first end span e h =
     run_alike (between first end spans) span h (λ x g. option_same (sym (get_between spans first end 0 x g) ∙ ap (slice_get spans) plain ∙ e))
+  where
+    plain : first + 0 ≡ first
+    plain = omega arith
+
+between_begun : (spans : List Span) (first end : ℕ) (span : Span) → slice_get spans first ≡ Some span → IsRun (between first end spans)
+    → AllByRecursion (λ (s : Span). span.from ≤ s.from) (between first end spans)
+between_begun spans first end span e h =
+    run_begun (between first end spans) span h (λ x g. option_same (sym (get_between spans first end 0 x g) ∙ ap (slice_get spans) plain ∙ e))
   where
     plain : first + 0 ≡ first
     plain = omega arith
@@ -111,7 +139,14 @@ each_stretch by spans first (end ∷ ends) s cut h =
     one None e g = absurd g
     one (Some span) e (inl is) =
         subst (IsStretchOf by spans) is
-        (record { by_is = refl; begins = cut.0; ends = cut.1.0; run = cut.1.1.0; alike = between_alike spans first end span e cut.1.1.0 })
+        (record {
+          by_is = refl;
+          begins = cut.0;
+          ends = cut.1.0;
+          run = cut.1.1.0;
+          alike = between_alike spans first end span e cut.1.1.0;
+          begun = between_begun spans first end span e cut.1.1.0;
+        })
     one (Some span) e (inr none) = absurd none
 
     choose : (Has (stretches by spans end ends) s → IsStretchOf by spans s)
@@ -145,7 +180,7 @@ each_within by spans first (end ∷ ends) place span cut l e = choose (λ m. eac
         missing k (inl i) = got spans first i f
         missing k (inr i) = omega (arith, k, i, l)
     here m (Some head) f =
-        let s : Stretch = record { by = by; cap = head.cap; first = first; end = end } in
+        let s : Stretch = record { by = by; cap = head.cap; from = head.from; first = first; end = end } in
         let run = cut.1.1.0 in
         record {
           stretch = s;
@@ -213,6 +248,7 @@ module _ (histories : List History) (runs : List (List ℕ)) (cut : AreRuns hist
         ends = subst (λ (x : Name). s.end ≤ length (history_of histories x).spans) back of.ends;
         run = subst (λ (x : Name). IsRun (between s.first s.end (history_of histories x).spans)) back of.run;
         alike = subst (λ (x : Name). AllByRecursion (λ (span : Span). span.cap ≡ s.cap) (between s.first s.end (history_of histories x).spans)) back of.alike;
+        begun = subst (λ (x : Name). AllByRecursion (λ (span : Span). s.from ≤ span.from) (between s.first s.end (history_of histories x).spans)) back of.begun;
         name_is = name_same s.cap.name name (eqb-true s.cap.name.0 name.0 f.1);
       }
     where

@@ -19,7 +19,7 @@ spans_in histories stretch = between stretch.first stretch.end (history_of histo
 -- the stretches of a list from a place on, which end at these places
 abbrev pub stretch_at : Name → ℕ → ℕ → Option Span → List Stretch
 stretch_at by first end None = []
-stretch_at by first end (Some span) = record { by = by; cap = span.cap; first = first; end = end } ∷ []
+stretch_at by first end (Some span) = record { by = by; cap = span.cap; from = span.from; first = first; end = end } ∷ []
 
 abbrev pub stretches : Name → List Span → ℕ → List ℕ → List Stretch
 stretches by spans first [] = []
@@ -58,6 +58,7 @@ pub record HoldsAlone (histories : List History) (name : Name) (stretch : Stretc
   pub ends : stretch.end ≤ length (history_of histories stretch.by).spans
   pub run : IsRun (spans_in histories stretch)
   pub alike : AllByRecursion (λ (span : Span). span.cap ≡ stretch.cap) (spans_in histories stretch)
+  pub begun : AllByRecursion (λ (span : Span). stretch.from ≤ span.from) (spans_in histories stretch)
   pub name_is : stretch.cap.name ≡ name
 
 -- the stretches of the lists of the objects below a number, which end at these places

@@ -16,6 +16,8 @@ pub struct Stretch {
     pub by: Name,
     /// The capability that stood there.
     pub cap: Cap,
+    /// The first moment at which it stood there.
+    pub from: u32,
     /// The place of its first span among those of the list.
     pub first: usize,
     /// The place behind its last one.
@@ -67,13 +69,14 @@ fn add_run(
 {
     match spans.get(first) {
         Some(span) => {
-            let cap = span.cap;
+            let (cap, from) = (span.cap, span.from);
             add(
                 alloc,
                 all,
                 Stretch {
                     by,
                     cap,
+                    from,
                     first,
                     end,
                 },

@@ -80,6 +80,13 @@ impl Raise {
     }
 }
 
+/// Whether a run begins when a hop over it has to have been made.
+fn begins_late(held: &Stretch, most: Latest) -> bool
+    ensures { result ≡ true → (most.modify ≤ held.now.from) × (most.unconf ≤ held.now.from) }
+{
+    most.modify <= held.from && most.unconf <= held.from
+}
+
 /// A hop, and where it leads.
 #[derive(Clone, Copy, PartialEq, Eq, Debug)]
 pub struct Onward {
@@ -530,7 +537,7 @@ impl<'a> Ground<'a> {
     }
 
     /// What is kept for an object gives over a run to that which held it, behind what is to be raised already. A run that
-    /// cannot raise it further is not looked at.
+    /// cannot raise it further, or begins too late to raise it, is not looked at.
     fn raise_over(
         &self,
         next: &mut Bounds,
@@ -543,6 +550,9 @@ impl<'a> Ground<'a> {
         ensures { OnOk result (raised_at (bounds_at next.new) waiting.new.name waiting.new.latest ≡ raised_at (raised_at (bounds_at next.old) waiting.old.name waiting.old.latest) held.now.by (latest_within (spans_in self.now.histories.now held.now) latest made)) }
     {
         let most = most_over(held.cap, latest, made);
+        if begins_late(held, most) {
+            return Ok(());
+        }
         if waiting.covers(held.by, most) {
             return Ok(());
         }

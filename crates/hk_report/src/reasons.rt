@@ -172,7 +172,14 @@ impl Telling {
         let histories = self.histories.as_slice();
         let ends = all_ends(alloc, histories)?;
         let holders = holders(alloc, histories, ends.as_slice())?;
-        let lasts = lasts(alloc, histories, families, params, changes, holders.as_slice())?;
+        let lasts = lasts(
+            alloc,
+            histories,
+            families,
+            params,
+            changes,
+            holders.as_slice(),
+        )?;
         Ok(Runs {
             ends,
             holders,

@@ -1,4 +1,4 @@
-use Rattle.std.proofs.Common.{Option, Some, sym, ◌∙◌, subst, take, ◌+◌}
+use Rattle.std.proofs.Common.{Some, sym, ◌∙◌, subst, take, ◌+◌}
 use Rattle.hk_report.specs.declared.reachable.Moments.{Moments}
 use Rattle.hk_report.specs.Moments.{told_by}
 use Rattle.hk_report.specs.Reachable.{IsByThen, AreGoneOver}

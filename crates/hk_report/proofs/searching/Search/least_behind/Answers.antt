@@ -1,8 +1,6 @@
 use Rattle.std.proofs.Common.{◌≡◌, ℕ, suc, ◌+◌, List, sym, ◌∙◌, ap, arith, subst}
-use Rattle.hk_model.specs.declared.names.Name.{Name}
 use Rattle.hk_model.specs.declared.reaches.Hop.{Hop}
 use Rattle.hk_model.specs.declared.reaches.Reach.TheVariants.{Param}
-use Rattle.hk_report.specs.declared.hops.Latest.{Latest}
 use Rattle.hk_report.specs.Hops.{is_made, next_latest, latest_at}
 use Rattle.hk_report.specs.Reachable.{moment_at, comes_at, Agree}
 use Rattle.hk_report.specs.Searches.{level_at}
