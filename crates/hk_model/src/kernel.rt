@@ -57,6 +57,19 @@ pub trait Kernel: Drop {
         ensures memory { OnErr result (IsTrue (wants call)) }
         ensures err { OnErr result (state self.new ≡ state self.old) };
 
+    /// The same of a call that stays where it stands. A kernel that need not copy a call to make it does it here.
+    fn answer(&mut self, alloc: Global, cpu: Cpu, call: &Call) -> Result<Acted, NoMemory>
+        requires runs { IsSome (runner (state self.old) cpu) }
+        requires below { IsTrue (may_step (state self.old)) }
+        ensures reply { IfOk result (λ acted. acted_on (state self.old) cpu call.now ≡ (acted.reply, state self.new)) }
+        ensures code { IfOk result (λ acted. acted.code ≡ entered_on (state self.old) cpu call.now acted.reply) }
+        ensures gone { IfOk result (λ acted. acted.gone ≡ has_left (state self.old) cpu (state self.new)) }
+        ensures memory { OnErr result (IsTrue (wants call.now)) }
+        ensures err { OnErr result (state self.new ≡ state self.old) }
+    {
+        self.act(alloc, cpu, *call)
+    }
+
     /// Gives the processor the first ready process. None exactly where none is ready; then nothing
     /// changes.
     fn dispatch(&mut self, cpu: Cpu) -> Option<Proc>

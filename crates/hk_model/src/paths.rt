@@ -71,6 +71,18 @@ impl Path {
         })
     }
 
+    /// The path of one index.
+    #[inline(always)]
+    pub fn of_one(index: u16) -> Path
+        ensures { result ≡ index ∷ [] }
+    {
+        // written out, so that it need not be laid out in memory to be copied
+        Path {
+            indices: [index, 0, 0, 0, 0, 0, 0, 0],
+            count: 1,
+        }
+    }
+
     /// The indices.
     pub fn as_slice(&self) -> &[u16]
         ensures { result.now ≡ self.now }

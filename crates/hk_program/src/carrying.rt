@@ -92,7 +92,7 @@ pub(crate) fn carry_into<K: Kernel>(
 {
     match todo {
         Todo::Do(call) => {
-            let acted = kernel.act(alloc, line.cpu, *call)?;
+            let acted = kernel.answer(alloc, line.cpu, call)?;
             after(context, world, call, &acted);
             line.what = What::Call(*call);
             line.reply = acted.reply;

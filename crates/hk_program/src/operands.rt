@@ -1,6 +1,6 @@
 //! What the operands of an instruction are worth in a frame.
 
-ghost use Rattle.std.specs.Prelude.{◌≡◌, ◌∷◌, []};
+ghost use Rattle.std.specs.Prelude.{◌≡◌};
 ghost use Rattle.hk_model.specs.WorldValue.{IsOperand, IsIndex, IsRoute};
 ghost use Rattle.hk_model.specs.Control.{operand, index_of, path_of};
 
@@ -29,7 +29,7 @@ pub(crate) fn index(frame: &Frame, of: &Index) -> u16
     }
 }
 
-/// The path of a route's indices.
+/// The path of a route's indices. Most have one.
 #[inline(always)]
 pub(crate) fn path(frame: &Frame, route: &Route) -> Path
     requires { IsRoute route.now }
@@ -37,7 +37,7 @@ pub(crate) fn path(frame: &Frame, route: &Route) -> Path
 {
     let at = route.at.as_slice();
     if at.len() == 1 {
-        path_of_one(index(frame, &at[0]))
+        Path::of_one(index(frame, &at[0]))
     } else {
         path_of_all(frame, route)
     }
@@ -54,17 +54,6 @@ fn path_of_all(frame: &Frame, route: &Route) -> Path
         indices[step] = index(frame, of);
     }
     match Path::new(&indices[..route.len()]) {
-        Some(path) => path,
-        None => unreachable!(),
-    }
-}
-
-/// The path of one index, which most paths have.
-#[inline(always)]
-fn path_of_one(index: u16) -> Path
-    ensures { result ≡ index ∷ [] }
-{
-    match Path::new(&[index]) {
         Some(path) => path,
         None => unreachable!(),
     }

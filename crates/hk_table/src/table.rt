@@ -96,10 +96,14 @@ impl Kernel for Table {
     ghost wants = { λ call. takes_memory call };
 
     fn act(&mut self, alloc: Global, cpu: Cpu, call: Call) -> Result<Acted, NoMemory> {
+        self.answer(alloc, cpu, &call)
+    }
+
+    fn answer(&mut self, alloc: Global, cpu: Cpu, call: &Call) -> Result<Acted, NoMemory> {
         match self.parts.runner(cpu) {
             Some(proc) => {
                 self.parts
-                    .act(alloc, proc, &call, &mut self.draft, &mut self.rooted)
+                    .act(alloc, proc, call, &mut self.draft, &mut self.rooted)
             }
             None => unreachable!(),
         }

@@ -33,6 +33,10 @@ impl Kernel for ShowingTable {
         self.table.act(alloc, cpu, call)
     }
 
+    fn answer(&mut self, alloc: Global, cpu: Cpu, call: &Call) -> Result<Acted, NoMemory> {
+        self.table.answer(alloc, cpu, call)
+    }
+
     fn dispatch(&mut self, cpu: Cpu) -> Option<Proc> {
         self.table.dispatch(cpu)
     }

@@ -1,6 +1,6 @@
 use Rattle.std.proofs.Common.{sym}
 use Rattle.hk_table.proofs.Named.{act_leaves}
-use Rattle.hk_table.proofs.table.TableKernel.act.Goals as goal
+use Rattle.hk_table.proofs.table.TableKernel.answer.Goals as goal
 
 pub invariant_of-self : goal.invariant_of-self
 invariant_of-self c =
