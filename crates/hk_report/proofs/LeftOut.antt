@@ -9,7 +9,9 @@ use Rattle.std.proofs.lemmas.List.{nil_from_length}
 use Rattle.std.proofs.lemmas.List.Sorted.{IsPermutation-refl, IsPermutation-sym, IsPermutation-trans, IsPermutation-append_left, IsPermutation-filter_both, Contains-permutation, length_permutation}
 use Rattle.hk_model.specs.declared.names.Name.{Name}
 use Rattle.hk_model.specs.declared.names.Inc.{Inc}
+use Rattle.hk_model.specs.declared.entries.Cap.{Cap}
 use Rattle.hk_model.specs.declared.entries.Entry.{Entry}
+use Rattle.hk_model.specs.Places.{cap_of}
 use Rattle.hk_model.specs.declared.lines.Line.{Line}
 use Rattle.hk_model.specs.declared.reaches.Reach.{Reach}
 use Rattle.hk_model.specs.declared.reaches.Change.{Change}
@@ -27,7 +29,7 @@ use Rattle.hk_report.specs.Families.{changes_from, families_after}
 use Rattle.hk_report.specs.Histories.{no_history, history_of, told_histories}
 use Rattle.hk_report.specs.Hops.{later, has_begun, is_made}
 use Rattle.hk_report.specs.Reasons.{params_at, IsReasonedBy, IsTold, AreTold}
-use Rattle.hk_report.specs.Reachable.{IsByThen, goes_on, AreGoneOver, AreHeldBy, IsClosed, can_matter, AreKept, IsEnough}
+use Rattle.hk_report.specs.Reachable.{IsByThen, begins_at, goes_on, AreGoneOver, IsHeldBy, AreHeldBy, IsClosed, can_matter, AreKept, IsEnough}
 use Rattle.hk_report.specs.Runs.{IsRearranged, AreRearranged}
 use Rattle.hk_report.specs.Searches.{IsFound}
 use Rattle.hk_report.proofs.Agreeing.{IsThinned, IsThinnedBy, found_same}
@@ -209,15 +211,28 @@ report_enough w lines told histories params families found all world steps h eno
     (told_all_same families params enough.firsts histories (whole enough.firsts histories told enough.kept) (whole_makers enough.firsts histories told enough.kept)
     (whole_thin enough.firsts histories told enough.kept) (whole_closed enough.firsts histories told enough.kept enough.reachable.closed) found all enough.reachable.starts is)
 
--- where there is no change, all is enough
-pub enough_none : (families : List (List Begun)) (params : List (List Entry)) (bares : List BareChange) (histories : List History) → length bares ≡ 0
+-- all is enough
+pub enough_all : (families : List (List Begun)) (params : List (List Entry)) (bares : List BareChange) (histories : List History)
     → IsEnough families params bares histories histories
-enough_none families params [] histories e = record {
+enough_all families params bares histories = record {
   firsts = λ name. Some 0;
-  reachable = record { starts = tt; closed = λ name. all_so (history_of histories name).spans };
+  reachable = record { starts = all_begin bares; closed = λ name. all_so (history_of histories name).spans };
   kept = λ name. record { maker_is = refl; spans_are = all_kept (history_of histories name).spans };
 }
   where
+    all_held : (moment : ℕ) (entries : List Entry) → AreHeldBy (λ name. Some 0) moment entries
+    all_held moment [] = tt
+    all_held moment (e ∷ entries) = (by (cap_of e), all_held moment entries)
+      where
+        by : (cap : Option Cap) → IsHeldBy (λ name. Some 0) moment cap
+        by None = tt
+        by (Some cap) = omega arith
+
+    all_begin : (bs : List BareChange)
+        → AllByRecursion (λ (b : BareChange). AreHeldBy (λ name. Some 0) (begins_at First b.under.moment) (params_at families params b.under.call)) bs
+    all_begin [] = tt
+    all_begin (b ∷ bs) = (all_held (begins_at First b.under.moment) (params_at families params b.under.call), all_begin bs)
+
     all_so : (spans : List Span) → AreGoneOver First (λ name. Some 0) (Some 0) spans
     all_so [] = tt
     all_so (s ∷ spans) = (by (nat_lt 0 s.until), all_so spans)
@@ -234,4 +249,3 @@ enough_none families params [] histories e = record {
 
     all_kept : (spans : List Span) → IsPermutation (filter (can_matter (Some 0)) spans) spans
     all_kept spans = subst (λ (xs : List Span). IsPermutation xs spans) (sym (all_matter spans)) (IsPermutation-refl spans)
-enough_none families params (b ∷ bares) histories e = absurd (omega (arith, e))

@@ -3,7 +3,7 @@ use Rattle.std.proofs.Common.{◌≡◌, ℕ, zero, suc, ◌+◌, ◌-◌, ◌<�
 use Rattle.std.specs.Prelude.{slice_index_or}
 use Rattle.std.specs.Prelude.{OnErr}
 use Rattle.std.specs.List.{slice_range}
-use Rattle.std.proofs.lemmas.List.{map-append, take-append-le, take_more, length-append, length-drop, get_or_append_left, get_or-drop}
+use Rattle.std.proofs.lemmas.List.{map-append, length-take-le, take-append-le, take_more, length-append, length-drop, get_or_append_left, get_or-drop}
 use Rattle.std.proofs.Math.Seq.{drop-append_seam, take-length}
 use Rattle.hk_model.specs.declared.entries.Entry.{Entry}
 use Rattle.hk_report.specs.declared.lists.Place.{Place}
@@ -29,6 +29,14 @@ places_more (x ∷ places) place count h p = (h.0, places_more places place coun
 -- ---- lists
 
 module _ {X : Type 0} where
+  -- as many items stand at a place as it has room for
+  pub length_range : (items : List X) (place : Place) → IsPlace (length items) place → length (slice_range items place.start place.end) ≡ place.end - place.start
+  length_range items place h =
+      let low = h.0 in
+      let high = h.1 in
+      let c = length-drop place.start items in
+      length-take-le (place.end - place.start) (drop place.start items) (omega (arith, low, high, c))
+
   none_at : (items : List X) → items_at items no_place ≡ []
   none_at [] = refl
   none_at (x ∷ items) = refl

@@ -208,10 +208,11 @@ impl<'a> Known<'a> {
         if listed.is_some() {
             return listed;
         }
+        let path = changed_path(call)?;
         if calls_over(self.calls, inc).is_empty() {
             return None;
         }
-        named_on(kernel, cpu, inc, changed_path(call))
+        named_on(kernel, cpu, inc, Some(path))
     }
 }
 

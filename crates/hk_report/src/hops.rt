@@ -442,18 +442,30 @@ fn latest_end(end: Name, before: u32, name: Name) -> Latest
     }
 }
 
+/// Whether an object was made under a call.
+pub(crate) fn is_made(
+    families: &Lists<Begun>,
+    begun: Begun,
+    histories: &[History],
+    name: Name,
+) -> bool
+    ensures { result ≡ is_made families.now begun histories.now name }
+{
+    match histories.get(name.0 as usize) {
+        Some(history) => match history.maker {
+            Some(inc) => has_begun(begun, calls_over(families, inc)),
+            None => false,
+        },
+        None => false,
+    }
+}
+
 impl<'a> Ground<'a> {
     /// Whether an object was made under the call.
     pub(crate) fn is_made(&self, name: Name) -> bool
         ensures { result ≡ is_made self.now.families.now self.now.begun self.now.histories.now name }
     {
-        match self.histories.get(name.0 as usize) {
-            Some(history) => match history.maker {
-                Some(inc) => has_begun(self.begun, calls_over(self.families, inc)),
-                None => false,
-            },
-            None => false,
-        }
+        is_made(self.families, self.begun, self.histories, name)
     }
 
     /// From which moments the rest can be made at an object.

@@ -1,6 +1,6 @@
 //! Lists by number, whose items stand one behind another in one piece of memory.
 
-ghost use Rattle.std.specs.Prelude.{◌≡◌, ◌≤◌, ◌++◌, ◌∷◌, [], length, replicate, slice_index_or, IfOk, OnOk, OnErr};
+ghost use Rattle.std.specs.Prelude.{◌≡◌, ◌≤◌, ◌+◌, ◌++◌, ◌∷◌, [], length, replicate, slice_index_or, IfOk, OnOk, OnErr};
 ghost use Rattle.std.specs.List.{slice_range};
 ghost use Rattle.hk_report.specs.Lists.{IsPlace, ArePlaces, no_place};
 
@@ -11,8 +11,8 @@ use std::marker::Model;
 /// Where the items of a list stand: from one place on, up to another.
 #[derive(Clone, Copy, PartialEq, Eq, Debug)]
 pub struct Place {
-    pub start: usize,
-    pub end: usize,
+    pub start: u32,
+    pub end: u32,
 }
 
 /// Lists by number, each of which stands at its place among the items of all. Lists of the same items can share a place.
@@ -32,6 +32,19 @@ impl<T: Drop + Copy> Model for Lists<T> {
     ghost view = { λ a. lists_at a.items.items a.places.items };
 
     ghost invariant = { λ a. ArePlaces (length a.items.items) a.places.items };
+}
+
+/// The place of so many items behind so many others. NoMemory is want of room in the numbers.
+fn place_behind(start: usize, count: usize) -> Result<Place, NoMemory>
+    ensures { IfOk result (λ place. place ≡ record { start = start; end = start + count }) }
+{
+    let (Ok(start), Ok(count)) = (u32::try_from(start), u32::try_from(count)) else {
+        return Err(NoMemory);
+    };
+    match start.checked_add(count) {
+        Some(end) => Ok(Place { start, end }),
+        None => Err(NoMemory),
+    }
 }
 
 /// The place of the list of this number; none of the items where there is no such list.
@@ -54,7 +67,7 @@ fn add_longer<T: Drop + Copy>(items: &mut Vec<T>, place: Place, item: T) -> Resu
     ensures kept { length items.old.items ≤ length items.new.items }
 {
     for at in place.start..place.end {
-        let copied = items[at];
+        let copied = items[at as usize];
         items.push(copied)?;
     }
     items.push(item)?;
@@ -95,7 +108,7 @@ impl<T: Drop + Copy> Lists<T> {
         ensures { result.now ≡ slice_index_or self.now number [] }
     {
         let place = place_at(self.places.as_slice(), number, self.items.len());
-        &self.items[place.start..place.end]
+        &self.items[place.start as usize..place.end as usize]
     }
 
     /// One list more, of these items. NoMemory is want of memory.
@@ -103,10 +116,9 @@ impl<T: Drop + Copy> Lists<T> {
         ensures ok { OnOk result (self.new ≡ self.old ++ items.now ∷ []) }
         ensures err { OnErr result (self.new ≡ self.old) }
     {
-        let start = self.items.len();
+        let place = place_behind(self.items.len(), items.len())?;
         self.items.extend_from_slice(items)?;
-        let end = self.items.len();
-        self.places.push(Place { start, end })?;
+        self.places.push(place)?;
         Ok(())
     }
 
@@ -123,11 +135,12 @@ impl<T: Drop + Copy> Lists<T> {
     pub(crate) fn push_longer(&mut self, number: usize, item: T) -> Result<(), NoMemory>
         ensures { OnOk result (self.new ≡ self.old ++ (slice_index_or self.old number [] ++ item ∷ []) ∷ []) }
     {
-        let place = place_at(self.places.as_slice(), number, self.items.len());
-        let start = self.items.len();
-        add_longer(&mut self.items, place, item)?;
-        let end = self.items.len();
-        self.places.push(Place { start, end })?;
+        let items = self.items.len();
+        let shorter = place_at(self.places.as_slice(), number, items);
+        let count = (shorter.end - shorter.start) as usize + 1;
+        let place = place_behind(items, count)?;
+        add_longer(&mut self.items, shorter, item)?;
+        self.places.push(place)?;
         Ok(())
     }
 }

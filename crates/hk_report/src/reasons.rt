@@ -1,6 +1,6 @@
 //! Why a change under a confined call could be made (`docs/RULES.md`, "Changes and their reasons").
 
-ghost use Rattle.std.specs.Prelude.{◌≡◌, ◌<◌, ◌≤◌, ◌^◌, ◌+◌, length, vec_len, IfOk, OnOk, string_bytes};
+ghost use Rattle.std.specs.Prelude.{◌≡◌, ◌<◌, ◌≤◌, ◌^◌, ◌+◌, [], length, vec_len, IfOk, IfSome, OnOk, string_bytes};
 ghost use Rattle.hk_report.specs.Runs.{AreRuns, AreRuns-prop, AreOrdered, AreOrdered-prop};
 ghost use Rattle.std.specs.List.{AllByRecursion};
 ghost use Rattle.hk_report.specs.declared.reachable.Side.TheVariants.{Last};
@@ -12,13 +12,13 @@ ghost use Rattle.hk_report.specs.Written.{AreWritten};
 use crate::families::{BareChange, Begun};
 use crate::histories::History;
 use crate::holders::{Stretch, holders};
-use crate::hops::Ground;
+use crate::hops::{Ground, is_made};
 use crate::lists::Lists;
 use crate::params::GivenParams;
 use crate::reachable::{Side, lasts, reachable};
 use crate::replay::Telling;
 use crate::runs::{all_ends, rearrange_all};
-use crate::searching::Search;
+use crate::searching::{Search, direct_param};
 use crate::texts::write_change;
 use hk_model::{Change, Items, NoMemory, Reach};
 use std::alloc::Global;
@@ -53,6 +53,19 @@ pub(crate) struct Grounds<'a> {
     ghost held: { AreHolders histories.now runs.now holders.now },
     ghost ordered: { AreOrdered histories.now } by { AreOrdered-prop histories.now },
     ghost closed: { IsClosed Last histories.now (moment_at lasts.now) } by { IsClosed-prop Last histories.now (moment_at lasts.now) },
+}
+
+/// A change with this reason.
+fn told_with(bare: &BareChange, reach: Reach) -> Change
+    requires { bare.now.moment + 1 < 2 ^ 32 }
+    ensures { result ≡ record { line = bare.now.moment + 1; under = bare.now.under.call; object = bare.now.object; reach = reach } }
+{
+    Change {
+        line: bare.moment + 1,
+        under: bare.under.call,
+        object: bare.object,
+        reach,
+    }
 }
 
 impl<'a> Grounds<'a> {
@@ -110,12 +123,7 @@ impl<'a> Grounds<'a> {
         ensures { IfOk result (λ change. IsTold self.now.families.now self.now.histories.now self.now.params.now bare.now change) }
     {
         let reach = self.reason(alloc, bare)?;
-        Ok(Change {
-            line: bare.moment + 1,
-            under: bare.under.call,
-            object: bare.object,
-            reach,
-        })
+        Ok(told_with(bare, reach))
     }
 
     /// These changes, each with its reason. NoMemory is want of memory.
@@ -202,18 +210,71 @@ impl Telling {
         grounds.explain_all(alloc, self.families.changes.as_slice())
     }
 
-    /// Writes them. NoMemory is want of memory.
-    pub(crate) fn write(&mut self, alloc: Global, out: &mut String) -> Result<(), NoMemory>
+    /// Why a change could be made, where no way has to be sought: its object was made under the call, or is that of a parameter
+    /// with MODIFY.
+    fn reason_at_hand(&self, alloc: Global, bare: &BareChange) -> Option<Reach>
+        ensures { IfSome result (λ reach. IsReasoned self.now.families.calls self.now.histories.items self.now.params bare.now reach) }
+    {
+        let families = &self.families.calls;
+        if is_made(families, bare.under, self.histories.as_slice(), bare.object) {
+            return Some(Reach::Made);
+        }
+        let params = self.params.of(families, bare.under.call);
+        let arg = direct_param(params, bare.object)?;
+        let hops = Items::new(alloc);
+        Some(Reach::Param { arg, hops })
+    }
+
+    /// A change with its reason, where that is at hand.
+    fn explain_at_hand(&self, alloc: Global, bare: &BareChange) -> Option<Change>
+        requires { bare.now.moment + 1 < 2 ^ 32 }
+        ensures { IfSome result (λ change. IsTold self.now.families.calls self.now.histories.items self.now.params bare.now change) }
+    {
+        let reach = self.reason_at_hand(alloc, bare)?;
+        Some(told_with(bare, reach))
+    }
+
+    /// The text of the changes, where the reason of each is at hand; None where that of one is not. NoMemory is want of memory.
+    #[tactic(auto, using(crate::proofs::WrittenLemmas::written_none, crate::proofs::WrittenLemmas::written_all, crate::proofs::ReasonLemmas::few_at))]
+    fn text_at_hand(&self, alloc: Global) -> Result<Option<String>, NoMemory>
+        requires { AreFew self.now.families.changes.items }
+        ensures { IfOk result (λ text. IfSome text (λ text. AreWritten self.now.families.calls self.now.histories.items self.now.params self.now.families.changes.items [] (string_bytes text))) }
+    {
+        let mut text = String::new(alloc);
+        for bare in self.families.changes.as_slice() {
+            match self.explain_at_hand(alloc, bare) {
+                Some(change) => write_change(&mut text, &change)?,
+                None => return Ok(None),
+            }
+        }
+        Ok(Some(text))
+    }
+
+    /// Writes the changes, each with its reason. What has stood in a list is put in order for it. NoMemory is want of memory.
+    fn write(&mut self, alloc: Global, out: &mut String) -> Result<(), NoMemory>
         requires { AreFew self.old.families.changes.items }
         ensures enough { OnOk result (IsEnough self.old.families.calls self.old.params self.old.families.changes.items self.old.histories.items self.new.histories.items) }
         ensures count { vec_len self.new.families.changes ≡ length self.old.families.changes.items }
         ensures written { OnOk result (AreWritten self.old.families.calls self.new.histories.items self.old.params self.old.families.changes.items (string_bytes out.old) (string_bytes out.new)) }
     {
-        if self.families.changes.is_empty() {
-            return Ok(());
-        }
         let runs = self.order(alloc)?;
         let grounds = Grounds::of(self, &runs);
         grounds.write_all(alloc, out, self.families.changes.as_slice())
+    }
+
+    /// The text of the changes. What has stood in a list is put in order for it, where the reason of one is not at hand. NoMemory
+    /// is want of memory.
+    pub(crate) fn text(&mut self, alloc: Global) -> Result<String, NoMemory>
+        requires { AreFew self.old.families.changes.items }
+        ensures enough { OnOk result (IsEnough self.old.families.calls self.old.params self.old.families.changes.items self.old.histories.items self.new.histories.items) }
+        ensures count { vec_len self.new.families.changes ≡ length self.old.families.changes.items }
+        ensures written { IfOk result (λ text. AreWritten self.old.families.calls self.new.histories.items self.old.params self.old.families.changes.items [] (string_bytes text)) }
+    {
+        if let Some(text) = self.text_at_hand(alloc)? {
+            return Ok(text);
+        }
+        let mut text = String::new(alloc);
+        self.write(alloc, &mut text)?;
+        Ok(text)
     }
 }

@@ -64,8 +64,7 @@ impl<K: Shows> Retelling<K> {
         ensures { IfOk result (λ text. (w : WorldValue) → (lines : List Line) → IsWorld w → IsRetold w lines self → IsReport w lines text) }
     {
         let mut told = self.end(alloc)?;
-        let mut out = String::new(alloc);
-        told.write(alloc, &mut out)?;
+        let mut out = told.text(alloc)?;
         write_count(&mut out, told.families.changes.len())?;
         Ok(Text::from_string(out))
     }
@@ -82,8 +81,7 @@ pub fn report_text(alloc: Global, world: &World, lines: &[Line]) -> Result<Text,
 {
     let _limit = world.limit();
     let mut told = told(alloc, world, lines)?;
-    let mut out = String::new(alloc);
-    told.write(alloc, &mut out)?;
+    let mut out = told.text(alloc)?;
     write_count(&mut out, told.families.changes.len())?;
     Ok(Text::from_string(out))
 }

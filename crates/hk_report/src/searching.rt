@@ -41,7 +41,7 @@ fn is_direct(entry: &Entry, wanted: Name) -> bool
 }
 
 /// The first parameter of this object with MODIFY.
-fn direct_param(params: &[Entry], wanted: Name) -> Option<u8>
+pub(crate) fn direct_param(params: &[Entry], wanted: Name) -> Option<u8>
     requires { length params.now ≤ 8 }
     ensures { result ≡ direct_param wanted 0 params.now }
 {

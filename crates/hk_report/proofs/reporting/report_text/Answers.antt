@@ -1,4 +1,4 @@
-use Rattle.std.proofs.Common.{string_bytes, ◌∙◌}
+use Rattle.std.proofs.Common.{[], refl, string_bytes, ◌∙◌}
 use Rattle.hk_report.proofs.WrittenLemmas.{reported}
 use Rattle.hk_report.proofs.reporting.report_text.Goals as goal
 
@@ -6,8 +6,8 @@ pub returns : goal.returns
 returns c =
     let told = c.in_ok-told.told in
     let t = c.in_ok-told.ensures in
-    let x = c.in_ok-write.ensures in
-    let after = c.write.new.self in
+    let x = c.in_ok-out.ensures in
+    let after = c.text.new.self in
     reported c.args.world.now c.args.lines.now told.histories.items after.histories.items told.params told.families.calls told.families.changes.items c.len.result
-    (string_bytes c.new-out.result) (string_bytes c.write.new.out) c.from_string.result c.limit-limit.ensures.valid c.requires t.histories x.enough t.params t.calls t.changes
-    (c.len.ensures ∙ x.count) c.new-out.ensures.bytes x.written (c.from_string.ensures ∙ c.in_ok-write_count.ensures)
+    [] (string_bytes c.in_ok-out.out) c.from_string.result c.limit-limit.ensures.valid c.requires t.histories x.enough t.params t.calls t.changes
+    (c.len.ensures ∙ x.count) refl x.written (c.from_string.ensures ∙ c.in_ok-write_count.ensures)

@@ -1,5 +1,6 @@
 use Rattle.std.proofs.Common.{◌≡◌, ◌∙◌, subst, sym, ap, length, arith, ◌++◌}
 use Rattle.std.proofs.lemmas.List.{length-append}
+use Rattle.hk_report.specs.declared.lists.Place.{Place}
 use Rattle.hk_report.specs.Lists.{ArePlaces}
 use Rattle.hk_report.proofs.ListLemmas.{lists_kept, lists_more, places_kept, places_more, on_err}
 use Rattle.hk_report.proofs.lists.Lists.push.Goals as goal
@@ -20,18 +21,26 @@ invariant_of-self-2 g c =
     let all = c.extend_from_slice.new.self.items in
     let n = length-append old.items.items c.args.items.now in
     let m : length all ≡ length (old.items.items ++ c.args.items.now) = ap length e in
-    let s = c.len-start.ensures in
-    let t = c.len-end.ensures in
+    let place = c.in_ok-place.place in
+    let start = ap (λ (p : Place). p.start) c.in_ok-place.ensures in
+    let end = ap (λ (p : Place). p.end) c.in_ok-place.ensures in
+    let s = c.len.ensures in
     subst (ArePlaces (length all)) (sym c.in_ok-push.ensures.items)
     (places_more old.places.items _ (length all) (places_kept old.places.items (length old.items.items) (length all) (omega (arith, n, m)) c.self.invariant)
-    (omega (arith, n, m, s, t), omega (arith, t)))
+    (omega (arith, start, end), omega (arith, n, m, end, s)))
 
 pub returns-clause-ok : goal.returns-clause-ok
 returns-clause-ok g c =
     let old = c.self.inside in
     let all = c.extend_from_slice.new.self.items in
-    let start : c.len-start.result ≡ length old.items.items = omega (arith, c.len-start.ensures) in
-    let end : c.len-end.result ≡ length all = omega (arith, c.len-end.ensures) in
+    let place = c.in_ok-place.place in
+    let n = length-append old.items.items c.args.items.now in
+    let m : length all ≡ length (old.items.items ++ c.args.items.now) = ap length c.in_ok-extend_from_slice.ensures.items in
+    let first = ap (λ (p : Place). p.start) c.in_ok-place.ensures in
+    let last = ap (λ (p : Place). p.end) c.in_ok-place.ensures in
+    let s = c.len.ensures in
+    let start : place.start ≡ length old.items.items = omega (arith, first, s) in
+    let end : place.end ≡ length all = omega (arith, n, m, last, s) in
     lists_more c.args.self.now old.items.items c.args.items.now all old.places.items c.push.new.self.items
-    (record { start = c.len-start.result; end = c.len-end.result }) c.self.view_is c.self.invariant c.in_ok-extend_from_slice.ensures.items c.in_ok-push.ensures.items
+    place c.self.view_is c.self.invariant c.in_ok-extend_from_slice.ensures.items c.in_ok-push.ensures.items
     start end
