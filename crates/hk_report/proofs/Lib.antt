@@ -22,6 +22,7 @@ mod Unchanged
 mod RunLemmas
 mod RunHops
 mod LateRuns
+mod BlockLemmas
 mod RunSkips
 mod HeldIn
 mod RunsBelow

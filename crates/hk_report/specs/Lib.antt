@@ -4,6 +4,7 @@ pub mod Histories
 pub mod Families
 pub mod Hops
 pub mod Runs
+pub mod Blocks
 pub mod Holders
 pub mod Searches
 pub mod Reasons

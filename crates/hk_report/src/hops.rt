@@ -8,12 +8,14 @@ ghost use Rattle.hk_model.specs.Reaches.{index_of, moment_of};
 ghost use Rattle.hk_model.specs.Changes.{hop_key};
 ghost use Rattle.hk_report.specs.Histories.{history_of};
 ghost use Rattle.hk_report.specs.Runs.{IsRun, AreRuns, AreRuns-prop, AreOrdered, AreOrdered-prop, ends_at, is_open};
+ghost use Rattle.hk_report.specs.Blocks.{AreBlocked, AreBlocked-prop};
 ghost use Rattle.hk_report.specs.declared.hops.Level.TheVariants.{Behind};
 ghost use Rattle.hk_report.specs.Hops.{StaysFirst, same_begun, has_begun, is_made, next_latest, later, greater, lesser, arrived_by, arrived_whole, no_latest, ends_before, bounds_at, latest_at, latest_end, alone, is_good, entry_onward, handed_onward, earlier, onward_below, first_open_below, first_from, from_on};
 ghost use Rattle.hk_report.specs.declared.reachable.Side.TheVariants.{Last};
 ghost use Rattle.hk_report.specs.Reachable.{moment_at, can_come, comes_at, Agree, IsClosed, IsClosed-prop};
 ghost use Rattle.hk_report.specs.Holders.{AreHolders, HoldsAlone, held_at, live_at, held_in, is_other, spans_in, joined, latest_within, entry_most, handed_most, most_on, raised_at, raised_over};
 
+use crate::blocks::Block;
 use crate::families::{Begun, calls_over};
 use crate::histories::{History, Span};
 use crate::holders::Stretch;
@@ -105,11 +107,14 @@ pub(crate) struct Ground<'a> {
     pub begun: Begun,
     /// The places at which the runs of each list end, by the name of its object.
     pub runs: &'a [Items<usize>],
+    /// The blocks of the runs of each list, by the name of its object.
+    pub blocks: &'a [Items<Block>],
     /// The runs that hold each object, by its name.
     pub holders: &'a [Items<Stretch>],
     /// The last moments at which a call can begin that comes to each object, by its name, counted back.
     pub lasts: &'a [Option<u32>],
     ghost cut: { AreRuns histories.now runs.now } by { AreRuns-prop histories.now runs.now },
+    ghost blocked: { AreBlocked histories.now runs.now blocks.now } by { AreBlocked-prop histories.now runs.now blocks.now },
     ghost held: { AreHolders histories.now runs.now holders.now },
     ghost ordered: { AreOrdered histories.now } by { AreOrdered-prop histories.now },
     ghost closed: { IsClosed Last histories.now (moment_at lasts.now) } by { IsClosed-prop Last histories.now (moment_at lasts.now) },

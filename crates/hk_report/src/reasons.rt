@@ -2,6 +2,7 @@
 
 ghost use Rattle.std.specs.Prelude.{◌≡◌, ◌<◌, ◌≤◌, ◌^◌, ◌+◌, length, vec_len, IfOk, OnOk, string_bytes};
 ghost use Rattle.hk_report.specs.Runs.{AreRuns, AreRuns-prop, AreOrdered, AreOrdered-prop};
+ghost use Rattle.hk_report.specs.Blocks.{AreBlocked, AreBlocked-prop};
 ghost use Rattle.std.specs.List.{AllByRecursion};
 ghost use Rattle.hk_report.specs.declared.reachable.Side.TheVariants.{Last};
 ghost use Rattle.hk_report.specs.Reachable.{moment_at, from_end, AreHeldBy, AreReachable, IsClosed, IsClosed-prop, IsEnough};
@@ -9,6 +10,7 @@ ghost use Rattle.hk_report.specs.Holders.{AreHolders};
 ghost use Rattle.hk_report.specs.Reasons.{params_at, IsReasoned, IsTold, AreFew, AreTold};
 ghost use Rattle.hk_report.specs.Written.{AreWritten};
 
+use crate::blocks::{Block, all_blocks};
 use crate::families::{BareChange, Begun};
 use crate::histories::History;
 use crate::holders::{Stretch, holders};
@@ -28,6 +30,8 @@ use std::alloc::Global;
 pub(crate) struct Runs {
     /// The places at which those of each list end, by the name of its object.
     pub ends: Vec<Items<usize>>,
+    /// The blocks of those of each list, by the name of its object.
+    pub blocks: Vec<Items<Block>>,
     /// Those that hold each object, by its name.
     pub holders: Vec<Items<Stretch>>,
     /// The last moments at which calls can begin that come to each object, by its name, counted back.
@@ -45,11 +49,14 @@ pub(crate) struct Grounds<'a> {
     pub params: &'a GivenParams,
     /// The places at which the runs of each list end, by the name of its object.
     pub runs: &'a [Items<usize>],
+    /// The blocks of the runs of each list, by the name of its object.
+    pub blocks: &'a [Items<Block>],
     /// The runs that hold each object, by its name.
     pub holders: &'a [Items<Stretch>],
     /// The last moments at which calls can begin that come to each object, by its name, counted back.
     pub lasts: &'a [Option<u32>],
     ghost cut: { AreRuns histories.now runs.now } by { AreRuns-prop histories.now runs.now },
+    ghost blocked: { AreBlocked histories.now runs.now blocks.now } by { AreBlocked-prop histories.now runs.now blocks.now },
     ghost held: { AreHolders histories.now runs.now holders.now },
     ghost ordered: { AreOrdered histories.now } by { AreOrdered-prop histories.now },
     ghost closed: { IsClosed Last histories.now (moment_at lasts.now) } by { IsClosed-prop Last histories.now (moment_at lasts.now) },
@@ -59,6 +66,7 @@ impl<'a> Grounds<'a> {
     /// What lines have told, with the runs of it.
     fn of(telling: &'a Telling, runs: &'a Runs) -> Grounds<'a>
         requires cut { AreRuns telling.now.histories.items runs.now.ends.items }
+        requires blocked { AreBlocked telling.now.histories.items runs.now.ends.items runs.now.blocks.items }
         requires held { AreHolders telling.now.histories.items runs.now.ends.items runs.now.holders.items }
         requires ordered { AreOrdered telling.now.histories.items }
         requires closed { IsClosed Last telling.now.histories.items (moment_at runs.now.lasts.items) }
@@ -72,6 +80,7 @@ impl<'a> Grounds<'a> {
             families: &telling.families.calls,
             params: &telling.params,
             runs: runs.ends.as_slice(),
+            blocks: runs.blocks.as_slice(),
             holders: runs.holders.as_slice(),
             lasts: runs.lasts.as_slice(),
         }
@@ -88,6 +97,7 @@ impl<'a> Grounds<'a> {
             families: self.families,
             begun: bare.under,
             runs: self.runs,
+            blocks: self.blocks,
             holders: self.holders,
             lasts: self.lasts,
         };
@@ -160,6 +170,7 @@ impl Telling {
         ensures families { self.new.families ≡ self.old.families }
         ensures params { self.new.params ≡ self.old.params }
         ensures cut { IfOk result (λ runs. AreRuns self.new.histories.items runs.ends.items) }
+        ensures blocked { IfOk result (λ runs. AreBlocked self.new.histories.items runs.ends.items runs.blocks.items) }
         ensures held { IfOk result (λ runs. AreHolders self.new.histories.items runs.ends.items runs.holders.items) }
         ensures ordered { IfOk result (λ runs. AreOrdered self.new.histories.items) }
         ensures reachable { IfOk result (λ runs. AreReachable Last self.old.families.calls self.old.params self.old.families.changes.items self.new.histories.items (moment_at runs.lasts.items)) }
@@ -171,6 +182,7 @@ impl Telling {
         rearrange_all(alloc, &mut self.histories, firsts.as_slice());
         let histories = self.histories.as_slice();
         let ends = all_ends(alloc, histories)?;
+        let blocks = all_blocks(alloc, histories, ends.as_slice())?;
         let holders = holders(alloc, histories, ends.as_slice())?;
         let lasts = lasts(
             alloc,
@@ -182,6 +194,7 @@ impl Telling {
         )?;
         Ok(Runs {
             ends,
+            blocks,
             holders,
             lasts,
         })
