@@ -207,26 +207,30 @@ module _ (made : Name → Bool) (level : Name → Latest) (from : Arrived) where
 
 -- ---- blocks that are made one after another
 
--- a span more is within
-pub around_more : (before after : Block) (spans : List Span) (k : ℕ) (span : Span) → IsAround before (take k spans) → k < length spans → span ≡ slice_index_or spans k span
-    → after.from ≤ before.from → after.from ≤ span.from → before.until ≤ after.until → span.until ≤ after.until → IsAround after (take (k + 1) spans)
-around_more before after spans k span h l e f g m n = subst (λ (j : ℕ). IsAround after (take j spans)) number (by spans k span h l e g n)
+-- what holds of one more, and of those before it
+pub all_more : {X : Type 0} (P Q : X → Type 0) → ((x : X) → P x → Q x) → (xs : List X) (k : ℕ) (x : X) → AllByRecursion P (take k xs) → k < length xs → x ≡ slice_index_or xs k x → Q x
+    → AllByRecursion Q (take (k + 1) xs)
+all_more {X = X} P Q wider xs k x h l e q = subst (λ (j : ℕ). AllByRecursion Q (take j xs)) number (by xs k h l e)
   where
     number : suc k ≡ k + 1
     number = omega arith
 
+    by : (ys : List X) (j : ℕ) → AllByRecursion P (take j ys) → j < length ys → x ≡ slice_index_or ys j x → AllByRecursion Q (take (suc j) ys)
+    by [] j i b is = absurd (omega (arith, b))
+    by (y ∷ ys) zero i b is = (subst Q is q, none ys)
+      where
+        none : (zs : List X) → AllByRecursion Q (take 0 zs)
+        none [] = tt
+        none (z ∷ zs) = tt
+    by (y ∷ ys) (suc j) i b is = (wider y i.0, by ys j i.1 (omega (arith, b)) is)
+
+-- a span more is within
+pub around_more : (before after : Block) (spans : List Span) (k : ℕ) (span : Span) → IsAround before (take k spans) → k < length spans → span ≡ slice_index_or spans k span
+    → after.from ≤ before.from → after.from ≤ span.from → before.until ≤ after.until → span.until ≤ after.until → IsAround after (take (k + 1) spans)
+around_more before after spans k span h l e f g m n = all_more (IsIn before) (IsIn after) wider spans k span h l e (g, n)
+  where
     wider : (s : Span) → IsIn before s → IsIn after s
     wider s i = let x = i.0 in let y = i.1 in (omega (arith, x, f), omega (arith, y, m))
-
-    by : (xs : List Span) (j : ℕ) (x : Span) → IsAround before (take j xs) → j < length xs → x ≡ slice_index_or xs j x → after.from ≤ x.from → x.until ≤ after.until
-        → IsAround after (take (suc j) xs)
-    by [] j x i b is p q = absurd (omega (arith, b))
-    by (y ∷ xs) zero x i b is p q = (subst (IsIn after) is (p, q), none xs)
-      where
-        none : (ys : List Span) → IsAround after (take 0 ys)
-        none [] = tt
-        none (z ∷ ys) = tt
-    by (y ∷ xs) (suc j) x i b is p q = (wider y i.0, by xs j x i.1 (omega (arith, b)) is p q)
 
 -- the blocks so far, and those from a place on
 pub record Blocking (spans : List Span) (ends : List ℕ) (blocks : List Block) (start : ℕ) (rest : List ℕ) : Type 0 where

@@ -23,6 +23,7 @@ mod RunLemmas
 mod RunHops
 mod LateRuns
 mod BlockLemmas
+mod HeldBlockLemmas
 mod RunSkips
 mod HeldIn
 mod RunsBelow

@@ -15,4 +15,5 @@ pub mod Retold
 pub mod Lists
 pub mod Params
 pub mod Reachable
+pub mod HeldBlocks
 pub mod Moments

@@ -9,8 +9,9 @@
 //! lines of a history once more, `families` the confined calls that each incarnation is under, `params`
 //! the merged parameters of each call, `lists` how both stand in memory, `histories` what has stood in
 //! lists, `reachable` which lists ways can come to, `runs` how what stood in these is put in order, `blocks`
-//! which runs are passed over together, `holders` which of them hold an object, `hops` the hops over it, `first_hops`
-//! which of these comes first, `searching` the search for the least reach, `reasons` each change with its reason.
+//! which runs are passed over together, `holders` which of them hold an object, `held_blocks` which of these are passed over
+//! together, `hops` the hops over it, `first_hops` which of these comes first, `searching` the search for the least reach,
+//! `reasons` each change with its reason.
 #![tactic(auto)]
 
 mod blocks;
@@ -18,6 +19,7 @@ mod counting;
 mod doings;
 mod families;
 mod first_hops;
+mod held_blocks;
 mod histories;
 mod holders;
 mod hops;
