@@ -37,7 +37,7 @@ module _ {X : Type 0} where
   grown_at (xs ∷ all) n zero = refl
   grown_at (xs ∷ all) n (suc i) = grown_at all n i
 
-  beyond : (all : List (List X)) (i : ℕ) → length all ≤ i → slice_index_or all i [] ≡ []
+  pub beyond : (all : List (List X)) (i : ℕ) → length all ≤ i → slice_index_or all i [] ≡ []
   beyond [] i l = refl
   beyond (xs ∷ all) zero l = absurd (omega (arith, l))
   beyond (xs ∷ all) (suc i) l = beyond all i (omega (arith, l))
@@ -48,12 +48,12 @@ module _ {X : Type 0} where
       let b : length (replicate (n - length all) (let none : List X = [] in none)) ≡ n - length all = length-replicate (n - length all) [] in
       omega (arith, a, b, l)
 
-  last_same : (all : List (List X)) (xs : List X) (n : ℕ) → length all ≡ n → slice_index_or (all ++ xs ∷ []) n [] ≡ xs
+  pub last_same : (all : List (List X)) (xs : List X) (n : ℕ) → length all ≡ n → slice_index_or (all ++ xs ∷ []) n [] ≡ xs
   last_same [] xs n e = rw (sym e) refl
   last_same (ys ∷ all) xs zero e = absurd (omega (arith, e))
   last_same (ys ∷ all) xs (suc n) e = last_same all xs n (omega (arith, e))
 
-  last_other : (all : List (List X)) (xs : List X) (n m : ℕ) → length all ≡ n → (n == m) ≡ false → slice_index_or (all ++ xs ∷ []) m [] ≡ slice_index_or all m []
+  pub last_other : (all : List (List X)) (xs : List X) (n m : ℕ) → length all ≡ n → (n == m) ≡ false → slice_index_or (all ++ xs ∷ []) m [] ≡ slice_index_or all m []
   last_other [] xs n zero e f = absurd (true≢false (sym (eq-eqb n 0 (omega (arith, e))) ∙ f))
   last_other [] xs n (suc m) e f = refl
   last_other (ys ∷ all) xs zero m e f = absurd (omega (arith, e))

@@ -92,7 +92,7 @@ module _ (made : Name → Bool) (level : Name → Latest) (from : Arrived) (mome
           neither false true = refl
           neither false false = refl
 
-  over_late : (span : Span) → moment ≤ span.from → onward_over made level from span ≡ None
+  pub over_late : (span : Span) → moment ≤ span.from → onward_over made level from span ≡ None
   over_late span l =
       ap (λ (o : Option Onward). earlier o (handed_onward from span (level span.cap.name) (made span.cap.name))) entry
       ∙ hand

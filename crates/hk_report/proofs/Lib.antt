@@ -22,6 +22,8 @@ mod Unchanged
 mod RunLemmas
 mod RunHops
 mod LateRuns
+mod BlockLemmas
+mod HeldBlockLemmas
 mod RunSkips
 mod HeldIn
 mod RunsBelow

@@ -74,14 +74,14 @@ same_number a b h = by (nat_cmp a b) (ranked a b (nat_cmp a b) refl) h
     by Equal e g = e
     by Greater l g = absurd (true≢false (sym g))
 
-left_within : (a b : ℕ) → a ≤ greater a b
+pub left_within : (a b : ℕ) → a ≤ greater a b
 left_within a b = by (nat_lt a b) refl
   where
     by : (o : Bool) → nat_lt a b ≡ o → a ≤ cond o b a
     by true e = let l = ltb-true a b e in omega (arith, l)
     by false e = omega arith
 
-right_within : (a b : ℕ) → b ≤ greater a b
+pub right_within : (a b : ℕ) → b ≤ greater a b
 right_within a b = by (nat_lt a b) refl
   where
     by : (o : Bool) → nat_lt a b ≡ o → b ≤ cond o b a

@@ -141,7 +141,7 @@ module _ (made : Name → Bool) (level : Name → Latest) (from : Arrived) where
       ap (λ (o : Option Onward). first_from made level from o run) (passes first s r (precedes_so s r h.0) still) ∙ passes_all first s run h.1 still
 
   -- none goes over a span that has ended
-  none_over : (span : Span) → is_open from.moment span ≡ false → over span ≡ None
+  pub none_over : (span : Span) → is_open from.moment span ≡ false → over span ≡ None
   none_over span e =
       ap (λ (b : Bool). earlier (cond b (Some entry) None) (cond (goes_by_hand (time span) span.until span.cap) (Some hand) None))
       (entry_off from.unconf (nat_lt (time span) span.until) (is_good (arrived_by (time span) span.cap) (level span.cap.name)) late)

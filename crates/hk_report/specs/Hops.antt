@@ -124,6 +124,11 @@ abbrev pub StaysFirst : Arrived → Span → Option Onward → Type 0
 StaysFirst from span None = ⊥
 StaysFirst from span (Some onward) = IsSooner from span onward.hop
 
+-- or before all that go over what begins at a moment
+abbrev pub StaysBefore : Arrived → ℕ → Option Onward → Type 0
+StaysBefore from moment None = ⊥
+StaysBefore from moment (Some onward) = moment_of onward.hop < later from.moment moment
+
 -- of these spans, and of a hop besides
 abbrev pub first_from : (Name → Bool) → (Name → Latest) → Arrived → Option Onward → List Span → Option Onward
 first_from made level from first [] = first

@@ -4,6 +4,7 @@ pub mod Histories
 pub mod Families
 pub mod Hops
 pub mod Runs
+pub mod Blocks
 pub mod Holders
 pub mod Searches
 pub mod Reasons
@@ -14,4 +15,5 @@ pub mod Retold
 pub mod Lists
 pub mod Params
 pub mod Reachable
+pub mod HeldBlocks
 pub mod Moments

@@ -3,15 +3,18 @@
 //! A list is gone over run by run, or object by object: both stand in the order of the objects' names.
 
 ghost use Rattle.std.specs.Prelude.{◌≡◌, ◌/◌, Bool, List, true, None, length, nat_lt, IfSome};
-ghost use Rattle.std.specs.List.{find};
+ghost use Rattle.std.specs.List.{find, between};
 ghost use Rattle.hk_model.specs.declared.names.Name.{Name};
+ghost use Rattle.hk_report.specs.declared.histories.Span.{Span};
 ghost use Rattle.hk_report.specs.declared.histories.History.{History};
 ghost use Rattle.hk_report.specs.Histories.{history_of};
 ghost use Rattle.hk_report.specs.Runs.{IsRun, ends_at, is_open};
+ghost use Rattle.hk_report.specs.Blocks.{IsAround, AreFrom, end_of};
 ghost use Rattle.hk_report.specs.declared.hops.Level.TheVariants.{Behind};
-ghost use Rattle.hk_report.specs.Hops.{IsBy, StaysFirst, is_made, next_latest, bounds_at, latest_at, latest_end, alone, onward_below, first_open_below, first_from};
+ghost use Rattle.hk_report.specs.Hops.{IsBy, StaysFirst, StaysBefore, is_made, next_latest, bounds_at, latest_at, latest_end, alone, onward_below, first_open_below, first_from};
 ghost use Rattle.hk_report.specs.Holders.{is_other};
 
+use crate::blocks::{Block, IN_BLOCK, blocks_at};
 use crate::histories::Span;
 use crate::hops::{
     Arrived, Bounds, Ground, Latest, Level, Onward, Raise, earlier, entry_onward, handed_onward,
@@ -47,16 +50,36 @@ fn stays_first(from: &Arrived, span: &Span, first: &Option<Onward>) -> bool
     }
 }
 
-/// Whether a run that begins with this span begins when a way of these hops has to have come. A level that was worked out
-/// for each object tells nothing of that.
-fn is_late(level: &Level, span: &Span) -> bool
-    ensures { result ≡ true → (made : Name → Bool) → (histories : List History) → (name : Name) → IsBy span.now.from (latest_at made histories level.now name) }
+/// Whether what begins at a moment begins when a way of these hops has to have come. A level that was worked out for each
+/// object tells nothing of that.
+fn is_late(level: &Level, moment: u32) -> bool
+    ensures { result ≡ true → (made : Name → Bool) → (histories : List History) → (name : Name) → IsBy moment (latest_at made histories level.now name) }
 {
     match level {
-        Level::End { before, .. } => *before <= span.from,
-        Level::Near { before, .. } => *before <= span.from,
+        Level::End { before, .. } => *before <= moment,
+        Level::Near { before, .. } => *before <= moment,
         Level::Behind(_) => false,
     }
+}
+
+/// Whether a hop comes before all over what begins at a moment.
+fn stays_before(from: &Arrived, moment: u32, first: &Option<Onward>) -> bool
+    ensures { result ≡ true → StaysBefore from.now moment first.now }
+{
+    match first {
+        Some(onward) => moment_of(&onward.hop) < later(from.moment, moment),
+        None => false,
+    }
+}
+
+/// Whether a hop comes first of one and those over a block: all of it has ended, begins when the way has to have come, or
+/// begins behind the hop that is there.
+fn is_passed(block: &Block, level: &Level, from: &Arrived, first: &Option<Onward>) -> bool
+    ensures { result ≡ true → (made : Name → Bool) → (histories : List History) → (spans : List Span) → IsAround block.now spans → first.now ≡ first_from made (latest_at made histories level.now) from.now first.now spans }
+{
+    block.until <= from.moment
+        || is_late(level, block.from)
+        || stays_before(from, block.from, first)
 }
 
 /// The hop over a span that comes first, after which the rest can be made below these.
@@ -114,7 +137,7 @@ impl<'a> Ground<'a> {
         if stays_first(from, span, &first) {
             return first;
         }
-        if is_late(level, span) {
+        if is_late(level, span.from) {
             return first;
         }
         let Some(open) = first_open(run, from.moment) else {
@@ -223,12 +246,41 @@ impl<'a> Ground<'a> {
     fn first_by_runs(&self, level: &Level, from: &Arrived) -> Option<Onward>
         ensures { result ≡ first_from (is_made self.now.families.now self.now.begun self.now.histories.now) (latest_at (is_made self.now.families.now self.now.begun self.now.histories.now) self.now.histories.now level.now) from.now None (history_of self.now.histories.now from.now.name).spans }
     {
-        let spans = spans_at(self.histories, from.name);
         let mut first = None;
         let mut known = None;
         let mut start = 0;
-        for end in ends_at(self.runs, from.name) {
-            first = self.first_over(level, &mut known, from, &spans[start..*end], first);
+        let mut rest = ends_at(self.runs, from.name);
+        for block in blocks_at(self.blocks, from.name) {
+            let (runs, more) = rest.split_at(IN_BLOCK);
+            if !is_passed(block, level, from, &first) {
+                first = self.first_through(level, &mut known, from, start, runs, first);
+            }
+            start = runs[IN_BLOCK - 1];
+            rest = more;
+        }
+        self.first_through(level, &mut known, from, start, rest, first)
+    }
+
+    /// The hop that comes first of one and those over the runs from a place of the list on, which end at these places.
+    fn first_through(
+        &self,
+        level: &Level,
+        known: &mut Option<Raise>,
+        from: &Arrived,
+        start: usize,
+        ends: &[usize],
+        first: Option<Onward>,
+    ) -> Option<Onward>
+        requires runs { AreFrom start ends.now (history_of self.now.histories.now from.now.name).spans }
+        requires known { IfSome known.old (λ kept. kept.latest ≡ latest_at (is_made self.now.families.now self.now.begun self.now.histories.now) self.now.histories.now level.now kept.name) }
+        ensures first { result ≡ first_from (is_made self.now.families.now self.now.begun self.now.histories.now) (latest_at (is_made self.now.families.now self.now.begun self.now.histories.now) self.now.histories.now level.now) from.now first (between start (end_of start ends.now) (history_of self.now.histories.now from.now.name).spans) }
+        ensures known { IfSome known.new (λ kept. kept.latest ≡ latest_at (is_made self.now.families.now self.now.begun self.now.histories.now) self.now.histories.now level.now kept.name) }
+    {
+        let spans = spans_at(self.histories, from.name);
+        let mut start = start;
+        let mut first = first;
+        for end in ends {
+            first = self.first_over(level, known, from, &spans[start..*end], first);
             start = *end;
         }
         first

@@ -1,24 +1,28 @@
 //! Hops over what has stood in lists, and from which moments the rest of a way can be made (`docs/RULES.md`, "Reaches").
 
-ghost use Rattle.std.specs.Prelude.{◌≡◌, ◌≤◌, ◌/◌, true, None, length, nat_lt, IfOk, IfSome, OnOk};
+ghost use Rattle.std.specs.Prelude.{◌≡◌, ◌≤◌, ◌/◌, Bool, List, true, None, length, filter, nat_lt, IfOk, IfSome, OnOk};
 ghost use Rattle.std.specs.Cmp.Lexicographic.{slice_cmp};
-ghost use Rattle.std.specs.List.{find};
+ghost use Rattle.std.specs.List.{AllByRecursion, find};
 ghost use Rattle.std.specs.Ordering.{nat_cmp, is_lt};
 ghost use Rattle.hk_model.specs.Reaches.{index_of, moment_of};
 ghost use Rattle.hk_model.specs.Changes.{hop_key};
 ghost use Rattle.hk_report.specs.Histories.{history_of};
 ghost use Rattle.hk_report.specs.Runs.{IsRun, AreRuns, AreRuns-prop, AreOrdered, AreOrdered-prop, ends_at, is_open};
+ghost use Rattle.hk_report.specs.Blocks.{AreBlocked, AreBlocked-prop};
 ghost use Rattle.hk_report.specs.declared.hops.Level.TheVariants.{Behind};
 ghost use Rattle.hk_report.specs.Hops.{StaysFirst, same_begun, has_begun, is_made, next_latest, later, greater, lesser, arrived_by, arrived_whole, no_latest, ends_before, bounds_at, latest_at, latest_end, alone, is_good, entry_onward, handed_onward, earlier, onward_below, first_open_below, first_from, from_on};
+ghost use Rattle.hk_report.specs.HeldBlocks.{IsWithin, AreHeldBlocked, AreHeldBlocked-prop};
 ghost use Rattle.hk_report.specs.declared.reachable.Side.TheVariants.{Last};
 ghost use Rattle.hk_report.specs.Reachable.{moment_at, can_come, comes_at, Agree, IsClosed, IsClosed-prop};
 ghost use Rattle.hk_report.specs.Holders.{AreHolders, HoldsAlone, held_at, live_at, held_in, is_other, spans_in, joined, latest_within, entry_most, handed_most, most_on, raised_at, raised_over};
 
+use crate::blocks::{Block, IN_BLOCK};
 use crate::families::{Begun, calls_over};
+use crate::held_blocks::{HeldBlock, held_blocks_at};
 use crate::histories::{History, Span};
 use crate::holders::Stretch;
 use crate::lists::Lists;
-use crate::reachable::{from_end, moment_at};
+use crate::reachable::{from_end, is_by, moment_at};
 use crate::runs::{ends_at, first_open, spans_at};
 use hk_model::{Cap, Hop, Items, Name, NoMemory};
 use hk_rights::Right;
@@ -105,12 +109,18 @@ pub(crate) struct Ground<'a> {
     pub begun: Begun,
     /// The places at which the runs of each list end, by the name of its object.
     pub runs: &'a [Items<usize>],
+    /// The blocks of the runs of each list, by the name of its object.
+    pub blocks: &'a [Items<Block>],
     /// The runs that hold each object, by its name.
     pub holders: &'a [Items<Stretch>],
     /// The last moments at which a call can begin that comes to each object, by its name, counted back.
     pub lasts: &'a [Option<u32>],
+    /// The blocks of the runs that hold each object, by its name.
+    pub held_blocks: &'a [Items<HeldBlock>],
     ghost cut: { AreRuns histories.now runs.now } by { AreRuns-prop histories.now runs.now },
+    ghost blocked: { AreBlocked histories.now runs.now blocks.now } by { AreBlocked-prop histories.now runs.now blocks.now },
     ghost held: { AreHolders histories.now runs.now holders.now },
+    ghost held_blocked: { AreHeldBlocked (moment_at lasts.now) holders.now held_blocks.now } by { AreHeldBlocked-prop (moment_at lasts.now) holders.now held_blocks.now },
     ghost ordered: { AreOrdered histories.now } by { AreOrdered-prop histories.now },
     ghost closed: { IsClosed Last histories.now (moment_at lasts.now) } by { IsClosed-prop Last histories.now (moment_at lasts.now) },
 }
@@ -577,10 +587,7 @@ impl<'a> Ground<'a> {
     fn can_come(&self, name: Name) -> bool
         ensures { result ≡ can_come (moment_at self.now.lasts.now) self.now.begun.moment name }
     {
-        match moment_at(self.lasts, name) {
-            Some(last) => last <= from_end(self.begun.moment),
-            None => false,
-        }
+        is_by(moment_at(self.lasts, name), from_end(self.begun.moment))
     }
 
     /// What is kept for an object gives to those that held it and that the call can come to. The runs of one list stand
@@ -594,12 +601,46 @@ impl<'a> Ground<'a> {
             name,
             latest: no_latest(),
         };
-        for held in self.holders_of(name) {
+        let mut rest = self.holders_of(name);
+        for block in held_blocks_at(self.held_blocks, name) {
+            let (some, more) = rest.split_at(IN_BLOCK);
+            if !self.raises_nothing(block, latest) {
+                self.raise_each(next, &mut waiting, some, latest, made)?;
+            }
+            rest = more;
+        }
+        self.raise_each(next, &mut waiting, rest, latest, made)?;
+        next.raise(waiting.name, waiting.latest)
+    }
+
+    /// Whether what is kept for an object gives nothing over a block of the runs that hold it: the call can come to none of
+    /// those that held it, or all begin when a hop over them has to have been made.
+    fn raises_nothing(&self, block: &HeldBlock, latest: Latest) -> bool
+        ensures { result ≡ true → (held : List Stretch) → AllByRecursion (IsWithin (moment_at self.now.lasts.now) block.now) held → AllByRecursion (λ stretch. (name : Name) × HoldsAlone self.now.histories.now name stretch) held → (made : Bool) → (level : Name → Latest) → raised_over self.now.histories.now latest made level (filter (λ stretch. can_come (moment_at self.now.lasts.now) self.now.begun.moment stretch.by) held) ≡ level }
+    {
+        greater(latest.modify, latest.unconf) <= block.from
+            || !is_by(block.last, from_end(self.begun.moment))
+    }
+
+    /// What is kept for an object gives over these runs to those that held it and that the call can come to, behind what is
+    /// to be raised already.
+    fn raise_each(
+        &self,
+        next: &mut Bounds,
+        waiting: &mut Raise,
+        runs: &[Stretch],
+        latest: Latest,
+        made: bool,
+    ) -> Result<(), NoMemory>
+        requires { AllByRecursion (λ stretch. (name : Name) × HoldsAlone self.now.histories.now name stretch) runs.now }
+        ensures { OnOk result (raised_at (bounds_at next.new) waiting.new.name waiting.new.latest ≡ raised_over self.now.histories.now latest made (raised_at (bounds_at next.old) waiting.old.name waiting.old.latest) (filter (λ stretch. can_come (moment_at self.now.lasts.now) self.now.begun.moment stretch.by) runs.now)) }
+    {
+        for held in runs {
             if self.can_come(held.by) {
-                self.raise_over(next, &mut waiting, held, latest, made)?;
+                self.raise_over(next, waiting, held, latest, made)?;
             }
         }
-        next.raise(waiting.name, waiting.latest)
+        Ok(())
     }
 
     /// The bounds of one hop more than these, at each object that the call can come to.

@@ -8,15 +8,18 @@
 //! kernel has to show for that, `naming` what a path names, `doings` what each line did, `replay` the
 //! lines of a history once more, `families` the confined calls that each incarnation is under, `params`
 //! the merged parameters of each call, `lists` how both stand in memory, `histories` what has stood in
-//! lists, `reachable` which lists ways can come to, `runs` how what stood in these is put in order, `holders`
-//! which runs hold an object, `hops` the hops over it, `first_hops` which of them comes first, `searching` the
-//! search for the least reach, `reasons` each change with its reason.
+//! lists, `reachable` which lists ways can come to, `runs` how what stood in these is put in order, `blocks`
+//! which runs are passed over together, `holders` which of them hold an object, `held_blocks` which of these are passed over
+//! together, `hops` the hops over it, `first_hops` which of these comes first, `searching` the search for the least reach,
+//! `reasons` each change with its reason.
 #![tactic(auto)]
 
+mod blocks;
 mod counting;
 mod doings;
 mod families;
 mod first_hops;
+mod held_blocks;
 mod histories;
 mod holders;
 mod hops;

@@ -100,6 +100,16 @@ fn nothing_told(alloc: Global, count: usize) -> Result<Vec<Option<u32>>, NoMemor
     Ok(told)
 }
 
+/// Whether a moment is told, and not after this one.
+pub(crate) fn is_by(told: Option<u32>, moment: u32) -> bool
+    ensures { result ≡ is_by told moment }
+{
+    match told {
+        Some(told) => told <= moment,
+        None => false,
+    }
+}
+
 impl Moments {
     /// Nothing is told of the objects of these lists.
     #[tactic(auto, using(crate::proofs::MomentLemmas::underway_none))]
@@ -116,10 +126,7 @@ impl Moments {
     fn is_by(&self, name: Name, moment: u32) -> bool
         ensures { result ≡ is_by (told_by self.now name) moment }
     {
-        match moment_at(self.told.as_slice(), name) {
-            Some(told) => told <= moment,
-            None => false,
-        }
+        is_by(moment_at(self.told.as_slice(), name), moment)
     }
 
     /// This is told at the latest of an object.

@@ -2,14 +2,18 @@
 
 ghost use Rattle.std.specs.Prelude.{◌≡◌, ◌<◌, ◌≤◌, ◌^◌, ◌+◌, [], length, vec_len, IfOk, IfSome, OnOk, string_bytes};
 ghost use Rattle.hk_report.specs.Runs.{AreRuns, AreRuns-prop, AreOrdered, AreOrdered-prop};
+ghost use Rattle.hk_report.specs.Blocks.{AreBlocked, AreBlocked-prop};
 ghost use Rattle.std.specs.List.{AllByRecursion};
 ghost use Rattle.hk_report.specs.declared.reachable.Side.TheVariants.{Last};
 ghost use Rattle.hk_report.specs.Reachable.{moment_at, from_end, AreHeldBy, AreReachable, IsClosed, IsClosed-prop, IsEnough};
+ghost use Rattle.hk_report.specs.HeldBlocks.{AreHeldBlocked, AreHeldBlocked-prop};
 ghost use Rattle.hk_report.specs.Holders.{AreHolders};
 ghost use Rattle.hk_report.specs.Reasons.{params_at, IsReasoned, IsTold, AreFew, AreTold};
 ghost use Rattle.hk_report.specs.Written.{AreWritten};
 
+use crate::blocks::{Block, all_blocks};
 use crate::families::{BareChange, Begun};
+use crate::held_blocks::{HeldBlock, held_blocks};
 use crate::histories::History;
 use crate::holders::{Stretch, holders};
 use crate::hops::{Ground, is_made};
@@ -28,10 +32,14 @@ use std::alloc::Global;
 pub(crate) struct Runs {
     /// The places at which those of each list end, by the name of its object.
     pub ends: Vec<Items<usize>>,
+    /// The blocks of those of each list, by the name of its object.
+    pub blocks: Vec<Items<Block>>,
     /// Those that hold each object, by its name.
     pub holders: Vec<Items<Stretch>>,
     /// The last moments at which calls can begin that come to each object, by its name, counted back.
     pub lasts: Vec<Option<u32>>,
+    /// The blocks of the runs that hold each object, by its name.
+    pub held_blocks: Vec<Items<HeldBlock>>,
 }
 
 /// What the reasons of changes are found in.
@@ -45,12 +53,18 @@ pub(crate) struct Grounds<'a> {
     pub params: &'a GivenParams,
     /// The places at which the runs of each list end, by the name of its object.
     pub runs: &'a [Items<usize>],
+    /// The blocks of the runs of each list, by the name of its object.
+    pub blocks: &'a [Items<Block>],
     /// The runs that hold each object, by its name.
     pub holders: &'a [Items<Stretch>],
     /// The last moments at which calls can begin that come to each object, by its name, counted back.
     pub lasts: &'a [Option<u32>],
+    /// The blocks of the runs that hold each object, by its name.
+    pub held_blocks: &'a [Items<HeldBlock>],
     ghost cut: { AreRuns histories.now runs.now } by { AreRuns-prop histories.now runs.now },
+    ghost blocked: { AreBlocked histories.now runs.now blocks.now } by { AreBlocked-prop histories.now runs.now blocks.now },
     ghost held: { AreHolders histories.now runs.now holders.now },
+    ghost held_blocked: { AreHeldBlocked (moment_at lasts.now) holders.now held_blocks.now } by { AreHeldBlocked-prop (moment_at lasts.now) holders.now held_blocks.now },
     ghost ordered: { AreOrdered histories.now } by { AreOrdered-prop histories.now },
     ghost closed: { IsClosed Last histories.now (moment_at lasts.now) } by { IsClosed-prop Last histories.now (moment_at lasts.now) },
 }
@@ -72,7 +86,9 @@ impl<'a> Grounds<'a> {
     /// What lines have told, with the runs of it.
     fn of(telling: &'a Telling, runs: &'a Runs) -> Grounds<'a>
         requires cut { AreRuns telling.now.histories.items runs.now.ends.items }
+        requires blocked { AreBlocked telling.now.histories.items runs.now.ends.items runs.now.blocks.items }
         requires held { AreHolders telling.now.histories.items runs.now.ends.items runs.now.holders.items }
+        requires held_blocked { AreHeldBlocked (moment_at runs.now.lasts.items) runs.now.holders.items runs.now.held_blocks.items }
         requires ordered { AreOrdered telling.now.histories.items }
         requires closed { IsClosed Last telling.now.histories.items (moment_at runs.now.lasts.items) }
         ensures histories { result.histories.now ≡ telling.now.histories.items }
@@ -85,8 +101,10 @@ impl<'a> Grounds<'a> {
             families: &telling.families.calls,
             params: &telling.params,
             runs: runs.ends.as_slice(),
+            blocks: runs.blocks.as_slice(),
             holders: runs.holders.as_slice(),
             lasts: runs.lasts.as_slice(),
+            held_blocks: runs.held_blocks.as_slice(),
         }
     }
 
@@ -101,8 +119,10 @@ impl<'a> Grounds<'a> {
             families: self.families,
             begun: bare.under,
             runs: self.runs,
+            blocks: self.blocks,
             holders: self.holders,
             lasts: self.lasts,
+            held_blocks: self.held_blocks,
         };
         if ground.is_made(bare.object) {
             return Ok(Reach::Made);
@@ -168,7 +188,9 @@ impl Telling {
         ensures families { self.new.families ≡ self.old.families }
         ensures params { self.new.params ≡ self.old.params }
         ensures cut { IfOk result (λ runs. AreRuns self.new.histories.items runs.ends.items) }
+        ensures blocked { IfOk result (λ runs. AreBlocked self.new.histories.items runs.ends.items runs.blocks.items) }
         ensures held { IfOk result (λ runs. AreHolders self.new.histories.items runs.ends.items runs.holders.items) }
+        ensures held_blocked { IfOk result (λ runs. AreHeldBlocked (moment_at runs.lasts.items) runs.holders.items runs.held_blocks.items) }
         ensures ordered { IfOk result (λ runs. AreOrdered self.new.histories.items) }
         ensures reachable { IfOk result (λ runs. AreReachable Last self.old.families.calls self.old.params self.old.families.changes.items self.new.histories.items (moment_at runs.lasts.items)) }
     {
@@ -179,6 +201,7 @@ impl Telling {
         rearrange_all(alloc, &mut self.histories, firsts.as_slice());
         let histories = self.histories.as_slice();
         let ends = all_ends(alloc, histories)?;
+        let blocks = all_blocks(alloc, histories, ends.as_slice())?;
         let holders = holders(alloc, histories, ends.as_slice())?;
         let lasts = lasts(
             alloc,
@@ -188,10 +211,13 @@ impl Telling {
             changes,
             holders.as_slice(),
         )?;
+        let held_blocks = held_blocks(alloc, holders.as_slice(), lasts.as_slice())?;
         Ok(Runs {
             ends,
+            blocks,
             holders,
             lasts,
+            held_blocks,
         })
     }
 

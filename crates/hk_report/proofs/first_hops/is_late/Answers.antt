@@ -7,5 +7,5 @@ use Rattle.hk_report.proofs.first_hops.is_late.Goals as goal
 
 pub returns-in-Near : goal.returns-in-Near
 returns-in-Near c h made histories name =
-    subst (λ (level : Level). IsBy c.args.span.now.from (latest_at made histories level name)) (sym c.in-Near.is)
-    (near_is_by made histories c.in-Near.name c.in-Near.before c.args.span.now.from name (leb-true c.in-Near.before c.args.span.now.from h))
+    subst (λ (level : Level). IsBy c.args.moment (latest_at made histories level name)) (sym c.in-Near.is)
+    (near_is_by made histories c.in-Near.name c.in-Near.before c.args.moment name (leb-true c.in-Near.before c.args.moment h))
