@@ -24,6 +24,7 @@ use Rattle.hk_report.specs.Hops.{entry_bound, handed_bound, no_latest, raised, l
 use Rattle.hk_report.specs.Reachable.{is_by, IsBy, from_end, IsByThen, goes_on, AreGoneOver, IsClosed, IsHeldBy, AreHeldBy, can_come, comes_at, SameAt, Agree}
 use Rattle.hk_report.specs.Searches.{direct_param, first_onward, onward_at, first_start, level_at, hops_down, IsFoundBehind, IsFoundBy, IsFound}
 use Rattle.hk_report.proofs.Bounds.{below_greater, below_entry, below_handed}
+use Rattle.hk_report.proofs.MomentLemmas.{by_true}
 
 -- what follows from what is so of a value, where there is one
 pub if_ok : {X E : Type 0} {P Q : X → Type 0} → (r : Result X E) → IfOk r P → ((x : X) → P x → Q x) → IfOk r Q
@@ -378,10 +379,6 @@ by_is : (o : Option ℕ) (m : ℕ) → IsBy o m → is_by o m ≡ true
 by_is None m h = absurd h
 by_is (Some x) m h = le-leb x m h
 
-by_says : (o : Option ℕ) (m : ℕ) → is_by o m ≡ true → IsBy o m
-by_says None m h = absurd (true≢false (sym h))
-by_says (Some x) m h = leb-true x m h
-
 later_within : (a b c : ℕ) → a ≤ c → b ≤ c → later a b ≤ c
 later_within a b c g h = by (nat_lt a b)
   where
@@ -440,7 +437,7 @@ module _ (lasts : Name → Option ℕ) (k : ℕ) where
         by : (b : Bool) → can_come lasts k x ≡ b → AreGoneOver First (comes_at lasts k) (comes_at lasts k x) (history_of histories x).spans
         by true e =
             subst (λ (o : Option ℕ). AreGoneOver First (comes_at lasts k) o (history_of histories x).spans) (sym (comes_by x true e))
-            (all_then (lasts x) (history_of histories x).spans (by_says (lasts x) (from_end k) e) (closed x))
+            (all_then (lasts x) (history_of histories x).spans (by_true (lasts x) (from_end k) e) (closed x))
         by false e =
             subst (λ (o : Option ℕ). AreGoneOver First (comes_at lasts k) o (history_of histories x).spans) (sym (comes_by x false e)) (none_over (history_of histories x).spans)
 
@@ -454,9 +451,6 @@ module _ (lasts : Name → Option ℕ) (k : ℕ) where
     -- levels that are the same where the call can come to
     pub agree_live : (l n : Name → Latest) → ((x : Name) → can_come lasts k x ≡ true → l x ≡ n x) → Agree (comes_at lasts k) l n
     agree_live l n same x t h = subst (λ (y : Latest). SameAt t (l x) y) (same x (there_comes x t h)) (same_at t (l x))
-
-    pub agree_none : (l : Name → Latest) → Agree (comes_at lasts k) l l
-    agree_none l x t h = same_at t (l x)
 
     pub agree_through : (l n p : Name → Latest) → Agree (comes_at lasts k) l n → Agree (comes_at lasts k) n p → Agree (comes_at lasts k) l p
     agree_through l n p f g x t h =

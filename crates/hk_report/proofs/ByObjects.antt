@@ -11,7 +11,8 @@ use Rattle.hk_report.specs.declared.hops.Latest.{Latest}
 use Rattle.hk_report.specs.declared.hops.Onward.{Onward}
 use Rattle.hk_report.specs.Hops.{alone, no_latest, earlier, onward_below, onward_over, first_from}
 use Rattle.hk_report.specs.Runs.{AreByName}
-use Rattle.hk_report.proofs.Raising.{name_is, none_onward}
+use Rattle.hk_report.proofs.HistoryLemmas.{name_is}
+use Rattle.hk_report.proofs.Raising.{none_onward}
 use Rattle.hk_report.proofs.RunHops.{earlier_none, first_append}
 
 -- ---- names that rise, each above a number

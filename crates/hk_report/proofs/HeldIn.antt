@@ -19,7 +19,7 @@ use Rattle.hk_report.specs.Histories.{history_of}
 use Rattle.hk_report.specs.Hops.{alone, first_from, latest_end, next_latest, ends_before, no_latest}
 use Rattle.hk_report.specs.Runs.{AreCut, ends_at, AreRuns}
 use Rattle.hk_report.specs.Holders.{spans_in, stretch_at, stretches, holds, held_at, stands_in, held_in, numbered, stretches_of, stretches_below, AreHolders, HoldsAlone, joined, latest_within, raised_at, raised_over}
-use Rattle.hk_report.proofs.HistoryLemmas.{beyond}
+use Rattle.hk_report.proofs.HistoryLemmas.{name_is, beyond}
 use Rattle.hk_report.proofs.HolderLemmas.{drop_more, drop_done}
 use Rattle.hk_report.proofs.Raising.{end_next}
 use Rattle.hk_report.proofs.RunHops.{first_append, cut_off, none_left}
@@ -225,9 +225,6 @@ filter_all {X = X} p (x ∷ xs) h = ap (λ (b : Bool). cond b (x ∷ filter p xs
 filter_off : {X : Type 0} (p : X → Bool) (xs : List X) → AllByRecursion (λ (x : X). p x ≡ false) xs → filter p xs ≡ []
 filter_off {X = X} p [] h = refl
 filter_off {X = X} p (x ∷ xs) h = ap (λ (b : Bool). cond b (x ∷ filter p xs) (filter p xs)) h.0 ∙ filter_off p xs h.1
-
-name_is : (x y : Name) → x.0 ≡ y.0 → x ≡ y
-name_is x y h = ap (λ (n : ℕ). let z : Name = record { 0 = n } in z) h
 
 module _ (histories : List History) (runs : List (List ℕ)) (name by : Name) where
   abbrev kept : List Stretch → List Stretch

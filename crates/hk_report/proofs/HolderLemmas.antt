@@ -11,6 +11,7 @@ use Rattle.hk_report.specs.declared.holders.Stretch.{Stretch}
 use Rattle.hk_report.specs.Histories.{history_of}
 use Rattle.hk_report.specs.Runs.{ends_at}
 use Rattle.hk_report.specs.Holders.{stretch_at, stretches, holds, held_at, IsOneMore, numbered, stretches_of, stretches_below}
+use Rattle.hk_report.proofs.HistoryLemmas.{name_is}
 
 -- ---- one run more is kept
 
@@ -66,9 +67,6 @@ one_more held all = elim (nat_lt held.cap.name.0 (length all)) [
   | true ↦ slice_set all held.cap.name.0 (held_at all held.cap.name ++ held ∷ [])
   | false ↦ (all ++ replicate (held.cap.name.0 - length all) []) ++ (held ∷ []) ∷ []
 ]
-
-name_is : (x y : Name) → x.0 ≡ y.0 → x ≡ y
-name_is x y h = ap (λ (n : ℕ). let z : Name = record { 0 = n } in z) h
 
 module _ (held : Stretch) (all : List (List Stretch)) where
   abbrev of : Name

@@ -25,7 +25,7 @@ use Rattle.hk_report.specs.Histories.{history_of}
 use Rattle.hk_report.specs.Reasons.{params_at}
 use Rattle.hk_report.specs.Moments.{told_by, due_at, IsDue, IsEarlier, IsUnderway}
 use Rattle.hk_report.specs.Reachable.{moment_at, is_by, IsBy, begins_at, goes_on, IsByThen, AreGoneOver, IsClosed, IsHeldBy, AreHeldBy}
-use Rattle.hk_report.proofs.HistoryLemmas.{beyond}
+use Rattle.hk_report.proofs.HistoryLemmas.{name_is, beyond}
 
 -- ---- no less is told of any object
 
@@ -87,9 +87,6 @@ set_cases (x ∷ xs) (suc i) (suc j) o = by (set_cases xs i j o)
         → (slice_index_or (slice_set xs i o) j (Some 0) ≡ slice_index_or xs j (Some 0)) ⊎ (suc i ≡ suc j)
     by (inl e) = inl e
     by (inr e) = inr (ap suc e)
-
-name_is : (x y : Name) → x.0 ≡ y.0 → x ≡ y
-name_is x y h = ap (λ (n : ℕ). let z : Name = record { 0 = n } in z) h
 
 module _ (before after : Moments) (name : Name) (m : ℕ) (not_by : is_by (told_by before name) m ≡ false)
     (told : after.told.items ≡ slice_set before.told.items name.0 (Some m))

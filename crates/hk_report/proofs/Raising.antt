@@ -26,6 +26,7 @@ use Rattle.hk_report.specs.Hops.{later, arrived_by, arrived_whole, is_good, entr
 use Rattle.hk_report.specs.Hops.{greater, lesser, from_on, entry_bound, handed_bound, no_latest, ends_before, latest_end, latest_from, next_latest}
 use Rattle.hk_report.specs.Runs.{AreRuns}
 use Rattle.hk_report.specs.Holders.{spans_in, held_at, live_at, HoldsAlone, AreHolders, joined, latest_over, latest_within, entry_most, handed_most, most_on, raised_at, raised_over}
+use Rattle.hk_report.proofs.HistoryLemmas.{name_is}
 use Rattle.hk_report.proofs.HolderLemmas.{drop_more}
 use Rattle.hk_report.proofs.Stretches.{all_each, alone_each, held_one, has_place, got_has, between_get, has_between}
 
@@ -217,9 +218,6 @@ module _ (made : Name → Bool) (level : Name → Latest) where
       from_least spans (joined all (over span)) most (both_joined all (over span) most h (each span (inl refl))) (λ s g. each s (inr g))
 
 -- ---- of all that hold one object
-
-pub name_is : (x y : Name) → x.0 ≡ y.0 → x ≡ y
-name_is x y h = ap (λ (n : ℕ). let z : Name = record { 0 = n } in z) h
 
 at_other : (level : Name → Latest) (name : Name) (latest : Latest) (x : Name) → AtMost (level x) (raised_at level name latest x)
 at_other level name latest x = by (name.0 == x.0)
@@ -600,30 +598,6 @@ module _ (live : Name → Bool) (made : Name → Bool) (histories : List History
   end_live runs name before cut are =
       over_living live histories (ends_before before) (made name) x lives (held_at holders name) (λ y. no_latest) (λ y. no_latest) refl
       ∙ ap (λ (level : Name → Latest). level x) (end_next made histories runs holders name before cut are)
-
--- one run more is gone over, or passed over
-pub living_more : (live : Name → Bool) (histories : List History) (latest : Latest) (made : Bool) (held : List Stretch) (n : ℕ) (one : Stretch) (before after all : Name → Latest)
-    → n < length held → one ≡ slice_index_or held n one
-    → ((b : Bool) → live one.by ≡ b → after ≡ cond b (raised_at before one.by (latest_within (spans_in histories one) latest made)) before)
-    → raised_over histories latest made before (filter (λ (s : Stretch). live s.by) (drop n held)) ≡ all
-    → raised_over histories latest made after (filter (λ (s : Stretch). live s.by) (drop (n + 1) held)) ≡ all
-living_more live histories latest made held n one before after all l is step h =
-    by (live one.by) refl (ap (filter (λ (s : Stretch). live s.by)) (drop_more held n one l is))
-  where
-    by : (b : Bool) → live one.by ≡ b
-        → filter (λ (s : Stretch). live s.by) (drop n held)
-        ≡ cond (live one.by) (one ∷ filter (λ (s : Stretch). live s.by) (drop (n + 1) held)) (filter (λ (s : Stretch). live s.by) (drop (n + 1) held))
-        → raised_over histories latest made after (filter (λ (s : Stretch). live s.by) (drop (n + 1) held)) ≡ all
-    by true e more =
-        ap (λ (level : Name → Latest). raised_over histories latest made level (filter (λ (s : Stretch). live s.by) (drop (n + 1) held))) (step true e)
-        ∙ sym (ap (raised_over histories latest made before)
-        (more ∙ ap (λ (b : Bool). cond b (one ∷ filter (λ (s : Stretch). live s.by) (drop (n + 1) held)) (filter (λ (s : Stretch). live s.by) (drop (n + 1) held))) e))
-        ∙ h
-    by false e more =
-        ap (λ (level : Name → Latest). raised_over histories latest made level (filter (λ (s : Stretch). live s.by) (drop (n + 1) held))) (step false e)
-        ∙ sym (ap (raised_over histories latest made before)
-        (more ∙ ap (λ (b : Bool). cond b (one ∷ filter (λ (s : Stretch). live s.by) (drop (n + 1) held)) (filter (λ (s : Stretch). live s.by) (drop (n + 1) held))) e))
-        ∙ h
 
 -- ---- where the rest cannot be made
 

@@ -10,16 +10,14 @@ use Rattle.hk_report.specs.declared.families.BareChange.{BareChange}
 use Rattle.hk_report.specs.declared.histories.History.{History}
 use Rattle.hk_report.specs.Reasons.{IsTold, AreTold, AreFew}
 
-pub few_at : (bares : List BareChange) (n : ℕ) (b : BareChange) → AreFew bares → n < length bares → b ≡ slice_index_or bares n b → b.moment + 1 < 2 ^ 32
-few_at [] n b h l e = absurd (omega (arith, l))
-few_at (x ∷ bares) zero b h l e = subst (λ (y : BareChange). y.moment + 1 < 2 ^ 32) (sym e) h.0
-few_at (x ∷ bares) (suc n) b h l e = few_at bares n b h.1 (omega (arith, l)) e
-
 -- what is so of all is so of one
 pub all_at : {X : Type 0} (P : X → Type 0) (xs : List X) (n : ℕ) (x : X) → AllByRecursion P xs → n < length xs → x ≡ slice_index_or xs n x → P x
 all_at P [] n x h l e = absurd (omega (arith, l))
 all_at P (y ∷ xs) zero x h l e = subst P (sym e) h.0
 all_at P (y ∷ xs) (suc n) x h l e = all_at P xs n x h.1 (omega (arith, l)) e
+
+pub few_at : (bares : List BareChange) (n : ℕ) (b : BareChange) → AreFew bares → n < length bares → b ≡ slice_index_or bares n b → b.moment + 1 < 2 ^ 32
+few_at bares n b h l e = all_at (λ (y : BareChange). y.moment + 1 < 2 ^ 32) bares n b h l e
 
 module _ (families : List (List Begun)) (histories : List History) (params : List (List Entry)) where
   none_taken : (bares : List BareChange) → take 0 bares ≡ []

@@ -248,7 +248,7 @@ pub(crate) fn reachable(
 /// objects.
 const MANY: usize = 256;
 
-/// Whether an object is held by many runs.
+/// Whether an object is held by many runs. What is told of objects is the same whatever this says: it tells whether to ask pays.
 fn are_many(holders: &[Items<Stretch>]) -> bool {
     holders.iter().any(|held| held.len() >= MANY)
 }

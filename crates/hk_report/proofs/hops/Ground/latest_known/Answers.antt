@@ -2,7 +2,7 @@ use Rattle.std.proofs.Common.{◌≡◌, Option, ◌∙◌, ap, subst}
 use Rattle.std.specs.Prelude.{IfSome}
 use Rattle.hk_report.specs.declared.hops.Raise.{Raise}
 use Rattle.hk_report.specs.Hops.{is_made, latest_at}
-use Rattle.hk_report.proofs.Raising.{name_is}
+use Rattle.hk_report.proofs.HistoryLemmas.{name_is}
 use Rattle.hk_report.proofs.hops.Ground.latest_known.Goals as goal
 
 pub returns-then-kept-name-clause-value : goal.returns-then-kept-name-clause-value
