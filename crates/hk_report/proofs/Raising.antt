@@ -1,6 +1,6 @@
 -- The level of one hop more, by those that hold what a level has.
-use Rattle.std.proofs.Common.{◌≡◌, ℕ, suc, ◌+◌, ◌-◌, ◌<◌, ◌≤◌, List, [], ◌∷◌, Bool, true, false, Option, Some, None, refl, sym, ◌∙◌, ap, arith, cond, subst}
-use Rattle.std.specs.Prelude.{◌==◌, ◌&&◌, ◌||◌, length, filter, drop, nat_lt, slice_index_or}
+use Rattle.std.proofs.Common.{◌≡◌, ℕ, suc, ◌-◌, ◌<◌, ◌≤◌, List, [], ◌∷◌, Bool, true, false, Option, Some, None, refl, sym, ◌∙◌, ap, arith, cond, subst}
+use Rattle.std.specs.Prelude.{◌==◌, ◌&&◌, ◌||◌, filter, nat_lt}
 use mathlib.Core.Logic.{inl, inr}
 use Rattle.std.specs.List.{All, AllByRecursion, between}
 use Rattle.std.specs.Cmp.{ranked}
@@ -27,7 +27,6 @@ use Rattle.hk_report.specs.Hops.{greater, lesser, from_on, entry_bound, handed_b
 use Rattle.hk_report.specs.Runs.{AreRuns}
 use Rattle.hk_report.specs.Holders.{spans_in, held_at, live_at, HoldsAlone, AreHolders, joined, latest_over, latest_within, entry_most, handed_most, most_on, raised_at, raised_over}
 use Rattle.hk_report.proofs.HistoryLemmas.{name_is}
-use Rattle.hk_report.proofs.HolderLemmas.{drop_more}
 use Rattle.hk_report.proofs.Stretches.{all_each, alone_each, held_one, has_place, got_has, between_get, has_between}
 
 -- ---- what all that a level keeps gives
