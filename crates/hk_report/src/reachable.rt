@@ -16,13 +16,12 @@ use crate::histories::{History, Span};
 use crate::holders::Stretch;
 use crate::hops::later;
 use crate::lists::Lists;
-use crate::params::GivenParams;
+use crate::params::{GivenParams, Param};
 use crate::runs::spans_at;
-use hk_model::{Entry, Items, Name, NoMemory, Template};
+use hk_model::{Items, Name, NoMemory};
 use std::alloc::Global;
 use std::cmp::Reverse;
 use std::collections::BinaryHeap;
-use std::marker::PhantomData;
 
 /// What is told of each object.
 #[derive(Clone, Copy, PartialEq, Eq, Debug)]
@@ -155,25 +154,24 @@ impl Moments {
         Ok(())
     }
 
-    /// This is told at the latest of the object of an entry, if it holds one.
-    fn tell_entry(&mut self, entry: &Entry, moment: u32) -> Result<(), NoMemory>
+    /// This is told at the latest of the object of a parameter, if it holds a capability.
+    fn tell_param(&mut self, param: &Param, moment: u32) -> Result<(), NoMemory>
         ensures earlier { OnOk result (IsEarlier self.old self.new) }
-        ensures told { OnOk result (AreHeldBy (told_by self.new) moment (entry.now ∷ [])) }
+        ensures told { OnOk result (AreHeldBy (told_by self.new) moment (param.now ∷ [])) }
     {
-        let _ = PhantomData::<Template>; // Rattle is to know what an Entry holds
-        match entry {
-            Entry::Held(cap) => self.tell(cap.name, moment),
-            _ => Ok(()),
+        match param.cap() {
+            Some(cap) => self.tell(cap.name, moment),
+            None => Ok(()),
         }
     }
 
     /// It is told at the latest of the objects of these parameters.
-    fn tell_params(&mut self, params: &[Entry], moment: u32) -> Result<(), NoMemory>
+    fn tell_params(&mut self, params: &[Param], moment: u32) -> Result<(), NoMemory>
         ensures earlier { OnOk result (IsEarlier self.old self.new) }
         ensures told { OnOk result (AreHeldBy (told_by self.new) moment params.now) }
     {
-        for entry in params {
-            self.tell_entry(entry, moment)?;
+        for param in params {
+            self.tell_param(param, moment)?;
         }
         Ok(())
     }
