@@ -11,7 +11,7 @@ ghost use Rattle.hk_report.specs.Reachable.{moment_at, from_end, begins_at, goes
 ghost use Rattle.hk_report.specs.declared.reachable.Side.TheVariants.{Last};
 ghost use Rattle.hk_report.specs.Reasons.{params_at};
 
-use crate::families::{BareChange, Begun};
+use crate::families::{Begun, KeptChange};
 use crate::histories::{History, Span};
 use crate::holders::Stretch;
 use crate::hops::later;
@@ -182,14 +182,15 @@ impl Moments {
         side: Side,
         families: &Lists<Begun>,
         params: &GivenParams,
-        changes: &[BareChange],
+        changes: &[KeptChange],
     ) -> Result<(), NoMemory>
         ensures earlier { OnOk result (IsEarlier self.old self.new) }
         ensures told { OnOk result (AllByRecursion (λ bare. AreHeldBy (told_by self.new) (begins_at side bare.under.moment) (params_at families.now params.now bare.under.call)) changes.now) }
     {
         for bare in changes {
-            let moment = side.begins_at(bare.under.moment);
-            self.tell_params(params.of(families, bare.under.call), moment)?;
+            let begun = bare.under();
+            let moment = side.begins_at(begun.moment);
+            self.tell_params(params.of(families, begun.call), moment)?;
         }
         Ok(())
     }
@@ -232,7 +233,7 @@ pub(crate) fn reachable(
     histories: &[History],
     families: &Lists<Begun>,
     params: &GivenParams,
-    changes: &[BareChange],
+    changes: &[KeptChange],
 ) -> Result<Vec<Option<u32>>, NoMemory>
     ensures { IfOk result (λ told. AreReachable side families.now params.now changes.now histories.now (moment_at told.items)) }
 {
@@ -258,7 +259,7 @@ pub(crate) fn lasts(
     histories: &[History],
     families: &Lists<Begun>,
     params: &GivenParams,
-    changes: &[BareChange],
+    changes: &[KeptChange],
     holders: &[Items<Stretch>],
 ) -> Result<Vec<Option<u32>>, NoMemory>
     ensures { IfOk result (λ told. AreReachable Last families.now params.now changes.now histories.now (moment_at told.items)) }
