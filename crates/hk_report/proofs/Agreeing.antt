@@ -5,12 +5,10 @@ use mathlib.Core.Logic.{inl, inr}
 use Rattle.std.proofs.lemmas.Bool.{true≢false, ltb-true, ltb-false, lt-ltb, le-ltb, le-leb}
 use Rattle.hk_model.specs.declared.names.Name.{Name}
 use Rattle.hk_model.specs.declared.entries.Cap.{Cap}
-use Rattle.hk_model.specs.declared.entries.Entry.{Entry}
 use Rattle.hk_model.specs.declared.reaches.Hop.{Hop}
 use Rattle.hk_model.specs.declared.reaches.Hop.TheVariants as hop_by
 use Rattle.hk_model.specs.declared.reaches.Reach.{Reach}
 use Rattle.hk_model.specs.declared.reaches.Reach.TheVariants.{Param}
-use Rattle.hk_model.specs.Places.{cap_of}
 use Rattle.hk_report.specs.declared.histories.Span.{Span}
 use Rattle.hk_report.specs.declared.histories.History.{History}
 use Rattle.hk_report.specs.declared.hops.Arrived.{Arrived}
@@ -307,20 +305,20 @@ module _ (made : Name → Bool) (told : Name → Option ℕ) where
       abbrev chosen : ℕ → Option Onward → Option Start → Option Start
       chosen index o rest = elim o as (λ y. Option Start) [ Some onward ↦ Some (record { arg = index; onward = onward }) | None ↦ rest ]
 
-      pub start_same : (l n : Name → Latest) → Agree told l n → (index : ℕ) (params : List Entry) → AreHeldBy told k params
+      pub start_same : (l n : Name → Latest) → Agree told l n → (index : ℕ) (params : List (Option Cap)) → AreHeldBy told k params
           → first_start made few k l index params ≡ first_start made all k n index params
       start_same l n agree index [] h = refl
       start_same l n agree index (e ∷ params) h =
-          ap (λ (o : Option Onward). chosen index o (first_start made few k l (index + 1) params)) (at_same l n agree (cap_of e) h.0)
+          ap (λ (o : Option Onward). chosen index o (first_start made few k l (index + 1) params)) (at_same l n agree e h.0)
           ∙ ap (chosen index (onward_at made all k n e)) (start_same l n agree (index + 1) params h.1)
 
       abbrev pub StartsThere : Option Start → Type 0
       StartsThere None = Unit {0}
       StartsThere (Some start) = IsBy (told start.onward.to.name) start.onward.to.moment
 
-      pub start_leads : (n : Name → Latest) (index : ℕ) (params : List Entry) → AreHeldBy told k params → StartsThere (first_start made all k n index params)
+      pub start_leads : (n : Name → Latest) (index : ℕ) (params : List (Option Cap)) → AreHeldBy told k params → StartsThere (first_start made all k n index params)
       start_leads n index [] h = tt
-      start_leads n index (e ∷ params) h = by (start_leads n (index + 1) params h.1) (onward_at made all k n e) (at_leads n (cap_of e) h.0)
+      start_leads n index (e ∷ params) h = by (start_leads n (index + 1) params h.1) (onward_at made all k n e) (at_leads n e h.0)
         where
           by : StartsThere (first_start made all k n (index + 1) params) → (o : Option Onward) → LeadsTo o
               → StartsThere (chosen index o (first_start made all k n (index + 1) params))
@@ -353,7 +351,7 @@ module _ (made : Name → Bool) (told : Name → Option ℕ) where
           by more None g = refl
           by more (Some onward) g = ap (λ (hops : List Hop). onward.hop ∷ hops) (more onward.to g)
 
-      behind_same : (params : List Entry) (reach : Reach) → AreHeldBy told k params → IsFoundBehind made few wanted before k params reach
+      behind_same : (params : List (Option Cap)) (reach : Reach) → AreHeldBy told k params → IsFoundBehind made few wanted before k params reach
           → IsFoundBehind made all wanted before k params reach
       behind_same params reach h f = record {
         left = f.left;
@@ -366,7 +364,7 @@ module _ (made : Name → Bool) (told : Name → Option ℕ) where
           starts : first_start made all k (by_all f.left) 0 params ≡ Some f.start
           starts = sym (start_same k (by_few f.left) (by_all f.left) (levels_same f.left) 0 params h) ∙ f.starts
 
-      pub found_same : (params : List Entry) (reach : Reach) → AreHeldBy told k params → IsFound made few wanted before k params reach → IsFound made all wanted before k params reach
+      pub found_same : (params : List (Option Cap)) (reach : Reach) → AreHeldBy told k params → IsFound made few wanted before k params reach → IsFound made all wanted before k params reach
       found_same params reach h f = by (direct_param wanted 0 params) f
         where
           by : (o : Option ℕ) → IsFoundBy made few wanted before k params reach o → IsFoundBy made all wanted before k params reach o
@@ -401,9 +399,9 @@ module _ (lasts : Name → Option ℕ) (k : ℕ) where
       by true e = refl
       by false e = absurd (subst (λ (o : Option ℕ). IsBy o t) (comes_by x false e) h)
 
-  pub held_comes : (params : List Entry) → AreHeldBy lasts (from_end k) params → AreHeldBy (comes_at lasts k) k params
+  pub held_comes : (params : List (Option Cap)) → AreHeldBy lasts (from_end k) params → AreHeldBy (comes_at lasts k) k params
   held_comes [] h = tt
-  held_comes (e ∷ params) h = (by (cap_of e) h.0, held_comes params h.1)
+  held_comes (e ∷ params) h = (by e h.0, held_comes params h.1)
     where
       by : (o : Option Cap) → IsHeldBy lasts (from_end k) o → IsHeldBy (comes_at lasts k) k o
       by None g = tt

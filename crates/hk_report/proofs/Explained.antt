@@ -39,7 +39,7 @@ use Rattle.hk_report.specs.declared.doings.Entered.{Entered}
 use Rattle.hk_report.specs.declared.families.Begun.{Begun}
 use Rattle.hk_report.specs.declared.families.BareChange.{BareChange}
 use Rattle.hk_report.specs.declared.histories.History.{History}
-use Rattle.hk_report.specs.Doings.{before_line, doing, doings, given_params, kept_params, params_given}
+use Rattle.hk_report.specs.Doings.{before_line, doing, doings, given_params, given_slots, kept_params, params_given}
 use Rattle.hk_report.specs.Families.{told_call, told_change, calls_entered, change_under, changes_by, changes_from, families_by, families_after}
 use Rattle.hk_report.specs.Histories.{history_of, told_histories}
 use Rattle.hk_report.specs.Hops.{is_made}
@@ -59,7 +59,7 @@ option_same : {X : Type 0} {x y : X} → Some x ≡ Some y → x ≡ y
 option_same h = cc
 
 -- those that a line gives, behind others
-given_behind : (o : Option Entered) (params : List Entry) (xs ys : List (List Entry))
+given_behind : (o : Option Entered) (params : List (Option Cap)) (xs ys : List (List (Option Cap)))
     → slice_index_or (kept_params o params ++ ys) (length (kept_params o params ++ xs)) [] ≡ slice_index_or ys (length xs) []
 given_behind None params xs ys = refl
 given_behind (Some entered) params xs ys = refl
@@ -80,7 +80,7 @@ params_line w m (first ∷ lines) (suc n) line e f =
     ∙ params_line w (moved w m first.cpu) lines n line e f
 
 -- there are as many families as incarnations of the opening, and calls whose parameters are kept
-one_more : (n : ℕ) (o : Option Entered) (inc : Inc) (families : List (List Begun)) (params : List Entry)
+one_more : (n : ℕ) (o : Option Entered) (inc : Inc) (families : List (List Begun)) (params : List (Option Cap))
     → length (elim o as (λ x. List (List Begun)) [ None ↦ families | Some new ↦ families ++ calls_entered n new (slice_index_or families inc.0 []) ∷ [] ])
     ≡ length families + length (kept_params o params)
 one_more n None inc families params = omega arith
@@ -95,7 +95,7 @@ as_many w n m (line ∷ lines) families =
     d : Doing
     d = doing m.state line (moved w m line.cpu).state
 
-    given : List Entry
+    given : List (Option Cap)
     given = given_params line (before_line m.state line) (moved w m line.cpu).state
 
     one : length (families_by n d families) ≡ length families + length (kept_params d.entered given)
@@ -118,19 +118,23 @@ module _ (w : WorldValue) (lines : List Line) (steps : AreStepsOf w lines) where
       let count = (families_end w (take n lines) (first_steps w (opened w) lines n steps)).fits.count in
       omega (arith, many, before, count)
 
-  params_are : (k : ℕ) (call : Inc) → IsCall w lines k call → params_at (families_of lines) (params_given w (opened w) lines) call ≡ parameters w lines k call
+  params_are : (k : ℕ) (call : Inc) → IsCall w lines k call → params_at (families_of lines) (params_given w (opened w) lines) call ≡ map cap_of (parameters w lines k call)
   params_are k call c =
       ap (λ (i : Inc). params_at (families_of lines) (params_given w (opened w) lines) i) c.made
       ∙ ap (λ (n : ℕ). slice_index_or (params_given w (opened w) lines) n []) (params_number c.earlier)
       ∙ params_line w (opened w) lines c.earlier c.line c.is c.enters
-      ∙ ap (λ (b : Bool). elim (elim b as (λ x. Option Inc) [ true ↦ Some (state_at w lines c.earlier).next_inc | false ↦ None ]) as (λ x. List Entry) [
-        | None ↦ []
-        | Some inc ↦ take (param_count (done_call c.line)) (incarnation (moved w (machine_at w lines c.earlier) c.line.cpu).state inc).slots
-      ]) c.enters
-      ∙ ap (λ (i : Inc). take (param_count (done_call c.line)) (incarnation (moved w (machine_at w lines c.earlier) c.line.cpu).state i).slots) (sym c.made)
-      ∙ ap (λ (m : Machine). take (param_count (done_call c.line)) (incarnation m.state call).slots) (sym (after_next w (opened w) lines c.earlier c.line c.is))
-      ∙ ap (λ (o : Option Line). take (param_count (option_and_then done_call o)) (incarnation (state_at w lines (suc c.earlier)) call).slots) (sym c.is)
-      ∙ ap (λ (n : ℕ). parameters w lines n call) (sym c.moment)
+      ∙ ap (map cap_of) slots_are
+    where
+      slots_are : given_slots c.line (before_line (state_at w lines c.earlier) c.line) (moved w (machine_at w lines c.earlier) c.line.cpu).state ≡ parameters w lines k call
+      slots_are =
+          ap (λ (b : Bool). elim (elim b as (λ x. Option Inc) [ true ↦ Some (state_at w lines c.earlier).next_inc | false ↦ None ]) as (λ x. List Entry) [
+            | None ↦ []
+            | Some inc ↦ take (param_count (done_call c.line)) (incarnation (moved w (machine_at w lines c.earlier) c.line.cpu).state inc).slots
+          ]) c.enters
+          ∙ ap (λ (i : Inc). take (param_count (done_call c.line)) (incarnation (moved w (machine_at w lines c.earlier) c.line.cpu).state i).slots) (sym c.made)
+          ∙ ap (λ (m : Machine). take (param_count (done_call c.line)) (incarnation m.state call).slots) (sym (after_next w (opened w) lines c.earlier c.line c.is))
+          ∙ ap (λ (o : Option Line). take (param_count (option_and_then done_call o)) (incarnation (state_at w lines (suc c.earlier)) call).slots) (sym c.is)
+          ∙ ap (λ (n : ℕ). parameters w lines n call) (sym c.moment)
 
   -- ---- what is named stands
 
@@ -202,7 +206,7 @@ module _ (w : WorldValue) (lines : List Line) (steps : AreStepsOf w lines) where
     abbrev F : List (List Begun)
     F = families_after 0 (doings w (opened w) lines) (replicate (opened w).state.next_inc.0 [])
 
-    abbrev P : List (List Entry)
+    abbrev P : List (List (Option Cap))
     P = params_given w (opened w) lines
 
     -- what is known of a change that is listed
@@ -241,10 +245,10 @@ module _ (w : WorldValue) (lines : List Line) (steps : AreStepsOf w lines) where
       abbrev IsLeast : Reach → Type 0
       IsLeast reach = IsReason w lines b.under.moment b.under.call b.moment b.object reach
 
-      least_found : (reach : Reach) → made b.object ≡ false → IsFound test H b.object (b.moment + 1) b.under.moment params reach → IsLeast reach
-      least_found reach none h = by (direct_param b.object 0 params) refl h
+      least_found : (reach : Reach) → made b.object ≡ false → IsFound test H b.object (b.moment + 1) b.under.moment (map cap_of params) reach → IsLeast reach
+      least_found reach none h = by (direct_param b.object 0 (map cap_of params)) refl h
         where
-          by : (o : Option ℕ) → direct_param b.object 0 params ≡ o → IsFoundBy test H b.object (b.moment + 1) b.under.moment params reach o → IsLeast reach
+          by : (o : Option ℕ) → direct_param b.object 0 (map cap_of params) ≡ o → IsFoundBy test H b.object (b.moment + 1) b.under.moment (map cap_of params) reach o → IsLeast reach
           by (Some arg) e g =
               subst IsLeast (sym g) (
                 none,
@@ -262,7 +266,7 @@ module _ (w : WorldValue) (lines : List Line) (steps : AreStepsOf w lines) where
       reason_is reach true e h = subst IsLeast (sym h) (sym (test_is b.object) ∙ e)
       reason_is reach false e h =
           least_found reach (sym (test_is b.object) ∙ e)
-          (subst (λ (ps : List Entry). IsFound test H b.object (b.moment + 1) b.under.moment ps reach) (params_are b.under.moment b.under.call known.call.is) h)
+          (subst (λ (ps : List (Option Cap)). IsFound test H b.object (b.moment + 1) b.under.moment ps reach) (params_are b.under.moment b.under.call known.call.is) h)
 
       explained_one : (change : Change) → IsTold F H P (told_change b) change → IsExplained w lines b change
       explained_one change h = record { line = h.line; under = h.under; object = h.object; reason = reason_is change.reach (test b.object) refl h.reason }
@@ -338,7 +342,7 @@ few_told w lines found world steps h =
     few_changes (replicate (opened w).state.next_inc.0 []) (doings w (opened w) lines) found (doings_few w lines (doings w (opened w) lines) world steps refl) h
 
 -- what was found is the list of the definitions
-pub report_is : (w : WorldValue) (lines : List Line) (told histories : List History) (params : List (List Entry)) (families : List (List Begun))
+pub report_is : (w : WorldValue) (lines : List Line) (told histories : List History) (params : List (List (Option Cap))) (families : List (List Begun))
     (found : List BareChange) (all : List Change) → IsWorld w → AreStepsOf w lines
     → told ≡ told_histories w lines → AreRearranged told histories → params ≡ params_given w (opened w) lines
     → families ≡ families_after 0 (doings w (opened w) lines) (replicate (opened w).state.next_inc.0 [])
@@ -351,5 +355,5 @@ report_is w lines told histories params families found all world steps h same p 
     (subst (λ (x : List BareChange).
     AreTold (families_after 0 (doings w (opened w) lines) (replicate (opened w).state.next_inc.0 [])) histories (params_given w (opened w) lines) x all)
     bares
-    (subst (λ (x : List (List Entry)). AreTold (families_after 0 (doings w (opened w) lines) (replicate (opened w).state.next_inc.0 [])) histories x found all) p
+    (subst (λ (x : List (List (Option Cap))). AreTold (families_after 0 (doings w (opened w) lines) (replicate (opened w).state.next_inc.0 [])) histories x found all) p
     (subst (λ (x : List (List Begun)). AreTold x histories params found all) g is)))

@@ -1,7 +1,7 @@
 -- What is found is the least reach.
 use Rattle.std.proofs.Common.{◌≡◌, ℕ, zero, suc, ◌+◌, ◌<◌, ◌≤◌, List, [], ◌∷◌, length, Bool, true, false, Option, Some, None, refl, sym, ◌∙◌, ap, arith, cond, subst, slice_get}
 use Rattle.std.proofs.Common.{option_and_then, option_map}
-use Rattle.std.specs.Prelude.{◌&&◌, ◌==◌, IsTrue}
+use Rattle.std.specs.Prelude.{◌&&◌, ◌==◌, IsTrue, map}
 use Rattle.std.specs.List.{flat_map}
 use Rattle.std.specs.Cmp.{first_so, second_so, ranked}
 use Rattle.std.specs.Ordering.{nat_cmp, MatchOrdering}
@@ -26,7 +26,7 @@ use Rattle.hk_report.specs.declared.hops.Onward.{Onward}
 use Rattle.hk_report.specs.declared.searching.Start.{Start}
 use Rattle.hk_report.specs.Histories.{history_of}
 use Rattle.hk_report.specs.Hops.{arrived_by}
-use Rattle.hk_report.specs.Searches.{is_direct, is_direct_held, is_direct_cap, direct_param, first_onward, onward_at, started, first_start, level_at, hops_down, IsFoundBehind}
+use Rattle.hk_report.specs.Searches.{is_direct, is_direct_cap, direct_param, first_onward, onward_at, started, first_start, level_at, hops_down, IsFoundBehind}
 use Rattle.hk_report.proofs.Keys.{first_less, first_same}
 use Rattle.hk_report.proofs.Spans.{SpansTell}
 use Rattle.hk_report.proofs.Onwards.{reached, arrived, IsBy, first_by, Way, GoesOn, goes_on, way_by_end, levels, Least, least_down, good_by_onward}
@@ -51,16 +51,16 @@ record FirstDirect (wanted : Name) (index : ℕ) (entries : List Entry) (arg : �
   passes : is_direct_cap wanted cap ≡ true
   first : (other : ℕ) (held : Cap) → option_and_then cap_of (slice_get entries other) ≡ Some held → is_direct_cap wanted held ≡ true → place ≤ other
 
-held_direct : (wanted : Name) (o : Option Cap) → is_direct_held wanted o ≡ true → (cap : Cap) × (o ≡ Some cap) × (is_direct_cap wanted cap ≡ true)
+held_direct : (wanted : Name) (o : Option Cap) → is_direct wanted o ≡ true → (cap : Cap) × (o ≡ Some cap) × (is_direct_cap wanted cap ≡ true)
 held_direct wanted None h = absurd (true≢false (sym h))
 held_direct wanted (Some cap) h = (cap, refl, h)
 
-direct_first : (wanted : Name) (index : ℕ) (entries : List Entry) (arg : ℕ) → direct_param wanted index entries ≡ Some arg → FirstDirect wanted index entries arg
+direct_first : (wanted : Name) (index : ℕ) (entries : List Entry) (arg : ℕ) → direct_param wanted index (map cap_of entries) ≡ Some arg → FirstDirect wanted index entries arg
 direct_first wanted index [] arg h = absurd (cc)
-direct_first wanted index (entry ∷ entries) arg h = by (λ g. direct_first wanted (index + 1) entries arg g) (is_direct wanted entry) refl h
+direct_first wanted index (entry ∷ entries) arg h = by (λ g. direct_first wanted (index + 1) entries arg g) (is_direct wanted (cap_of entry)) refl h
   where
-    by : (direct_param wanted (index + 1) entries ≡ Some arg → FirstDirect wanted (index + 1) entries arg) → (b : Bool) → is_direct wanted entry ≡ b
-        → cond b (Some index) (direct_param wanted (index + 1) entries) ≡ Some arg → FirstDirect wanted index (entry ∷ entries) arg
+    by : (direct_param wanted (index + 1) (map cap_of entries) ≡ Some arg → FirstDirect wanted (index + 1) entries arg) → (b : Bool) → is_direct wanted (cap_of entry) ≡ b
+        → cond b (Some index) (direct_param wanted (index + 1) (map cap_of entries)) ≡ Some arg → FirstDirect wanted index (entry ∷ entries) arg
     by later true e g =
         let found = held_direct wanted (cap_of entry) e in
         let same : index ≡ arg = option_same g in
@@ -79,19 +79,19 @@ direct_first wanted index (entry ∷ entries) arg h = by (λ g. direct_first wan
       where
         before : (rest : FirstDirect wanted (index + 1) entries arg) (other : ℕ) (held : Cap) → option_and_then cap_of (slice_get (entry ∷ entries) other) ≡ Some held
             → is_direct_cap wanted held ≡ true → suc rest.place ≤ other
-        before rest zero held k p = absurd (true≢false (sym (ap (is_direct_held wanted) k ∙ p) ∙ e))
+        before rest zero held k p = absurd (true≢false (sym (ap (is_direct wanted) k ∙ p) ∙ e))
         before rest (suc other) held k p = let l = rest.first other held k p in omega (arith, l)
 
-direct_none : (wanted : Name) (index : ℕ) (entries : List Entry) → direct_param wanted index entries ≡ None → (other : ℕ) (held : Cap)
+direct_none : (wanted : Name) (index : ℕ) (entries : List Entry) → direct_param wanted index (map cap_of entries) ≡ None → (other : ℕ) (held : Cap)
     → option_and_then cap_of (slice_get entries other) ≡ Some held → is_direct_cap wanted held ≡ true → ⊥
 direct_none wanted index [] h other held k p = absurd (cc)
-direct_none wanted index (entry ∷ entries) h other held k p = by (λ g o q. direct_none wanted (index + 1) entries g o held q p) (is_direct wanted entry) refl h other k
+direct_none wanted index (entry ∷ entries) h other held k p = by (λ g o q. direct_none wanted (index + 1) entries g o held q p) (is_direct wanted (cap_of entry)) refl h other k
   where
-    by : (direct_param wanted (index + 1) entries ≡ None → (other : ℕ) → option_and_then cap_of (slice_get entries other) ≡ Some held → ⊥) → (b : Bool)
-        → is_direct wanted entry ≡ b → cond b (Some index) (direct_param wanted (index + 1) entries) ≡ None → (other : ℕ)
+    by : (direct_param wanted (index + 1) (map cap_of entries) ≡ None → (other : ℕ) → option_and_then cap_of (slice_get entries other) ≡ Some held → ⊥) → (b : Bool)
+        → is_direct wanted (cap_of entry) ≡ b → cond b (Some index) (direct_param wanted (index + 1) (map cap_of entries)) ≡ None → (other : ℕ)
         → option_and_then cap_of (slice_get (entry ∷ entries) other) ≡ Some held → ⊥
     by later true e g other k = absurd (cc)
-    by later false e g zero k = true≢false (sym (ap (is_direct_held wanted) k ∙ p) ∙ e)
+    by later false e g zero k = true≢false (sym (ap (is_direct wanted) k ∙ p) ∙ e)
     by later false e g (suc other) k = later g other k
 
 module _ (made : Name → Bool) (histories : List History) (k : ℕ) (level : Name → Latest) where
@@ -110,13 +110,13 @@ module _ (made : Name → Bool) (histories : List History) (k : ℕ) (level : Na
   from_cap None onward h = absurd (cc)
   from_cap (Some cap) onward h = (cap, refl, h)
 
-  start_first : (index : ℕ) (entries : List Entry) (start : Start) → first_start made histories k level index entries ≡ Some start → FirstStart index entries start
+  start_first : (index : ℕ) (entries : List Entry) (start : Start) → first_start made histories k level index (map cap_of entries) ≡ Some start → FirstStart index entries start
   start_first index [] start h = absurd (cc)
-  start_first index (entry ∷ entries) start h = by (λ g. start_first (index + 1) entries start g) (onward_at made histories k level entry) refl h
+  start_first index (entry ∷ entries) start h = by (λ g. start_first (index + 1) entries start g) (onward_at made histories k level (cap_of entry)) refl h
     where
-      by : (first_start made histories k level (index + 1) entries ≡ Some start → FirstStart (index + 1) entries start) → (o : Option Onward)
-          → onward_at made histories k level entry ≡ o
-          → elim o as (λ x. Option Start) [ Some onward ↦ Some (started made histories index onward) | None ↦ first_start made histories k level (index + 1) entries ] ≡ Some start
+      by : (first_start made histories k level (index + 1) (map cap_of entries) ≡ Some start → FirstStart (index + 1) entries start) → (o : Option Onward)
+          → onward_at made histories k level (cap_of entry) ≡ o
+          → elim o as (λ x. Option Start) [ Some onward ↦ Some (started made histories index onward) | None ↦ first_start made histories k level (index + 1) (map cap_of entries) ] ≡ Some start
           → FirstStart index (entry ∷ entries) start
       by later (Some onward) e g =
           let found = from_cap (cap_of entry) onward e in
@@ -150,15 +150,15 @@ module _ (made : Name → Bool) (histories : List History) (k : ℕ) (level : Na
               absurd (none_some onward both)
           before rest (suc other) held onward l p = let m = rest.first other held onward l p in omega (arith, m)
 
-  start_none : (index : ℕ) (entries : List Entry) → first_start made histories k level index entries ≡ None → (other : ℕ) (held : Cap) (onward : Onward)
+  start_none : (index : ℕ) (entries : List Entry) → first_start made histories k level index (map cap_of entries) ≡ None → (other : ℕ) (held : Cap) (onward : Onward)
       → option_and_then cap_of (slice_get entries other) ≡ Some held → first_onward made histories level (arrived_by k held) ≡ Some onward → ⊥
   start_none index [] h other held onward l p = absurd (cc)
   start_none index (entry ∷ entries) h other held onward l p =
-      by (λ g o q. start_none (index + 1) entries g o held onward q p) (onward_at made histories k level entry) refl h other l
+      by (λ g o q. start_none (index + 1) entries g o held onward q p) (onward_at made histories k level (cap_of entry)) refl h other l
     where
-      by : (first_start made histories k level (index + 1) entries ≡ None → (other : ℕ) → option_and_then cap_of (slice_get entries other) ≡ Some held → ⊥)
-          → (o : Option Onward) → onward_at made histories k level entry ≡ o
-          → elim o as (λ x. Option Start) [ Some onward ↦ Some (started made histories index onward) | None ↦ first_start made histories k level (index + 1) entries ] ≡ None
+      by : (first_start made histories k level (index + 1) (map cap_of entries) ≡ None → (other : ℕ) → option_and_then cap_of (slice_get entries other) ≡ Some held → ⊥)
+          → (o : Option Onward) → onward_at made histories k level (cap_of entry) ≡ o
+          → elim o as (λ x. Option Start) [ Some onward ↦ Some (started made histories index onward) | None ↦ first_start made histories k level (index + 1) (map cap_of entries) ] ≡ None
           → (other : ℕ) → option_and_then cap_of (slice_get (entry ∷ entries) other) ≡ Some held → ⊥
       by later (Some first) e g other l = absurd (cc)
       by later None e g zero l =
@@ -240,7 +240,7 @@ module _ (at : ℕ → State) (made test : Name → Bool) (test_is : (x : Name) 
 
   -- ---- a parameter that is the object
 
-  pub found_direct : (arg : ℕ) → direct_param wanted 0 params ≡ Some arg → IsLeastReach at made params k last wanted arg []
+  pub found_direct : (arg : ℕ) → direct_param wanted 0 (map cap_of params) ≡ Some arg → IsLeastReach at made params k last wanted arg []
   found_direct arg e = subst (λ (n : ℕ). IsLeastReach at made params k last wanted n []) (sym number) (record { is = reach_by 0 f.place f.cap [] f.is here; least = least })
     where
       f : FirstDirect wanted 0 params arg
@@ -267,7 +267,7 @@ module _ (at : ℕ → State) (made test : Name → Bool) (test_is : (x : Name) 
 
   -- ---- hops from a parameter
 
-  module _ (none : direct_param wanted 0 params ≡ None) (reach_found : Reach) (b : IsFoundBehind test histories wanted (last + 1) k params reach_found) where
+  module _ (none : direct_param wanted 0 (map cap_of params) ≡ None) (reach_found : Reach) (b : IsFoundBehind test histories wanted (last + 1) k (map cap_of params) reach_found) where
     s : FirstStart test histories k (level_at test histories wanted (last + 1) b.left) 0 params b.start
     s = start_first test histories k (level_at test histories wanted (last + 1) b.left) 0 params b.start b.starts
 

@@ -10,8 +10,6 @@ use Rattle.std.proofs.lemmas.List.Sorted.{IsPermutation-refl, IsPermutation-sym,
 use Rattle.hk_model.specs.declared.names.Name.{Name}
 use Rattle.hk_model.specs.declared.names.Inc.{Inc}
 use Rattle.hk_model.specs.declared.entries.Cap.{Cap}
-use Rattle.hk_model.specs.declared.entries.Entry.{Entry}
-use Rattle.hk_model.specs.Places.{cap_of}
 use Rattle.hk_model.specs.declared.lines.Line.{Line}
 use Rattle.hk_model.specs.declared.reaches.Reach.{Reach}
 use Rattle.hk_model.specs.declared.reaches.Change.{Change}
@@ -38,7 +36,7 @@ use Rattle.hk_report.proofs.HistoryLemmas.{beyond}
 
 -- ---- reasons by reasons
 
-module _ (families : List (List Begun)) (params : List (List Entry)) (firsts : Name → Option ℕ) (few all : List History) (makers : (x : Name) → (history_of few x).maker ≡ (history_of all x).maker)
+module _ (families : List (List Begun)) (params : List (List (Option Cap))) (firsts : Name → Option ℕ) (few all : List History) (makers : (x : Name) → (history_of few x).maker ≡ (history_of all x).maker)
     (thin : (x : Name) → IsThinnedBy (firsts x) (history_of few x).spans (history_of all x).spans) (closed : IsClosed First all firsts) where
   made_one : (begun : Begun) (x : Name) → is_made families begun few x ≡ is_made families begun all x
   made_one begun x = ap (λ (o : Option Inc). elim o as (λ y. Bool) [ None ↦ false | Some inc ↦ has_begun begun (slice_index_or families inc.0 []) ]) (makers x)
@@ -200,7 +198,7 @@ module _ (firsts : Name → Option ℕ) (after : List History) where
 
 -- ---- a whole report
 
-pub report_enough : (w : WorldValue) (lines : List Line) (told histories : List History) (params : List (List Entry)) (families : List (List Begun))
+pub report_enough : (w : WorldValue) (lines : List Line) (told histories : List History) (params : List (List (Option Cap))) (families : List (List Begun))
     (found : List BareChange) (all : List Change) → IsWorld w → AreStepsOf w lines
     → told ≡ told_histories w lines → IsEnough families params found told histories → params ≡ params_given w (opened w) lines
     → families ≡ families_after 0 (doings w (opened w) lines) (replicate (opened w).state.next_inc.0 [])
@@ -212,7 +210,7 @@ report_enough w lines told histories params families found all world steps h eno
     (whole_thin enough.firsts histories told enough.kept) (whole_closed enough.firsts histories told enough.kept enough.reachable.closed) found all enough.reachable.starts is)
 
 -- all is enough
-pub enough_all : (families : List (List Begun)) (params : List (List Entry)) (bares : List BareChange) (histories : List History)
+pub enough_all : (families : List (List Begun)) (params : List (List (Option Cap))) (bares : List BareChange) (histories : List History)
     → IsEnough families params bares histories histories
 enough_all families params bares histories = record {
   firsts = λ name. Some 0;
@@ -220,9 +218,9 @@ enough_all families params bares histories = record {
   kept = λ name. record { maker_is = refl; spans_are = all_kept (history_of histories name).spans };
 }
   where
-    all_held : (moment : ℕ) (entries : List Entry) → AreHeldBy (λ name. Some 0) moment entries
+    all_held : (moment : ℕ) (held : List (Option Cap)) → AreHeldBy (λ name. Some 0) moment held
     all_held moment [] = tt
-    all_held moment (e ∷ entries) = (by (cap_of e), all_held moment entries)
+    all_held moment (param ∷ held) = (by param, all_held moment held)
       where
         by : (cap : Option Cap) → IsHeldBy (λ name. Some 0) moment cap
         by None = tt

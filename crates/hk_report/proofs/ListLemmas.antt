@@ -1,11 +1,11 @@
 -- Lists that stand at places among the items of one list.
 use Rattle.std.proofs.Common.{◌≡◌, ℕ, zero, suc, ◌+◌, ◌-◌, ◌<◌, ◌≤◌, List, [], ◌∷◌, ◌++◌, length, take, drop, refl, sym, ap, ◌∙◌, arith, append_assoc, Result, Ok, Err}
-use Rattle.std.specs.Prelude.{slice_index_or}
+use Rattle.std.specs.Prelude.{Option, slice_index_or}
 use Rattle.std.specs.Prelude.{OnErr}
 use Rattle.std.specs.List.{slice_range}
 use Rattle.std.proofs.lemmas.List.{map-append, length-take-le, take-append-le, take_more, length-append, length-drop, get_or_append_left, get_or-drop}
 use Rattle.std.proofs.Math.Seq.{drop-append_seam, take-length}
-use Rattle.hk_model.specs.declared.entries.Entry.{Entry}
+use Rattle.hk_model.specs.declared.entries.Cap.{Cap}
 use Rattle.hk_report.specs.declared.lists.Place.{Place}
 use Rattle.hk_report.specs.Lists.{items_at, lists_at, no_place, IsPlace, ArePlaces}
 use Rattle.hk_report.specs.Params.{AreFewEach}
@@ -137,11 +137,11 @@ on_err (Err e) p = p
 
 -- ---- parameters
 
-pub few_each_at : (all : List (List Entry)) (n : ℕ) → AreFewEach all → length (slice_index_or all n []) ≤ 8
+pub few_each_at : (all : List (List (Option Cap))) (n : ℕ) → AreFewEach all → length (slice_index_or all n []) ≤ 8
 few_each_at [] n h = omega arith
 few_each_at (x ∷ all) zero h = h.0
 few_each_at (x ∷ all) (suc n) h = few_each_at all n h.1
 
-pub few_each_more : (all : List (List Entry)) (params : List Entry) → AreFewEach all → length params ≤ 8 → AreFewEach (all ++ params ∷ [])
+pub few_each_more : (all : List (List (Option Cap))) (params : List (Option Cap)) → AreFewEach all → length params ≤ 8 → AreFewEach (all ++ params ∷ [])
 few_each_more [] params h l = (l, tt)
 few_each_more (x ∷ all) params h l = (h.0, few_each_more all params h.1 l)

@@ -11,8 +11,6 @@ use Rattle.std.proofs.lemmas.List.{get_or_default}
 use Rattle.std.proofs.lemmas.List.Sorted.{Contains-permutation}
 use Rattle.hk_model.specs.declared.names.Name.{Name}
 use Rattle.hk_model.specs.declared.entries.Cap.{Cap}
-use Rattle.hk_model.specs.declared.entries.Entry.{Entry}
-use Rattle.hk_model.specs.Places.{cap_of}
 use Rattle.hk_model.proofs.Members.{Has, has_from, contains_from}
 use Rattle.hk_report.specs.declared.families.Begun.{Begun}
 use Rattle.hk_report.specs.declared.families.BareChange.{BareChange}
@@ -149,15 +147,15 @@ module _ (a b : Moments) (f : (name : Name) → (bound : ℕ) → IsBy (told_by 
   held_stays m None h = tt
   held_stays m (Some cap) h = f cap.name m h
 
-  params_stay : (m : ℕ) (params : List Entry) → AreHeldBy (told_by a) m params → AreHeldBy (told_by b) m params
+  params_stay : (m : ℕ) (params : List (Option Cap)) → AreHeldBy (told_by a) m params → AreHeldBy (told_by b) m params
   params_stay m params h =
-      all_so (λ (e : Entry). IsHeldBy (told_by a) m (cap_of e)) (λ (e : Entry). IsHeldBy (told_by b) m (cap_of e)) (λ e g. held_stays m (cap_of e) g) params h
+      all_so (IsHeldBy (told_by a) m) (IsHeldBy (told_by b) m) (held_stays m) params h
 
-abbrev pub AreBegun : Side → List (List Begun) → List (List Entry) → Moments → List BareChange → Type 0
+abbrev pub AreBegun : Side → List (List Begun) → List (List (Option Cap)) → Moments → List BareChange → Type 0
 AreBegun side families params m bares =
     AllByRecursion (λ (bare : BareChange). AreHeldBy (told_by m) (begins_at side bare.under.moment) (params_at families params bare.under.call)) bares
 
-pub begun_later : (side : Side) (families : List (List Begun)) (params : List (List Entry)) (a b : Moments)
+pub begun_later : (side : Side) (families : List (List Begun)) (params : List (List (Option Cap))) (a b : Moments)
     → ((name : Name) → (bound : ℕ) → IsBy (told_by a name) bound → IsBy (told_by b name) bound) → (bares : List BareChange)
     → AreBegun side families params a bares → AreBegun side families params b bares
 begun_later side families params a b f bares h =
@@ -202,15 +200,15 @@ over_next side at first a b spans n span h l e f g = record {
       (over_stays a b f.earlier side (Some at) (take n spans) h.holds) g;
 }
 
-pub params_next : (m : ℕ) (first a b : Moments) (params : List Entry) (n : ℕ) (entry : Entry) → IsEarlierAnd first a (AreHeldBy (told_by a) m (take n params)) → n < length params
-    → entry ≡ slice_index_or params n entry → IsEarlier a b → AreHeldBy (told_by b) m (entry ∷ []) → IsEarlierAnd first b (AreHeldBy (told_by b) m (take (n + 1) params))
-params_next m first a b params n entry h l e f g = record {
+pub params_next : (m : ℕ) (first a b : Moments) (params : List (Option Cap)) (n : ℕ) (param : Option Cap) → IsEarlierAnd first a (AreHeldBy (told_by a) m (take n params)) → n < length params
+    → param ≡ slice_index_or params n param → IsEarlier a b → AreHeldBy (told_by b) m (param ∷ []) → IsEarlierAnd first b (AreHeldBy (told_by b) m (take (n + 1) params))
+params_next m first a b params n param h l e f g = record {
   earlier = earlier_through first a b h.earlier f;
-  holds = taken_more (λ (x : Entry). IsHeldBy (told_by b) m (cap_of x)) params n entry l e (params_stay a b f.earlier m (take n params) h.holds) g.0;
+  holds = taken_more (IsHeldBy (told_by b) m) params n param l e (params_stay a b f.earlier m (take n params) h.holds) g.0;
 }
 
-pub begun_next : (side : Side) (families : List (List Begun)) (given : List (List Entry)) (first a b : Moments) (bares : List BareChange) (n : ℕ) (d : BareChange) (m : ℕ)
-    (params : List Entry) → IsEarlierAnd first a (AreBegun side families given a (take n bares)) → n < length bares → IsEarlier a b
+pub begun_next : (side : Side) (families : List (List Begun)) (given : List (List (Option Cap))) (first a b : Moments) (bares : List BareChange) (n : ℕ) (d : BareChange) (m : ℕ)
+    (params : List (Option Cap)) → IsEarlierAnd first a (AreBegun side families given a (take n bares)) → n < length bares → IsEarlier a b
     → m ≡ begins_at side (slice_index_or bares n d).under.moment → params ≡ params_at families given (slice_index_or bares n d).under.call → AreHeldBy (told_by b) m params
     → IsEarlierAnd first b (AreBegun side families given b (take (n + 1) bares))
 begun_next side families given first a b bares n d m params h l f when same g = record {

@@ -1,9 +1,9 @@
 -- Changes that are told one after another.
 use Rattle.std.proofs.Common.{◌≡◌, ℕ, zero, suc, ◌+◌, ◌<◌, ◌^◌, List, [], ◌∷◌, ◌++◌, length, take, refl, sym, arith, subst}
-use Rattle.std.specs.Prelude.{slice_index_or}
+use Rattle.std.specs.Prelude.{Option, slice_index_or}
 use Rattle.std.specs.List.{AllByRecursion}
 use Rattle.std.proofs.lemmas.List.{get_or_default}
-use Rattle.hk_model.specs.declared.entries.Entry.{Entry}
+use Rattle.hk_model.specs.declared.entries.Cap.{Cap}
 use Rattle.hk_model.specs.declared.reaches.Change.{Change}
 use Rattle.hk_report.specs.declared.families.Begun.{Begun}
 use Rattle.hk_report.specs.declared.families.BareChange.{BareChange}
@@ -19,7 +19,7 @@ all_at P (y ∷ xs) (suc n) x h l e = all_at P xs n x h.1 (omega (arith, l)) e
 pub few_at : (bares : List BareChange) (n : ℕ) (b : BareChange) → AreFew bares → n < length bares → b ≡ slice_index_or bares n b → b.moment + 1 < 2 ^ 32
 few_at bares n b h l e = all_at (λ (y : BareChange). y.moment + 1 < 2 ^ 32) bares n b h l e
 
-module _ (families : List (List Begun)) (histories : List History) (params : List (List Entry)) where
+module _ (families : List (List Begun)) (histories : List History) (params : List (List (Option Cap))) where
   none_taken : (bares : List BareChange) → take 0 bares ≡ []
   none_taken [] = refl
   none_taken (b ∷ bares) = refl

@@ -1,10 +1,10 @@
 -- What is told of lines as they come, one by one.
 use Rattle.std.proofs.Common.{◌≡◌, ℕ, suc, ◌+◌, ◌<◌, ◌^◌, List, [], ◌∷◌, ◌++◌, length, replicate, refl, sym, ap, ◌∙◌, arith, append_assoc}
-use Rattle.std.specs.Prelude.{codes, slice_index_or}
+use Rattle.std.specs.Prelude.{Option, codes, slice_index_or}
 use Rattle.std.specs.Fmt.{decimal}
 use Rattle.std.proofs.lemmas.List.{append-nil, length-append}
 use Rattle.hk_format.specs.Texts.{ended_line}
-use Rattle.hk_model.specs.declared.entries.Entry.{Entry}
+use Rattle.hk_model.specs.declared.entries.Cap.{Cap}
 use Rattle.hk_model.specs.declared.lines.Line.{Line}
 use Rattle.hk_model.specs.WorldValue.{WorldValue, IsWorld}
 use Rattle.hk_model.specs.State.{State}
@@ -39,10 +39,10 @@ doings_one w m [] line = refl
 doings_one w m (x ∷ lines) line = ap (λ (ds : List Doing). doing m.state x (moved w m x.cpu).state ∷ ds) (doings_one w (moved w m x.cpu) lines line)
 
 -- the parameters that a line gives
-abbrev params_from : Line → State → State → List (List Entry)
+abbrev params_from : Line → State → State → List (List (Option Cap))
 params_from line s t = kept_params (doing s line t).entered (given_params line (before_line s line) t)
 
-abbrev params_by : WorldValue → Machine → Line → List (List Entry)
+abbrev params_by : WorldValue → Machine → Line → List (List (Option Cap))
 params_by w m line = params_from line m.state (moved w m line.cpu).state
 
 params_one : (w : WorldValue) (m : Machine) (lines : List Line) (line : Line)
@@ -50,7 +50,7 @@ params_one : (w : WorldValue) (m : Machine) (lines : List Line) (line : Line)
     ≡ params_given w m lines ++ params_by w (after_lines w m lines) line
 params_one w m [] line = append-nil (params_by w m line)
 params_one w m (x ∷ lines) line =
-    ap (λ (ps : List (List Entry)). params_by w m x ++ ps) (params_one w (moved w m x.cpu) lines line)
+    ap (λ (ps : List (List (Option Cap))). params_by w m x ++ ps) (params_one w (moved w m x.cpu) lines line)
     ∙ sym (append_assoc (params_by w m x) (params_given w (moved w m x.cpu) lines) (params_by w (after_lines w (moved w m x.cpu) lines) line))
 
 doings_as_many : (w : WorldValue) (m : Machine) (lines : List Line) → length (doings w m lines) ≡ length lines
@@ -128,7 +128,7 @@ retold_more w lines line old new r steps m told =
           ∙ families_one 0 old.count (replicate (opened w).state.next_inc.0 []) (doings w (opened w) lines) (d (after_lines w (opened w) lines)) many);
       params =
           p
-          ∙ ap (λ (ps : List (List Entry)). ps ++ params_by w old.machine line) r.params
+          ∙ ap (λ (ps : List (List (Option Cap))). ps ++ params_by w old.machine line) r.params
           ∙ ap (λ (k : Machine). params_given w (opened w) lines ++ params_by w k line) r.machine
           ∙ sym (params_one w (opened w) lines line);
       histories =
@@ -174,7 +174,7 @@ pub retold_few : {K : Type 0} (w : WorldValue) (lines : List Line) (r : Retellin
 retold_few w lines r world h = few_told w lines r.telling.families.changes.items world h.steps h.changes
 
 -- the text of what was told
-pub retold : {K : Type 0} (r : Retelling K) (told histories : List History) (params : List (List Entry)) (families : List (List Begun)) (found : List BareChange)
+pub retold : {K : Type 0} (r : Retelling K) (told histories : List History) (params : List (List (Option Cap))) (families : List (List Begun)) (found : List BareChange)
     (count : ℕ) (none mid text : List ℕ)
     → told ≡ finished_below (r.count + 1) (length r.telling.histories.items) r.telling.histories.items → IsEnough families params found told histories → params ≡ r.telling.params
     → families ≡ r.telling.families.calls → found ≡ r.telling.families.changes.items

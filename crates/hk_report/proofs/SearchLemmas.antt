@@ -5,7 +5,7 @@ use mathlib.Core.Logic.{inl, inr}
 use Rattle.std.proofs.lemmas.Bool.{cases_lt}
 use Rattle.std.proofs.lemmas.List.{append-nil, append_assoc}
 use Rattle.hk_model.specs.declared.names.Name.{Name}
-use Rattle.hk_model.specs.declared.entries.Entry.{Entry}
+use Rattle.hk_model.specs.declared.entries.Cap.{Cap}
 use Rattle.hk_model.specs.declared.reaches.Hop.{Hop}
 use Rattle.hk_report.specs.declared.histories.History.{History}
 use Rattle.hk_report.specs.declared.hops.Arrived.{Arrived}
@@ -157,7 +157,7 @@ module _ (told : Name → Option ℕ) (made : Name → Bool) (histories : List H
   module _ (thin : (x : Name) → IsThinnedBy (told x) (history_of histories x).spans (history_of histories x).spans)
       (closed : (x : Name) → AreGoneOver First told (told x) (history_of histories x).spans) where
     -- one level more from which no parameter starts
-    pub none_fewer : (k : ℕ) (params : List Entry) (n : ℕ) (level : Name → Latest) → AreHeldBy told k params → Agree told level (level_at made histories wanted before n)
+    pub none_fewer : (k : ℕ) (params : List (Option Cap)) (n : ℕ) (level : Name → Latest) → AreHeldBy told k params → Agree told level (level_at made histories wanted before n)
         → first_start made histories k level 0 params ≡ None
         → ((less : ℕ) → less < n → first_start made histories k (level_at made histories wanted before less) 0 params ≡ None)
         → (less : ℕ) → less < n + 1 → first_start made histories k (level_at made histories wanted before less) 0 params ≡ None
@@ -170,12 +170,12 @@ module _ (told : Name → Option ℕ) (made : Name → Bool) (histories : List H
     ]
 
     -- the start that is found, and where it leads
-    pub started : (k : ℕ) (params : List Entry) (n : ℕ) (level : Name → Latest) (start : Start) → AreHeldBy told k params → Agree told level (level_at made histories wanted before n)
+    pub started : (k : ℕ) (params : List (Option Cap)) (n : ℕ) (level : Name → Latest) (start : Start) → AreHeldBy told k params → Agree told level (level_at made histories wanted before n)
         → first_start made histories k level 0 params ≡ Some start → first_start made histories k (level_at made histories wanted before n) 0 params ≡ Some start
     started k params n level start held same found =
         sym (start_same made told histories histories thin closed k level (level_at made histories wanted before n) same 0 params held) ∙ found
 
-    pub started_there : (k : ℕ) (params : List Entry) (level : Name → Latest) (start : Start) → AreHeldBy told k params → first_start made histories k level 0 params ≡ Some start
+    pub started_there : (k : ℕ) (params : List (Option Cap)) (level : Name → Latest) (start : Start) → AreHeldBy told k params → first_start made histories k level 0 params ≡ Some start
         → IsBy (told start.onward.to.name) start.onward.to.moment
     started_there k params level start held found =
         subst (StartsThere made told histories histories thin closed k) found (start_leads made told histories histories thin closed k level 0 params held)

@@ -1,11 +1,11 @@
 -- Changes that are written one after another.
 use Rattle.std.proofs.Common.{◌≡◌, ℕ, suc, ◌+◌, ◌<◌, List, [], ◌∷◌, ◌++◌, length, replicate, take, refl, sym, ap, ◌∙◌, arith, subst, append_assoc}
-use Rattle.std.specs.Prelude.{codes, slice_index_or}
+use Rattle.std.specs.Prelude.{Option, codes, slice_index_or}
 use Rattle.std.specs.Fmt.{decimal}
 use Rattle.std.specs.List.{flat_map}
 use Rattle.std.proofs.lemmas.List.{append-nil}
 use Rattle.hk_format.specs.Texts.{ended_line}
-use Rattle.hk_model.specs.declared.entries.Entry.{Entry}
+use Rattle.hk_model.specs.declared.entries.Cap.{Cap}
 use Rattle.hk_model.specs.declared.lines.Line.{Line}
 use Rattle.hk_model.specs.declared.reaches.Change.{Change}
 use Rattle.hk_model.specs.WorldValue.{WorldValue, IsWorld}
@@ -28,7 +28,7 @@ written_one [] change = append-nil (change_text change)
 written_one (c ∷ changes) change =
     ap (λ (xs : List ℕ). change_text c ++ xs) (written_one changes change) ∙ sym (append_assoc (change_text c) (flat_map change_text changes) (change_text change))
 
-module _ (families : List (List Begun)) (histories : List History) (params : List (List Entry)) where
+module _ (families : List (List Begun)) (histories : List History) (params : List (List (Option Cap))) where
   pub written_none : (bares : List BareChange) (before : List ℕ) → AreWritten families histories params (take 0 bares) before before
   written_none bares before = record {
     changes = [];
@@ -58,18 +58,18 @@ module _ (families : List (List Begun)) (histories : List History) (params : Lis
   told_many (b ∷ bares) (c ∷ changes) h = ap suc (told_many bares changes h.1)
 
 -- of no changes none is written
-pub written_empty : (families : List (List Begun)) (histories : List History) (params : List (List Entry)) (bares : List BareChange) (before : List ℕ) → length bares ≡ 0
+pub written_empty : (families : List (List Begun)) (histories : List History) (params : List (List (Option Cap))) (bares : List BareChange) (before : List ℕ) → length bares ≡ 0
     → AreWritten families histories params bares before before
 written_empty families histories params [] before e = written_none families histories params [] before
 written_empty families histories params (b ∷ bares) before e = absurd (omega (arith, e))
 
-pub told_empty : (families : List (List Begun)) (histories : List History) (params : List (List Entry)) (bares : List BareChange) (changes : List Change) → length bares ≡ 0
+pub told_empty : (families : List (List Begun)) (histories : List History) (params : List (List (Option Cap))) (bares : List BareChange) (changes : List Change) → length bares ≡ 0
     → changes ≡ [] → AreTold families histories params bares changes
 told_empty families histories params [] changes e h = told_none families histories params [] changes h
 told_empty families histories params (b ∷ bares) changes e h = absurd (omega (arith, e))
 
 -- the whole text
-pub reported : (w : WorldValue) (lines : List Line) (told histories : List History) (params : List (List Entry)) (families : List (List Begun)) (found : List BareChange)
+pub reported : (w : WorldValue) (lines : List Line) (told histories : List History) (params : List (List (Option Cap))) (families : List (List Begun)) (found : List BareChange)
     (count : ℕ) (none mid text : List ℕ) → IsWorld w → AreStepsOf w lines
     → told ≡ told_histories w lines → IsEnough families params found told histories → params ≡ params_given w (opened w) lines
     → families ≡ families_after 0 (doings w (opened w) lines) (replicate (opened w).state.next_inc.0 [])

@@ -1,7 +1,8 @@
 -- What each line did that the changes under confined calls are told by. docs/RULES.md, "Under a call".
-use Rattle.std.specs.Prelude.{◌≡◌, true, false, List, [], ◌∷◌, ◌++◌, take, Option, Some, None, IfSome, is_some, option_map, slice_index_or}
+use Rattle.std.specs.Prelude.{◌≡◌, true, false, List, [], ◌∷◌, ◌++◌, map, take, Option, Some, None, IfSome, is_some, option_map, slice_index_or}
 use Rattle.std.specs.Option.{unwrap_or}
 use Rattle.hk_model.specs.declared.calls.Call.{Call}
+use Rattle.hk_model.specs.declared.entries.Cap.{Cap}
 use Rattle.hk_model.specs.declared.entries.Entry.{Entry}
 use Rattle.hk_model.specs.declared.lines.Line.{Line}
 use Rattle.hk_model.specs.declared.names.Name.{Name}
@@ -10,6 +11,7 @@ use Rattle.hk_model.specs.declared.names.Proc.{Proc}
 use Rattle.hk_model.specs.declared.names.Cpu.{Cpu}
 use Rattle.hk_model.specs.WorldValue.{WorldValue}
 use Rattle.hk_model.specs.State.{State, incarnation}
+use Rattle.hk_model.specs.Places.{cap_of}
 use Rattle.hk_model.specs.Processors.{running_on}
 use Rattle.hk_model.specs.Running.{Machine, moved}
 use Rattle.hk_model.specs.Lines.{done_call, makes_object, enters_call, param_count}
@@ -71,17 +73,21 @@ abbrev pub doings : WorldValue → Machine → List Line → List Doing
 doings w m [] = []
 doings w m (line ∷ lines) = doing m.state line (moved w m line.cpu).state ∷ doings w (moved w m line.cpu) lines
 
--- the merged parameters of the call that a line has begun, from the state behind it
-abbrev pub given_params : Line → Before → State → List Entry
-given_params line before t = elim before.enters [ None ↦ [] | Some inc ↦ take (param_count (done_call line)) (incarnation t inc).slots ]
+-- the slots that the merged parameters of the call are in that a line has begun, from the state behind it
+abbrev pub given_slots : Line → Before → State → List Entry
+given_slots line before t = elim before.enters [ None ↦ [] | Some inc ↦ take (param_count (done_call line)) (incarnation t inc).slots ]
 
--- they are kept where the line has begun one
-abbrev pub kept_params : Option Entered → List Entry → List (List Entry)
+-- of each parameter the capability, if it holds one
+abbrev pub given_params : Line → Before → State → List (Option Cap)
+given_params line before t = map cap_of (given_slots line before t)
+
+-- they are kept where the line has begun a call
+abbrev pub kept_params : Option Entered → List (Option Cap) → List (List (Option Cap))
 kept_params None params = []
 kept_params (Some entered) params = params ∷ []
 
 -- those of the calls that lines have begun, in the order of their incarnations
-abbrev pub params_given : WorldValue → Machine → List Line → List (List Entry)
+abbrev pub params_given : WorldValue → Machine → List Line → List (List (Option Cap))
 params_given w m [] = []
 params_given w m (line ∷ lines) =
     kept_params (doing m.state line (moved w m line.cpu).state).entered (given_params line (before_line m.state line) (moved w m line.cpu).state)

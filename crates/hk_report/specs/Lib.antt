@@ -13,6 +13,7 @@ pub mod Counts
 pub mod Written
 pub mod Retold
 pub mod Lists
+pub mod ParamFields
 pub mod Params
 pub mod Reachable
 pub mod HeldBlocks

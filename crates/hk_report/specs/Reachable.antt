@@ -5,8 +5,6 @@ use Rattle.std.specs.List.{AllByRecursion, AllByRecursion-prop}
 use Rattle.std.specs.List.Sorted.{IsPermutation}
 use Rattle.hk_model.specs.declared.names.Name.{Name}
 use Rattle.hk_model.specs.declared.entries.Cap.{Cap}
-use Rattle.hk_model.specs.declared.entries.Entry.{Entry}
-use Rattle.hk_model.specs.Places.{cap_of}
 use Rattle.hk_report.specs.declared.families.Begun.{Begun}
 use Rattle.hk_report.specs.declared.families.BareChange.{BareChange}
 use Rattle.hk_report.specs.declared.histories.Span.{Span}
@@ -63,11 +61,11 @@ abbrev pub IsHeldBy : (Name → Option ℕ) → ℕ → Option Cap → Type 0
 IsHeldBy told moment None = Unit {0}
 IsHeldBy told moment (Some cap) = IsBy (told cap.name) moment
 
-abbrev pub AreHeldBy : (Name → Option ℕ) → ℕ → List Entry → Type 0
-AreHeldBy told moment params = AllByRecursion (λ (entry : Entry). IsHeldBy told moment (cap_of entry)) params
+abbrev pub AreHeldBy : (Name → Option ℕ) → ℕ → List (Option Cap) → Type 0
+AreHeldBy told moment params = AllByRecursion (λ (param : Option Cap). IsHeldBy told moment param) params
 
 -- the moments of all objects that ways can come to from the parameters of the calls under which there were these changes
-pub record AreReachable (side : Side) (families : List (List Begun)) (params : List (List Entry)) (bares : List BareChange) (histories : List History) (told : Name → Option ℕ)
+pub record AreReachable (side : Side) (families : List (List Begun)) (params : List (List (Option Cap))) (bares : List BareChange) (histories : List History) (told : Name → Option ℕ)
     : Type 0 where
   pub starts : AllByRecursion (λ (bare : BareChange). AreHeldBy told (begins_at side bare.under.moment) (params_at families params bare.under.call)) bares
   pub closed : IsClosed side histories told
@@ -86,7 +84,7 @@ abbrev pub AreKept : (Name → Option ℕ) → List History → List History →
 AreKept firsts before after = (name : Name) → IsKept (firsts name) (history_of before name) (history_of after name)
 
 -- what is left is enough for the reasons of these changes
-pub record IsEnough (families : List (List Begun)) (params : List (List Entry)) (bares : List BareChange) (before after : List History) : Type 0 where
+pub record IsEnough (families : List (List Begun)) (params : List (List (Option Cap))) (bares : List BareChange) (before after : List History) : Type 0 where
   pub firsts : Name → Option ℕ
   pub reachable : AreReachable First families params bares before firsts
   pub kept : AreKept firsts before after

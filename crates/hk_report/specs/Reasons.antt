@@ -1,8 +1,8 @@
 -- The changes with their reasons, from what has stood in lists, who is under which call, and the parameters of the calls.
 -- docs/RULES.md, "Changes and their reasons".
-use Rattle.std.specs.Prelude.{◌≡◌, ◌+◌, ◌-◌, ◌<◌, ◌^◌, Bool, true, false, List, [], ◌∷◌, length, slice_index_or}
+use Rattle.std.specs.Prelude.{◌≡◌, ◌+◌, ◌-◌, ◌<◌, ◌^◌, Bool, true, false, List, [], ◌∷◌, length, Option, slice_index_or}
 use Rattle.std.specs.List.{AllByRecursion}
-use Rattle.hk_model.specs.declared.entries.Entry.{Entry}
+use Rattle.hk_model.specs.declared.entries.Cap.{Cap}
 use Rattle.hk_model.specs.declared.names.Inc.{Inc}
 use Rattle.hk_model.specs.declared.reaches.Reach.{Reach}
 use Rattle.hk_model.specs.declared.reaches.Reach.TheVariants.{Made}
@@ -14,10 +14,10 @@ use Rattle.hk_report.specs.Hops.{is_made}
 use Rattle.hk_report.specs.Searches.{IsFound}
 
 -- the parameters of a call, by its incarnation: those of the opening, of which none are kept, have the first numbers
-abbrev pub params_at : List (List Begun) → List (List Entry) → Inc → List Entry
+abbrev pub params_at : List (List Begun) → List (List (Option Cap)) → Inc → List (Option Cap)
 params_at families params call = slice_index_or params (call.0 - (length families - length params)) []
 
-module _ (families : List (List Begun)) (histories : List History) (params : List (List Entry)) where
+module _ (families : List (List Begun)) (histories : List History) (params : List (List (Option Cap))) where
   -- the reason, by whether the object was made under the call
   abbrev pub IsReasonedBy : BareChange → Reach → Bool → Type 0
   IsReasonedBy bare reach true = reach ≡ Made

@@ -1,7 +1,7 @@
 -- The changes with their reasons, written one behind the other. docs/FORMATS.md, "Statuses and outputs".
-use Rattle.std.specs.Prelude.{◌≡◌, ℕ, List, ◌++◌}
+use Rattle.std.specs.Prelude.{◌≡◌, ℕ, List, ◌++◌, Option}
 use Rattle.std.specs.List.{flat_map}
-use Rattle.hk_model.specs.declared.entries.Entry.{Entry}
+use Rattle.hk_model.specs.declared.entries.Cap.{Cap}
 use Rattle.hk_model.specs.declared.lines.Line.{Line}
 use Rattle.hk_model.specs.declared.reaches.Change.{Change}
 use Rattle.hk_model.specs.WorldValue.{WorldValue}
@@ -13,7 +13,7 @@ use Rattle.hk_report.specs.ChangeTexts.{change_text, changes_text}
 use Rattle.hk_report.specs.Reasons.{AreTold}
 
 -- behind what was written stand these changes, each with its reason
-pub record AreWritten (families : List (List Begun)) (histories : List History) (params : List (List Entry)) (bares : List BareChange) (before after : List ℕ) : Type 0 where
+pub record AreWritten (families : List (List Begun)) (histories : List History) (params : List (List (Option Cap))) (bares : List BareChange) (before after : List ℕ) : Type 0 where
   pub changes : List Change
   pub told : AreTold families histories params bares changes
   pub text_is : after ≡ before ++ flat_map change_text changes

@@ -8,6 +8,7 @@ use crate::doings::Doing;
 use crate::lists::Lists;
 use hk_model::{Inc, Name, NoMemory};
 use std::alloc::Global;
+use std::marker::Model;
 
 /// A confined call, and when it began.
 #[derive(Clone, Copy, PartialEq, Eq, Debug)]
@@ -27,6 +28,62 @@ pub struct BareChange {
     pub under: Begun,
     /// What it changed.
     pub object: Name,
+}
+
+/// A change as it is kept: in three words of memory, where a `BareChange` takes four. Contracts see the change.
+#[derive(Clone, Copy)]
+pub struct KeptChange {
+    moment: u32,
+    /// When the call began that it was under.
+    began: u32,
+    call: Inc,
+    object: Name,
+}
+
+const _: () = prove!(size_of::<KeptChange>() == 24);
+
+impl Model for KeptChange {
+    ghost use Rattle.hk_report.specs.declared.families.BareChange.{BareChange};
+
+    ghost Value = { BareChange };
+
+    ghost view = { λ c. record { moment = c.moment; under = record { call = c.call; moment = c.began }; object = c.object } };
+
+    ghost inverse = { λ b. record { moment = b.moment; began = b.under.moment; call = b.under.call; object = b.object } };
+}
+
+impl KeptChange {
+    /// The confined call that the change was under.
+    pub(crate) fn under(&self) -> Begun
+        ensures { result ≡ self.now.under }
+    {
+        Begun {
+            call: self.call,
+            moment: self.began,
+        }
+    }
+
+    /// The change.
+    pub(crate) fn whole(&self) -> BareChange
+        ensures { result ≡ self.now }
+    {
+        BareChange {
+            moment: self.moment,
+            under: self.under(),
+            object: self.object,
+        }
+    }
+}
+
+/// These changes, as they are handed out. NoMemory is want of memory.
+pub(crate) fn whole_changes(alloc: Global, kept: &[KeptChange]) -> Result<Vec<BareChange>, NoMemory>
+    ensures { IfOk result (λ changes. changes.items ≡ kept.now) }
+{
+    let mut changes = Vec::with_capacity(alloc, kept.len())?;
+    for change in kept {
+        changes.push(change.whole())?;
+    }
+    Ok(changes)
 }
 
 /// The calls that an incarnation of this number is under.
@@ -59,7 +116,7 @@ fn add_family(families: &mut Lists<Begun>, moment: u32, doing: &Doing) -> Result
 
 /// The change of an object, under each of these calls.
 fn add_each(
-    changes: &mut Vec<BareChange>,
+    changes: &mut Vec<KeptChange>,
     moment: u32,
     object: Name,
     calls: &[Begun],
@@ -67,9 +124,10 @@ fn add_each(
     ensures { OnOk result (changes.new.items ≡ changes.old.items ++ map (change_under moment object) calls.now) }
 {
     for call in calls {
-        changes.push(BareChange {
+        changes.push(KeptChange {
             moment,
-            under: *call,
+            began: call.moment,
+            call: call.call,
             object,
         })?;
     }
@@ -78,7 +136,7 @@ fn add_each(
 
 /// What a line changes, under each of the calls that its incarnation is under.
 fn add_changes(
-    changes: &mut Vec<BareChange>,
+    changes: &mut Vec<KeptChange>,
     families: &Lists<Begun>,
     moment: u32,
     doing: &Doing,
@@ -96,7 +154,7 @@ fn add_changes(
 pub struct Families {
     /// The calls that each incarnation is under, by its number.
     pub calls: Lists<Begun>,
-    pub changes: Vec<BareChange>,
+    pub changes: Vec<KeptChange>,
 }
 
 impl Families {

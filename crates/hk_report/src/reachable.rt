@@ -11,18 +11,17 @@ ghost use Rattle.hk_report.specs.Reachable.{moment_at, from_end, begins_at, goes
 ghost use Rattle.hk_report.specs.declared.reachable.Side.TheVariants.{Last};
 ghost use Rattle.hk_report.specs.Reasons.{params_at};
 
-use crate::families::{BareChange, Begun};
+use crate::families::{Begun, KeptChange};
 use crate::histories::{History, Span};
 use crate::holders::Stretch;
 use crate::hops::later;
 use crate::lists::Lists;
-use crate::params::GivenParams;
+use crate::params::{GivenParams, Param};
 use crate::runs::spans_at;
-use hk_model::{Entry, Items, Name, NoMemory, Template};
+use hk_model::{Items, Name, NoMemory};
 use std::alloc::Global;
 use std::cmp::Reverse;
 use std::collections::BinaryHeap;
-use std::marker::PhantomData;
 
 /// What is told of each object.
 #[derive(Clone, Copy, PartialEq, Eq, Debug)]
@@ -155,25 +154,24 @@ impl Moments {
         Ok(())
     }
 
-    /// This is told at the latest of the object of an entry, if it holds one.
-    fn tell_entry(&mut self, entry: &Entry, moment: u32) -> Result<(), NoMemory>
+    /// This is told at the latest of the object of a parameter, if it holds a capability.
+    fn tell_param(&mut self, param: &Param, moment: u32) -> Result<(), NoMemory>
         ensures earlier { OnOk result (IsEarlier self.old self.new) }
-        ensures told { OnOk result (AreHeldBy (told_by self.new) moment (entry.now ∷ [])) }
+        ensures told { OnOk result (AreHeldBy (told_by self.new) moment (param.now ∷ [])) }
     {
-        let _ = PhantomData::<Template>; // Rattle is to know what an Entry holds
-        match entry {
-            Entry::Held(cap) => self.tell(cap.name, moment),
-            _ => Ok(()),
+        match param.cap() {
+            Some(cap) => self.tell(cap.name, moment),
+            None => Ok(()),
         }
     }
 
     /// It is told at the latest of the objects of these parameters.
-    fn tell_params(&mut self, params: &[Entry], moment: u32) -> Result<(), NoMemory>
+    fn tell_params(&mut self, params: &[Param], moment: u32) -> Result<(), NoMemory>
         ensures earlier { OnOk result (IsEarlier self.old self.new) }
         ensures told { OnOk result (AreHeldBy (told_by self.new) moment params.now) }
     {
-        for entry in params {
-            self.tell_entry(entry, moment)?;
+        for param in params {
+            self.tell_param(param, moment)?;
         }
         Ok(())
     }
@@ -184,14 +182,15 @@ impl Moments {
         side: Side,
         families: &Lists<Begun>,
         params: &GivenParams,
-        changes: &[BareChange],
+        changes: &[KeptChange],
     ) -> Result<(), NoMemory>
         ensures earlier { OnOk result (IsEarlier self.old self.new) }
         ensures told { OnOk result (AllByRecursion (λ bare. AreHeldBy (told_by self.new) (begins_at side bare.under.moment) (params_at families.now params.now bare.under.call)) changes.now) }
     {
         for bare in changes {
-            let moment = side.begins_at(bare.under.moment);
-            self.tell_params(params.of(families, bare.under.call), moment)?;
+            let begun = bare.under();
+            let moment = side.begins_at(begun.moment);
+            self.tell_params(params.of(families, begun.call), moment)?;
         }
         Ok(())
     }
@@ -234,7 +233,7 @@ pub(crate) fn reachable(
     histories: &[History],
     families: &Lists<Begun>,
     params: &GivenParams,
-    changes: &[BareChange],
+    changes: &[KeptChange],
 ) -> Result<Vec<Option<u32>>, NoMemory>
     ensures { IfOk result (λ told. AreReachable side families.now params.now changes.now histories.now (moment_at told.items)) }
 {
@@ -260,7 +259,7 @@ pub(crate) fn lasts(
     histories: &[History],
     families: &Lists<Begun>,
     params: &GivenParams,
-    changes: &[BareChange],
+    changes: &[KeptChange],
     holders: &[Items<Stretch>],
 ) -> Result<Vec<Option<u32>>, NoMemory>
     ensures { IfOk result (λ told. AreReachable Last families.now params.now changes.now histories.now (moment_at told.items)) }

@@ -12,7 +12,7 @@ ghost use Rattle.hk_report.specs.Reasons.{params_at, IsReasoned, IsTold, AreFew,
 ghost use Rattle.hk_report.specs.Written.{AreWritten};
 
 use crate::blocks::{Block, all_blocks};
-use crate::families::{BareChange, Begun};
+use crate::families::{BareChange, Begun, KeptChange};
 use crate::held_blocks::{HeldBlock, held_blocks};
 use crate::histories::History;
 use crate::holders::{Stretch, holders};
@@ -137,18 +137,19 @@ impl<'a> Grounds<'a> {
     }
 
     /// A change with its reason.
-    fn explain(&self, alloc: Global, bare: &BareChange) -> Result<Change, NoMemory>
+    fn explain(&self, alloc: Global, bare: &KeptChange) -> Result<Change, NoMemory>
         requires few { bare.now.moment + 1 < 2 ^ 32 }
         requires held { AreHeldBy (moment_at self.now.lasts.now) (from_end bare.now.under.moment) (params_at self.now.families.now self.now.params.now bare.now.under.call) }
         ensures { IfOk result (λ change. IsTold self.now.families.now self.now.histories.now self.now.params.now bare.now change) }
     {
-        let reach = self.reason(alloc, bare)?;
-        Ok(told_with(bare, reach))
+        let bare = bare.whole();
+        let reach = self.reason(alloc, &bare)?;
+        Ok(told_with(&bare, reach))
     }
 
     /// These changes, each with its reason. NoMemory is want of memory.
     #[tactic(auto, using(crate::proofs::ReasonLemmas::few_at, crate::proofs::ReasonLemmas::all_at, crate::proofs::ReasonLemmas::told_none, crate::proofs::ReasonLemmas::told_all))]
-    fn explain_all(&self, alloc: Global, bares: &[BareChange]) -> Result<Vec<Change>, NoMemory>
+    fn explain_all(&self, alloc: Global, bares: &[KeptChange]) -> Result<Vec<Change>, NoMemory>
         requires few { AreFew bares.now }
         requires held { AllByRecursion (λ bare. AreHeldBy (moment_at self.now.lasts.now) (from_end bare.under.moment) (params_at self.now.families.now self.now.params.now bare.under.call)) bares.now }
         ensures { IfOk result (λ changes. AreTold self.now.families.now self.now.histories.now self.now.params.now bares.now changes.items) }
@@ -166,7 +167,7 @@ impl<'a> Grounds<'a> {
         &self,
         alloc: Global,
         out: &mut String,
-        bares: &[BareChange],
+        bares: &[KeptChange],
     ) -> Result<(), NoMemory>
         requires few { AreFew bares.now }
         requires held { AllByRecursion (λ bare. AreHeldBy (moment_at self.now.lasts.now) (from_end bare.under.moment) (params_at self.now.families.now self.now.params.now bare.under.call)) bares.now }
@@ -252,12 +253,13 @@ impl Telling {
     }
 
     /// A change with its reason, where that is at hand.
-    fn explain_at_hand(&self, alloc: Global, bare: &BareChange) -> Option<Change>
+    fn explain_at_hand(&self, alloc: Global, bare: &KeptChange) -> Option<Change>
         requires { bare.now.moment + 1 < 2 ^ 32 }
         ensures { IfSome result (λ change. IsTold self.now.families.calls self.now.histories.items self.now.params bare.now change) }
     {
-        let reach = self.reason_at_hand(alloc, bare)?;
-        Some(told_with(bare, reach))
+        let bare = bare.whole();
+        let reach = self.reason_at_hand(alloc, &bare)?;
+        Some(told_with(&bare, reach))
     }
 
     /// The text of the changes, where the reason of each is at hand; None where that of one is not. NoMemory is want of memory.

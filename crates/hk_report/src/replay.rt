@@ -1,11 +1,12 @@
 //! A history once more, with what its lines did (`docs/RULES.md`, "Steps of processors").
 
-ghost use Rattle.std.specs.Prelude.{◌≡◌, ◌+◌, ◌<◌, ◌≤◌, ◌^◌, ◌++◌, ◌∷◌, [], true, false, Some, None, length, replicate, take, slice_index_or, IfOk, OnOk};
+ghost use Rattle.std.specs.Prelude.{◌≡◌, ◌+◌, ◌<◌, ◌≤◌, ◌^◌, ◌++◌, ◌∷◌, [], true, false, Some, None, length, map, replicate, take, slice_index_or, IfOk, OnOk};
 ghost use Rattle.hk_model.specs.Lines.{done_call, param_count};
 ghost use Rattle.hk_model.specs.Opening.{opening};
+ghost use Rattle.hk_model.specs.Places.{cap_of};
 ghost use Rattle.hk_model.specs.Running.{opened, step};
 ghost use Rattle.hk_program.specs.Machines.{IsSound};
-ghost use Rattle.hk_report.specs.Doings.{RunsEntered, doing_behind, doings, given_params, kept_params, params_given};
+ghost use Rattle.hk_report.specs.Doings.{RunsEntered, doing_behind, doings, given_params, given_slots, kept_params, params_given};
 ghost use Rattle.hk_report.specs.Families.{changes_by, changes_from, families_after, families_by};
 ghost use Rattle.hk_report.specs.Histories.{finished_below, noted, opened_below, told_histories};
 ghost use Rattle.hk_report.specs.Retold.{IsToldMore};
@@ -68,9 +69,9 @@ fn first_params<'a>(line: &Line, slots: &'a [Entry]) -> &'a [Entry]
     &slots[..count]
 }
 
-/// The merged parameters of the call that a line has begun, by a kernel in the state behind it.
+/// The slots of the merged parameters of the call that a line has begun, by a kernel in the state behind it.
 fn params_behind<'a>(kernel: &'a Plain, line: &Line, before: &Before) -> &'a [Entry]
-    ensures value { result.now ≡ given_params line.now before.now kernel.now }
+    ensures value { result.now ≡ given_slots line.now before.now kernel.now }
     ensures few { length result.now ≤ 8 }
 {
     match before.enters {
@@ -82,7 +83,7 @@ fn params_behind<'a>(kernel: &'a Plain, line: &Line, before: &Before) -> &'a [En
 /// The same, where the processor of the line runs the incarnation that it has made, if it has made one.
 fn params_on<'a, K: Shows>(kernel: &'a K, line: &Line, before: &Before) -> &'a [Entry]
     requires { RunsEntered (K.state kernel.now) line.now.cpu before.now }
-    ensures value { result.now ≡ given_params line.now before.now (K.state kernel.now) }
+    ensures value { result.now ≡ given_slots line.now before.now (K.state kernel.now) }
     ensures few { length result.now ≤ 8 }
 {
     match before.enters {
@@ -91,17 +92,17 @@ fn params_on<'a, K: Shows>(kernel: &'a K, line: &Line, before: &Before) -> &'a [
     }
 }
 
-/// The parameters of one call more, where a line has begun one.
+/// The parameters of one call more, which are in these slots, where a line has begun one.
 fn keep_params(
     all: &mut GivenParams,
     entered: &Option<Entered>,
-    params: &[Entry],
+    slots: &[Entry],
 ) -> Result<(), NoMemory>
-    requires { length params.now ≤ 8 }
-    ensures { OnOk result (all.new ≡ all.old ++ kept_params entered.now params.now) }
+    requires { length slots.now ≤ 8 }
+    ensures { OnOk result (all.new ≡ all.old ++ kept_params entered.now (map cap_of slots.now)) }
 {
     match entered {
-        Some(_) => all.push(params),
+        Some(_) => all.push(slots),
         None => Ok(()),
     }
 }
@@ -138,25 +139,25 @@ impl Telling {
         })
     }
 
-    /// What a line tells that has done this and given these parameters, by a kernel in the state behind it. `index` is the
-    /// number of lines before it.
+    /// What a line tells that has done this and given the parameters in these slots, by a kernel in the state behind it.
+    /// `index` is the number of lines before it.
     fn add<K: Shows>(
         &mut self,
         alloc: Global,
         kernel: &K,
         doing: &Doing,
-        params: &[Entry],
+        slots: &[Entry],
         index: u32,
     ) -> Result<(), NoMemory>
         requires moment { index + 1 < 2 ^ 32 }
-        requires few { length params.now ≤ 8 }
+        requires few { length slots.now ≤ 8 }
         ensures changes { OnOk result (self.new.families.changes.items ≡ self.old.families.changes.items ++ changes_by index doing.now.changed (slice_index_or self.old.families.calls doing.now.inc.0 [])) }
         ensures calls { OnOk result (self.new.families.calls ≡ families_by index doing.now self.old.families.calls) }
-        ensures params { OnOk result (self.new.params ≡ self.old.params ++ kept_params doing.now.entered params.now) }
+        ensures params { OnOk result (self.new.params ≡ self.old.params ++ kept_params doing.now.entered (map cap_of slots.now)) }
         ensures histories { OnOk result (self.new.histories.items ≡ noted (index + 1) doing.now (K.state kernel.now) self.old.histories.items) }
     {
         note(alloc, &mut self.histories, kernel, index + 1, doing)?;
-        keep_params(&mut self.params, &doing.entered, params)?;
+        keep_params(&mut self.params, &doing.entered, slots)?;
         self.families.add(index, doing)
     }
 }
@@ -239,8 +240,8 @@ impl<K: Shows> Retelling<K> {
         if !does_nothing(&before) {
             let kernel = self.machine.kernel();
             let doing = doing_on(before, kernel, line.cpu);
-            let params = params_on(kernel, line, &before);
-            self.telling.add(alloc, kernel, &doing, params, self.count)?;
+            let slots = params_on(kernel, line, &before);
+            self.telling.add(alloc, kernel, &doing, slots, self.count)?;
         }
         self.count += 1;
         Ok(())
@@ -276,12 +277,12 @@ pub(crate) fn told(alloc: Global, world: &World, lines: &[Line]) -> Result<Telli
         let before = before_line(machine.kernel(), line);
         let _made = machine.step(alloc, world, line.cpu)?;
         let kernel = machine.kernel();
-        let params = params_behind(kernel, line, &before);
+        let slots = params_behind(kernel, line, &before);
         telling.add(
             alloc,
             kernel,
             &doing_behind(before, kernel),
-            params,
+            slots,
             index as u32,
         )?;
     }

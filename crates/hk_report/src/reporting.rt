@@ -10,7 +10,7 @@ ghost use Rattle.hk_report.specs.Reasons.{AreFew};
 ghost use Rattle.hk_report.specs.Retold.{IsRetold};
 ghost use Rattle.hk_report.specs.Written.{IsReport};
 
-use crate::families::{BareChange, changes_of};
+use crate::families::{BareChange, changes_of, whole_changes};
 use crate::replay::{Retelling, replayed, told};
 use crate::shows::Shows;
 use crate::texts::write_count;
@@ -34,7 +34,8 @@ pub fn changes_under(
     let _limit = world.limit();
     let replay = replayed(alloc, world, lines)?;
     let families = changes_of(alloc, replay.first, replay.doings.as_slice())?;
-    Ok(families.changes)
+    let changes = whole_changes(alloc, families.changes.as_slice())?;
+    Ok(changes)
 }
 
 /// The changes under confined calls, each with its reason (`docs/RULES.md`, "Changes and their

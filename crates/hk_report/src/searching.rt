@@ -6,10 +6,10 @@ ghost use Rattle.hk_report.specs.Reachable.{moment_at, from_end, comes_at, IsBy,
 ghost use Rattle.hk_report.specs.Searches.{is_direct, direct_param, onward_at, first_start, level_at, levels_below, hops_down, IsFoundBehind, IsFound};
 
 use crate::hops::{Arrived, Ground, Level, Onward, arrived_by};
-use hk_model::{Cap, Entry, Hop, Items, Name, NoMemory, Reach, Template};
+use crate::params::Param;
+use hk_model::{Cap, Hop, Items, Name, NoMemory, Reach};
 use hk_rights::Right;
 use std::alloc::Global;
-use std::marker::PhantomData;
 
 /// A parameter, and the first hop from its object.
 #[derive(Clone, Copy, PartialEq, Eq, Debug)]
@@ -23,31 +23,29 @@ pub struct Start {
 pub(crate) struct Search<'a> {
     pub ground: Ground<'a>,
     /// The merged parameters of the call.
-    pub params: &'a [Entry],
+    pub params: &'a [Param],
     pub wanted: Name,
     /// A way has to come there before this moment.
     pub before: u32,
 }
 
-/// Whether an entry is a capability for this object with MODIFY.
-fn is_direct(entry: &Entry, wanted: Name) -> bool
-    ensures { result ≡ is_direct wanted entry.now }
+/// Whether a parameter is a capability for this object with MODIFY.
+fn is_direct(param: &Param, wanted: Name) -> bool
+    ensures { result ≡ is_direct wanted param.now }
 {
-    let _ = PhantomData::<Template>; // Rattle is to know what an Entry holds
-    match entry {
-        Entry::Held(cap) => cap.name.0 == wanted.0 && cap.rights.has(Right::MODIFY),
-        _ => false,
+    match param.cap() {
+        Some(cap) => cap.name.0 == wanted.0 && cap.rights.has(Right::MODIFY),
+        None => false,
     }
 }
 
 /// The first parameter of this object with MODIFY.
-pub(crate) fn direct_param(params: &[Entry], wanted: Name) -> Option<u8>
+pub(crate) fn direct_param(params: &[Param], wanted: Name) -> Option<u8>
     requires { length params.now ≤ 8 }
     ensures { result ≡ direct_param wanted 0 params.now }
 {
-    let _ = PhantomData::<(Entry, Template)>; // Rattle is to know what an Entry holds
-    for (index, entry) in params.iter().enumerate() {
-        if is_direct(entry, wanted) {
+    for (index, param) in params.iter().enumerate() {
+        if is_direct(param, wanted) {
             return Some(index as u8);
         }
     }
@@ -55,17 +53,16 @@ pub(crate) fn direct_param(params: &[Entry], wanted: Name) -> Option<u8>
 }
 
 impl<'a> Search<'a> {
-    /// The first hop from the object of an entry after which the rest can be made.
-    fn onward_at(&self, level: &Level, entry: &Entry) -> Option<Onward>
-        ensures { result ≡ onward_at (is_made self.now.ground.families.now self.now.ground.begun self.now.ground.histories.now) self.now.ground.histories.now self.now.ground.begun.moment (latest_at (is_made self.now.ground.families.now self.now.ground.begun self.now.ground.histories.now) self.now.ground.histories.now level.now) entry.now }
+    /// The first hop from the object of a parameter after which the rest can be made.
+    fn onward_at(&self, level: &Level, param: &Param) -> Option<Onward>
+        ensures { result ≡ onward_at (is_made self.now.ground.families.now self.now.ground.begun self.now.ground.histories.now) self.now.ground.histories.now self.now.ground.begun.moment (latest_at (is_made self.now.ground.families.now self.now.ground.begun self.now.ground.histories.now) self.now.ground.histories.now level.now) param.now }
     {
-        let _ = PhantomData::<(Entry, Template)>; // Rattle is to know what an Entry holds
-        match entry {
-            Entry::Held(cap) => {
-                let from = arrived_by(self.ground.begun.moment, *cap);
+        match param.cap() {
+            Some(cap) => {
+                let from = arrived_by(self.ground.begun.moment, cap);
                 self.ground.first_onward(level, &from)
             }
-            _ => None,
+            None => None,
         }
     }
 
@@ -74,8 +71,8 @@ impl<'a> Search<'a> {
         requires { length self.now.params.now ≤ 8 }
         ensures { result ≡ first_start (is_made self.now.ground.families.now self.now.ground.begun self.now.ground.histories.now) self.now.ground.histories.now self.now.ground.begun.moment (latest_at (is_made self.now.ground.families.now self.now.ground.begun self.now.ground.histories.now) self.now.ground.histories.now level.now) 0 self.now.params.now }
     {
-        for (index, entry) in self.params.iter().enumerate() {
-            if let Some(onward) = self.onward_at(level, entry) {
+        for (index, param) in self.params.iter().enumerate() {
+            if let Some(onward) = self.onward_at(level, param) {
                 let arg = index as u8;
                 return Some(Start { arg, onward });
             }

@@ -1,3 +1,6 @@
+use Rattle.std.proofs.Common.{subst}
+use Rattle.hk_report.specs.declared.families.BareChange.{BareChange}
+use Rattle.hk_report.specs.Reasons.{IsTold}
 use Rattle.hk_report.proofs.ReasonLemmas.{told_more}
 use Rattle.hk_report.proofs.reasons.Grounds.explain_all.Goals as goal
 
@@ -5,5 +8,7 @@ use Rattle.hk_report.proofs.reasons.Grounds.explain_all.Goals as goal
 pub loop-bare-preserved : goal.loop-bare-preserved
 loop-bare-preserved c =
     let s = c.args.self.now in
-    told_more s.families.now s.histories.now s.params.now c.args.bares.now c.loop-bare.bare-index _ c.loop-bare.changes.items c.push.new.self.items c.in_ok-explain.field-0
-    c.loop-bare-test.true c.loop-bare.invariant c.in_ok-explain.ensures c.in_ok-push.ensures.items
+    told_more s.families.now s.histories.now s.params.now c.args.bares.now c.loop-bare.bare-index c.bare-item.result c.loop-bare.changes.items c.push.new.self.items
+    c.in_ok-explain.field-0 c.loop-bare-test.true c.loop-bare.invariant
+    (subst (λ (bare : BareChange). IsTold s.families.now s.histories.now s.params.now bare c.in_ok-explain.field-0) c.bare-item.is c.in_ok-explain.ensures)
+    c.in_ok-push.ensures.items

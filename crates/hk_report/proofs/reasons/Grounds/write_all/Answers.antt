@@ -1,4 +1,6 @@
-use Rattle.std.proofs.Common.{string_bytes}
+use Rattle.std.proofs.Common.{string_bytes, subst}
+use Rattle.hk_report.specs.declared.families.BareChange.{BareChange}
+use Rattle.hk_report.specs.Reasons.{IsTold}
 use Rattle.hk_report.proofs.WrittenLemmas.{written_more}
 use Rattle.hk_report.proofs.reasons.Grounds.write_all.Goals as goal
 
@@ -6,6 +8,7 @@ use Rattle.hk_report.proofs.reasons.Grounds.write_all.Goals as goal
 pub loop-bare-preserved : goal.loop-bare-preserved
 loop-bare-preserved c =
     let s = c.args.self.now in
-    written_more s.families.now s.histories.now s.params.now c.args.bares.now c.loop-bare.bare-index _ (string_bytes c.args.out.now) (string_bytes c.loop-bare.out)
-    (string_bytes c.write_change.new.out) c.in_ok-change.change
-    c.loop-bare-test.true c.loop-bare.invariant c.in_ok-change.ensures c.in_ok-write_change.ensures
+    written_more s.families.now s.histories.now s.params.now c.args.bares.now c.loop-bare.bare-index c.bare-item.result (string_bytes c.args.out.now)
+    (string_bytes c.loop-bare.out) (string_bytes c.write_change.new.out) c.in_ok-change.change c.loop-bare-test.true c.loop-bare.invariant
+    (subst (λ (bare : BareChange). IsTold s.families.now s.histories.now s.params.now bare c.in_ok-change.change) c.bare-item.is c.in_ok-change.ensures)
+    c.in_ok-write_change.ensures
