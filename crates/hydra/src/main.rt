@@ -5,9 +5,9 @@ use hk_io::{StdIn, StdOut};
 use hk_model::Cpu;
 use hk_procs::Gate;
 use hk_top::{Slots, hydra, status};
-use std::env;
 use std::io::ErrorKind;
 use std::process::ExitCode;
+use std::{env, mem};
 
 /// The status where the words can't be had for another reason than want of memory.
 const NO_WORDS: u8 = 9;
@@ -34,7 +34,7 @@ fn main(rt: HostRuntime) -> ExitCode {
     };
     let mut input = StdIn::new(rt.stdin());
     let mut output = StdOut::new(rt.stdout());
-    let (status, _kernel) = hydra(
+    let (status, kernel) = hydra(
         &rt,
         rt.alloc(),
         &words,
@@ -43,5 +43,6 @@ fn main(rt: HostRuntime) -> ExitCode {
         &Open,
         &Slots,
     );
+    mem::forget(kernel); // the process ends, so its tables need not be taken apart
     ExitCode::from(status)
 }
