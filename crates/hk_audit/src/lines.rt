@@ -20,7 +20,7 @@ pub fn line_text(alloc: Global, line: &Line) -> Result<Text, NoMemory>
 {
     let mut out = String::new(alloc);
     write_line(&mut out, line)?;
-    Ok(Text::from_string(out))
+    Ok(Text::from_string(out)?)
 }
 
 /// Writes the text of each line.

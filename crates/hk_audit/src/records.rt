@@ -22,7 +22,7 @@ pub fn record_text(alloc: Global, world: &World, lines: &[Line], end: End) -> Re
     out.push_str("record\n")?;
     write_lines(&mut out, lines)?;
     out.push_str(end_line(end))?;
-    Ok(Text::from_string(out))
+    Ok(Text::from_string(out)?)
 }
 
 /// The last line, with its line feed.

@@ -41,7 +41,7 @@ fn process(alloc: Global, number: u32) -> Result<Task, AllocError>
     ensures { IfOk result (λ task. task ≡ process_numbered number) }
 {
     Ok(Task {
-        label: Text::from_string(format!(in alloc; "w{number}")?),
+        label: Text::from_string(format!(in alloc; "w{number}")?)?,
         code: 1,
         slots: slots(alloc)?,
     })

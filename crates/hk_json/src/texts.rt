@@ -17,14 +17,14 @@ pub fn json_text(alloc: Global, world: &World) -> Result<Text, NoMemory>
 {
     let value = value_of(alloc, world)?;
     let text = value.to_string(alloc)?;
-    Ok(letters(text))
+    letters(text)
 }
 
 /// A string as a text, whose bytes are UTF-8.
-fn letters(text: String) -> Text
-    ensures same { result ≡ string_bytes text }
-    ensures utf8 { IsUtf8 result }
+fn letters(text: String) -> Result<Text, NoMemory>
+    ensures same { IfOk result (λ t. t ≡ string_bytes text) }
+    ensures utf8 { IfOk result (λ t. IsUtf8 t) }
 {
     let _bytes = text.as_str().as_bytes();
-    Text::from_string(text)
+    Ok(Text::from_string(text)?)
 }

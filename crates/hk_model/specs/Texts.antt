@@ -4,5 +4,5 @@ use Rattle.hk_model.specs.declared.texts.Letters.{Letters}
 use Rattle.hk_model.specs.declared.texts.Letters.TheVariants.{Here, Apart}
 
 abbrev pub letters_bytes : Letters → List ℕ
-letters_bytes (Here text) = text.bytes
-letters_bytes (Apart text) = string_bytes text
+letters_bytes (Here text) = text
+letters_bytes (Apart text) = string_bytes text.value

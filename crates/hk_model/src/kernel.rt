@@ -57,7 +57,8 @@ pub trait Kernel: Drop {
         ensures memory { OnErr result (IsTrue (wants call)) }
         ensures err { OnErr result (state self.new ≡ state self.old) };
 
-    /// The same of a call that stays where it stands. A kernel that need not copy a call to make it does it here.
+    /// The same of a call that stays where it stands (`docs/RULES.md`, "Steps of processors"), for a kernel that need
+    /// not copy a call to make it. NoMemory is that of `act`.
     fn answer(&mut self, alloc: Global, cpu: Cpu, call: &Call) -> Result<Acted, NoMemory>
         requires runs { IsSome (runner (state self.old) cpu) }
         requires below { IsTrue (may_step (state self.old)) }

@@ -24,7 +24,7 @@ pub fn script_text(alloc: Global, world: &World) -> Result<Text, NoMemory>
     write_objects(&mut out, world)?;
     write_codes(alloc, &mut out, world)?;
     write_processes(&mut out, world)?;
-    Ok(Text::from_string(out))
+    Ok(Text::from_string(out)?)
 }
 
 /// Writes the limit, where it is not the usual one.

@@ -67,7 +67,7 @@ impl<K: Shows> Retelling<K> {
         let mut told = self.end(alloc)?;
         let mut out = told.text(alloc)?;
         write_count(&mut out, told.families.changes.len())?;
-        Ok(Text::from_string(out))
+        Ok(Text::from_string(out)?)
     }
 }
 
@@ -84,5 +84,5 @@ pub fn report_text(alloc: Global, world: &World, lines: &[Line]) -> Result<Text,
     let mut told = told(alloc, world, lines)?;
     let mut out = told.text(alloc)?;
     write_count(&mut out, told.families.changes.len())?;
-    Ok(Text::from_string(out))
+    Ok(Text::from_string(out)?)
 }

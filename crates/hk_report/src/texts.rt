@@ -21,7 +21,7 @@ pub fn changes_text(alloc: Global, changes: &[Change]) -> Result<Text, NoMemory>
         write_change(&mut out, change)?;
     }
     write_count(&mut out, changes.len())?;
-    Ok(Text::from_string(out))
+    Ok(Text::from_string(out)?)
 }
 
 /// Writes the line that tells how many changes there are.

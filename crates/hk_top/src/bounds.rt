@@ -14,7 +14,7 @@ pub(crate) fn bounds_text(alloc: Global, bounds: &[Vec<Name>]) -> Result<Text, N
     let mut out = String::new(alloc);
     let count = write_bounds(&mut out, bounds)?;
     write!(&mut out, "bound {count}\n")?;
-    Ok(Text::from_string(out))
+    Ok(Text::from_string(out)?)
 }
 
 /// Writes the lines of all processes, and gives how many there are.

@@ -12,7 +12,7 @@ pub(crate) fn refusal_text(alloc: Global, line: u32, cause: Cause) -> Result<Tex
     ensures { IfOk result (λ text. text ≡ refusal_text line (cause_name cause)) }
 {
     let name = cause_name(cause);
-    Ok(Text::from_string(format!(in alloc; "line {line}: {name}\n")?))
+    Ok(Text::from_string(format!(in alloc; "line {line}: {name}\n")?)?)
 }
 
 /// `legal`, or `illegal L CAUSE`, and a line feed. NoMemory is want of memory.
@@ -20,7 +20,7 @@ pub(crate) fn verdict_text(alloc: Global, verdict: Verdict) -> Result<Text, NoMe
     ensures { IfOk result (λ text. text ≡ verdict_text verdict) }
 {
     match verdict {
-        Verdict::Legal => Ok(Text::from_string(String::from_str(alloc, "legal\n")?)),
+        Verdict::Legal => Ok(Text::from_str(alloc, "legal\n")?),
         Verdict::Illegal { line, cause } => illegal_text(alloc, line, cause),
     }
 }
@@ -30,7 +30,7 @@ fn illegal_text(alloc: Global, line: u32, cause: Misstep) -> Result<Text, NoMemo
     ensures { IfOk result (λ text. text ≡ verdict_text (Verdict.Illegal line cause)) }
 {
     let name = misstep_name(cause);
-    Ok(Text::from_string(format!(in alloc; "illegal {line} {name}\n")?))
+    Ok(Text::from_string(format!(in alloc; "illegal {line} {name}\n")?)?)
 }
 
 /// The name of the cause for which a line is bad.

@@ -50,7 +50,7 @@ fn summary_text<K: Kernel>(alloc: Global, count: u32, run: &CountedRun<K>) -> Re
     let text = format!(in alloc;
         "gen {count}\nobjects {objects}\nlines {lines}\nchanges {changes}\n{end}\n"
     )?;
-    Ok(Text::from_string(text))
+    Ok(Text::from_string(text)?)
 }
 
 /// The last line of a record, without its line feed.

@@ -83,10 +83,9 @@ pub(crate) fn text_alone<K>(due: DueText) -> Served<K>
 pub(crate) fn too_long(alloc: Global) -> Result<DueText, NoMemory>
     ensures { IfOk result (λ due. (due.status ≡ 3) × (due.text ≡ too_long_text)) }
 {
-    let text = String::from_str(alloc, "line 0: TooLong\n")?;
     Ok(DueText {
         status: status::REFUSED,
-        text: Text::from_string(text),
+        text: Text::from_str(alloc, "line 0: TooLong\n")?,
     })
 }
 
@@ -312,10 +311,9 @@ pub(crate) fn refused(alloc: Global, line: u32, cause: Cause) -> Result<DueText,
 fn bad_json(alloc: Global) -> Result<DueText, NoMemory>
     ensures { IfOk result (λ due. (due.status ≡ 3) × (due.text ≡ bad_json_text)) }
 {
-    let text = String::from_str(alloc, "line 0: BadJson\n")?;
     Ok(DueText {
         status: status::REFUSED,
-        text: Text::from_string(text),
+        text: Text::from_str(alloc, "line 0: BadJson\n")?,
     })
 }
 
@@ -358,7 +356,7 @@ fn json(alloc: Global, world: &World) -> Result<DueText, NoMemory>
     text.push_str("\n")?;
     Ok(DueText {
         status: status::DONE,
-        text: Text::from_string(text),
+        text: Text::from_string(text)?,
     })
 }
 

@@ -22,7 +22,7 @@ pub fn chains_text(alloc: Global, lines: &[Line], chains: &[Chain]) -> Result<Te
     }
     let count = chains.len();
     write!(&mut out, "steps {count}\n")?;
-    Ok(Text::from_string(out))
+    Ok(Text::from_string(out)?)
 }
 
 /// Writes the lines of a chain.

@@ -23,5 +23,5 @@ pub fn state_text(alloc: Global, snapshot: &Snapshot, moment: u32) -> Result<Tex
     write_queue(&mut out, "ready", snapshot.ready.as_slice())?;
     let (name, inc) = (snapshot.next_name.0, snapshot.next_inc.0);
     write!(&mut out, "next {name} {inc}\n")?;
-    Ok(Text::from_string(out))
+    Ok(Text::from_string(out)?)
 }

@@ -46,14 +46,16 @@ fn lists_are_written_and_copied(rt: HostRuntime) -> Result<(), Fail> {
 #[test]
 fn texts_are_copied_whether_short_or_long(rt: HostRuntime) -> Result<(), Fail> {
     let alloc = rt.alloc();
-    for letters in ["", "cell", "sixteen_letters_", "seventeen_letters"] {
+    for letters in ["", "cell", "fourteen_bytes", "fifteen_letters"] {
         let text = Text::from_str(alloc, letters)?;
         assert_eq!(rt; text.as_str(), letters);
         assert_eq!(rt; text.as_bytes(), letters.as_bytes());
         assert_eq!(rt; text.copy(alloc)?.as_str(), letters);
     }
-    let text = Text::from_string(String::from_str(alloc, "cell")?);
-    assert_eq!(rt; text.copy(alloc)?.as_bytes(), b"cell".as_slice());
+    for letters in ["cell", "a_long_text_of_a_string"] {
+        let text = Text::from_string(String::from_str(alloc, letters)?)?;
+        assert_eq!(rt; text.copy(alloc)?.as_bytes(), letters.as_bytes());
+    }
     Ok(())
 }
 
