@@ -3,7 +3,7 @@ use Rattle.std.specs.Prelude.{◌≡◌, ℕ, Bool, true, false, Option, Some, N
 use Rattle.std.proofs.Common.{refl, sym, ap, ◌∙◌}
 use Rattle.hk_model.specs.declared.names.Name.{Name}
 use Rattle.hk_model.specs.declared.entries.Cap.{Cap}
-use Rattle.hk_report.specs.declared.params.Param.TheInside.{Inside}
+use Rattle.hk_report.specs.declared.params.GivenParam.TheInside.{Inside}
 
 -- the capability of this name, with these rights, where there is one
 abbrev pub held : Name → ℕ → Bool → Option Cap

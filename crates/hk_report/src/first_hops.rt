@@ -72,8 +72,8 @@ fn stays_before(from: &Arrived, moment: u32, first: &Option<Onward>) -> bool
     }
 }
 
-/// Whether a hop comes first of one and those over a block: all of it has ended, begins when the way has to have come, or
-/// begins behind the hop that is there.
+/// Whether no hop over a span of a block comes before the one that is there: each of them has ended when the way comes to
+/// their list, begins too late for the rest of the way, or begins behind the hop that is there.
 fn is_passed(block: &Block, level: &Level, from: &Arrived, first: &Option<Onward>) -> bool
     ensures { result ≡ true → (made : Name → Bool) → (histories : List History) → (spans : List Span) → IsAround block.now spans → first.now ≡ first_from made (latest_at made histories level.now) from.now first.now spans }
 {

@@ -34,7 +34,8 @@ impl<T: Drop + Copy> Model for Lists<T> {
     ghost invariant = { λ a. ArePlaces (length a.items.items) a.places.items };
 }
 
-/// The place of so many items behind so many others. NoMemory is want of room in the numbers.
+/// The place of so many items behind so many others. NoMemory is want of numbers: there are 2^32, and no history has as
+/// many items.
 fn place_behind(start: usize, count: usize) -> Result<Place, NoMemory>
     ensures { IfOk result (λ place. place ≡ record { start = start; end = start + count }) }
 {
@@ -111,7 +112,7 @@ impl<T: Drop + Copy> Lists<T> {
         &self.items[place.start as usize..place.end as usize]
     }
 
-    /// One list more, of these items. NoMemory is want of memory.
+    /// One list more, of these items. NoMemory is want of memory, or of numbers for the items (`place_behind`).
     pub(crate) fn push(&mut self, items: &[T]) -> Result<(), NoMemory>
         ensures ok { OnOk result (self.new ≡ self.old ++ items.now ∷ []) }
         ensures err { OnErr result (self.new ≡ self.old) }
@@ -131,7 +132,8 @@ impl<T: Drop + Copy> Lists<T> {
         Ok(())
     }
 
-    /// One list more, of the items of the list of this number and an item behind them. NoMemory is want of memory.
+    /// One list more, of the items of the list of this number and an item behind them. NoMemory is want of memory, or of
+    /// numbers for the items (`place_behind`).
     pub(crate) fn push_longer(&mut self, number: usize, item: T) -> Result<(), NoMemory>
         ensures { OnOk result (self.new ≡ self.old ++ (slice_index_or self.old number [] ++ item ∷ []) ∷ []) }
     {

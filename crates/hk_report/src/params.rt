@@ -14,15 +14,15 @@ use std::marker::{Model, PhantomData};
 /// What a parameter holds that reasons are found by: a capability, or none. It takes two words of memory, and an
 /// `Option<Cap>` three.
 #[derive(Clone, Copy)]
-pub struct Param {
+pub struct GivenParam {
     name: Name,
     rights: Rights,
     is_cap: bool,
 }
 
-const _: () = prove!(size_of::<Param>() == 16);
+const _: () = prove!(size_of::<GivenParam>() == 16);
 
-impl Model for Param {
+impl Model for GivenParam {
     ghost use Rattle.std.specs.Prelude.{Option};
     ghost use Rattle.hk_model.specs.declared.entries.Cap.{Cap};
 
@@ -39,12 +39,12 @@ impl Model for Param {
     ghost inverse_ok = { param_fields-held };
 }
 
-impl Param {
+impl GivenParam {
     /// No capability.
-    fn none() -> Param
+    fn none() -> GivenParam
         ensures { result ≡ None }
     {
-        Param {
+        GivenParam {
             name: Name(0),
             rights: Rights::none(),
             is_cap: false,
@@ -52,17 +52,17 @@ impl Param {
     }
 
     /// The capability that an entry holds, if it holds one.
-    fn of(entry: &Entry) -> Param
+    fn of(entry: &Entry) -> GivenParam
         ensures { result ≡ cap_of entry.now }
     {
         let _ = PhantomData::<Template>; // Rattle is to know what an Entry holds
         match entry {
-            Entry::Held(cap) => Param {
+            Entry::Held(cap) => GivenParam {
                 name: cap.name,
                 rights: cap.rights,
                 is_cap: true,
             },
-            _ => Param::none(),
+            _ => GivenParam::none(),
         }
     }
 
@@ -83,7 +83,7 @@ impl Param {
 /// The merged parameters of each call that a line has begun, in the order of their incarnations.
 #[derive(Drop)]
 pub struct GivenParams {
-    lists: Lists<Param>,
+    lists: Lists<GivenParam>,
 }
 
 impl Model for GivenParams {
@@ -117,7 +117,7 @@ impl GivenParams {
 
     /// The parameters of the call with so many before it; none where there is no such call.
     #[tactic(auto, using(crate::proofs::ListLemmas::few_each_at))]
-    fn get(&self, number: usize) -> &[Param]
+    fn get(&self, number: usize) -> &[GivenParam]
         ensures value { result.now ≡ slice_index_or self.now number [] }
         ensures few { length result.now ≤ 8 }
     {
@@ -126,7 +126,7 @@ impl GivenParams {
 
     /// The parameters of a call, by its incarnation. Those of the opening, of which none are kept, have the first numbers, and
     /// `families` is of all incarnations.
-    pub(crate) fn of(&self, families: &Lists<Begun>, call: Inc) -> &[Param]
+    pub(crate) fn of(&self, families: &Lists<Begun>, call: Inc) -> &[GivenParam]
         ensures same { result.now ≡ params_at families.now self.now call }
         ensures few { length result.now ≤ 8 }
     {
@@ -136,7 +136,7 @@ impl GivenParams {
 
     /// One call more, with parameters that hold these capabilities. NoMemory is want of memory.
     #[tactic(auto, using(crate::proofs::ListLemmas::few_each_more))]
-    fn add(&mut self, params: &[Param]) -> Result<(), NoMemory>
+    fn add(&mut self, params: &[GivenParam]) -> Result<(), NoMemory>
         requires { length params.now ≤ 8 }
         ensures { OnOk result (self.new ≡ self.old ++ params.now ∷ []) }
     {
@@ -148,9 +148,9 @@ impl GivenParams {
         requires { length slots.now ≤ 8 }
         ensures { OnOk result (self.new ≡ self.old ++ map cap_of slots.now ∷ []) }
     {
-        let mut params = [Param::none(); 8];
+        let mut params = [GivenParam::none(); 8];
         for (index, entry) in slots.iter().enumerate() {
-            params[index] = Param::of(entry);
+            params[index] = GivenParam::of(entry);
         }
         self.add(&params[..slots.len()])
     }

@@ -16,7 +16,7 @@ use crate::histories::{History, Span};
 use crate::holders::Stretch;
 use crate::hops::later;
 use crate::lists::Lists;
-use crate::params::{GivenParams, Param};
+use crate::params::{GivenParam, GivenParams};
 use crate::runs::spans_at;
 use hk_model::{Items, Name, NoMemory};
 use std::alloc::Global;
@@ -155,7 +155,7 @@ impl Moments {
     }
 
     /// This is told at the latest of the object of a parameter, if it holds a capability.
-    fn tell_param(&mut self, param: &Param, moment: u32) -> Result<(), NoMemory>
+    fn tell_param(&mut self, param: &GivenParam, moment: u32) -> Result<(), NoMemory>
         ensures earlier { OnOk result (IsEarlier self.old self.new) }
         ensures told { OnOk result (AreHeldBy (told_by self.new) moment (param.now ∷ [])) }
     {
@@ -166,7 +166,7 @@ impl Moments {
     }
 
     /// It is told at the latest of the objects of these parameters.
-    fn tell_params(&mut self, params: &[Param], moment: u32) -> Result<(), NoMemory>
+    fn tell_params(&mut self, params: &[GivenParam], moment: u32) -> Result<(), NoMemory>
         ensures earlier { OnOk result (IsEarlier self.old self.new) }
         ensures told { OnOk result (AreHeldBy (told_by self.new) moment params.now) }
     {

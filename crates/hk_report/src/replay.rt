@@ -61,7 +61,7 @@ fn param_count(line: &Line) -> usize
 }
 
 /// The entries in the first of these slots, in as many as the call has parameters that a line has begun.
-fn first_params<'a>(line: &Line, slots: &'a [Entry]) -> &'a [Entry]
+fn param_slots<'a>(line: &Line, slots: &'a [Entry]) -> &'a [Entry]
     ensures value { result.now ≡ take (param_count (done_call line.now)) slots.now }
     ensures few { length result.now ≤ 8 }
 {
@@ -70,24 +70,24 @@ fn first_params<'a>(line: &Line, slots: &'a [Entry]) -> &'a [Entry]
 }
 
 /// The slots of the merged parameters of the call that a line has begun, by a kernel in the state behind it.
-fn params_behind<'a>(kernel: &'a Plain, line: &Line, before: &Before) -> &'a [Entry]
+fn param_slots_behind<'a>(kernel: &'a Plain, line: &Line, before: &Before) -> &'a [Entry]
     ensures value { result.now ≡ given_slots line.now before.now kernel.now }
     ensures few { length result.now ≤ 8 }
 {
     match before.enters {
-        Some(inc) => first_params(line, slots_of(kernel, inc)),
+        Some(inc) => param_slots(line, slots_of(kernel, inc)),
         None => &[],
     }
 }
 
 /// The same, where the processor of the line runs the incarnation that it has made, if it has made one.
-fn params_on<'a, K: Shows>(kernel: &'a K, line: &Line, before: &Before) -> &'a [Entry]
+fn param_slots_on<'a, K: Shows>(kernel: &'a K, line: &Line, before: &Before) -> &'a [Entry]
     requires { RunsEntered (K.state kernel.now) line.now.cpu before.now }
     ensures value { result.now ≡ given_slots line.now before.now (K.state kernel.now) }
     ensures few { length result.now ≤ 8 }
 {
     match before.enters {
-        Some(_) => first_params(line, kernel.running_slots(line.cpu)),
+        Some(_) => param_slots(line, kernel.running_slots(line.cpu)),
         None => &[],
     }
 }
@@ -240,7 +240,7 @@ impl<K: Shows> Retelling<K> {
         if !does_nothing(&before) {
             let kernel = self.machine.kernel();
             let doing = doing_on(before, kernel, line.cpu);
-            let slots = params_on(kernel, line, &before);
+            let slots = param_slots_on(kernel, line, &before);
             self.telling.add(alloc, kernel, &doing, slots, self.count)?;
         }
         self.count += 1;
@@ -277,7 +277,7 @@ pub(crate) fn told(alloc: Global, world: &World, lines: &[Line]) -> Result<Telli
         let before = before_line(machine.kernel(), line);
         let _made = machine.step(alloc, world, line.cpu)?;
         let kernel = machine.kernel();
-        let slots = params_behind(kernel, line, &before);
+        let slots = param_slots_behind(kernel, line, &before);
         telling.add(
             alloc,
             kernel,

@@ -6,7 +6,7 @@ ghost use Rattle.hk_report.specs.Reachable.{moment_at, from_end, comes_at, IsBy,
 ghost use Rattle.hk_report.specs.Searches.{is_direct, direct_param, onward_at, first_start, level_at, levels_below, hops_down, IsFoundBehind, IsFound};
 
 use crate::hops::{Arrived, Ground, Level, Onward, arrived_by};
-use crate::params::Param;
+use crate::params::GivenParam;
 use hk_model::{Cap, Hop, Items, Name, NoMemory, Reach};
 use hk_rights::Right;
 use std::alloc::Global;
@@ -23,14 +23,14 @@ pub struct Start {
 pub(crate) struct Search<'a> {
     pub ground: Ground<'a>,
     /// The merged parameters of the call.
-    pub params: &'a [Param],
+    pub params: &'a [GivenParam],
     pub wanted: Name,
     /// A way has to come there before this moment.
     pub before: u32,
 }
 
 /// Whether a parameter is a capability for this object with MODIFY.
-fn is_direct(param: &Param, wanted: Name) -> bool
+fn is_direct(param: &GivenParam, wanted: Name) -> bool
     ensures { result ≡ is_direct wanted param.now }
 {
     match param.cap() {
@@ -40,7 +40,7 @@ fn is_direct(param: &Param, wanted: Name) -> bool
 }
 
 /// The first parameter of this object with MODIFY.
-pub(crate) fn direct_param(params: &[Param], wanted: Name) -> Option<u8>
+pub(crate) fn direct_param(params: &[GivenParam], wanted: Name) -> Option<u8>
     requires { length params.now ≤ 8 }
     ensures { result ≡ direct_param wanted 0 params.now }
 {
@@ -54,7 +54,7 @@ pub(crate) fn direct_param(params: &[Param], wanted: Name) -> Option<u8>
 
 impl<'a> Search<'a> {
     /// The first hop from the object of a parameter after which the rest can be made.
-    fn onward_at(&self, level: &Level, param: &Param) -> Option<Onward>
+    fn onward_at(&self, level: &Level, param: &GivenParam) -> Option<Onward>
         ensures { result ≡ onward_at (is_made self.now.ground.families.now self.now.ground.begun self.now.ground.histories.now) self.now.ground.histories.now self.now.ground.begun.moment (latest_at (is_made self.now.ground.families.now self.now.ground.begun self.now.ground.histories.now) self.now.ground.histories.now level.now) param.now }
     {
         match param.cap() {

@@ -11,7 +11,7 @@ Shelf = List (ℕ × ℕ)
 
 -- the place of the shelf, of so many, that a key belongs on: its length and its last letter do not count
 unfoldable pub shelf_of : ℕ → ℕ → ℕ
-shelf_of key count = key / 2 ^ 11 * 0x9e3779b97f4a7c15 % 2 ^ 64 / 2 ^ 32 % count
+shelf_of key count = key / 2 ^ 11 * 0x9e3779b97f4a7c15 % 2 ^ 64 * count / 2 ^ 64
 
 -- the shelf that a key belongs on
 abbrev pub shelf_with : List Shelf → ℕ → Shelf

@@ -10,6 +10,7 @@ use hk_format::ParseCause;
 use hk_model::Text;
 use hk_text::Piece;
 use std::alloc::Global;
+use std::str;
 
 /// What is left of a line.
 #[derive(Drop)]
@@ -93,9 +94,7 @@ impl<'a> Line<'a> {
         ensures ok { IfOk result (λ text. text ≡ text_of self.now.source.now piece) }
         ensures memory { IfErr result (λ e. e ≡ line_error.NoMemory) }
     {
-        match std::str::from_utf8(self.bytes(piece)) {
-            Ok(text) => Ok(Text::from_str(alloc, text)?),
-            Err(_) => unreachable!(),
-        }
+        let text = unsafe { str::from_utf8_unchecked(self.bytes(piece)) };
+        Ok(Text::from_str(alloc, text)?)
     }
 }

@@ -100,7 +100,8 @@ fn shelf_of(key: u64, count: usize) -> usize
     ensures place { result ≡ shelf_of key count }
     ensures within { result < count }
 {
-    (((key >> 11).wrapping_mul(MIXER) >> 32) % count as u64) as usize
+    let mixed = (key >> 11).wrapping_mul(MIXER);
+    (mixed as u128 * count as u128 >> 64) as usize
 }
 
 /// The number of a key on a shelf, which gets the one that is given where it is not there yet.
