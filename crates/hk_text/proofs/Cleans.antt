@@ -3,7 +3,6 @@ use Rattle.std.proofs.Common.{◌≡◌, ℕ, suc, ◌+◌, ◌-◌, ◌<◌, �
 use Rattle.std.specs.List.{list_any, position_or_len, slice_range}
 use Rattle.std.proofs.lemmas.Bool.Decides.{nat_tests}
 use Rattle.std.proofs.lemmas.List.{take_all, length-drop}
-use Rattle.hk_format.specs.declared.causes.TextCause.TheVariants.{NotAscii}
 use Rattle.hk_format.specs.declared.causes.TextCause.{TextCause}
 use Rattle.hk_format.specs.declared.errors.LineError.{LineError}
 use Rattle.hk_format.specs.declared.errors.ReadError.TheVariants.{Refused}

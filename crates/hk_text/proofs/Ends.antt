@@ -1,7 +1,7 @@
 -- Where the text of a line ends, and the tokens before it.
 use Rattle.std.proofs.Common.{◌≡◌, ℕ, ◌+◌, ◌-◌, ◌<◌, ◌≤◌, true, false, List, [], ◌∷◌, ◌++◌, length, get_or, take, drop, map, not, refl, sym, ap, ◌∙◌, arith, Ok, Err, Result}
 use Rattle.std.specs.List.{slice_range, position_or_len}
-use Rattle.std.proofs.lemmas.List.{take-take, take_all, length-take, length-drop, append-nil}
+use Rattle.std.proofs.lemmas.List.{take-take, length-take, length-drop, append-nil}
 use Rattle.std.proofs.lemmas.List.Sums.{prefix_len-le-length}
 use Rattle.hk_format.specs.declared.causes.TextCause.{TextCause}
 use Rattle.hk_format.specs.Pieces as piece
@@ -69,15 +69,6 @@ end_on source at len place more blank = rw (range_on source at (length source) (
 pub end_here : (source : List ℕ) (at len : ℕ) → len ≡ position_or_len is_end (left source at)
     → (len < length (left source at) → is_blank (get_or (left source at) len 0) ≡ false) → at + len ≡ text_end source at
 end_here source at len place ends = omega (arith, ends_with_token (left source at) len place ends)
-
--- or where it is sought from the end of a token on
-pub end_found : (source : List ℕ) (at len more : ℕ) → len ≡ position_or_len is_end (left source at)
-    → more ≡ position_or_len is_mark (slice_range (left source at) len (length (left source at))) → at + len + more ≡ text_end source at
-end_found source at len more place found =
-    let size = length-drop len (left source at) in
-    let whole : slice_range (left source at) len (length (left source at)) ≡ drop len (left source at) =
-    take_all (length (left source at) - len) (drop len (left source at)) (omega arith) in
-    omega (arith, found ∙ ap (position_or_len is_mark) whole, behind_token (left source at) len place)
 
 -- behind the last byte
 pub end_last : (source : List ℕ) (at : ℕ) → at ≤ length source → length source ≤ at → at ≡ text_end source at

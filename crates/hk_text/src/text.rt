@@ -1,7 +1,8 @@
 //! Bytes as lines, and lines as pieces (`docs/FORMATS.md`, "Text").
 
-ghost use Rattle.std.specs.Prelude.{◌≡◌, ℕ, ◌<◌, ◌≤◌, ◌^◌, ◌+◌, ◌-◌, ◌==◌, length, map, Ok, Err, IfOk, OnOk, MatchOption};
+ghost use Rattle.std.specs.Prelude.{◌≡◌, ℕ, ◌<◌, ◌≤◌, ◌^◌, ◌+◌, ◌-◌, ◌==◌, length, map, Ok, Err, Some, IfOk, OnOk, MatchOption};
 ghost use Rattle.std.specs.List.{slice_range, flat_map, position_or_len};
+ghost use Rattle.hk_model.specs.Limits.{line_bytes};
 ghost use Rattle.hk_format.specs.Texts.{lines_of, text, text_line, pieces_of, is_no_text};
 ghost use Rattle.hk_text.specs.Views.{seen, line_seen, line_pieces, texts_of, is_mark, LieBetween};
 ghost use Rattle.hk_format.specs.Outcomes.{Gives, IsRefused};
@@ -120,17 +121,18 @@ fn no_text_from(text: &[u8], mark: usize) -> usize
 struct Cut {
     /// Where it ends, at a comment or with the line.
     end: usize,
-    /// Why it has no pieces, if it has none.
+    /// Why it has no pieces, if it has none: the cause of the first that is bad, or LongLine.
     refused: Option<TextCause>,
 }
 
-/// Puts the pieces of the line that begins at this place in the place of others, up to the first that is bad.
-/// Its bytes are gone over once, and so its end is found by the way.
+/// Puts the pieces of the line that begins at this place in the place of others, up to the first that is bad,
+/// or that ends behind the bytes that a line may have. The bytes are gone over once, and so the end of the text
+/// is found by the way.
 fn cut_text(pieces: &mut Vec<Piece>, source: &[u8], start: usize) -> Result<Cut, AllocError>
     requires inside { start ≤ length source.now }
     ensures end { IfOk result (λ cut. cut.end ≡ start + position_or_len is_mark (slice_range source.now start (length source.now))) }
     ensures within { IfOk result (λ cut. cut.end ≤ length source.now) }
-    ensures value { IfOk result (λ cut. MatchOption cut.refused (pieces_of (texts_of (slice_range source.now start cut.end)) ≡ Ok (map (seen source.now) pieces.new.items)) (λ cause. pieces_of (texts_of (slice_range source.now start cut.end)) ≡ Err cause)) }
+    ensures value { IfOk result (λ cut. cut.end ≤ start + line_bytes → MatchOption cut.refused (pieces_of (texts_of (slice_range source.now start cut.end)) ≡ Ok (map (seen source.now) pieces.new.items)) (λ cause. pieces_of (texts_of (slice_range source.now start cut.end)) ≡ Err cause)) }
     ensures spans { IfOk result (λ cut. LieBetween start cut.end pieces.new.items) }
 {
     pieces.clear();
@@ -140,6 +142,9 @@ fn cut_text(pieces: &mut Vec<Piece>, source: &[u8], start: usize) -> Result<Cut,
         let token = first_token(rest);
         let len = token.len;
         let end = at + len;
+        if end - start > LINE_BYTES {
+            return Ok(refused_at(source, end, TextCause::LongLine));
+        }
         if len > 0 {
             match kind_of(&rest[..len], token.in_word) {
                 Ok(kind) => pieces.push(Piece {
@@ -147,12 +152,7 @@ fn cut_text(pieces: &mut Vec<Piece>, source: &[u8], start: usize) -> Result<Cut,
                     end,
                     kind,
                 })?,
-                Err(cause) => {
-                    return Ok(Cut {
-                        end: end + first_mark(&rest[len..]),
-                        refused: Some(cause),
-                    });
-                }
+                Err(cause) => return Ok(refused_at(source, end, cause)),
             }
         }
         if len == rest.len() || !is_blank(rest[len]) {
@@ -164,4 +164,17 @@ fn cut_text(pieces: &mut Vec<Piece>, source: &[u8], start: usize) -> Result<Cut,
         end: at,
         refused: None,
     })
+}
+
+/// The text that has no pieces for this cause, and ends at this place or behind it.
+fn refused_at(source: &[u8], place: usize, cause: TextCause) -> Cut
+    requires inside { place ≤ length source.now }
+    ensures end { result.end ≡ place + position_or_len is_mark (slice_range source.now place (length source.now)) }
+    ensures within { result.end ≤ length source.now }
+    ensures refused { result.refused ≡ Some cause }
+{
+    Cut {
+        end: place + first_mark(&source[place..]),
+        refused: Some(cause),
+    }
 }

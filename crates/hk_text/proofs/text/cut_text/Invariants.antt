@@ -1,7 +1,7 @@
-use Rattle.std.proofs.Common.{◌≡◌, ◌+◌, ◌-◌, ◌≤◌, map, length}
-use Rattle.std.specs.List.{slice_range, position_or_len}
+use Rattle.std.proofs.Common.{◌≡◌, ◌-◌, ◌≤◌, map, length}
+use Rattle.std.specs.List.{slice_range}
 use Rattle.hk_format.specs.Texts.{pieces_of}
-use Rattle.hk_text.specs.Views.{seen, texts_of, is_mark, LieBetween}
+use Rattle.hk_text.specs.Views.{seen, texts_of, LieBetween}
 use Rattle.hk_text.proofs.Turns.{after_front}
 use Rattle.hk_text.proofs.Ends.{text_end}
 use Rattle.hk_text.proofs.text.cut_text.Given as goal
