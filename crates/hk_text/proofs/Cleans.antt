@@ -3,13 +3,13 @@ use Rattle.std.proofs.Common.{◌≡◌, ℕ, suc, ◌+◌, ◌-◌, ◌<◌, �
 use Rattle.std.specs.List.{list_any, position_or_len, slice_range}
 use Rattle.std.proofs.lemmas.Bool.Decides.{nat_tests}
 use Rattle.std.proofs.lemmas.List.{take_all, length-drop}
-use Rattle.hk_format.specs.declared.causes.TextCause.TheVariants.{NotAscii}
 use Rattle.hk_format.specs.declared.causes.TextCause.{TextCause}
 use Rattle.hk_format.specs.declared.errors.LineError.{LineError}
 use Rattle.hk_format.specs.declared.errors.ReadError.TheVariants.{Refused}
-use Rattle.hk_format.specs.Outcomes.{error_on}
+use Rattle.hk_format.specs.Outcomes.{error_on, Fails}
+use Rattle.hk_format.specs.Pieces as piece
 use Rattle.hk_format.specs.Texts.{Lines, is_no_text, lines_of, text_line, text_lines}
-use Rattle.hk_text.specs.Outcomes.{first_line, FindsLine}
+use Rattle.hk_text.specs.Outcomes.{first_line}
 use Rattle.hk_text.proofs.Turns.{after_lines, line_refused, ahead_refused, line_fails}
 
 -- the place of the first line feed
@@ -64,24 +64,24 @@ line_from source start len inside e =
     let few : start + len - start ≡ len = omega arith in
     ap (λ n. take n (slice_range source start (length source))) (sym e) ∙ rw (whole, few) refl
 
--- a line with a byte that may not stand in it
-pub bad_text : (line : List ℕ) → list_any is_no_text line ≡ true → text_line line ≡ Err NotAscii
-bad_text line h = rw h refl
+-- the pieces of the first line behind a place
+pub read_from : (source : List ℕ) (start len : ℕ) (read : Result (List piece.Piece) TextCause) → start ≤ length source → len ≡ feed (slice_range source start (length source))
+    → text_line (first_line (slice_range source start (length source))) ≡ read → text_line (slice_range source start (start + len)) ≡ read
+read_from source start len read inside e is = rw (← line_from source start len inside e) is
 
--- lines before one with a byte that may not stand in it
+-- lines before one that is refused
 pub bad_lines : (source : List ℕ) (start n : ℕ) (e : LineError TextCause) (front : Lines) (all : Result Lines (ℕ × TextCause)) → start < length source
-    → after_lines front (text_lines n (lines_of (drop start source))) ≡ all → FindsLine (Err e) (slice_range source start (length source))
+    → after_lines front (text_lines n (lines_of (drop start source))) ≡ all → Fails e (text_line (first_line (slice_range source start (length source))))
     → (line : ℕ) (cause : TextCause) → error_on n e ≡ Refused line cause → all ≡ Err (line, cause)
 bad_lines source start n e front all inside h bad =
     let len = feed (slice_range source start (length source)) in
-    let read : text_line (slice_range source start (start + len)) ≡ Err NotAscii =
-    rw (line_from source start len (omega arith) refl) at (bad_text (first_line (slice_range source start (length source))) bad.1) in
-    line_fails n e all (Err NotAscii) (rw bad.0 refl) (λ cause is. line_refused source start n len front cause all inside refl (read ∙ is) h)
+    line_fails n e all (text_line (first_line (slice_range source start (length source)))) bad
+    (λ cause is. line_refused source start n len front cause all inside refl (read_from source start len (Err cause) (omega arith) refl is) h)
 
-pub bad_ahead : (source : List ℕ) (start n : ℕ) (e : LineError TextCause) → start < length source → FindsLine (Err e) (slice_range source start (length source))
+pub bad_ahead : (source : List ℕ) (start n : ℕ) (e : LineError TextCause) → start < length source
+    → Fails e (text_line (first_line (slice_range source start (length source))))
     → (line : ℕ) (cause : TextCause) → error_on n e ≡ Refused line cause → text_lines n (lines_of (drop start source)) ≡ Err (line, cause)
 bad_ahead source start n e inside bad =
     let len = feed (slice_range source start (length source)) in
-    let read : text_line (slice_range source start (start + len)) ≡ Err NotAscii =
-    rw (line_from source start len (omega arith) refl) at (bad_text (first_line (slice_range source start (length source))) bad.1) in
-    line_fails n e (text_lines n (lines_of (drop start source))) (Err NotAscii) (rw bad.0 refl) (λ cause is. ahead_refused source start n len cause inside refl (read ∙ is))
+    line_fails n e (text_lines n (lines_of (drop start source))) (text_line (first_line (slice_range source start (length source)))) bad
+    (λ cause is. ahead_refused source start n len cause inside refl (read_from source start len (Err cause) (omega arith) refl is))

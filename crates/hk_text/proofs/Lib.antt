@@ -9,3 +9,4 @@ pub mod LineCount
 pub mod PiecesGood
 pub mod Marks
 pub mod Tokens
+pub mod Ends

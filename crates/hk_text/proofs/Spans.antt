@@ -1,6 +1,5 @@
 -- Pieces that lie one behind another.
-use Rattle.std.proofs.Common.{ℕ, ◌≤◌, List, [], ◌∷◌, ◌++◌, Result, Ok, Err, arith}
-use Rattle.std.specs.Prelude.{OnOk}
+use Rattle.std.proofs.Common.{ℕ, ◌≤◌, List, [], ◌∷◌, ◌++◌, arith}
 use Rattle.hk_text.specs.declared.pieces.Piece.{Piece}
 use Rattle.std.specs.List.{flat_map}
 use Rattle.std.proofs.lemmas.Grind.{flat_map-append}
@@ -17,11 +16,6 @@ lie_both start middle end (p ∷ ps) qs h k = (h.0, h.1, lie_both p.end middle e
 pub lie_before : (start middle end : ℕ) (ps : List Piece) → LieBetween start middle ps → middle ≤ end → LieBetween start end ps
 lie_before start middle end [] h k = omega arith
 lie_before start middle end (p ∷ ps) h k = (h.0, h.1, lie_before p.end middle end ps h.2 k)
-
--- the same where an answer is one
-pub ok_before : {X E : Type 0} (start middle end : ℕ) (ps : List Piece) (r : Result X E) → OnOk r (LieBetween start middle ps) → middle ≤ end → OnOk r (LieBetween start end ps)
-ok_before start middle end ps (Ok x) h k = lie_before start middle end ps h k
-ok_before start middle end ps (Err e) h k = tt
 
 -- the pieces of lines, and of one line more
 pub lines_lie : (lines : List TextLine) (line : TextLine) (start middle end : ℕ) → LieBetween 0 start (flat_map line_pieces lines) → LieBetween start middle line.pieces

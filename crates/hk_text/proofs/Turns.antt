@@ -25,6 +25,10 @@ abbrev pub after_front : List piece.Piece → Result (List piece.Piece) TextCaus
 after_front front (Ok more) = Ok (front ++ more)
 after_front front (Err cause) = Err cause
 
+pub front_none : (r : Result (List piece.Piece) TextCause) → after_front [] r ≡ r
+front_none (Ok more) = refl
+front_none (Err cause) = refl
+
 -- lines that were read, before those that the rest gives
 abbrev pub after_lines : Lines → Result Lines (ℕ × TextCause) → Result Lines (ℕ × TextCause)
 after_lines front (Ok more) = Ok (front ++ more)

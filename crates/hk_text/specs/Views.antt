@@ -51,3 +51,7 @@ texts_of line = filter (λ t. not (is_none t)) (slice_split is_blank line)
 -- the text of a line ends at these: what may not stand in a line, and the `#` of a comment
 abbrev pub is_mark : ℕ → Bool
 is_mark b = is_no_text b || b == 35
+
+-- a token ends at these: the blanks, and where the text of the line ends
+abbrev pub is_end : ℕ → Bool
+is_end b = is_blank b || is_mark b

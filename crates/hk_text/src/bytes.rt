@@ -4,7 +4,7 @@ ghost use Rattle.std.specs.Prelude.{◌≡◌, ◌≤◌, ◌==◌, length, not,
 ghost use Rattle.std.specs.List.{list_any, list_all, position_or_len};
 ghost use Rattle.hk_model.specs.Labels.{is_digit, is_lower, is_capital, is_word_byte, is_register};
 ghost use Rattle.hk_format.specs.Texts.{is_blank, is_no_text};
-ghost use Rattle.hk_text.specs.Views.{is_mark};
+ghost use Rattle.hk_text.specs.Views.{is_mark, is_end};
 
 /// Whether the byte is one of `0` to `9`.
 pub fn is_digit(byte: u8) -> bool
@@ -77,24 +77,31 @@ pub fn has_point(text: &[u8]) -> bool
 }
 
 /// Whether the byte separates pieces.
-fn is_blank(byte: u8) -> bool
+pub fn is_blank(byte: u8) -> bool
     ensures { result ≡ is_blank byte }
 {
     byte <= b' ' && (byte == b' ' || byte == b'\t' || byte == b'\r')
 }
 
-/// The place of the first blank, or the length.
-fn first_blank(text: &[u8]) -> usize
-    ensures place { result ≡ position_or_len is_blank text.now }
+/// Whether a token ends at the byte: it separates pieces, or the text of the line ends at it.
+fn is_end(byte: u8) -> bool
+    ensures { result ≡ is_end byte }
+{
+    is_blank(byte) || is_mark(byte)
+}
+
+/// The place of the first byte at which a token ends, or the length.
+fn first_end(text: &[u8]) -> usize
+    ensures place { result ≡ position_or_len is_end text.now }
     ensures within { result ≤ length text.now }
 {
-    match text.iter().position(|byte| is_blank(*byte)) {
+    match text.iter().position(|byte| is_end(*byte)) {
         Some(at) => at,
         None => text.len(),
     }
 }
 
-/// The text that stands before the first blank.
+/// The text that stands before the first byte at which a token ends.
 #[derive(Clone, Copy)]
 pub struct Token {
     pub len: usize,
@@ -102,9 +109,9 @@ pub struct Token {
     pub in_word: bool,
 }
 
-/// The text before the first blank, or all.
+/// The text before the first byte at which a token ends, or all.
 pub fn first_token(text: &[u8]) -> Token
-    ensures place { result.len ≡ position_or_len is_blank text.now }
+    ensures place { result.len ≡ position_or_len is_end text.now }
     ensures within { result.len ≤ length text.now }
     ensures word { result.in_word ≡ list_all is_word_byte (take result.len text.now) }
 {
@@ -112,11 +119,11 @@ pub fn first_token(text: &[u8]) -> Token
     if len == text.len() {
         return Token { len, in_word: true };
     }
-    if is_blank(text[len]) {
+    if is_end(text[len]) {
         return Token { len, in_word: true };
     }
     Token {
-        len: len + first_blank(&text[len..]),
+        len: len + first_end(&text[len..]),
         in_word: false,
     }
 }

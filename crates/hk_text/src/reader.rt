@@ -8,10 +8,9 @@ ghost use Rattle.hk_format.specs.Texts.{lines_of, text, line_onto};
 ghost use Rattle.hk_format.specs.Outcomes.{IsRefused};
 ghost use Rattle.hk_text.specs.Ahead.{lines_ahead, bytes_ahead, pieces_read, HasNumbers};
 
-use crate::bytes::first_mark;
 use crate::errors::TextError;
 use crate::pieces::Piece;
-use crate::text::{cut_line, line_len};
+use crate::text::cut_line;
 use std::alloc::Global;
 
 /// A source whose lines are read one after another, each in the place of the one before, so that no
@@ -65,16 +64,10 @@ impl<'a> LineReader<'a> {
         ensures refused { (line : ℕ) (cause : TextCause) → IsRefused result line cause → lines_ahead self.old ≡ Err (line, cause) }
     {
         let number = self.number;
-        let start = self.start;
-        let rest = &self.source[start..];
-        let mark = first_mark(rest);
-        let len = match line_len(rest, mark) {
+        let len = match cut_line(&mut self.pieces, self.source, self.start) {
             Ok(len) => len,
             Err(error) => return Err(error.on_line(number)),
         };
-        if let Err(error) = cut_line(&mut self.pieces, self.source, start, start + len, mark) {
-            return Err(error.on_line(number));
-        }
         self.number += 1;
         self.start += len + 1;
         Ok(number)

@@ -11,13 +11,13 @@ pub returns-then-len-text-clause-word : goal.returns-then-len-text-clause-word
 returns-then-len-text-clause-word c =
     sym (word_ends c.args.text.now c.word_len-len.result c.word_len-len.ensures.place (λ more. absurd (omega (arith, more, c.if-len-text.true)))).1
 
-pub returns-then-is_blank-clause-place : goal.returns-then-is_blank-clause-place
-returns-then-is_blank-clause-place c =
-    (word_ends c.args.text.now c.word_len-len.result c.word_len-len.ensures.place (λ more. sym c.is_blank.ensures ∙ c.if-is_blank.true)).0
+pub returns-then-is_end-clause-place : goal.returns-then-is_end-clause-place
+returns-then-is_end-clause-place c =
+    (word_ends c.args.text.now c.word_len-len.result c.word_len-len.ensures.place (λ more. sym c.is_end.ensures ∙ c.if-is_end.true)).0
 
-pub returns-then-is_blank-clause-word : goal.returns-then-is_blank-clause-word
-returns-then-is_blank-clause-word c =
-    sym (word_ends c.args.text.now c.word_len-len.result c.word_len-len.ensures.place (λ more. sym c.is_blank.ensures ∙ c.if-is_blank.true)).1
+pub returns-then-is_end-clause-word : goal.returns-then-is_end-clause-word
+returns-then-is_end-clause-word c =
+    sym (word_ends c.args.text.now c.word_len-len.result c.word_len-len.ensures.place (λ more. sym c.is_end.ensures ∙ c.if-is_end.true)).1
 
 pub returns-clause-place : goal.returns-clause-place
 returns-clause-place c =
@@ -26,7 +26,7 @@ returns-clause-place c =
     let more : c.word_len-len.result < length c.args.text.now = omega (arith, c.word_len-len.ensures.within, c.if-len-text.false) in
     let size = length-drop len text in
     let whole : take (length text - len) (drop len text) ≡ drop len text = take_all (length text - len) (drop len text) (omega arith) in
-    rw (c.first_blank.ensures.place, whole) (word_goes_on text len c.word_len-len.ensures.place more (sym c.is_blank.ensures ∙ c.if-is_blank.false)).0
+    rw (c.first_end.ensures.place, whole) (word_goes_on text len c.word_len-len.ensures.place more (sym c.is_end.ensures ∙ c.if-is_end.false)).0
 
 pub returns-clause-word : goal.returns-clause-word
 returns-clause-word c =
@@ -35,4 +35,4 @@ returns-clause-word c =
     let more : c.word_len-len.result < length c.args.text.now = omega (arith, c.word_len-len.ensures.within, c.if-len-text.false) in
     let size = length-drop len text in
     let whole : take (length text - len) (drop len text) ≡ drop len text = take_all (length text - len) (drop len text) (omega arith) in
-    rw (c.first_blank.ensures.place, whole) (sym (word_goes_on text len c.word_len-len.ensures.place more (sym c.is_blank.ensures ∙ c.if-is_blank.false)).1)
+    rw (c.first_end.ensures.place, whole) (sym (word_goes_on text len c.word_len-len.ensures.place more (sym c.is_end.ensures ∙ c.if-is_end.false)).1)
