@@ -28,8 +28,7 @@ pub struct TextLine {
 /// The lines of a source that have pieces, in order. `Refused` tells the first line that is bad,
 /// and the first of its causes: NotAscii, LongLine, and then those of its pieces from the left
 /// (`docs/FORMATS.md`, "Text"). Want of memory is `NoMemory`. The source is to have fewer than
-/// 2^32 - 1 lines, so that each has a number. The pieces of a line are put together in `scratch`, so
-/// that a line takes no more memory than its pieces need.
+/// 2^32 - 1 lines, so that each has a number.
 pub fn lines(alloc: Global, bytes: &[u8]) -> Result<Vec<TextLine>, TextError>
     requires { length (lines_of bytes.now) < 2 ^ 32 - 1 }
     ensures ok { IfOk result (λ v. text bytes.now ≡ Ok (map (line_seen bytes.now) v.items)) }
@@ -37,7 +36,7 @@ pub fn lines(alloc: Global, bytes: &[u8]) -> Result<Vec<TextLine>, TextError>
     ensures refused { (line : ℕ) (cause : TextCause) → IsRefused result line cause → text bytes.now ≡ Err (line, cause) }
 {
     let mut lines = Items::new(alloc);
-    let mut scratch = Vec::new(alloc);
+    let mut scratch = Vec::new(alloc); // so that a line takes no more memory than its pieces need
     let mut number = 1;
     let mut start = 0;
     while start < bytes.len() {
