@@ -60,6 +60,7 @@ impl Writer {
     {
         let mut out = self.out;
         out.push_str(end_line(end))?;
-        Ok(Text::from_string(out)?)
+        let text = Text::from_string(out)?;
+        Ok(text)
     }
 }

@@ -17,7 +17,8 @@ pub fn json_text(alloc: Global, world: &World) -> Result<Text, NoMemory>
 {
     let value = value_of(alloc, world)?;
     let text = value.to_string(alloc)?;
-    letters(text)
+    let written = letters(text)?;
+    Ok(written)
 }
 
 /// A string as a text, whose bytes are UTF-8.

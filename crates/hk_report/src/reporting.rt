@@ -67,7 +67,8 @@ impl<K: Shows> Retelling<K> {
         let mut told = self.end(alloc)?;
         let mut out = told.text(alloc)?;
         write_count(&mut out, told.families.changes.len())?;
-        Ok(Text::from_string(out)?)
+        let text = Text::from_string(out)?;
+        Ok(text)
     }
 }
 
@@ -84,5 +85,6 @@ pub fn report_text(alloc: Global, world: &World, lines: &[Line]) -> Result<Text,
     let mut told = told(alloc, world, lines)?;
     let mut out = told.text(alloc)?;
     write_count(&mut out, told.families.changes.len())?;
-    Ok(Text::from_string(out)?)
+    let text = Text::from_string(out)?;
+    Ok(text)
 }

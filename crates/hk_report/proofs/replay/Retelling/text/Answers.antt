@@ -9,5 +9,5 @@ returns g c w lines world t =
     let x = c.in_ok-out.ensures in
     let after = c.text.new.self in
     retold c.args.self told.histories.items after.histories.items told.params told.families.calls told.families.changes.items c.len.result
-    [] (string_bytes c.in_ok-out.out) c.from_string.result e.histories x.enough e.params e.calls e.changes (c.len.ensures ∙ x.count)
-    refl x.written (c.from_string.ensures ∙ c.in_ok-write_count.ensures) w lines world t
+    [] (string_bytes c.in_ok-out.out) c.in_ok-text.text e.histories x.enough e.params e.calls e.changes (c.len.ensures ∙ x.count)
+    refl x.written (c.in_ok-text.ensures ∙ c.in_ok-write_count.ensures) w lines world t
