@@ -11,7 +11,7 @@ use std::sync::Wait;
 use std::test::Fail;
 use std::thread::Threads;
 
-const SCRIPT: &'static [u8; 96] =
+pub(crate) const SCRIPT: &'static [u8; 96] =
     b"hydra 1\nobject d DATA\nwords 7\nend\ncode main\ngetdata 0 0 r0\nend\nprocess a main\ncap d GETDATA\nend\n";
 
 const RECORD: &'static [u8; 184] =

@@ -3,11 +3,13 @@
 ghost use Rattle.std.specs.Prelude.{◌≡◌, IfOk};
 ghost use Rattle.hk_model.specs.Opening.{opening};
 
-use crate::commands::Open;
+use crate::commands::{Open, SCRIPT as READING};
+use crate::wanting::Wanting;
 use crate::worlds::world;
-use hk_model::{Cpu, Kernel, World};
+use hk_model::{Call, Cpu, Inc, Kernel, Line, Path, Proc, Reply, What, World};
 use hk_plain::Plain;
-use hk_procs::{Asked, Desk, Ended, work};
+use hk_procs::{Asked, Called, Desk, Ended, work};
+use hk_program::next;
 use hk_shared::{Naming, Shared};
 use std::alloc::Global;
 use std::marker::Brand;
@@ -124,5 +126,132 @@ fn idle<R: Wait>(rt: &R, alloc: Global, world: &World) -> Result<u64, Fail> {
 fn an_idle_processor_is_told_of_the_lines_up_to_its_turn(rt: HostRuntime) -> Result<(), Fail> {
     let world = world(rt.alloc(), SCRIPT)?;
     assert_eq!(rt; idle(&rt, rt.alloc(), &world)?, 1);
+    Ok(())
+}
+
+/// The lines that are made of the world that is named where processor 0 runs its only process, which reads a word, and processor 1
+/// asks in between.
+#[tactic(auto, using(hk_shared::proofs::NewPasses::new_runs_nothing))]
+fn lines_named<K: Kernel, J: Naming, R: Wait>(
+    rt: &R,
+    alloc: Global,
+    world: &World,
+    kernel: K,
+) -> Result<Vec<Line>, Fail>
+    requires name { world.now ≡ J.world }
+    requires opened { K.state kernel ≡ opening world.now }
+{
+    let started = Shared::<K, J>::start(alloc, kernel, world, 2);
+    let (shared, mut passes) = started.ok().ok_or("a desk")?;
+    let first = passes.remove(0);
+    let second = passes.remove(0);
+    let (first, Asked::Given(proc, mut context)) = shared.ask(rt, first) else {
+        return Err("a process".into());
+    };
+    let (second, Asked::Idle(1)) = shared.ask(rt, second) else {
+        return Err("nothing for the other processor".into());
+    };
+    let todo = next(&mut context, world);
+    let (first, Called::Goes(Reply::Word(7), mut context)) =
+        shared.call(rt, alloc, first, proc, context, todo)
+    else {
+        return Err("the word".into());
+    };
+    let todo = next(&mut context, world);
+    let (first, Called::Gone(Reply::Done)) = shared.call(rt, alloc, first, proc, context, todo) else {
+        return Err("the return".into());
+    };
+    let (second, Asked::Over) = shared.ask(rt, second) else {
+        return Err("the end".into());
+    };
+    passes.push(first)?;
+    passes.push(second)?;
+    Ok(shared.close(passes).lines().to_vec(alloc)?)
+}
+
+/// The lines that are made of a world, which it names.
+fn lines<R: Wait>(rt: &R, alloc: Global, world: &World) -> Result<Vec<Line>, Fail> {
+    lines_named::<Plain, Brand, R>(rt, alloc, world, plain(alloc, world)?)
+}
+
+/// A line of processor 0 and of the only process.
+fn line(what: What, reply: Reply) -> Line {
+    Line {
+        cpu: Cpu(0),
+        proc: Proc(0),
+        inc: Inc(0),
+        what,
+        reply,
+    }
+}
+
+#[test]
+fn the_calls_of_the_desk_make_the_lines(rt: HostRuntime) -> Result<(), Fail> {
+    let alloc = rt.alloc();
+    let made = lines(&rt, alloc, &world(alloc, READING.as_slice())?)?;
+    let of = Path::new(&[0]).ok_or("a path")?;
+    let due = [
+        line(What::Dispatch, Reply::Done),
+        line(What::Call(Call::Get { of, at: 0 }), Reply::Word(7)),
+        line(What::Call(Call::Leave { give: None }), Reply::Done),
+    ];
+    assert!(rt; made.as_slice() == due.as_slice());
+    Ok(())
+}
+
+/// Two processes that change a word list.
+const ADDING: &[u8] = b"hydra 1\nobject d DATA\nend\ncode main\nadddata 0 1\nend\nprocess a main\ncap d ADDDATA+MODIFY\nend\nprocess b main\ncap d ADDDATA+MODIFY\nend\n";
+
+/// What is left of the world that is named where the first call of processor 0 wants memory: processor 1, which runs nothing, asks
+/// behind it, and processor 2 makes a call of its process.
+#[tactic(auto, using(hk_shared::proofs::NewPasses::new_runs_nothing))]
+fn stop_named<K: Kernel, J: Naming, R: Wait>(
+    rt: &R,
+    alloc: Global,
+    world: &World,
+    kernel: K,
+) -> Result<(usize, Option<Cpu>), Fail>
+    requires name { world.now ≡ J.world }
+    requires opened { K.state kernel ≡ opening world.now }
+{
+    let started = Shared::<K, J>::start(alloc, kernel, world, 3);
+    let (shared, mut passes) = started.ok().ok_or("a desk")?;
+    let first = passes.remove(0);
+    let second = passes.remove(0);
+    let third = passes.remove(0);
+    let (first, Asked::Given(proc, mut context)) = shared.ask(rt, first) else {
+        return Err("a process".into());
+    };
+    let (third, Asked::Given(other, mut rest)) = shared.ask(rt, third) else {
+        return Err("another process".into());
+    };
+    let todo = next(&mut context, world);
+    let (first, Called::NoMemory) = shared.call(rt, alloc, first, proc, context, todo) else {
+        return Err("want of memory".into());
+    };
+    let (second, Asked::Stopped) = shared.ask(rt, second) else {
+        return Err("the stop, asked for a process".into());
+    };
+    let todo = next(&mut rest, world);
+    let (third, Called::Stopped) = shared.call(rt, alloc, third, other, rest, todo) else {
+        return Err("the stop, at a call".into());
+    };
+    passes.push(first)?;
+    passes.push(second)?;
+    passes.push(third)?;
+    let book = shared.close(passes);
+    Ok((book.lines().len(), book.stop()))
+}
+
+/// What is left of a world, which it names, on a kernel whose first call wants memory.
+fn stop<R: Wait>(rt: &R, alloc: Global, world: &World) -> Result<(usize, Option<Cpu>), Fail> {
+    let kernel = Wanting::new(alloc, world).ok().ok_or("a kernel")?;
+    stop_named::<Wanting, Brand, R>(rt, alloc, world, kernel)
+}
+
+#[test]
+fn a_stop_is_told_to_all_and_makes_no_line(rt: HostRuntime) -> Result<(), Fail> {
+    let world = world(rt.alloc(), ADDING)?;
+    assert!(rt; stop(&rt, rt.alloc(), &world)? == (2, Some(Cpu(0))));
     Ok(())
 }

@@ -11,4 +11,6 @@ mod desk;
 #[cfg(test)]
 mod processors;
 #[cfg(test)]
+mod wanting;
+#[cfg(test)]
 mod worlds;
