@@ -5,6 +5,9 @@ ghost use Rattle.hk_model.specs.declared.lines.Line.{Line};
 ghost use Rattle.hk_model.specs.WorldValue.{WorldValue, IsWorld};
 ghost use Rattle.hk_model.specs.Running.{AreStepsOf};
 ghost use Rattle.hk_model.specs.Changes.{AreChanges, bare_changes};
+ghost use Rattle.hk_model.specs.Confinement.{ConfinementLaw, ClosedCallLaw};
+ghost use Rattle.hk_model.specs.Descent.{DescentLaw};
+ghost use Rattle.hk_model.specs.Marks.{EnvironmentLaw};
 ghost use Rattle.hk_report.specs.Families.{told_change};
 ghost use Rattle.hk_report.specs.Reasons.{AreFew};
 ghost use Rattle.hk_report.specs.Retold.{IsRetold};
@@ -14,6 +17,8 @@ use crate::families::{BareChange, changes_of, whole_changes};
 use crate::replay::{Retelling, replayed, told};
 use crate::shows::Shows;
 use crate::texts::write_count;
+use hk_confine::{closed_call_law, confinement_law};
+use hk_descent::{descent_law, environment_law};
 use hk_model::{Change, Line, NoMemory, Text, World};
 use std::alloc::Global;
 
@@ -41,14 +46,22 @@ pub fn changes_under(
 /// The changes under confined calls, each with its reason (`docs/RULES.md`, "Changes and their
 /// reasons"): that the object was made under the call, or the least reach at the moment before the
 /// line, which is there by `hk_confine::confinement_law`. They stand by rising line, and for one line
-/// by rising number of the call.
+/// by rising number of the call. The laws of protection hold of the lines, whatever the answer is.
 ///
 /// `lines` are steps of `world` from its opening on, in the order of the history. NoMemory is want of memory, and nothing else.
 #[tactic(auto, using(crate::proofs::Lengths::lines_few, crate::proofs::Explained::few_told))]
 pub fn report(alloc: Global, world: &World, lines: &[Line]) -> Result<Vec<Change>, NoMemory>
     requires { AreStepsOf world.now lines.now }
-    ensures { IfOk result (λ changes. AreChanges world.now lines.now changes.items) }
+    ensures changes { IfOk result (λ changes. AreChanges world.now lines.now changes.items) }
+    ensures descent { DescentLaw world.now lines.now }
+    ensures environment { EnvironmentLaw world.now lines.now }
+    ensures confinement { ConfinementLaw world.now lines.now }
+    ensures closed_call { ClosedCallLaw world.now lines.now }
 {
+    descent_law(world, lines);
+    environment_law(world, lines);
+    confinement_law(world, lines);
+    closed_call_law(world, lines);
     let _limit = world.limit();
     let mut told = told(alloc, world, lines)?;
     let changes = told.explain(alloc)?;

@@ -1,8 +1,8 @@
 use Rattle.hk_report.proofs.LeftOut.{report_enough}
 use Rattle.hk_report.proofs.reporting.report.Goals as goal
 
-pub returns : goal.returns
-returns c =
+pub returns-clause-changes : goal.returns-clause-changes
+returns-clause-changes c =
     let told = c.in_ok-told.told in
     let t = c.in_ok-told.ensures in
     let x = c.in_ok-changes.ensures in
