@@ -2,3 +2,7 @@ pub mod Worlds
 mod Rows
 mod BareEntries
 pub mod ConfinedCalls
+mod StageLists
+mod Stages
+mod StageSteps
+pub mod WholeRuns
