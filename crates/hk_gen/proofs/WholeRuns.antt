@@ -5,6 +5,7 @@ use Rattle.hk_model.specs.Generated.{generate}
 use Rattle.hk_gen.specs.WholeRuns.{WholeRunsEnd}
 use Rattle.hk_gen.proofs.StageLists.{base_alone}
 use Rattle.hk_gen.proofs.Stages.{stage}
+use Rattle.hk_gen.proofs.StageSteps.{Ends}
 
 -- each whole run of a generated world on processor 0 ends with every process ended
 pub generated_runs_end : (count : ℕ) → count ≤ process_limit → WholeRunsEnd (generate count)
