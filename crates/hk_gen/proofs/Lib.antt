@@ -5,4 +5,5 @@ pub mod ConfinedCalls
 mod StageLists
 mod Stages
 mod StageSteps
+mod Rounds
 pub mod WholeRuns

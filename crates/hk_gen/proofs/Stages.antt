@@ -22,7 +22,7 @@ use Rattle.hk_model.specs.declared.objects.ProcessState.TheVariants.{Ended}
 use Rattle.hk_model.specs.declared.world.Kind.TheVariants as kind
 use Rattle.hk_model.specs.Limits.{event_limit, slot_limit, local_limit, word_bound}
 use Rattle.hk_model.specs.Targets.{DATA, kernel_types}
-use Rattle.hk_model.specs.State.{State, process, same_inc, put_process}
+use Rattle.hk_model.specs.State.{State, process, same_inc, inc_cmp, put_process}
 use Rattle.hk_model.specs.Opening.{numbered, type_object, object_of, base_of}
 use Rattle.hk_model.specs.Keeping.{kept_objects, restricted}
 use Rattle.hk_model.specs.Rule.{take_token, give_token, get_word, put_word, enter_procedure, enter, leave, called_incarnation}
@@ -92,6 +92,13 @@ module _ (word : ℕ) (incs : List (Inc × Incarnation)) (processes : List Proce
         → put_word (stage word 0 incs processes ready next events) inc (0 ∷ []) 0 new ≡ Ok (Done, stage new 0 incs processes ready next events)
     unfolding put_word first_missing right_numbers right_table
     puts caller new h = rw h
+
+    -- it is the last then, and the current one
+    pub entered : (caller : Inc) (more : List (Inc × Incarnation)) (p : Process) (goes_on : List Process)
+        → insert_entry inc_cmp incs (record { 0 = next }) (callee proc caller) ≡ more
+        → slice_get processes proc.0 ≡ Some p → slice_set processes proc.0 (record p { current = record { 0 = next } }) ≡ goes_on
+        → enter (stage word 0 incs processes ready next events) (callee proc caller) ≡ stage word 0 more goes_on ready (next + 1) events
+    entered caller more p goes_on h g e = rw (h, g, e)
 
     -- it leads into the procedure's code
     pub enters_bump : lookup (same_inc inc) incs ≡ Some (base_of proc main_slots)

@@ -6,6 +6,7 @@ use Rattle.hk_gen.specs.WholeRuns.{WholeRunsEnd}
 use Rattle.hk_gen.proofs.StageLists.{base_alone}
 use Rattle.hk_gen.proofs.Stages.{stage}
 use Rattle.hk_gen.proofs.StageSteps.{Ends}
+use Rattle.hk_gen.proofs.Rounds.{running}
 
 -- each whole run of a generated world on processor 0 ends with every process ended
 pub generated_runs_end : (count : ℕ) → count ≤ process_limit → WholeRunsEnd (generate count)
