@@ -21,10 +21,10 @@ use Rattle.hk_model.specs.State.{State, same_inc}
 use Rattle.hk_model.specs.Opening.{base_of}
 use Rattle.hk_model.specs.Rule.{Outcome, outcome, answered, counted}
 use Rattle.hk_model.specs.Processors.{entered_code}
-use Rattle.hk_model.specs.Control.{Context, next, after}
+use Rattle.hk_model.specs.Control.{Context, new_frame, next, after}
 use Rattle.hk_model.specs.Running.{Machine}
-use Rattle.hk_model.specs.Generated.{generate, slot, main_slots, cbump}
-use Rattle.hk_gen.proofs.StageLists.{AllEnded, AllBelow, get_middle, set_middle, runner_middle, lookup_last, insert_last, remove_last}
+use Rattle.hk_model.specs.Generated.{generate, slot, main, main_slots, cbump}
+use Rattle.hk_gen.proofs.StageLists.{AllEnded, AllBelow, get_middle, set_middle, runner_middle, lookup_last, insert_last, remove_last, below_higher}
 use Rattle.hk_gen.proofs.Stages.{stage, callee, main_frame, bump_frame}
 use Rattle.hk_gen.proofs.Stages.{nothing_vanishes, takes, gives, enters, entered, enters_bump, gets, puts, leaves, ends}
 use Rattle.hk_gen.proofs.Stages.{next_takes, next_enters, next_gets, next_puts, next_leaves, next_gives, next_again, next_ends}
@@ -158,3 +158,39 @@ module _ (count n : ℕ) (done later : List Process) (past waiting : List Contex
           (ends word incs (done ++ running n ∷ later) ready next_inc events (proc n) (inc n) others (running n) (done ++ over n ∷ later) base gone
           (get_middle done (running n) later n many) (set_middle done (running n) (over n) later n many))
           refl (after_leaves count (main_frame 5 100) []) last
+
+      -- a round, from behind its P to behind its V
+      round : (word rounds next_inc events : ℕ) → AllBelow next_inc incs → events + 5 ≤ event_limit
+          → EndsWith (state_of (running n) ((word + 1) % word_bound) 1 incs (next_inc + 1) (events + 1 + 1 + 1 + 1 + 1)) (main_frame 3 rounds ∷ [])
+          → EndsWith (state_of (running n) word 0 incs next_inc events) (main_frame 1 rounds ∷ [])
+      round word rounds next_inc events below few last =
+          enter_turn word rounds next_inc events below (omega arith)
+          (get_turn word next_inc (next_inc + 1) (events + 1) (main_frame 2 rounds ∷ []) below (omega arith)
+          (put_turn word next_inc (next_inc + 1) (events + 1 + 1) (main_frame 2 rounds ∷ []) below (omega arith)
+          (leave_turn ((word + 1) % word_bound) ((word + 1) % word_bound) next_inc (next_inc + 1) (events + 1 + 1 + 1) (main_frame 2 rounds ∷ []) below (omega arith)
+          (give_turn ((word + 1) % word_bound) rounds (next_inc + 1) (events + 1 + 1 + 1 + 1) (omega arith) last))))
+
+      -- where each run ends once the process has ended, it does with so many rounds left
+      pub rounds_end : (behind : ℕ)
+          → ((word next_inc events : ℕ) → AllBelow next_inc incs → events + behind ≤ event_limit → EndsWith (state_of (over n) word 1 others next_inc events) [])
+          → (left word rounds next_inc events : ℕ) → rounds + suc left ≡ 100 → AllBelow next_inc incs → events + 6 * suc left + behind ≤ event_limit
+          → EndsWith (state_of (running n) word 0 incs next_inc events) (main_frame 1 rounds ∷ [])
+      rounds_end behind last zero word rounds next_inc events all below few =
+          round word rounds next_inc events below (omega arith)
+          (end_turn ((word + 1) % word_bound) rounds (next_inc + 1) (events + 1 + 1 + 1 + 1 + 1) (omega arith) (omega arith)
+          (last ((word + 1) % word_bound) (next_inc + 1) (events + 1 + 1 + 1 + 1 + 1 + 1) (below_higher incs next_inc (next_inc + 1) (omega arith) below) (omega arith)))
+      rounds_end behind last (suc left) word rounds next_inc events all below few =
+          round word rounds next_inc events below (omega arith)
+          (take_turn (main_frame 3 rounds ∷ []) ((word + 1) % word_bound) (rounds + 1) (next_inc + 1) (events + 1 + 1 + 1 + 1 + 1) (omega arith)
+          (next_again count rounds (omega arith) (is_below (rounds + 1) 100 (omega arith)))
+          (rounds_end behind last left ((word + 1) % word_bound) (rounds + 1) (next_inc + 1) (events + 1 + 1 + 1 + 1 + 1 + 1) (omega arith)
+          (below_higher incs next_inc (next_inc + 1) (omega arith) below) (omega arith)))
+
+      -- so it does from the process's beginning
+      pub process_ends : (behind : ℕ)
+          → ((word next_inc events : ℕ) → AllBelow next_inc incs → events + behind ≤ event_limit → EndsWith (state_of (over n) word 1 others next_inc events) [])
+          → (word next_inc events : ℕ) → AllBelow next_inc incs → events + 601 + behind ≤ event_limit
+          → EndsWith (state_of (running n) word 1 incs next_inc events) (new_frame main ∷ [])
+      process_ends behind last word next_inc events below few =
+          take_turn (main_frame 0 0 ∷ []) word 0 next_inc events (omega arith) (next_takes count)
+          (rounds_end behind last 99 word 0 next_inc (events + 1) refl below (omega arith))
