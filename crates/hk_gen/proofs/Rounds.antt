@@ -1,6 +1,6 @@
 -- The rounds of one process of a generated world, which runs alone: those before it have ended, and those behind it wait for their
 -- dispatch.
-use Rattle.std.proofs.Common.{◌≡◌, ℕ, zero, suc, ◌+◌, ◌*◌, ◌%◌, ◌<◌, ◌≤◌, List, [], ◌∷◌, ◌++◌, length, true, Option, Some, None, Ok, refl, sym, ◌∙◌, ap, arith, subst}
+use Rattle.std.proofs.Common.{◌≡◌, ℕ, zero, suc, ◌+◌, ◌*◌, ◌<◌, ◌≤◌, List, [], ◌∷◌, ◌++◌, length, true, Option, Some, None, Ok, refl, sym, ◌∙◌, ap, arith, subst}
 use Rattle.std.specs.Prelude.{count_by, ◌==◌, nat_lt}
 use Rattle.std.specs.Option.{unwrap_or}
 use Rattle.std.specs.Map.{lookup, remove_entry}
@@ -11,12 +11,11 @@ use Rattle.hk_model.specs.declared.calls.Answer.{Answer}
 use Rattle.hk_model.specs.declared.calls.Answer.TheVariants.{Done, Word}
 use Rattle.hk_model.specs.declared.calls.Call.{Call}
 use Rattle.hk_model.specs.declared.calls.Call.TheVariants as call
-use Rattle.hk_model.specs.declared.calls.Reply.TheVariants as reply
 use Rattle.hk_model.specs.declared.frames.Todo.TheVariants.{Do}
 use Rattle.hk_model.specs.declared.objects.Incarnation.{Incarnation}
 use Rattle.hk_model.specs.declared.objects.Process.{Process}
 use Rattle.hk_model.specs.declared.objects.ProcessState.TheVariants.{Running, Ended}
-use Rattle.hk_model.specs.Limits.{event_limit, word_bound}
+use Rattle.hk_model.specs.Limits.{event_limit}
 use Rattle.hk_model.specs.State.{State, same_inc}
 use Rattle.hk_model.specs.Opening.{base_of}
 use Rattle.hk_model.specs.Rule.{Outcome, outcome, answered, counted}
@@ -25,12 +24,13 @@ use Rattle.hk_model.specs.Control.{Context, new_frame, next, after}
 use Rattle.hk_model.specs.Running.{Machine}
 use Rattle.hk_model.specs.Generated.{generate, slot, main, main_slots, cbump}
 use Rattle.hk_gen.proofs.StageLists.{AllEnded, AllBelow, get_middle, set_middle, runner_middle, lookup_last, insert_last, remove_last, below_higher}
-use Rattle.hk_gen.proofs.Stages.{stage, callee, main_frame, bump_frame}
+use Rattle.hk_gen.proofs.Stages.{stage, following, callee, main_frame, bump_frame}
 use Rattle.hk_gen.proofs.Stages.{nothing_vanishes, takes, gives, enters, entered, enters_bump, gets, puts, leaves, ends}
 use Rattle.hk_gen.proofs.Stages.{next_takes, next_enters, next_gets, next_puts, next_leaves, next_gives, next_again, next_ends}
 use Rattle.hk_gen.proofs.Stages.{after_takes, after_enters, after_gets, after_puts, after_leaves, after_gives}
 use Rattle.hk_gen.proofs.StageSteps.{first_cpu, Ends, ends_after_call}
 
+-- a lower number passes the test
 pub is_below : (a b : ℕ) → a < b → nat_lt a b ≡ true
 is_below a b h = grind (arith, nat_tests)
 
@@ -76,9 +76,9 @@ module _ (count n : ℕ) (done later : List Process) (past waiting : List Contex
         → after (generate count) found c (answered answer) code ≡ left
         → EndsWith (state_of new new_word new_tokens new_incs new_next (events + 1)) left → EndsWith (state_of (running current) word tokens incs next_inc events) context
     turn word tokens current next_inc events incs context c found left answer code new_word new_tokens new_next new_incs new few next_is outcome_is enters leaves last =
-        ends_after_call (generate count) (machine (state_of (running current) word tokens incs next_inc events) (past ++ context ∷ waiting)) (proc n) (running current) c found left answer
-        (state_of new new_word new_tokens new_incs new_next events) (state_of new new_word new_tokens new_incs new_next (events + 1)) code (is_below events event_limit few)
-        (runner_middle done (running current) later first_cpu 0 n ended refl (omega arith)) (get_middle done (running current) later n many)
+        ends_after_call (generate count) (machine (state_of (running current) word tokens incs next_inc events) (past ++ context ∷ waiting)) (proc n) (running current)
+        c found left answer (state_of new new_word new_tokens new_incs new_next events) (state_of new new_word new_tokens new_incs new_next (events + 1)) code
+        (is_below events event_limit few) (runner_middle done (running current) later first_cpu 0 n ended refl (omega arith)) (get_middle done (running current) later n many)
         (ap (λ (o : Option Context). next (generate count) (unwrap_or o [])) (get_middle past context waiting n many_contexts) ∙ next_is) outcome_is
         (ap (λ (s : State). counted (events + 1) s) (nothing_vanishes new_word new_incs (done ++ new ∷ later) ready new_next events new_tokens)) enters leaves
         (subst (λ (contexts : List Context). Ends (generate count) (machine (state_of new new_word new_tokens new_incs new_next (events + 1)) contexts))
@@ -100,7 +100,8 @@ module _ (count n : ℕ) (done later : List Process) (past waiting : List Contex
           → EndsWith (state_of (running next_inc) word 0 (called n incs next_inc) (next_inc + 1) (events + 1)) (bump_frame 0 0 ∷ main_frame 2 rounds ∷ [])
           → EndsWith (state_of (running n) word 0 incs next_inc events) (main_frame 1 rounds ∷ [])
       enter_turn word rounds next_inc events below few last =
-          turn word 0 n next_inc events incs (main_frame 1 rounds ∷ []) (call.Enter (0 ∷ []) (1 ∷ []) (slot 3)) (main_frame 1 rounds ∷ []) (bump_frame 0 0 ∷ main_frame 2 rounds ∷ []) Done (Some cbump)
+          turn word 0 n next_inc events incs (main_frame 1 rounds ∷ []) (call.Enter (0 ∷ []) (1 ∷ []) (slot 3)) (main_frame 1 rounds ∷ [])
+          (bump_frame 0 0 ∷ main_frame 2 rounds ∷ []) Done (Some cbump)
           word 0 (next_inc + 1) (called n incs next_inc) (running next_inc) few (next_enters count rounds)
           (enters word incs (done ++ running n ∷ later) ready next_inc events (proc n) (inc n) base alone
           ∙ ap (λ (s : State). let made : Outcome = Ok (Done, s) in made)
@@ -113,21 +114,22 @@ module _ (count n : ℕ) (done later : List Process) (past waiting : List Contex
           → EndsWith (state_of (running number) word 0 (called n incs number) next_inc (events + 1)) (bump_frame 1 word ∷ rest)
           → EndsWith (state_of (running number) word 0 (called n incs number) next_inc events) (bump_frame 0 0 ∷ rest)
       get_turn word number next_inc events rest below few last =
-          turn word 0 number next_inc events (called n incs number) (bump_frame 0 0 ∷ rest) (call.Get (0 ∷ []) 0) (bump_frame 0 0 ∷ rest) (bump_frame 1 word ∷ rest) (Word word) None
-          word 0 next_inc (called n incs number) (running number) few (next_gets count 0 rest)
-          (gets word (called n incs number) (done ++ running number ∷ later) ready next_inc events (proc n) (inc number) (inc n) (lookup_last incs number (callee (proc n) (inc n)) below))
+          turn word 0 number next_inc events (called n incs number) (bump_frame 0 0 ∷ rest) (call.Get (0 ∷ []) 0) (bump_frame 0 0 ∷ rest) (bump_frame 1 word ∷ rest)
+          (Word word) None word 0 next_inc (called n incs number) (running number) few (next_gets count 0 rest)
+          (gets word (called n incs number) (done ++ running number ∷ later) ready next_inc events (proc n) (inc number) (inc n)
+          (lookup_last incs number (callee (proc n) (inc n)) below))
           refl (after_gets count word 0 rest) last
 
       -- it puts the next one
       put_turn : (word number next_inc events : ℕ) (rest : Context) → AllBelow number incs → events < event_limit
-          → EndsWith (state_of (running number) ((word + 1) % word_bound) 0 (called n incs number) next_inc (events + 1)) (bump_frame 3 ((word + 1) % word_bound) ∷ rest)
+          → EndsWith (state_of (running number) (following word) 0 (called n incs number) next_inc (events + 1)) (bump_frame 3 (following word) ∷ rest)
           → EndsWith (state_of (running number) word 0 (called n incs number) next_inc events) (bump_frame 1 word ∷ rest)
       put_turn word number next_inc events rest below few last =
-          turn word 0 number next_inc events (called n incs number) (bump_frame 1 word ∷ rest) (call.Put (0 ∷ []) 0 ((word + 1) % word_bound)) (bump_frame 2 ((word + 1) % word_bound) ∷ rest)
-          (bump_frame 3 ((word + 1) % word_bound) ∷ rest) Done None ((word + 1) % word_bound) 0 next_inc (called n incs number) (running number) few (next_puts count word rest)
-          (puts word (called n incs number) (done ++ running number ∷ later) ready next_inc events (proc n) (inc number) (inc n) ((word + 1) % word_bound)
+          turn word 0 number next_inc events (called n incs number) (bump_frame 1 word ∷ rest) (call.Put (0 ∷ []) 0 (following word)) (bump_frame 2 (following word) ∷ rest)
+          (bump_frame 3 (following word) ∷ rest) Done None (following word) 0 next_inc (called n incs number) (running number) few (next_puts count word rest)
+          (puts word (called n incs number) (done ++ running number ∷ later) ready next_inc events (proc n) (inc number) (inc n) (following word)
           (lookup_last incs number (callee (proc n) (inc n)) below))
-          refl (after_puts count ((word + 1) % word_bound) ((word + 1) % word_bound) rest) last
+          refl (after_puts count (following word) (following word) rest) last
 
       -- it returns
       leave_turn : (word held number next_inc events : ℕ) (rest : Context) → AllBelow number incs → events < event_limit
@@ -143,7 +145,8 @@ module _ (count n : ℕ) (done later : List Process) (past waiting : List Contex
 
       -- the process gives the token back
       give_turn : (word rounds next_inc events : ℕ) → events < event_limit
-          → EndsWith (state_of (running n) word 1 incs next_inc (events + 1)) (main_frame 3 rounds ∷ []) → EndsWith (state_of (running n) word 0 incs next_inc events) (main_frame 2 rounds ∷ [])
+          → EndsWith (state_of (running n) word 1 incs next_inc (events + 1)) (main_frame 3 rounds ∷ [])
+          → EndsWith (state_of (running n) word 0 incs next_inc events) (main_frame 2 rounds ∷ [])
       give_turn word rounds next_inc events few last =
           turn word 0 n next_inc events incs (main_frame 2 rounds ∷ []) (call.V (2 ∷ [])) (main_frame 2 rounds ∷ []) (main_frame 3 rounds ∷ []) Done None
           word 1 next_inc incs (running n) few (next_gives count rounds)
@@ -161,32 +164,33 @@ module _ (count n : ℕ) (done later : List Process) (past waiting : List Contex
 
       -- a round, from behind its P to behind its V
       round : (word rounds next_inc events : ℕ) → AllBelow next_inc incs → events + 5 ≤ event_limit
-          → EndsWith (state_of (running n) ((word + 1) % word_bound) 1 incs (next_inc + 1) (events + 1 + 1 + 1 + 1 + 1)) (main_frame 3 rounds ∷ [])
+          → EndsWith (state_of (running n) (following word) 1 incs (next_inc + 1) (events + 1 + 1 + 1 + 1 + 1)) (main_frame 3 rounds ∷ [])
           → EndsWith (state_of (running n) word 0 incs next_inc events) (main_frame 1 rounds ∷ [])
       round word rounds next_inc events below few last =
           enter_turn word rounds next_inc events below (omega arith)
           (get_turn word next_inc (next_inc + 1) (events + 1) (main_frame 2 rounds ∷ []) below (omega arith)
           (put_turn word next_inc (next_inc + 1) (events + 1 + 1) (main_frame 2 rounds ∷ []) below (omega arith)
-          (leave_turn ((word + 1) % word_bound) ((word + 1) % word_bound) next_inc (next_inc + 1) (events + 1 + 1 + 1) (main_frame 2 rounds ∷ []) below (omega arith)
-          (give_turn ((word + 1) % word_bound) rounds (next_inc + 1) (events + 1 + 1 + 1 + 1) (omega arith) last))))
+          (leave_turn (following word) (following word) next_inc (next_inc + 1) (events + 1 + 1 + 1) (main_frame 2 rounds ∷ []) below (omega arith)
+          (give_turn (following word) rounds (next_inc + 1) (events + 1 + 1 + 1 + 1) (omega arith) last))))
 
-      -- where each run ends once the process has ended, it does with so many rounds left
+      -- where each run comes to the end once the process has ended, and `behind` events can still be, it does with so many rounds before it
+      -- besides this one
       pub rounds_end : (behind : ℕ)
           → ((word next_inc events : ℕ) → AllBelow next_inc incs → events + behind ≤ event_limit → EndsWith (state_of (over n) word 1 others next_inc events) [])
           → (left word rounds next_inc events : ℕ) → rounds + suc left ≡ 100 → AllBelow next_inc incs → events + 6 * suc left + behind ≤ event_limit
           → EndsWith (state_of (running n) word 0 incs next_inc events) (main_frame 1 rounds ∷ [])
       rounds_end behind last zero word rounds next_inc events all below few =
           round word rounds next_inc events below (omega arith)
-          (end_turn ((word + 1) % word_bound) rounds (next_inc + 1) (events + 1 + 1 + 1 + 1 + 1) (omega arith) (omega arith)
-          (last ((word + 1) % word_bound) (next_inc + 1) (events + 1 + 1 + 1 + 1 + 1 + 1) (below_higher incs next_inc (next_inc + 1) (omega arith) below) (omega arith)))
+          (end_turn (following word) rounds (next_inc + 1) (events + 1 + 1 + 1 + 1 + 1) (omega arith) (omega arith)
+          (last (following word) (next_inc + 1) (events + 1 + 1 + 1 + 1 + 1 + 1) (below_higher incs next_inc (next_inc + 1) (omega arith) below) (omega arith)))
       rounds_end behind last (suc left) word rounds next_inc events all below few =
           round word rounds next_inc events below (omega arith)
-          (take_turn (main_frame 3 rounds ∷ []) ((word + 1) % word_bound) (rounds + 1) (next_inc + 1) (events + 1 + 1 + 1 + 1 + 1) (omega arith)
+          (take_turn (main_frame 3 rounds ∷ []) (following word) (rounds + 1) (next_inc + 1) (events + 1 + 1 + 1 + 1 + 1) (omega arith)
           (next_again count rounds (omega arith) (is_below (rounds + 1) 100 (omega arith)))
-          (rounds_end behind last left ((word + 1) % word_bound) (rounds + 1) (next_inc + 1) (events + 1 + 1 + 1 + 1 + 1 + 1) (omega arith)
+          (rounds_end behind last left (following word) (rounds + 1) (next_inc + 1) (events + 1 + 1 + 1 + 1 + 1 + 1) (omega arith)
           (below_higher incs next_inc (next_inc + 1) (omega arith) below) (omega arith)))
 
-      -- so it does from the process's beginning
+      -- so it does from the process's beginning: its first P and a hundred rounds are 601 events
       pub process_ends : (behind : ℕ)
           → ((word next_inc events : ℕ) → AllBelow next_inc incs → events + behind ≤ event_limit → EndsWith (state_of (over n) word 1 others next_inc events) [])
           → (word next_inc events : ℕ) → AllBelow next_inc incs → events + 601 + behind ≤ event_limit

@@ -1,17 +1,15 @@
 -- Lists with one item in their middle, and entries behind all of lower numbers.
-use Rattle.std.proofs.Common.{◌≡◌, ℕ, zero, suc, ◌+◌, ◌<◌, ◌≤◌, List, [], ◌∷◌, ◌++◌, length, Bool, true, false, Option, Some, None, refl, sym, ◌∙◌, ap, arith, cond}
-use Rattle.std.specs.Prelude.{slice_get, slice_set, count_by, ◌==◌, ◌&&◌, if◌then◌else◌}
+use Rattle.std.proofs.Common.{◌≡◌, ℕ, ◌+◌, ◌<◌, ◌≤◌, List, [], ◌∷◌, ◌++◌, length, Bool, true, false, Some, None, refl, ◌∙◌, ap, arith, cond}
+use Rattle.std.specs.Prelude.{slice_get, slice_set, count_by, ◌==◌}
 use Rattle.std.specs.List.{AllByRecursion, list_all}
 use Rattle.std.specs.Map.{lookup, remove_entry}
 use Rattle.std.specs.BTreeMap.{insert_entry}
-use Rattle.std.specs.Ordering.{nat_cmp, is_eq, match_ordering}
-use Rattle.std.specs.declared.cmp.Ordering.{Ordering}
-use Rattle.std.specs.declared.cmp.Ordering.TheVariants.{Less, Equal, Greater}
+use Rattle.std.specs.Ordering.{nat_cmp, is_eq}
+use Rattle.std.specs.declared.cmp.Ordering.TheVariants.{Greater}
 use Rattle.std.proofs.lemmas.Bool.{and_parts, and_from}
 use Rattle.std.proofs.lemmas.List.Sums.{sum_by-cons}
 use Rattle.std.proofs.lemmas.Bool.Decides.{nat_tests}
 use Rattle.hk_model.specs.declared.names.Inc.{Inc}
-use Rattle.hk_model.specs.declared.names.Proc.{Proc}
 use Rattle.hk_model.specs.declared.names.Cpu.{Cpu}
 use Rattle.hk_model.specs.declared.objects.Incarnation.{Incarnation}
 use Rattle.hk_model.specs.declared.objects.Process.{Process}
@@ -25,19 +23,20 @@ use Rattle.hk_model.specs.Processors.{is_on, has_ended, runner_from}
 -- ---- an item in the middle
 
 module _ {X : Type 0} where
+  -- the item behind the others before it
   get_at : (xs : List X) (x : X) (ys : List X) → slice_get (xs ++ x ∷ ys) (length xs) ≡ Some x
   get_at [] x ys = refl
   get_at (y ∷ xs) x ys = get_at xs x ys
 
+  -- and what is put in its place
   set_at : (xs : List X) (x z : X) (ys : List X) → slice_set (xs ++ x ∷ ys) (length xs) z ≡ xs ++ z ∷ ys
   set_at [] x z ys = refl
   set_at (y ∷ xs) x z ys = ap (λ l. y ∷ l) (set_at xs x z ys)
 
-  -- the item behind the first n
+  -- the same, where n stand before it
   pub get_middle : (xs : List X) (x : X) (ys : List X) (n : ℕ) → length xs ≡ n → slice_get (xs ++ x ∷ ys) n ≡ Some x
   get_middle xs x ys n h = rw (← h) (get_at xs x ys)
 
-  -- and what is put in its place
   pub set_middle : (xs : List X) (x z : X) (ys : List X) (n : ℕ) → length xs ≡ n → slice_set (xs ++ x ∷ ys) n z ≡ xs ++ z ∷ ys
   set_middle xs x z ys n h = rw (← h) (set_at xs x z ys)
 
@@ -77,11 +76,12 @@ runner_middle (x ∷ done) p later cpu first n over on e =
     let both = and_parts (has_ended x.run) (list_all (λ (p : Process). has_ended p.run) done) over in
     rw (not_on cpu x.run both.0) (runner_middle done p later cpu (first + 1) n both.1 on (omega arith))
 
--- nobody runs where some have ended and the others are ready
+-- nobody runs where all are ready
 none_ready : (cpu : Cpu) (first n : ℕ) (ts : List Task) → runner_from (all_ready n ts) cpu first ≡ None
 none_ready cpu first n [] = refl
 none_ready cpu first n (t ∷ ts) = none_ready cpu (first + 1) (n + 1) ts
 
+-- nor does anybody where some have ended and the others are ready
 pub none_runs : (done : List Process) (cpu : Cpu) (first n : ℕ) (ts : List Task) → AllEnded done → runner_from (done ++ all_ready n ts) cpu first ≡ None
 none_runs [] cpu first n ts over = none_ready cpu first n ts
 none_runs (x ∷ done) cpu first n ts over =
@@ -94,6 +94,7 @@ none_runs (x ∷ done) cpu first n ts over =
 abbrev pub AllBelow : ℕ → List (Inc × Incarnation) → Type 0
 AllBelow q es = AllByRecursion (λ (e : Inc × Incarnation). e.0.0 < q) es
 
+-- a higher number compares as Greater, and each as equal to itself
 is_above : (q a : ℕ) → a < q → nat_cmp q a ≡ Greater
 is_above q a h = grind (arith, nat_tests)
 
@@ -142,10 +143,12 @@ bases_of_others : (n p : ℕ) (ts : List Task) → p < n → count_by (λ (e : I
 bases_of_others n p [] h = refl
 bases_of_others n p (t ∷ ts) h =
     let apart : (n == p) ≡ false = grind (arith, nat_tests) in
-    count_more (λ (e : Inc × Incarnation). e.1.proc.0 == p) (record { 0 = n }, base_of (record { 0 = n }) t.slots) (bases (n + 1) ts) false 0 apart (bases_of_others (n + 1) p ts (omega arith))
+    count_more (λ (e : Inc × Incarnation). e.1.proc.0 == p) (record { 0 = n }, base_of (record { 0 = n }) t.slots) (bases (n + 1) ts) false 0 apart
+    (bases_of_others (n + 1) p ts (omega arith))
 
 -- so the one base of a process is all that it has
 pub base_alone : (n : ℕ) (t : Task) (ts : List Task) → count_by (λ (e : Inc × Incarnation). e.1.proc.0 == n) (bases n (t ∷ ts)) ≡ 1
 base_alone n t ts =
     let same : (n == n) ≡ true = grind (arith, nat_tests) in
-    count_more (λ (e : Inc × Incarnation). e.1.proc.0 == n) (record { 0 = n }, base_of (record { 0 = n }) t.slots) (bases (n + 1) ts) true 0 same (bases_of_others (n + 1) n ts (omega arith))
+    count_more (λ (e : Inc × Incarnation). e.1.proc.0 == n) (record { 0 = n }, base_of (record { 0 = n }) t.slots) (bases (n + 1) ts) true 0 same
+    (bases_of_others (n + 1) n ts (omega arith))

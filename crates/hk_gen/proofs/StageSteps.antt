@@ -1,6 +1,6 @@
 -- Where each run on processor 0 comes to its end, seen from the step before.
-use Rattle.std.proofs.Common.{◌≡◌, ℕ, suc, ◌+◌, List, [], ◌∷◌, true, Option, Some, None, Ok, refl, sym, ◌∙◌, ap, subst}
-use Rattle.std.specs.Prelude.{All, if◌then◌else◌, nat_lt, option_map, slice_get, slice_set}
+use Rattle.std.proofs.Common.{◌≡◌, ℕ, ◌+◌, List, [], ◌∷◌, true, Option, Some, None, Ok, refl, sym, ◌∙◌, ap, subst}
+use Rattle.std.specs.Prelude.{All, option_map, slice_get, slice_set}
 use Rattle.std.specs.Option.{unwrap_or}
 use Rattle.std.proofs.lemmas.List.Elements.{All-head, All-tail}
 use Rattle.hk_model.specs.declared.names.Inc.{Inc}
@@ -71,18 +71,21 @@ module _ (w : WorldValue) where
   unfolding step
   no_step m may none ready = rw (may, none, ready)
 
+  -- so it is where it is so after a dispatch
   pub ends_after_dispatch : (m : Machine) (first : Proc) (rest : List Proc) (t : State) → may_step m.state ≡ true → runner m.state first_cpu ≡ None → m.state.ready ≡ first ∷ rest
       → given_to m.state first_cpu first rest ≡ t → Ends (record { state = t; contexts = m.contexts }) → Ends m
   ends_after_dispatch m first rest t may none ready is later =
-      ends_after m (proc_line m.state first_cpu first what.Dispatch reply.Done, record m { state = given_to m.state first_cpu first rest }) (dispatch_of m first rest may none ready)
+      ends_after m (proc_line m.state first_cpu first what.Dispatch reply.Done, record m { state = given_to m.state first_cpu first rest })
+      (dispatch_of m first rest may none ready)
       (subst (λ (s : State). Ends (record { state = s; contexts = m.contexts })) (sym is) later)
 
-  -- after a call that is not refused
+  -- and after a call that is not refused: `found` is the context that its local instructions leave, and `left` the one behind the reply
   module _ (m : Machine) (proc : Proc) (p : Process) (c : Call) (found left : Context) (answer : Answer) (s t : State) (code : Option ℕ)
       (may : may_step m.state ≡ true) (runs : runner m.state first_cpu ≡ Some proc) (is : slice_get m.state.processes proc.0 ≡ Some p)
       (next_is : next w (context_of m proc) ≡ (Do c, found)) (outcome_is : outcome m.state proc p.current c ≡ Ok (answer, s))
       (settles : counted (m.state.events + 1) (restricted s) ≡ t)
       (enters : entered_code m.state p.current c (answered answer) ≡ code) (leaves : after w found c (answered answer) code ≡ left) where
+    -- its current incarnation, the reply and the state after it, the context, and the machine
     current_is : (process m.state proc).current ≡ p.current
     current_is = ap (λ (o : Option Process). (unwrap_or o (record { run = Ended; current = record { 0 = 0 } })).current) is
 

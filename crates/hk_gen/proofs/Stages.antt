@@ -1,5 +1,5 @@
 -- The states of a generated world while one process runs after the other, and what each call makes of them.
-use Rattle.std.proofs.Common.{◌≡◌, ℕ, suc, ◌+◌, ◌%◌, List, [], ◌∷◌, ◌++◌, ◌-◌, Bool, true, false, Option, Some, None, Ok, refl, ap, ◌∙◌, replicate}
+use Rattle.std.proofs.Common.{◌≡◌, ℕ, ◌+◌, ◌%◌, List, [], ◌∷◌, ◌++◌, ◌-◌, Bool, true, false, Some, None, Ok, refl, ap, ◌∙◌, replicate}
 use Rattle.std.specs.Prelude.{count_by, ◌==◌, if◌then◌else◌, nat_lt, slice_get, slice_set}
 use Rattle.std.specs.Map.{lookup, remove_entry}
 use Rattle.std.specs.BTreeMap.{insert_entry}
@@ -7,8 +7,7 @@ use Rattle.hk_rights.specs.Rights.{first_missing, right_table, right_numbers}
 use Rattle.hk_model.specs.declared.names.Name.{Name}
 use Rattle.hk_model.specs.declared.names.Inc.{Inc}
 use Rattle.hk_model.specs.declared.names.Proc.{Proc}
-use Rattle.hk_model.specs.declared.entries.Entry.{Entry}
-use Rattle.hk_model.specs.declared.entries.Entry.TheVariants.{Empty, Held}
+use Rattle.hk_model.specs.declared.entries.Entry.TheVariants.{Empty}
 use Rattle.hk_model.specs.declared.calls.Answer.TheVariants.{Done, Word}
 use Rattle.hk_model.specs.declared.calls.Call.TheVariants as call
 use Rattle.hk_model.specs.declared.calls.Reply.TheVariants as reply
@@ -20,9 +19,9 @@ use Rattle.hk_model.specs.declared.objects.Incarnation.{Incarnation}
 use Rattle.hk_model.specs.declared.objects.Process.{Process}
 use Rattle.hk_model.specs.declared.objects.ProcessState.TheVariants.{Ended}
 use Rattle.hk_model.specs.declared.world.Kind.TheVariants as kind
-use Rattle.hk_model.specs.Limits.{event_limit, slot_limit, local_limit, word_bound}
+use Rattle.hk_model.specs.Limits.{event_limit, local_limit, word_bound}
 use Rattle.hk_model.specs.Targets.{DATA, kernel_types}
-use Rattle.hk_model.specs.State.{State, process, same_inc, inc_cmp, put_process}
+use Rattle.hk_model.specs.State.{State, same_inc, inc_cmp}
 use Rattle.hk_model.specs.Opening.{numbered, type_object, object_of, base_of}
 use Rattle.hk_model.specs.Keeping.{kept_objects, restricted}
 use Rattle.hk_model.specs.Rule.{take_token, give_token, get_word, put_word, enter_procedure, enter, leave, called_incarnation}
@@ -36,7 +35,11 @@ things word tokens =
     numbered name 0 (replicate kernel_types type_object ++ object_of (kind.Plain (name DATA) (word ∷ []) []) ∷ object_of (kind.Semaphore tokens)
     ∷ object_of (kind.Procedure cbump (bump_param ∷ []) []) ∷ [])
 
--- the state with these incarnations and processes
+-- the word after this one, as `bump` counts
+abbrev pub following : ℕ → ℕ
+following word = (word + 1) % word_bound
+
+-- the state with these incarnations and processes; the ten objects of the opening are all that there are
 abbrev pub stage : ℕ → ℕ → List (Inc × Incarnation) → List Process → List Proc → ℕ → ℕ → State
 stage word tokens incs processes ready next events = record {
   objects = things word tokens;
@@ -145,7 +148,7 @@ module _ (count : ℕ) where
   next_gets word rest = refl
 
   pub next_puts : (word : ℕ) (rest : Context)
-      → next (generate count) (bump_frame 1 word ∷ rest) ≡ (Do (call.Put (0 ∷ []) 0 ((word + 1) % word_bound)), bump_frame 2 ((word + 1) % word_bound) ∷ rest)
+      → next (generate count) (bump_frame 1 word ∷ rest) ≡ (Do (call.Put (0 ∷ []) 0 (following word)), bump_frame 2 (following word) ∷ rest)
   unfolding next next_from generate
   next_puts word rest = refl
 
