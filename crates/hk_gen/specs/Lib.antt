@@ -1,1 +1,2 @@
 pub mod ConfinedCalls
+pub mod WholeRuns

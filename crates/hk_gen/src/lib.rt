@@ -10,6 +10,7 @@ ghost use Rattle.std.specs.Prelude.{◌≡◌, ◌<◌, ◌≤◌, IfOk};
 ghost use Rattle.hk_model.specs.Limits.{process_limit};
 ghost use Rattle.hk_model.specs.Generated.{generate};
 ghost use Rattle.hk_gen.specs.ConfinedCalls.{AllCallsConfined};
+ghost use Rattle.hk_gen.specs.WholeRuns.{WholeRunsEnd};
 
 use crate::contents::objects;
 use crate::processes::processes;
@@ -37,4 +38,11 @@ pub fn generate(alloc: Global, count: u32) -> Result<World, NoMemory>
 /// At its opening no entry is a template, and no capability has ENV or UNCONF; and where it is so, no call changes it.
 pub fn confined_calls_law(count: u32)
     ensures { AllCallsConfined (generate count) }
+{}
+
+/// Each whole run of a generated world on processor 0 ends with every process ended (`docs/FORMATS.md`,
+/// "Generated worlds"): it has no step any more long before the limit on events.
+pub fn whole_runs_end_law(count: u32)
+    requires few { count ≤ process_limit }
+    ensures { WholeRunsEnd (generate count) }
 {}
