@@ -251,7 +251,7 @@ speaks (script_refused line cause reads is) = (λ e. absurd (cc), λ e. absurd (
 speaks (record_refused line cause reads is) = (λ e. absurd (cc), λ e. absurd (cc))
 
 pub summary_speaks : {count status : ℕ} {text : List ℕ} {made : Option State} → IsSummed count status text made → (status ≢ 4) × (status ≢ 5)
-summary_speaks h = subst Speaks (sym h.status_is) (run_speaks h.end)
+summary_speaks h = subst Speaks (sym h.status_is) (run_speaks end.Done)
 
 -- the summary that is due to the words of a generated world
 pub summary_due : {K : Type 0} (state : K → State) (count : ℕ) (before after : Option (List ℕ)) (served : Served K) → MayGenerate count → after ≡ before

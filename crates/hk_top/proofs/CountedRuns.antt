@@ -5,6 +5,7 @@ use Rattle.hk_model.specs.declared.names.Inc.{Inc}
 use Rattle.hk_model.specs.declared.names.Proc.{Proc}
 use Rattle.hk_model.specs.declared.lines.Line.{Line}
 use Rattle.hk_model.specs.declared.lines.End.{End}
+use Rattle.hk_model.specs.declared.lines.End.TheVariants as ending
 use Rattle.hk_model.specs.WorldValue.{WorldValue, IsWorld}
 use Rattle.hk_model.specs.State.{State, incarnation}
 use Rattle.hk_model.specs.Processors.{running_on}
@@ -17,6 +18,7 @@ use Rattle.hk_model.specs.Running.{Machine, AreStepsOf, line_of, moved, opened, 
 use Rattle.hk_model.proofs.Steps.{moved_holds}
 use Rattle.hk_model.proofs.EventCounts.{events_are}
 use Rattle.hk_gen.specs.ConfinedCalls.{AllCallsConfined}
+use Rattle.hk_gen.specs.WholeRuns.{WholeRunsEnd}
 use Rattle.hk_report.specs.Counts.{Counted, changes_more, confined_on, counted, counted_by, depth_entered}
 use Rattle.hk_report.proofs.Counts.{RunsNew, counted_more, runs_each}
 use Rattle.hk_report.proofs.NextLines.{confined_run, step_line, step_moves}
@@ -140,20 +142,33 @@ counting_last w c m after s word world t none at e =
     }
 
 -- the summary of such a run: its lines are as many as there were events
-pub summed : (count changes status : ℕ) (w : WorldValue) (text : List ℕ) (end : End) (s : State) → w ≡ generate count → status ≡ status_of end
-    → IsCountedRun w changes end s → text ≡ summed_text count (length s.objects) s.events changes end → IsSummed count status text (Some s)
-summed count changes status w text end s made is r told =
-    let g : IsCountedRun (generate count) changes end s = rw made at r in
-    let events : s.events ≡ length g.lines = ap (λ (x : State). x.events) g.state_is ∙ events_are (generate count) g.lines g.run.legal.steps in
+summed_done : (count changes : ℕ) (text : List ℕ) (s : State) → IsCountedRun (generate count) changes ending.Done s
+    → text ≡ summed_text count (length s.objects) s.events changes ending.Done → IsSummed count 0 text (Some s)
+summed_done count changes text s r told =
+    let events : s.events ≡ length r.lines = ap (λ (x : State). x.events) r.state_is ∙ events_are (generate count) r.lines r.run.legal.steps in
     record {
-      lines = g.lines;
-      end = end;
-      run = g.run;
-      laws = g.laws;
-      status_is = is;
+      lines = r.lines;
+      run = r.run;
+      laws = r.laws;
+      status_is = refl;
       text_is = told
-          ∙ ap (λ (n : ℕ). summed_text count (length s.objects) n changes end) events
-          ∙ ap (λ (n : ℕ). summed_text count (length s.objects) (length g.lines) n end) g.changes_is
-          ∙ ap (λ (x : State). summed_text count (length x.objects) (length g.lines) (length (bare_changes (generate count) g.lines)) end) g.state_is;
-      kernel = ap (λ (x : State). Some x) g.state_is;
+          ∙ ap (λ (n : ℕ). summed_text count (length s.objects) n changes ending.Done) events
+          ∙ ap (λ (n : ℕ). summed_text count (length s.objects) (length r.lines) n ending.Done) r.changes_is
+          ∙ ap (λ (x : State). summed_text count (length x.objects) (length r.lines) (length (bare_changes (generate count) r.lines)) ending.Done) r.state_is;
+      kernel = ap (λ (x : State). Some x) r.state_is;
     }
+
+-- every process has ended behind it
+whole_is_done : (w : WorldValue) (changes : ℕ) (end : End) (s : State) → WholeRunsEnd w → IsCountedRun w changes end s → end ≡ ending.Done
+whole_is_done w changes end s ends r =
+    let word : Some end ≡ Some ending.Done = sym r.run.legal.ends ∙ ends r.lines r.run.legal.steps r.run.alone r.run.last in cc (word)
+
+pub summed : (count changes status : ℕ) (w : WorldValue) (text : List ℕ) (end : End) (s : State) → w ≡ generate count → WholeRunsEnd (generate count)
+    → status ≡ status_of end → IsCountedRun w changes end s → text ≡ summed_text count (length s.objects) s.events changes end
+    → IsSummed count status text (Some s)
+summed count changes status w text end s made ends is r told =
+    let g : IsCountedRun (generate count) changes end s = rw made at r in
+    let over : end ≡ ending.Done = whole_is_done (generate count) changes end s ends g in
+    let done : IsCountedRun (generate count) changes ending.Done s = rw over at g in
+    let text_is : text ≡ summed_text count (length s.objects) s.events changes ending.Done = rw over at told in
+    subst (λ (n : ℕ). IsSummed count n text (Some s)) (sym (is ∙ ap status_of over)) (summed_done count changes text s done text_is)

@@ -6,8 +6,8 @@ use Rattle.hk_model.specs.State.{State}
 use Rattle.hk_model.specs.WorldValue.{WorldValue}
 use Rattle.hk_model.specs.declared.lines.Line.{Line}
 use Rattle.hk_format.specs.Audits.{Audited}
-use Rattle.hk_top.specs.Words.{ReadsAtMost}
-use Rattle.hk_top.specs.Outputs.{Answer, Due, DueTo, HadFault, IsChecked, IsComplete, stream, status_of}
+use Rattle.hk_top.specs.Words.{IsGen, ReadsAtMost}
+use Rattle.hk_top.specs.Outputs.{Answer, Due, DueTo, HadFault, IsChecked, IsComplete, IsSummed, stream, status_of}
 use Rattle.hk_top.specs.Outputs.{read, summed, usage, too_long, written, read_fault, no_memory, write_fault, legal, illegal}
 use Rattle.hk_top.specs.Outputs.{record_of, script_of, bounds_of, json_of, world_of, verdict_of, chains_of, changes_of, state_of, script_refused, record_refused, json_refused}
 
@@ -56,7 +56,7 @@ due_to_is (json_refused asks none) = three_is
 due_is : {words : List (List ℕ)} {before after : Option (List ℕ)} {status : ℕ} {text : List ℕ} {made : Option State}
     → Due words before after status text made → IsFaultless status
 due_is (read bytes status text made was due) = due_to_is due
-due_is (summed count status text made asks is same) = subst IsFaultless (sym is.status_is) (end_is is.end)
+due_is (summed count status text made asks is same) = subst IsFaultless (sym is.status_is) zero_is
 due_is (usage none same) = two_is
 due_is (too_long limit most took) = three_is
 
@@ -74,6 +74,11 @@ never_fails {taken_before = before} {taken_after = after} (write_fault status te
 due_alone : {P : Type 0} {Is Appended : List ℕ → Type 0} → P ⊎ ((text : List ℕ) × Is text × Appended text) → P ⊎ ((text : List ℕ) × Is text)
 due_alone (inl want) = inl want
 due_alone (inr due) = inr (due.0, due.1)
+
+pub is_summed : {words : List (List ℕ)} {before after : Option (List ℕ)} {status : ℕ} {made : Option State}
+    → IsComplete words (stream before after 0 0) (stream None None 0 0) status made
+    → (count : ℕ) → IsGen words count → (status ≡ 5) ⊎ ((text : List ℕ) × IsSummed count status text made)
+is_summed h count asks = due_alone (h.generating count asks (no_fault None None))
 
 pub is_due : {words : List (List ℕ)} {bytes : List ℕ} {after : Option (List ℕ)} {status : ℕ} {made : Option State}
     → IsComplete words (stream (Some bytes) after 0 0) (stream None None 0 0) status made

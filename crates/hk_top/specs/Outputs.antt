@@ -113,14 +113,14 @@ pub record IsRecorded (words : List (List ℕ)) (w : WorldValue) (status : ℕ) 
   pub record_is : IsRecord w lines end status text
   pub kernel : made ≡ Some (state_after w lines)
 
--- the summary of the whole run of the generated world of so many processes, and the state of the kernel that made it
+-- the summary of the whole run of the generated world of so many processes, which ends with every process ended, and the state
+-- of the kernel that made it
 pub record IsSummed (count : ℕ) (status : ℕ) (text : List ℕ) (made : Option State) : Type 0 where
   pub lines : List Line
-  pub end : End
-  pub run : IsWholeRun (generate count) lines end
+  pub run : IsWholeRun (generate count) lines end.Done
   pub laws : IsLawful (generate count) lines
-  pub status_is : status ≡ status_of end
-  pub text_is : text ≡ summary_text count (generate count) lines end
+  pub status_is : status ≡ 0
+  pub text_is : text ≡ summary_text count (generate count) lines end.Done
   pub kernel : made ≡ Some (state_after (generate count) lines)
 
 -- what is told of a legal history
@@ -211,7 +211,7 @@ pub data Due (words : List (List ℕ)) (before after : Option (List ℕ)) : ℕ 
   -- 0, 1, 3, 7, 8: the source was read
   read : (bytes : List ℕ) (status : ℕ) (text : List ℕ) (made : Option State) → WasRead words before after bytes → DueTo words bytes status text made
       → Due words before after status text made
-  -- 0, 1, 7: the words ask for the run of a generated world, and the text is its summary; the source is untouched
+  -- 0: the words ask for the run of a generated world, and the text is its summary; the source is untouched
   summed : (count status : ℕ) (text : List ℕ) (made : Option State) → IsGen words count → IsSummed count status text made → after ≡ before
       → Due words before after status text made
   -- 2: the words are no command; the source is untouched
@@ -247,8 +247,8 @@ pub data Answer (words : List (List ℕ)) (input output : Stream) : ℕ → Opti
       (status : ℕ) (text : List ℕ) (made : Option State) (sent : ℕ) → Due words input.before input.after status text made → HadFault output
       → sent < length text → Appends output.before output.after (take sent text) → Answer words input output 6 made
 
--- completeness: where no read and no write failed, and the source told bytes that these words may read, the text that is due to
--- the bytes was written whole, or memory was wanted; and so was the summary of a generated world's run where no write failed
+-- completeness: where no fault was counted, and the source told bytes that these words may read, the text that is due to the bytes
+-- was written whole, or memory was wanted; and so was the summary of a generated world's run, with status 0, where the sink counted none
 pub record IsComplete (words : List (List ℕ)) (input output : Stream) (status : ℕ) (made : Option State) : Type 0 where
   pub reading : (bytes : List ℕ) (limit : ℕ) → input.before ≡ Some bytes → ReadsAtMost words limit → length bytes ≤ limit → (HadFault input → ⊥) → (HadFault output → ⊥)
       → (status ≡ 5) ⊎ ((text : List ℕ) × DueTo words bytes status text made × Appends output.before output.after text)

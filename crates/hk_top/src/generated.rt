@@ -10,12 +10,12 @@ use crate::counted::{CountedRun, run_counted};
 use crate::maker::Maker;
 use crate::served::{DueText, Served};
 use crate::status;
-use hk_gen::{confined_calls_law, generate};
+use hk_gen::{confined_calls_law, generate, whole_runs_end_law};
 use hk_model::{End, Kernel, NoMemory, Text};
 use std::alloc::Global;
 
-/// What is due to `gen` and a number of processes, 1 to 256: the generated world is run on processor 0,
-/// and the text is the summary of the run. NoMemory is want of memory.
+/// What is due to `gen` and a number of processes, 1 to 256: the generated world is run on processor 0 until every
+/// process has ended, and the text is the summary of the run. NoMemory is want of memory.
 #[tactic(auto, using(crate::proofs::CountedRuns::summed))]
 pub(crate) fn run_generated<M: Maker>(
     alloc: Global,
@@ -28,6 +28,7 @@ pub(crate) fn run_generated<M: Maker>(
     let world = generate(alloc, count)?;
     let kernel = kernels.make(alloc, &world)?;
     confined_calls_law(count);
+    whole_runs_end_law(count);
     let run = run_counted(alloc, &world, kernel)?;
     Ok(Served {
         due: DueText {

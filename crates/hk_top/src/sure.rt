@@ -1,8 +1,8 @@
 //! The top call over streams that never fail (`docs/STREAMS.md`, "Sure streams").
 
 ghost use Rattle.std.specs.Prelude.{◌≡◌, ◌≤◌, ◌⊎◌, ℕ, List, length, map, option_map, string_bytes};
-ghost use Rattle.hk_top.specs.Outputs.{DueTo};
-ghost use Rattle.hk_top.specs.Words.{ReadsAtMost};
+ghost use Rattle.hk_top.specs.Outputs.{DueTo, IsSummed};
+ghost use Rattle.hk_top.specs.Words.{IsGen, ReadsAtMost};
 
 use crate::commands::hydra;
 use crate::maker::Maker;
@@ -15,7 +15,7 @@ use std::thread::Threads;
 /// What `hydra` does over bytes in memory and a sink that takes every text: no status is that of a fault
 /// (`docs/FORMATS.md`, "Statuses and outputs"). Where the words may read as many bytes, the status and the
 /// kernel are those that are due to the bytes, or the status is 5, want of memory. So a good script with
-/// `run` or `run N` gives its record, or 5.
+/// `run` or `run N` gives its record, or 5; and `gen K` gives its summary with status 0, or 5.
 #[tactic(auto, using(crate::proofs::NoFaults::never_fails, crate::proofs::NoFaults::is_due))]
 pub fn hydra_surely<G: Gate + Sync, M: Maker, R: Threads + Wait + Sync>(
     rt: &R,
@@ -29,6 +29,8 @@ pub fn hydra_surely<G: Gate + Sync, M: Maker, R: Threads + Wait + Sync>(
     ensures written { result.0 ≡ 6 → ⊥ }
     ensures due { (limit : ℕ) → ReadsAtMost (map string_bytes words.now) limit → length input.old ≤ limit
         → (result.0 ≡ 5) ⊎ ((text : List ℕ) × DueTo (map string_bytes words.now) input.old result.0 text (option_map M.Made.state result.1)) }
+    ensures generated { (count : ℕ) → IsGen (map string_bytes words.now) count
+        → (result.0 ≡ 5) ⊎ ((text : List ℕ) × IsSummed count result.0 text (option_map M.Made.state result.1)) }
 {
     let mut output = SureOut::new();
     hydra(rt, alloc, words, input, &mut output, gate, kernels)
