@@ -37,8 +37,10 @@ next_dispatched : (done : List Process) (n word next_inc events : ℕ) (ts : Lis
     → given_to (between done [] n (process_numbered n ∷ ts) word next_inc events).state first_cpu (proc n) (proc_numbers (n + 1) ts)
     ≡ stage word 1 (bases n (process_numbered n ∷ ts)) (done ++ running n ∷ all_ready (n + 1) ts) (proc_numbers (n + 1) ts) next_inc (events + 1)
 next_dispatched done n word next_inc events ts many =
-    rw (get_middle done (record { run = Ready; current = inc n }) (all_ready (n + 1) ts) n many,
-    set_middle done (record { run = Ready; current = inc n }) (running n) (all_ready (n + 1) ts) n many)
+    rw (
+      get_middle done (record { run = Ready; current = inc n }) (all_ready (n + 1) ts) n many,
+      set_middle done (record { run = Ready; current = inc n }) (running n) (all_ready (n + 1) ts) n many,
+    )
 
 module _ (count : ℕ) where
   -- each run comes to the end that still has so many processes before it. Each of them takes 602 steps: its dispatch, the first P, and

@@ -152,13 +152,14 @@ fn lines_named<K: Kernel, J: Naming, R: Wait>(
         return Err("nothing for the other processor".into());
     };
     let todo = next(&mut context, world);
-    let (first, Called::Goes(Reply::Word(7), mut context)) =
-        shared.call(rt, alloc, first, proc, context, todo)
-    else {
+    let (first, Called::Goes(Reply::Word(7), mut context)) = shared.call(
+        rt, alloc, first, proc, context, todo,
+    ) else {
         return Err("the word".into());
     };
     let todo = next(&mut context, world);
-    let (first, Called::Gone(Reply::Done)) = shared.call(rt, alloc, first, proc, context, todo) else {
+    let (first, Called::Gone(Reply::Done)) = shared.call(rt, alloc, first, proc, context, todo)
+    else {
         return Err("the return".into());
     };
     let (second, Asked::Over) = shared.ask(rt, second) else {
@@ -200,7 +201,8 @@ fn the_calls_of_the_desk_make_the_lines(rt: HostRuntime) -> Result<(), Fail> {
 }
 
 /// Two processes that change a word list.
-const ADDING: &[u8] = b"hydra 1\nobject d DATA\nend\ncode main\nadddata 0 1\nend\nprocess a main\ncap d ADDDATA+MODIFY\nend\nprocess b main\ncap d ADDDATA+MODIFY\nend\n";
+const ADDING: &[u8] =
+    b"hydra 1\nobject d DATA\nend\ncode main\nadddata 0 1\nend\nprocess a main\ncap d ADDDATA+MODIFY\nend\nprocess b main\ncap d ADDDATA+MODIFY\nend\n";
 
 /// What is left of the world that is named where the first call of processor 0 wants memory: processor 1, which runs nothing, asks
 /// behind it, and processor 2 makes a call of its process.
