@@ -1,7 +1,8 @@
 // Lines that are made and taken back.
 
 use crate::worlds::world;
-use hk_model::{Cpu, Frame, Proc};
+use hk_model::{Cpu, Frame, Kernel, Proc, What};
+use hk_plain::Plain;
 use hk_undo::Past;
 use std::alloc::Global;
 use std::test::Fail;
@@ -96,5 +97,37 @@ fn frames_and_states_go_and_come_back(rt: HostRuntime) -> Result<(), Fail> {
     for told in there_and_back(rt.alloc())? {
         assert!(rt; told);
     }
+    Ok(())
+}
+
+/// Whether a process is ready at the opening, behind its dispatch, and once that is taken back.
+fn ready_moments(alloc: Global, kernel: &mut Plain) -> Result<[bool; 3], Fail> {
+    let before = kernel.any_ready();
+    if !before || kernel.limit_reached() || kernel.current(Cpu(0)).is_some() {
+        return Err("a process to be dispatched".into());
+    }
+    let Ok((_, inverse)) = kernel.forward(alloc, Cpu(0), &What::Dispatch) else {
+        return Err("a dispatch".into());
+    };
+    let between = kernel.any_ready();
+    match kernel.undo(alloc, &inverse) {
+        Ok(()) => Ok([before, between, kernel.any_ready()]),
+        Err(_) => Err("the dispatch taken back".into()),
+    }
+}
+
+/// Lets a kernel go. Who lets go of one by its type has to prove anew how each of its parts is let go, which takes long.
+fn let_go<K: Kernel>(_kernel: K) {}
+
+#[test]
+fn an_event_of_a_plain_kernel_is_taken_back(rt: HostRuntime) -> Result<(), Fail> {
+    let alloc = rt.alloc();
+    let world = world(alloc, SCRIPT)?;
+    let Ok(mut kernel) = Plain::new(alloc, &world) else {
+        return Err("a plain kernel".into());
+    };
+    let moments = ready_moments(alloc, &mut kernel);
+    let_go(kernel);
+    assert_eq!(rt; moments?, [true, false, true]);
     Ok(())
 }
