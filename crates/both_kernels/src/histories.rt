@@ -16,7 +16,7 @@ use std::marker::PhantomData;
 /// How many processors make steps.
 const PROCESSORS: u8 = 3;
 
-/// How many lines are made at most, and asked for: each processor that has no step is asked for nothing.
+/// How many lines are made at most.
 const LINES: u32 = 200_000;
 
 /// What is found: how many lines both kernels made, or the number of the first that differs, from 1. The last states

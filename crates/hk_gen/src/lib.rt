@@ -32,16 +32,14 @@ pub fn generate(alloc: Global, count: u32) -> Result<World, NoMemory>
     Ok(World::new(EVENT_LIMIT, objects, codes, processes))
 }
 
-/// Each call of a generated world is confined (`docs/FORMATS.md`, "Generated worlds"), in every history of it,
-/// whichever processors made its lines.
-///
-/// At its opening no entry is a template, and no capability has ENV or UNCONF; and where it is so, no call changes it.
+/// Each call of the generated world of `count` processes is confined (`docs/FORMATS.md`, "Generated worlds"), in every
+/// history of it, whichever processors made its lines. The function does nothing; its contract is the law.
 pub fn confined_calls_law(count: u32)
     ensures { AllCallsConfined (generate count) }
 {}
 
-/// Each whole run of a generated world on processor 0 ends with every process ended (`docs/FORMATS.md`,
-/// "Generated worlds"): it has no step any more long before the limit on events.
+/// Each whole run of the generated world of `count` processes, at most 256, on processor 0 ends with every process ended
+/// (`docs/FORMATS.md`, "Generated worlds"). The function does nothing; its contract is the law.
 pub fn whole_runs_end_law(count: u32)
     requires few { count ≤ process_limit }
     ensures { WholeRunsEnd (generate count) }

@@ -1,4 +1,4 @@
--- The runs of a list are many to a block, of which is known when the first of its spans begins and the last ends.
+-- The runs of a list are many to a block, of which a moment is known before which none of its spans begins, and one behind which none ends.
 -- docs/RULES.md, "Reaches".
 use Rattle.std.specs.Prelude.{ℕ, ◌≤◌, List, [], ◌∷◌, length, take, drop, slice_index_or}
 use Rattle.std.specs.Coded.{×_prop, Π_prop, Unit-prop, le_prop}

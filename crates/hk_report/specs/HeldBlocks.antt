@@ -1,5 +1,5 @@
--- The runs that hold an object are many to a block, of which is known when the first of them begins, and which calls come
--- to the lists in which they stand. docs/RULES.md, "Reaches".
+-- The runs that hold an object are many to a block, of which a moment is known before which none begins, and one behind which
+-- no call begins that comes to the lists in which they stand. docs/RULES.md, "Reaches".
 use Rattle.std.specs.Prelude.{ℕ, ◌≤◌, List, [], ◌∷◌, length, take, drop, slice_index_or, Option}
 use Rattle.std.specs.Coded.{×_prop, Π_prop, Unit-prop, le_prop}
 use Rattle.std.specs.List.{AllByRecursion, AllByRecursion-prop}

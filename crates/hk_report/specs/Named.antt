@@ -1,4 +1,4 @@
--- What the end of a path names, from what was named before. docs/RULES.md, "Where entries come from".
+-- What the end of a path names, from what was named before, and whose list a call changes. docs/RULES.md, "Walks" and "Under a call".
 use Rattle.std.specs.Prelude.{ℕ, List, [], ◌∷◌, Option, Some, None, option_map}
 use Rattle.hk_model.specs.declared.names.Name.{Name}
 use Rattle.hk_model.specs.declared.names.Inc.{Inc}

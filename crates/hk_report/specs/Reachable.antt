@@ -16,7 +16,7 @@ use Rattle.hk_report.specs.Histories.{history_of}
 use Rattle.hk_report.specs.Hops.{later}
 use Rattle.hk_report.specs.Reasons.{params_at}
 
--- the moment that is told of an object, by its name, if ways can be at it at all; what has none has no list
+-- the moment that is told of an object, by its name, if ways can be at it at all; of what has no place 0 is told
 abbrev pub moment_at : List (Option ℕ) → Name → Option ℕ
 moment_at moments name = slice_index_or moments name.0 (Some 0)
 

@@ -9,6 +9,7 @@ ghost use Rattle.hk_model.specs.Lines.{done_call, enters_call, changes_path};
 ghost use Rattle.hk_model.specs.Running.{AreStepsOf};
 ghost use Rattle.hk_report.specs.Counts.{counted, counted_by, depth_entered, depths_by};
 
+use crate::doings::changed_path;
 use hk_model::{Call, Inc, Line, NoMemory, Reply, What, World};
 use std::alloc::Global;
 use std::marker::Model;
@@ -76,22 +77,6 @@ fn enters(line: &Line) -> bool
     }
 }
 
-/// Whether a call changes an object where it is done.
-fn changes_object(call: &Call) -> bool
-    ensures { result ≡ is_some (changes_path (Some call.now)) }
-{
-    match call {
-        Call::Put { .. } => true,
-        Call::Add { .. } => true,
-        Call::Store { .. } => true,
-        Call::Append { .. } => true,
-        Call::Erase { .. } => true,
-        Call::P { .. } => true,
-        Call::V { .. } => true,
-        _ => false,
-    }
-}
-
 /// Whether a line has changed an object.
 fn changes(line: &Line) -> bool
     ensures { result ≡ is_some (changes_path (done_call line.now)) }
@@ -99,7 +84,7 @@ fn changes(line: &Line) -> bool
     match &line.reply {
         Reply::No(_) => false,
         _ => match &line.what {
-            What::Call(call) => changes_object(call),
+            What::Call(call) => changed_path(call).is_some(),
             _ => false,
         },
     }
@@ -125,7 +110,8 @@ impl Counting {
     }
 
     /// Counts the changes that a line has made. `confined` is whether the call is confined that its processor runs behind
-    /// it; it counts where the line has entered a procedure. NoMemory is want of memory, or of room for the count.
+    /// it; it counts where the line has entered a procedure. NoMemory is want of memory, or of room for the count; nothing is said then
+    /// of what was counted.
     pub fn add(&mut self, line: &Line, confined: bool) -> Result<(), NoMemory>
         ensures { OnOk result (self.new ≡ counted_by line.now confined self.old) }
     {

@@ -45,7 +45,7 @@ pub struct Doing {
 pub struct Before {
     /// The incarnation of the line.
     pub inc: Inc,
-    /// The object that it changes.
+    /// The object that it changes; None also where that was not asked (`Known`).
     pub changed: Option<Name>,
     /// The object whose list it changes.
     pub listed: Option<Name>,
@@ -56,7 +56,7 @@ pub struct Before {
 }
 
 /// The path to the object that a call changes where it is done.
-fn changed_path(call: &Call) -> Option<&Path>
+pub(crate) fn changed_path(call: &Call) -> Option<&Path>
     ensures { option_copied result ≡ changes_path (Some call.now) }
 {
     match call {
@@ -251,7 +251,7 @@ pub(crate) fn before_by(next: Option<Before>, line: &Line) -> Before
     }
 }
 
-/// Whether a line of which this is known changes no object, makes none, and enters no procedure.
+/// Whether nothing is known of a line that is to be told: no object that it changes or makes, and no procedure that it enters.
 pub(crate) fn does_nothing(before: &Before) -> bool
     ensures { result ≡ true → (before.now.changed ≡ None) × (before.now.listed ≡ None) × (before.now.made ≡ None) × (before.now.enters ≡ None) }
 {

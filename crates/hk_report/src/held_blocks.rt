@@ -21,7 +21,7 @@ pub struct HeldBlock {
     pub last: Option<u32>,
 }
 
-/// The lesser of two moments, where there are any.
+/// A moment that is behind neither of two, where there are any: the lesser one.
 fn sooner(a: Option<u32>, b: Option<u32>) -> Option<u32>
     ensures { IsSoonest a b result }
 {

@@ -2,7 +2,8 @@
 //! "Changes and their reasons").
 //!
 //! `changes_under` tells each change with the confined call that it was made under, by one run of
-//! the history; `report` with its reason besides, `changes_text` is the list as text, and a `Retelling`
+//! the history; `report` with its reason besides, `changes_text` is the list as text, `report_text` tells it as text
+//! without the list, and a `Retelling`
 //! writes that text without the list: it makes the steps of a history on a kernel of its own and tells
 //! each as it is made. `counting` counts the changes as the lines of a run come. `shows` has what a
 //! kernel has to show for that, `naming` what a path names, `doings` what each line did, `replay` the

@@ -78,7 +78,7 @@ impl Side {
     }
 }
 
-/// What is told of an object, if ways can come to it. What has no place has no list.
+/// What is told of an object, if ways can come to it. Of what has no place 0 is told.
 pub(crate) fn moment_at(told: &[Option<u32>], name: Name) -> Option<u32>
     ensures { result ≡ moment_at told.now name }
 {
@@ -247,7 +247,7 @@ pub(crate) fn reachable(
 /// objects.
 const MANY: usize = 256;
 
-/// Whether an object is held by many runs. What is told of objects is the same whatever this says: it tells whether to ask pays.
+/// Whether an object is held by many runs. The reasons that are found are the same whatever this says: it tells whether to ask pays.
 fn are_many(holders: &[Items<Stretch>]) -> bool {
     holders.iter().any(|held| held.len() >= MANY)
 }

@@ -195,7 +195,8 @@ impl<K: Shows> Retelling<K> {
     }
 
     /// Makes the step of a processor, writes its line over the one that is handed in, and tells it. False exactly where the
-    /// processor has no step: then nothing changes. NoMemory is want of memory; then nobody goes on with what is told.
+    /// processor has no step: then what is told stays, and what `line` tells is free. NoMemory is want of memory; nothing is
+    /// said then of what is told.
     pub fn step_into(
         &mut self,
         alloc: Global,

@@ -26,7 +26,7 @@ use std::alloc::Global;
 /// line that changes an object and each confined call that the line's incarnation is under. They
 /// stand by rising line, and for one line by rising number of the call.
 ///
-/// `lines` are steps of `world` from its opening on, in the order of the history. NoMemory is want of memory, and nothing else.
+/// `lines` are steps of `world` from its opening on, in the order of the history. NoMemory is want of memory.
 #[tactic(auto, using(crate::proofs::Listed::changes_found, crate::proofs::Listed::doings_few, crate::proofs::Lengths::lines_few))]
 pub fn changes_under(
     alloc: Global,
@@ -48,7 +48,7 @@ pub fn changes_under(
 /// line, which is there by `hk_confine::confinement_law`. They stand by rising line, and for one line
 /// by rising number of the call. The laws of protection hold of the lines, whatever the answer is.
 ///
-/// `lines` are steps of `world` from its opening on, in the order of the history. NoMemory is want of memory, and nothing else.
+/// `lines` are steps of `world` from its opening on, in the order of the history. NoMemory is want of memory.
 #[tactic(auto, using(crate::proofs::Lengths::lines_few, crate::proofs::Explained::few_told))]
 pub fn report(alloc: Global, world: &World, lines: &[Line]) -> Result<Vec<Change>, NoMemory>
     requires { AreStepsOf world.now lines.now }
@@ -71,7 +71,7 @@ pub fn report(alloc: Global, world: &World, lines: &[Line]) -> Result<Vec<Change
 impl<K: Shows> Retelling<K> {
     /// The changes under confined calls of the lines that have come, each with its reason, as text (`docs/FORMATS.md`,
     /// "Statuses and outputs"): what `changes_text` makes of what `report` tells, written as each reason is found,
-    /// without a list of them. NoMemory is want of memory, and nothing else.
+    /// without a list of them. NoMemory is want of memory.
     pub fn text(self, alloc: Global) -> Result<Text, NoMemory>
         requires count { self.count + 1 < 2 ^ 32 }
         requires few { AreFew self.telling.families.changes.items }
@@ -85,10 +85,10 @@ impl<K: Shows> Retelling<K> {
     }
 }
 
-/// The same as text (`docs/FORMATS.md`, "Statuses and outputs"): what `changes_text` makes of what `report` tells,
-/// written as each reason is found, without a list of them.
+/// What `report` tells, as text (`docs/FORMATS.md`, "Statuses and outputs"): what `changes_text` makes of it, written as each
+/// reason is found, without a list of them.
 ///
-/// `lines` are steps of `world` from its opening on, in the order of the history. NoMemory is want of memory, and nothing else.
+/// `lines` are steps of `world` from its opening on, in the order of the history. NoMemory is want of memory.
 #[tactic(auto, using(crate::proofs::Lengths::lines_few, crate::proofs::Explained::few_told))]
 pub fn report_text(alloc: Global, world: &World, lines: &[Line]) -> Result<Text, NoMemory>
     requires { AreStepsOf world.now lines.now }

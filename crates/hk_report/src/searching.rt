@@ -134,8 +134,7 @@ impl<'a> Search<'a> {
     }
 
     /// The least reach of the object (`docs/RULES.md`, "Changes and their reasons"): with the fewest
-    /// hops, then from the least parameter, then hop by hop the first. NoMemory is want of memory, and
-    /// nothing else where a reach is there.
+    /// hops, then from the least parameter, then hop by hop the first. NoMemory is want of memory.
     pub(crate) fn least(&self, alloc: Global) -> Result<Reach, NoMemory>
         requires few { length self.now.params.now ≤ 8 }
         requires held { AreHeldBy (moment_at self.now.ground.lasts.now) (from_end self.now.ground.begun.moment) self.now.params.now }

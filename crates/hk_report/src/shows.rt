@@ -22,7 +22,7 @@ pub trait Shows: Kernel {
     fn next_inc(&self) -> Inc
         ensures { result ≡ (Self.state self.now).next_inc };
 
-    /// The list of the object of a name; an object that does not stand has none.
+    /// The list of the object of a name, of at most 256 entries (`docs/RULES.md`, "Limits"); an object that does not stand has none.
     fn entries(&self, name: Name) -> &[Entry]
         ensures value { result.now ≡ (object (Self.state self.now) name).entries }
         ensures few { length result.now ≤ entry_limit };

@@ -23,10 +23,10 @@ use std::sync::Wait;
 use std::thread::Threads;
 
 /// The top call: serves the words of a command. It reads the source, writes one text to the sink, and
-/// gives the status (`docs/FORMATS.md`, "Statuses and outputs"); where the text is the record of a
-/// run, it gives the kernel that was run, in the state that the lines of the record lead to. The
-/// clause `answer` says when each status comes, and `complete` what comes where nothing fails and the
-/// source tells its bytes.
+/// gives the status (`docs/FORMATS.md`, "Statuses and outputs"); where the text is the record or the
+/// summary of a run, it gives the kernel that was run, in the state that the lines of the run lead to.
+/// The clause `answer` says when each status comes, and `complete` what comes where no fault is counted
+/// and the source, if one is read, tells its bytes.
 ///
 /// `run N` runs N processors, each a thread, and may wait for ever. Each tells the gate of its calls.
 pub fn hydra<S: Source, W: Sink, G: Gate + Sync, M: Maker, R: Threads + Wait + Sync>(

@@ -70,7 +70,7 @@ pub(crate) fn due_to_bytes<M: Maker>(
     }
 }
 
-/// A text that is the record of no run.
+/// A text that is neither the record nor the summary of a run.
 pub(crate) fn text_alone<K>(due: DueText) -> Served<K>
     ensures due { result.due ≡ due }
     ensures kernel { result.kernel ≡ None }
@@ -518,7 +518,7 @@ fn taken_back<M: Maker>(
     match judged {
         Judged::Legal(state) => {
             laws(world, lines);
-            state_left(alloc, world, lines, count, &state)
+            state_left(alloc, world, lines, count, moment, &state)
         }
         Judged::Illegal { line, cause } => {
             told(alloc, status::ILLEGAL, Verdict::Illegal { line, cause })
@@ -526,24 +526,25 @@ fn taken_back<M: Maker>(
     }
 }
 
-/// The state before the last lines, so many, as a text.
+/// The state before the last lines, so many, which is that of this moment, as a text.
 #[tactic(auto, using(hk_report::proofs::Lengths::lines_few))]
 fn state_left(
     alloc: Global,
     world: &World,
     lines: &[Line],
     count: u32,
+    moment: usize,
     state: &Snapshot,
 ) -> Result<DueText, NoMemory>
     requires steps { AreStepsOf world.now lines.now }
+    requires moment { moment ≡ length lines.now - count }
     requires state { state.now ≡ shown (state_at world.now lines.now (length lines.now - count)) }
     ensures { IfOk result (λ due. (due.status ≡ 0) × TellsState count world.now lines.now due.text) }
 {
     let _limit = world.limit();
-    let left = lines.len().saturating_sub(count as usize);
     Ok(DueText {
         status: status::DONE,
-        text: state_text(alloc, state, left as u32)?,
+        text: state_text(alloc, state, moment as u32)?,
     })
 }
 

@@ -1,4 +1,4 @@
-//! What a command comes to: a text with its status, and the kernel that was run.
+//! What a command comes to (`docs/FORMATS.md`, "Statuses and outputs"): a text with its status, and the kernel that was run.
 
 use hk_model::{NoMemory, Text};
 
@@ -9,7 +9,7 @@ pub struct DueText {
     pub text: Text,
 }
 
-/// A text that is due, and the kernel if the text is the record of its run.
+/// A text that is due, and the kernel if the text is the record or the summary of its run.
 #[derive(Drop)]
 pub struct Served<K> {
     pub due: DueText,

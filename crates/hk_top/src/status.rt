@@ -1,4 +1,4 @@
-//! The statuses that the program ends with (`docs/FORMATS.md`, "Statuses and outputs").
+//! The statuses of the top calls (`docs/FORMATS.md`, "Statuses and outputs").
 
 ghost use Rattle.std.specs.Prelude.{◌≡◌};
 ghost use Rattle.hk_top.specs.Outputs.{status_of};

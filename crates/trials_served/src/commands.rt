@@ -11,9 +11,11 @@ use std::sync::Wait;
 use std::test::Fail;
 use std::thread::Threads;
 
+/// A process that reads the word of an object.
 pub(crate) const SCRIPT: &'static [u8; 96] =
     b"hydra 1\nobject d DATA\nwords 7\nend\ncode main\ngetdata 0 0 r0\nend\nprocess a main\ncap d GETDATA\nend\n";
 
+/// The record of its run.
 const RECORD: &'static [u8; 184] =
     b"hydra 1\nobject d DATA\nwords 7\nend\ncode main\ngetdata 0 0 r0\nend\nprocess a main\ncap d GETDATA\nend\nrecord\n0 0 0 dispatch -> done\n0 0 0 getdata 0 0 -> word 7\n0 0 0 return -> done\nend done\n";
 
@@ -187,24 +189,29 @@ fn tells_the_fault_of_each_of_nineteen_writes(rt: HostRuntime) -> Result<(), Fai
     Ok(())
 }
 
-/// The summary of the generated world of three processes, on kernels of this maker.
+/// How `gen 3` came out on kernels of this maker, and what it wrote.
 fn summary<M: Maker, R: Threads + Wait + Sync>(
     rt: &R,
     alloc: Global,
     kernels: &M,
-) -> Result<Out, Fail> {
+) -> Result<(Answered, Out), Fail> {
     let asked = words(alloc, &["gen", "3"])?;
     let mut input = source(alloc, Vec::new(alloc))?;
     let mut output = sink(alloc, Vec::new(alloc))?;
-    let _answered = serve(rt, alloc, &asked, &mut input, &mut output, &Open, kernels);
-    Ok(output)
+    let answered = serve(rt, alloc, &asked, &mut input, &mut output, &Open, kernels);
+    Ok((answered, output))
 }
 
 #[test]
 fn both_kernels_make_one_run(rt: HostRuntime) -> Result<(), Fail> {
     let alloc = rt.alloc();
-    let maps = summary(&rt, alloc, &Maps)?;
-    let slots = summary(&rt, alloc, &Slots)?;
+    let (of_maps, maps) = summary(&rt, alloc, &Maps)?;
+    let (of_slots, slots) = summary(&rt, alloc, &Slots)?;
+    let done = Answered {
+        status: status::DONE,
+        events: Some(1806),
+    };
+    assert_eq!(rt; (of_maps, of_slots), (done, done));
     let text = b"gen 3\nobjects 10\nlines 1806\nchanges 300\nend done\n";
     assert_eq!(rt; maps.taken(), text.as_slice());
     assert_eq!(rt; slots.taken(), text.as_slice());

@@ -16,6 +16,7 @@ use std::thread::Threads;
 /// How often a call looks whether it may pass, at most.
 const TURNS: u32 = 100_000_000;
 
+/// Two processes that yield.
 const SCRIPT: &'static [u8; 66] =
     b"hydra 1\ncode main\nyield\nend\nprocess a main\nend\nprocess b main\nend\n";
 
@@ -162,7 +163,7 @@ fn another_order_makes_another_record(rt: HostRuntime) -> Result<(), Fail> {
     Ok(())
 }
 
-/// It makes such kernels.
+/// It makes kernels whose first call wants memory.
 struct Wants;
 
 impl Maker for Wants {

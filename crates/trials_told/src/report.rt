@@ -3,7 +3,7 @@
 use crate::generated::generated;
 use crate::histories::first_steps;
 use hk_model::{Change, Text};
-use hk_report::{BareChange, changes_text, changes_under, report};
+use hk_report::{BareChange, changes_text, changes_under, report, report_text};
 use std::alloc::Global;
 use std::test::Fail;
 
@@ -36,6 +36,16 @@ fn text(alloc: Global) -> Result<Text, Fail> {
     }
 }
 
+/// The same, without the list of them.
+fn text_at_once(alloc: Global) -> Result<Text, Fail> {
+    let world = generated(alloc, 1)?;
+    let lines = first_steps(alloc, &world)?;
+    match report_text(alloc, &world, lines.as_slice()) {
+        Ok(text) => Ok(text),
+        Err(_) => Err("a text".into()),
+    }
+}
+
 #[test]
 fn the_word_is_changed_under_the_call(rt: HostRuntime) -> Result<(), Fail> {
     let changes = bare_changes(rt.alloc())?;
@@ -48,6 +58,8 @@ fn the_word_is_changed_under_the_call(rt: HostRuntime) -> Result<(), Fail> {
 
 #[test]
 fn the_change_is_by_the_first_parameter(rt: HostRuntime) -> Result<(), Fail> {
-    assert_eq!(rt; text(rt.alloc())?.as_str(), "5 1 7 param 0\nchanges 1\n");
+    let due = "5 1 7 param 0\nchanges 1\n";
+    assert_eq!(rt; text(rt.alloc())?.as_str(), due);
+    assert_eq!(rt; text_at_once(rt.alloc())?.as_str(), due);
     Ok(())
 }

@@ -1,6 +1,9 @@
 use Rattle.hk_top.proofs.NoFaults.{never_fails, is_due, is_summed}
 use Rattle.hk_top.proofs.sure.hydra_surely.Goals as goal
 
+pub returns-clause-answer : goal.returns-clause-answer
+returns-clause-answer g c = c.hydra.ensures.answer
+
 pub returns-clause-read : goal.returns-clause-read
 returns-clause-read g c = (never_fails c.hydra.ensures.answer).0
 
