@@ -1,6 +1,7 @@
-"""What docs/FORMATS.md says of reading scripts and records, as a plain program, for tests/refusals: which line is refused, and why.
+"""What docs/FORMATS.md says of reading scripts and records, as a plain program, for tests/refusals and tests/hostile: which line is
+refused, and why.
 
-It is not proved, and no verdict rests on it. It was written from the document, apart from the program that it is compared with.
+It is not proved, and no verdict rests on it.
 """
 import re
 

@@ -17,7 +17,7 @@ use std::marker::PhantomData;
 const PROCESSORS: u8 = 3;
 
 /// How many lines are made at most.
-const LINES: u32 = 200_000;
+const LINES: u32 = 300_000;
 
 /// What is found: how many lines both kernels made, or the number of the first that differs, from 1. The last states
 /// count as one line more.
