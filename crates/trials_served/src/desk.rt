@@ -204,10 +204,10 @@ fn the_calls_of_the_desk_make_the_lines(rt: HostRuntime) -> Result<(), Fail> {
 const ADDING: &[u8] =
     b"hydra 1\nobject d DATA\nend\ncode main\nadddata 0 1\nend\nprocess a main\ncap d ADDDATA+MODIFY\nend\nprocess b main\ncap d ADDDATA+MODIFY\nend\n";
 
-/// What is left of the world that is named where the first call of processor 0 wants memory: processor 1, which runs nothing, asks
-/// behind it, and processor 2 makes a call of its process.
+/// What is left of the world that is named where the first call of processor 0 wants memory, and processor 1, which runs nothing, asks
+/// behind it.
 #[tactic(auto, using(hk_shared::proofs::NewPasses::new_runs_nothing))]
-fn stop_named<K: Kernel, J: Naming, R: Wait>(
+fn asked_named<K: Kernel, J: Naming, R: Wait>(
     rt: &R,
     alloc: Global,
     world: &World,
@@ -216,44 +216,85 @@ fn stop_named<K: Kernel, J: Naming, R: Wait>(
     requires name { world.now ≡ J.world }
     requires opened { K.state kernel ≡ opening world.now }
 {
-    let started = Shared::<K, J>::start(alloc, kernel, world, 3);
+    let started = Shared::<K, J>::start(alloc, kernel, world, 2);
     let (shared, mut passes) = started.ok().ok_or("a desk")?;
     let first = passes.remove(0);
     let second = passes.remove(0);
-    let third = passes.remove(0);
     let (first, Asked::Given(proc, mut context)) = shared.ask(rt, first) else {
         return Err("a process".into());
-    };
-    let (third, Asked::Given(other, mut rest)) = shared.ask(rt, third) else {
-        return Err("another process".into());
     };
     let todo = next(&mut context, world);
     let (first, Called::NoMemory) = shared.call(rt, alloc, first, proc, context, todo) else {
         return Err("want of memory".into());
     };
     let (second, Asked::Stopped) = shared.ask(rt, second) else {
-        return Err("the stop, asked for a process".into());
-    };
-    let todo = next(&mut rest, world);
-    let (third, Called::Stopped) = shared.call(rt, alloc, third, other, rest, todo) else {
-        return Err("the stop, at a call".into());
+        return Err("the stop".into());
     };
     passes.push(first)?;
     passes.push(second)?;
-    passes.push(third)?;
     let book = shared.close(passes);
     Ok((book.lines().len(), book.stop()))
 }
 
-/// What is left of a world, which it names, on a kernel whose first call wants memory.
-fn stop<R: Wait>(rt: &R, alloc: Global, world: &World) -> Result<(usize, Option<Cpu>), Fail> {
-    let kernel = Wanting::new(alloc, world).ok().ok_or("a kernel")?;
-    stop_named::<Wanting, Brand, R>(rt, alloc, world, kernel)
+/// The same, but processor 1 runs a process, and makes a call of it behind that.
+#[tactic(auto, using(hk_shared::proofs::NewPasses::new_runs_nothing))]
+fn called_named<K: Kernel, J: Naming, R: Wait>(
+    rt: &R,
+    alloc: Global,
+    world: &World,
+    kernel: K,
+) -> Result<(usize, Option<Cpu>), Fail>
+    requires name { world.now ≡ J.world }
+    requires opened { K.state kernel ≡ opening world.now }
+{
+    let started = Shared::<K, J>::start(alloc, kernel, world, 2);
+    let (shared, mut passes) = started.ok().ok_or("a desk")?;
+    let first = passes.remove(0);
+    let second = passes.remove(0);
+    let (first, Asked::Given(proc, mut context)) = shared.ask(rt, first) else {
+        return Err("a process".into());
+    };
+    let (second, Asked::Given(other, mut rest)) = shared.ask(rt, second) else {
+        return Err("another process".into());
+    };
+    let todo = next(&mut context, world);
+    let (first, Called::NoMemory) = shared.call(rt, alloc, first, proc, context, todo) else {
+        return Err("want of memory".into());
+    };
+    let todo = next(&mut rest, world);
+    let (second, Called::Stopped) = shared.call(rt, alloc, second, other, rest, todo) else {
+        return Err("the stop".into());
+    };
+    passes.push(first)?;
+    passes.push(second)?;
+    let book = shared.close(passes);
+    Ok((book.lines().len(), book.stop()))
+}
+
+/// A kernel that has opened the world, and whose first call wants memory.
+fn wanting(alloc: Global, world: &World) -> Result<Wanting, Fail>
+    ensures { IfOk result (λ kernel. kernel.plain ≡ opening world.now) }
+{
+    match Wanting::new(alloc, world) {
+        Ok(kernel) => Ok(kernel),
+        Err(_) => Err("a kernel".into()),
+    }
+}
+
+/// The first of these for a world, which it names.
+fn asked<R: Wait>(rt: &R, alloc: Global, world: &World) -> Result<(usize, Option<Cpu>), Fail> {
+    asked_named::<Wanting, Brand, R>(rt, alloc, world, wanting(alloc, world)?)
+}
+
+/// The second of these for a world, which it names.
+fn called<R: Wait>(rt: &R, alloc: Global, world: &World) -> Result<(usize, Option<Cpu>), Fail> {
+    called_named::<Wanting, Brand, R>(rt, alloc, world, wanting(alloc, world)?)
 }
 
 #[test]
 fn a_stop_is_told_to_all_and_makes_no_line(rt: HostRuntime) -> Result<(), Fail> {
     let world = world(rt.alloc(), ADDING)?;
-    assert!(rt; stop(&rt, rt.alloc(), &world)? == (2, Some(Cpu(0))));
+    assert!(rt; asked(&rt, rt.alloc(), &world)? == (1, Some(Cpu(0))));
+    assert!(rt; called(&rt, rt.alloc(), &world)? == (2, Some(Cpu(0))));
     Ok(())
 }
