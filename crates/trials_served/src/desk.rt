@@ -292,7 +292,7 @@ fn called<R: Wait>(rt: &R, alloc: Global, world: &World) -> Result<(usize, Optio
 }
 
 #[test]
-fn a_stop_is_told_to_all_and_makes_no_line(rt: HostRuntime) -> Result<(), Fail> {
+fn a_stop_is_told_and_makes_no_line(rt: HostRuntime) -> Result<(), Fail> {
     let world = world(rt.alloc(), ADDING)?;
     assert!(rt; asked(&rt, rt.alloc(), &world)? == (1, Some(Cpu(0))));
     assert!(rt; called(&rt, rt.alloc(), &world)? == (2, Some(Cpu(0))));
