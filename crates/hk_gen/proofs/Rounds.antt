@@ -23,12 +23,13 @@ use Rattle.hk_model.specs.Processors.{entered_code}
 use Rattle.hk_model.specs.Control.{Context, new_frame, next, after}
 use Rattle.hk_model.specs.Running.{Machine}
 use Rattle.hk_model.specs.Generated.{generate, slot, main, main_slots, cbump}
+use Rattle.hk_gen.specs.WholeRuns.{first_processor}
 use Rattle.hk_gen.proofs.StageLists.{AllEnded, AllBelow, get_middle, set_middle, runner_middle, lookup_last, insert_last, remove_last, below_higher}
 use Rattle.hk_gen.proofs.Stages.{stage, following, callee, main_frame, bump_frame}
 use Rattle.hk_gen.proofs.Stages.{nothing_vanishes, takes, gives, enters, entered, enters_bump, gets, puts, leaves, ends}
 use Rattle.hk_gen.proofs.Stages.{next_takes, next_enters, next_gets, next_puts, next_leaves, next_gives, next_again, next_ends}
 use Rattle.hk_gen.proofs.Stages.{after_takes, after_enters, after_gets, after_puts, after_leaves, after_gives}
-use Rattle.hk_gen.proofs.StageSteps.{first_cpu, Ends, ends_after_call}
+use Rattle.hk_gen.proofs.StageSteps.{Ends, ends_after_call}
 
 -- a lower number passes the test
 pub is_below : (a b : ℕ) → a < b → nat_lt a b ≡ true
@@ -43,7 +44,7 @@ proc n = record { 0 = n }
 
 -- a process on the processor, with this current incarnation
 abbrev pub running : ℕ → Process
-running current = record { run = Running first_cpu; current = inc current }
+running current = record { run = Running first_processor; current = inc current }
 
 -- a process that has ended in this incarnation
 abbrev pub over : ℕ → Process
@@ -78,7 +79,7 @@ module _ (count n : ℕ) (done later : List Process) (past waiting : List Contex
     turn word tokens current next_inc events incs context c found left answer code new_word new_tokens new_next new_incs new few next_is outcome_is enters leaves last =
         ends_after_call (generate count) (machine (state_of (running current) word tokens incs next_inc events) (past ++ context ∷ waiting)) (proc n) (running current)
         c found left answer (state_of new new_word new_tokens new_incs new_next events) (state_of new new_word new_tokens new_incs new_next (events + 1)) code
-        (is_below events event_limit few) (runner_middle done (running current) later first_cpu 0 n ended refl (omega arith)) (get_middle done (running current) later n many)
+        (is_below events event_limit few) (runner_middle done (running current) later first_processor 0 n ended refl (omega arith)) (get_middle done (running current) later n many)
         (ap (λ (o : Option Context). next (generate count) (unwrap_or o [])) (get_middle past context waiting n many_contexts) ∙ next_is) outcome_is
         (ap (λ (s : State). counted (events + 1) s) (nothing_vanishes new_word new_incs (done ++ new ∷ later) ready new_next events new_tokens)) enters leaves
         (subst (λ (contexts : List Context). Ends (generate count) (machine (state_of new new_word new_tokens new_incs new_next (events + 1)) contexts))

@@ -6,7 +6,10 @@ use Rattle.std.specs.Map.{lookup, remove_entry}
 use Rattle.std.specs.BTreeMap.{insert_entry}
 use Rattle.std.specs.Ordering.{nat_cmp, is_eq}
 use Rattle.std.specs.declared.cmp.Ordering.TheVariants.{Greater}
+use Rattle.std.proofs.Math.Seq.{set-append_seam}
 use Rattle.std.proofs.lemmas.Bool.{and_parts, and_from}
+use Rattle.std.proofs.lemmas.List.{length-append}
+use Rattle.std.proofs.lemmas.List.Folds.{list_all-append}
 use Rattle.std.proofs.lemmas.List.Sums.{sum_by-cons}
 use Rattle.std.proofs.lemmas.Bool.Decides.{nat_tests}
 use Rattle.hk_model.specs.declared.names.Inc.{Inc}
@@ -28,27 +31,17 @@ module _ {X : Type 0} where
   get_at [] x ys = refl
   get_at (y ∷ xs) x ys = get_at xs x ys
 
-  -- and what is put in its place
-  set_at : (xs : List X) (x z : X) (ys : List X) → slice_set (xs ++ x ∷ ys) (length xs) z ≡ xs ++ z ∷ ys
-  set_at [] x z ys = refl
-  set_at (y ∷ xs) x z ys = ap (λ l. y ∷ l) (set_at xs x z ys)
-
   -- the same, where n stand before it
   pub get_middle : (xs : List X) (x : X) (ys : List X) (n : ℕ) → length xs ≡ n → slice_get (xs ++ x ∷ ys) n ≡ Some x
   get_middle xs x ys n h = rw (← h) (get_at xs x ys)
 
+  -- and what is put in its place
   pub set_middle : (xs : List X) (x z : X) (ys : List X) (n : ℕ) → length xs ≡ n → slice_set (xs ++ x ∷ ys) n z ≡ xs ++ z ∷ ys
-  set_middle xs x z ys n h = rw (← h) (set_at xs x z ys)
+  set_middle xs x z ys n h = rw (← h) (set-append_seam xs x ys z)
 
-  -- the item goes to those before it
-  pub move_middle : (xs : List X) (x : X) (ys : List X) → xs ++ x ∷ ys ≡ (xs ++ x ∷ []) ++ ys
-  move_middle [] x ys = refl
-  move_middle (y ∷ xs) x ys = ap (λ l. y ∷ l) (move_middle xs x ys)
-
-  -- there is one more of them then
+  -- there is one more of them where it goes to them
   pub length_more : (xs : List X) (x : X) (n : ℕ) → length xs ≡ n → length (xs ++ x ∷ []) ≡ n + 1
-  length_more [] x n h = omega arith
-  length_more (y ∷ xs) x n h = let l : length (xs ++ x ∷ []) ≡ length xs + 1 = length_more xs x (length xs) refl in omega arith
+  length_more xs x n h = omega (arith, length-append xs (x ∷ []), h)
 
 -- ---- processes
 
@@ -58,8 +51,7 @@ AllEnded ps = list_all (λ (p : Process). has_ended p.run) ps ≡ true
 
 -- so has one more
 pub ended_more : (ps : List Process) (p : Process) → AllEnded ps → has_ended p.run ≡ true → AllEnded (ps ++ p ∷ [])
-ended_more [] p h g = and_from _ _ g refl
-ended_more (x ∷ ps) p h g = let both = and_parts (has_ended x.run) (list_all (λ (p : Process). has_ended p.run) ps) h in and_from _ _ both.0 (ended_more ps p both.1 g)
+ended_more ps p h g = rw (list_all-append (λ (p : Process). has_ended p.run) ps (p ∷ [])) (and_from _ _ h (and_from _ _ g refl))
 
 -- who has ended runs nowhere
 not_on : (cpu : Cpu) (run : ProcessState) → has_ended run ≡ true → is_on cpu run ≡ false

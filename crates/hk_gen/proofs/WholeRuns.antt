@@ -1,5 +1,6 @@
 -- Each run of a generated world on processor 0 comes to its end.
 use Rattle.std.proofs.Common.{◌≡◌, ℕ, zero, suc, ◌+◌, ◌*◌, ◌<◌, ◌≤◌, List, [], ◌∷◌, ◌++◌, length, map, Some, refl, arith}
+use Rattle.std.proofs.Math.Seq.{append_snoc}
 use Rattle.std.proofs.lemmas.List.{append-nil}
 use Rattle.hk_model.specs.declared.lines.End.TheVariants as end
 use Rattle.hk_model.specs.declared.objects.Process.{Process}
@@ -13,11 +14,11 @@ use Rattle.hk_model.specs.Running.{Machine, opened}
 use Rattle.hk_model.specs.Legal.{end_word}
 use Rattle.hk_model.specs.Generated.{generate, processes_from, process_numbered}
 use Rattle.hk_model.proofs.Steps.{given_to}
-use Rattle.hk_gen.specs.WholeRuns.{WholeRunsEnd}
-use Rattle.hk_gen.proofs.StageLists.{AllEnded, AllBelow, get_middle, set_middle, move_middle, length_more, ended_more, none_runs}
+use Rattle.hk_gen.specs.WholeRuns.{WholeRunsEnd, first_processor}
+use Rattle.hk_gen.proofs.StageLists.{AllEnded, AllBelow, get_middle, set_middle, length_more, ended_more, none_runs}
 use Rattle.hk_gen.proofs.StageLists.{lookup_first, remove_first, bases_below, base_alone}
 use Rattle.hk_gen.proofs.Stages.{stage}
-use Rattle.hk_gen.proofs.StageSteps.{first_cpu, Ends, ends_here, no_step, ends_after_dispatch}
+use Rattle.hk_gen.proofs.StageSteps.{Ends, ends_here, no_step, ends_after_dispatch}
 use Rattle.hk_gen.proofs.Rounds.{inc, proc, running, over, machine, is_below, process_ends}
 
 -- the contexts in which processes open
@@ -34,7 +35,7 @@ done_word s h = rw h
 
 -- the dispatch of the next one
 next_dispatched : (done : List Process) (n word next_inc events : ℕ) (ts : List Task) → length done ≡ n
-    → given_to (between done [] n (process_numbered n ∷ ts) word next_inc events).state first_cpu (proc n) (proc_numbers (n + 1) ts)
+    → given_to (between done [] n (process_numbered n ∷ ts) word next_inc events).state first_processor (proc n) (proc_numbers (n + 1) ts)
     ≡ stage word 1 (bases n (process_numbered n ∷ ts)) (done ++ running n ∷ all_ready (n + 1) ts) (proc_numbers (n + 1) ts) next_inc (events + 1)
 next_dispatched done n word next_inc events ts many =
     rw (
@@ -50,17 +51,17 @@ module _ (count : ℕ) where
       → Ends (generate count) (between done past n (processes_from n left) word next_inc events)
   processes_end zero n done past ended many many_contexts word next_inc events below few =
       ends_here (generate count) (between done past n [] word next_inc events)
-      (no_step (generate count) (between done past n [] word next_inc events) (is_below events event_limit (omega arith)) (none_runs done first_cpu 0 n [] ended) refl)
+      (no_step (generate count) (between done past n [] word next_inc events) (is_below events event_limit (omega arith)) (none_runs done first_processor 0 n [] ended) refl)
       (done_word (between done past n [] word next_inc events).state (rw append-nil ended))
   processes_end (suc left) n done past ended many many_contexts word next_inc events below few =
       let ts : List Task = processes_from (n + 1) left in
       ends_after_dispatch (generate count) (between done past n (process_numbered n ∷ ts) word next_inc events) (proc n) (proc_numbers (n + 1) ts)
       (stage word 1 (bases n (process_numbered n ∷ ts)) (done ++ running n ∷ all_ready (n + 1) ts) (proc_numbers (n + 1) ts) next_inc (events + 1))
-      (is_below events event_limit (omega arith)) (none_runs done first_cpu 0 n (process_numbered n ∷ ts) ended) refl (next_dispatched done n word next_inc events ts many)
+      (is_below events event_limit (omega arith)) (none_runs done first_processor 0 n (process_numbered n ∷ ts) ended) refl (next_dispatched done n word next_inc events ts many)
       (process_ends count n done (all_ready (n + 1) ts) past (beginnings ts) (proc_numbers (n + 1) ts) ended many many_contexts
       (bases n (process_numbered n ∷ ts)) (bases (n + 1) ts) (lookup_first n _ _) (base_alone n (process_numbered n) ts) (remove_first n _ _) (suc (602 * left))
       (λ later_word later_next later_events later_below later_few.
-      rw (move_middle done (over n) (all_ready (n + 1) ts), move_middle past [] (beginnings ts))
+      rw (← (append_snoc done (over n) (all_ready (n + 1) ts)), ← (append_snoc past [] (beginnings ts)))
       (processes_end left (n + 1) (done ++ over n ∷ []) (past ++ [] ∷ []) (ended_more done (over n) ended refl) (length_more done (over n) n many)
       (length_more past [] n many_contexts) later_word later_next later_events later_below.1 (omega arith)))
       word next_inc (events + 1) below (omega arith))

@@ -1,7 +1,7 @@
 //! How many changes there are under confined calls, counted as the lines of a run come (`docs/RULES.md`,
 //! "Changes and their reasons").
 
-ghost use Rattle.std.specs.Prelude.{◌≡◌, ◌+◌, ◌++◌, [], List, length, replicate, slice_index_or, is_some, IfOk, OnOk};
+ghost use Rattle.std.specs.Prelude.{◌≡◌, ◌+◌, ◌++◌, [], List, length, replicate, slice_index_or, is_some, IfOk, OnErr, OnOk};
 ghost use Rattle.hk_model.specs.declared.lines.Line.{Line};
 ghost use Rattle.hk_model.specs.WorldValue.{WorldValue};
 ghost use Rattle.hk_model.specs.Changes.{bare_changes};
@@ -110,18 +110,21 @@ impl Counting {
     }
 
     /// Counts the changes that a line has made. `confined` is whether the call is confined that its processor runs behind
-    /// it; it counts where the line has entered a procedure. NoMemory is want of memory, or of room for the count; nothing is said then
-    /// of what was counted.
+    /// it; it counts where the line has entered a procedure. NoMemory is want of memory, or of room for the count, and leaves
+    /// the count as it was.
     pub fn add(&mut self, line: &Line, confined: bool) -> Result<(), NoMemory>
-        ensures { OnOk result (self.new ≡ counted_by line.now confined self.old) }
+        ensures counted { OnOk result (self.new ≡ counted_by line.now confined self.old) }
+        ensures memory { OnErr result (self.new ≡ self.old) }
     {
         let above = depth_of(self.depths.as_slice(), line.inc);
+        let mut total = self.changes;
         if changes(line) {
-            self.changes = sum(self.changes, above)?;
+            total = sum(total, above)?;
         }
         if enters(line) {
             self.depths.push(depth_entered(confined, above)?)?;
         }
+        self.changes = total;
         Ok(())
     }
 

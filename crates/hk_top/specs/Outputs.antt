@@ -3,7 +3,6 @@ use Rattle.std.specs.Prelude.{◌≡◌, ℕ, ◌-◌, ◌<◌, ◌≤◌, ◌�
 use Rattle.std.specs.Io.KnownBytes.{Consumes, Appends, IsAtEnd}
 use Rattle.hk_io.specs.Causes.{Rose}
 use Rattle.hk_io.specs.Streams.{Took}
-use Rattle.hk_model.specs.declared.names.Cpu.{Cpu}
 use Rattle.hk_model.specs.declared.names.Name.{Name}
 use Rattle.hk_format.specs.declared.causes.Cause.{Cause}
 use Rattle.hk_model.specs.declared.verdicts.Misstep.{Misstep}
@@ -32,6 +31,7 @@ use Rattle.hk_format.specs.Records.{record_text}
 use Rattle.hk_format.specs.Texts.{ended_line}
 use Rattle.hk_format.specs.Audits.{Audited, audit}
 use Rattle.hk_model.specs.Generated.{generate}
+pub use Rattle.hk_gen.specs.WholeRuns.{first_processor}
 use Rattle.hk_top.specs.BoundTexts.{AreBounds, bounds_text}
 use Rattle.hk_top.specs.Summaries.{summary_text}
 use Rattle.hk_json.specs.Readings.{Reads}
@@ -46,10 +46,6 @@ use Rattle.hk_top.specs.Words.{IsTrace, IsBack, IsGen, ReadsScript, ReadsRecord,
 -- what is written of words that are no command
 abbrev pub usage_text : List ℕ
 usage_text = codes "usage: hydra COMMAND [NUMBER]" ++ 10 ∷ []
-
--- the processor that runs a script alone
-abbrev pub first_processor : Cpu
-first_processor = record { 0 = 0 }
 
 -- a whole run of a world on processor 0: its steps from the opening on, until it has none
 pub record IsWholeRun (w : WorldValue) (lines : List Line) (end : End) : Type 0 where

@@ -518,7 +518,7 @@ fn taken_back<M: Maker>(
     match judged {
         Judged::Legal(state) => {
             laws(world, lines);
-            state_left(alloc, world, lines, count, moment, &state)
+            state_left(alloc, world, lines, moment, &state)
         }
         Judged::Illegal { line, cause } => {
             told(alloc, status::ILLEGAL, Verdict::Illegal { line, cause })
@@ -526,20 +526,19 @@ fn taken_back<M: Maker>(
     }
 }
 
-/// The state before the last lines, so many, which is that of this moment, as a text.
+/// The state at a moment of the lines, as a text.
 #[tactic(auto, using(hk_report::proofs::Lengths::lines_few))]
 fn state_left(
     alloc: Global,
     world: &World,
     lines: &[Line],
-    count: u32,
     moment: usize,
     state: &Snapshot,
 ) -> Result<DueText, NoMemory>
     requires steps { AreStepsOf world.now lines.now }
-    requires moment { moment ≡ length lines.now - count }
-    requires state { state.now ≡ shown (state_at world.now lines.now (length lines.now - count)) }
-    ensures { IfOk result (λ due. (due.status ≡ 0) × TellsState count world.now lines.now due.text) }
+    requires inside { moment ≤ length lines.now }
+    requires state { state.now ≡ shown (state_at world.now lines.now moment) }
+    ensures { IfOk result (λ due. (due.status ≡ 0) × (due.text ≡ moment_text world.now lines.now moment)) }
 {
     let _limit = world.limit();
     Ok(DueText {

@@ -14,9 +14,9 @@ use std::thread::Threads;
 
 /// What `hydra` does over bytes in memory and a sink that takes every text: no status is that of a fault
 /// (`docs/FORMATS.md`, "Statuses and outputs"), and each other one has its cause, as with `hydra` (clause `answer`).
-/// Where the words may read as many bytes, the status and the
-/// kernel are those that are due to the bytes, or the status is 5, want of memory. So a good script with
-/// `run` or `run N` gives its record, or 5; and `gen K` gives its summary with status 0, or 5.
+/// Where the words may read as many bytes, the status and the kernel are those that are due to the bytes, or the
+/// status is 5, want of memory. So a good script with `run` or `run N` gives its record, or 5; and `gen K` gives its
+/// summary with status 0, or 5.
 #[tactic(auto, using(crate::proofs::NoFaults::never_fails, crate::proofs::NoFaults::is_due))]
 pub fn hydra_surely<G: Gate + Sync, M: Maker, R: Threads + Wait + Sync>(
     rt: &R,

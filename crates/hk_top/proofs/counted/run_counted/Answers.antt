@@ -17,7 +17,7 @@ loop-counting-smaller g c =
 pub loop-counting-preserved : goal.loop-counting-preserved
 loop-counting-preserved g c = record {
   counting = counting_confined c.args.world.now c.loop-counting.counting c.add.new.self c.loop-counting.machine c.step_into.new.line c.step_into.new.self
-      c.requires.confined c.loop-counting.invariant.counting (c.in_ok-step_into.ensures.made c.if-branch.true) c.in_ok-add.ensures;
+      c.requires.confined c.loop-counting.invariant.counting (c.in_ok-step_into.ensures.made c.if-branch.true) c.in_ok-add.ensures.counted;
   sound = c.step_into.ensures.sound;
 }
 
