@@ -1,4 +1,4 @@
--- A script that is head_loaded gives a world that can be run.
+-- A script that is loaded gives a world that can be run.
 use Rattle.std.proofs.Common.{◌≡◌, ℕ, ◌+◌, ◌<◌, ◌≤◌, inl, inr, ◌==◌, ◌&&◌, ◌||◌, not, Bool, true, false, ltb, eqb, List, [], ◌∷◌, ◌++◌, length, map, refl, sym, ap, ◌∙◌, subst}
 use Rattle.std.proofs.Common.{arith, Ok, Err, Result}
 use Rattle.std.specs.Prelude.{IsTrue}
@@ -457,7 +457,7 @@ labelled names n seen (i ∷ is) v h e =
     subst (λ (w : WorldValue). Labelled seen.names (labels w)) a.4 (labelled_front names n i.parts i.head a.0 seen a.1 h.0 h.1 (puts names n i.line i.parts i.head a.0 a.2)
     (labelled names (counted n i.head) (noted seen i.head) is a.1 h.3 a.3))
 
--- the names that the heads declare are those of the world that is head_loaded
+-- the names that the heads declare are those of the world that is loaded
 names_fit : (is : List Item) (w : WorldValue) → Shape (map (λ (i : Item). i.head) is) w → NamesFit w (names_of (map (λ (i : Item). i.head) is))
 names_fit is w s = record {
   objects = (let size : length w.objects ≡ length (filter_map object_label (map (λ (i : Item). i.head) is)) = rw length-map at (ap length s.objects) in omega arith);
@@ -465,7 +465,7 @@ names_fit is w s = record {
   codes = (let size : length w.codes ≡ length (filter_map code_label (map (λ (i : Item). i.head) is)) = rw length-map at (ap length s.codes) in omega arith);
 }
 
--- what is head_loaded from the items of a script is a world that can be run
+-- what is loaded from the items of a script is a world that can be run
 pub loaded_world : (is : List Item) (w : WorldValue) → IsSyntax is → load is ≡ Ok w → IsWorld w
 loaded_world is w h e =
     let names = names_of (map (λ (i : Item). i.head) is) in

@@ -1,5 +1,5 @@
 -- The world that bytes spell, or the line and cause that come first: all lines pass the text check before any is parsed,
--- and all are parsed before any is last_pass. docs/FORMATS.md, "Text", "Grammar" and "Loading".
+-- and all are parsed before any is loaded. docs/FORMATS.md, "Text", "Grammar" and "Loading".
 use Rattle.std.specs.Prelude.{ℕ, List, Result, Ok, Err}
 use Rattle.hk_format.specs.declared.syntax.Item.{Item}
 use Rattle.hk_format.specs.declared.causes.Cause.{Cause}

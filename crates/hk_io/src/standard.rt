@@ -45,7 +45,8 @@ impl<R: Read> Source for StdIn<R> {
 
     ghost faults = { λ s. s.faults };
 
-    /// Reads once from the reader, and again where the system interrupted the call, up to 1,048,576 times in a row.
+    /// Reads once from the reader, and again where the system interrupted the call, up to 1,048,576 times in a row
+    /// (tried, not proved).
     ///
     /// `Failed`: the reader answered another error, or that one each time.
     fn read(&mut self, buf: &mut [u8]) -> Result<usize, Failed>
@@ -96,7 +97,8 @@ impl<W: Write> Sink for StdOut<W> {
 
     ghost faults = { λ s. s.faults };
 
-    /// Writes once to the writer, and again where the system interrupted the call, up to 1,048,576 times in a row.
+    /// Writes once to the writer, and again where the system interrupted the call, up to 1,048,576 times in a row
+    /// (tried, not proved).
     ///
     /// `Failed`: the writer answered another error, or that one each time, or took nothing of a piece that is not empty.
     fn write(&mut self, piece: &[u8]) -> Result<usize, Failed>

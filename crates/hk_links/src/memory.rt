@@ -1,6 +1,8 @@
+//! Want of memory.
+
 use std::alloc::{AllocError, AllocFailed};
 
-/// Want of memory, which is refused and changes nothing.
+/// Memory was wanted and refused.
 #[derive(Clone, Copy, PartialEq, Eq, Debug)]
 pub struct NoMemory;
 

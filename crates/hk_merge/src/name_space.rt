@@ -17,7 +17,8 @@ use hk_spaces::Space;
 ///
 /// Argument i has the step `first_step + i`. `Count` where the arguments are not as many as the
 /// parameters. Then, for each argument in order, `Empty`, `NotCap`, `WrongType` and `Denied` where
-/// it does not merge with its parameter. Then `Full` for slots where they are more than 64.
+/// it does not merge with its parameter. Then `Full` for slots where the parameters and what the
+/// procedure holds are together more than 64.
 pub fn build_space(
     args: &[Arg],
     params: &[Param],

@@ -18,7 +18,7 @@ seen e = record { name = e.0; of = e.1.of; words = e.1.words; entries = e.1.entr
 abbrev pub live : Inc × Incarnation → Live
 live e = record { inc = e.0; proc = e.1.proc; procedure = e.1.procedure; caller = e.1.caller; into = e.1.into; confined = e.1.confined; slots = e.1.slots }
 
--- the state, but for the current incarnations, which it shows by the callers
+-- the state, but for the current incarnations, which it shows by the callers, and the first name that was not given at the opening
 abbrev pub shown : State → Snapshot
 shown s = record {
   objects = map seen s.objects;

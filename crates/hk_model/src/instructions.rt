@@ -96,7 +96,7 @@ impl Indices {
 
 /// An instruction: the 20 kernel calls, and six that are local to the process
 /// (`docs/RULES.md`, "Control of a process"). Registers are 0 to 7, slots 0 to 63, and `to` is the
-/// number of an instruction.
+/// number of an instruction, or the code's length.
 #[derive(Drop)]
 pub enum Instr {
     Get {

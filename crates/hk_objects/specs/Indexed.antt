@@ -1,4 +1,4 @@
--- How the names and the free slots of a table stand in lists of cells.
+-- How the names of the slots stand: by their remainders, and in lists of cells; and which slots are free.
 use Rattle.std.specs.Prelude.{◌≡◌, ℕ, ◌<◌, ◌%◌, ◌==◌, ◌||◌, ◌↔◌, Bool, true, false, List, length, Option, Some, None, IsSome, slice_index_or}
 use Rattle.std.specs.List.{list_any, IsDistinct}
 use Rattle.hk_model.specs.declared.names.Name.{Name}

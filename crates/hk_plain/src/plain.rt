@@ -58,14 +58,14 @@ impl Plain {
         self.tables.incarnations.get(inc)
     }
 
-    /// The name that the next object takes, which no object has had.
+    /// The name that the next object takes.
     pub fn next_name(&self) -> Name
         ensures { result ≡ self.now.next_name }
     {
         self.tables.next_name
     }
 
-    /// The number that the next incarnation takes, which none has had.
+    /// The number that the next incarnation takes.
     pub fn next_inc(&self) -> Inc
         ensures { result ≡ self.now.next_inc }
     {

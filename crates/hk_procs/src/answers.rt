@@ -8,8 +8,8 @@ use hk_program::Context;
 pub enum Asked {
     /// It got this process, whose control this is.
     Given(Proc, Context),
-    /// No process is ready, and some run on other processors. The number counts the lines at that
-    /// turn.
+    /// No process is ready, and some run on other processors. The number counts the lines
+    /// that the pass has then seen.
     Idle(u64),
     /// The limit on events is reached, or no process is ready and none runs.
     Over,

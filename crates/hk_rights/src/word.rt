@@ -29,9 +29,11 @@ bitflag_items! {
         const COPY = 0x80;
         /// Needed besides, wherever the object is changed.
         const MODIFY = 0x100;
-        /// Needed to hand the capability on, by a store or a return, and to make or take templates through it.
+        /// Needed to hand the capability on, by a store or a return, and to make or take templates through it; what is
+        /// obtained through a capability without it has no ENV either.
         const ENV = 0x200;
-        /// Needed of a procedure's capability for its calls to be unconfined.
+        /// What is obtained through a capability without it loses MODIFY and UNCONF, and a call through a procedure's
+        /// capability without it is confined.
         const UNCONF = 0x400;
         /// Auxiliary right 0.
         const A0 = 0x10000;

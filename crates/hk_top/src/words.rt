@@ -14,7 +14,7 @@ pub const TRACE_LIMIT: u32 = 999;
 /// The largest number of lines that can be taken back (`docs/FORMATS.md`, "Statuses and outputs").
 pub const BACK_LIMIT: u32 = 999;
 
-/// The most bytes that the JSON of a world may have (`docs/FORMATS.md`, "Worlds as JSON").
+/// The most bytes that the JSON of a world may have (`docs/RULES.md`, "Limits").
 pub const JSON_BYTES: usize = 16_777_216;
 
 /// What the program can do.

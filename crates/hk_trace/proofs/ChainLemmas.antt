@@ -63,7 +63,7 @@ writing_is w m (x ∷ lines) (suc n) line h = writing_is w (moved w m x.cpu) lin
 
 -- ---- one line
 
--- a chain as a way_back
+-- a chain as a way back
 abbrev pub told_trail : descent.Chain → WayBack
 told_trail chain = record { links = links_of chain; origin = end_of chain }
 

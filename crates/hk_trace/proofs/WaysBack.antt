@@ -17,7 +17,7 @@ pub record Followed (some rest : Type 0) : Type 0 where
   pub few : some
   pub found : rest
 
--- links before a way_back
+-- links before a way back
 abbrev pub joined : List Link → WayBack → WayBack
 joined links t = record { links = links ++ t.links; origin = t.origin }
 

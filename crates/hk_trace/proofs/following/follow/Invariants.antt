@@ -1,4 +1,4 @@
--- The links so far, and the way_back from where they lead, are the way_back from the first place.
+-- The links so far, and the way back from where they lead, are the way back from the first place.
 use Rattle.std.proofs.Common.{◌≡◌, ◌≤◌, length}
 use Rattle.hk_trace.specs.Writings.{way_back}
 use Rattle.hk_trace.proofs.WaysBack.{Followed, joined}
