@@ -1,4 +1,5 @@
 -- Tables over a world: what the columns of a row stand for, and what the cells of rows tell of processes.
+-- docs/RULES.md, "The static bound".
 use Rattle.std.specs.Prelude.{◌≡◌, ◌==◌, ℕ, ◌+◌, ◌<◌, ◌≤◌, Bool, false, List, [], length, Option, Some, None, IsTrue, slice_get, slice_index_or}
 use Rattle.std.specs.Prelude.{slice_set, replicate, bit_and, bit_or, option_map}
 use Rattle.std.specs.Option.{unwrap_or}

@@ -1,4 +1,5 @@
 -- Rows while they are filled: what is added to them, which cells wait to be taken up, and how processes take from one another.
+-- docs/RULES.md, "The static bound".
 use Rattle.std.specs.Prelude.{◌≡◌, ℕ, ◌+◌, ◌<◌, ◌≤◌, true, false, List, [], ◌∷◌, ◌++◌, length, Option, Some, IfSome}
 use Rattle.hk_rights.specs.Rights.{IsRightsWord}
 use Rattle.hk_model.specs.WorldValue.{WorldValue}

@@ -1,4 +1,4 @@
--- The Amplify templates of a world that name a type.
+-- The Amplify templates of a world that name a type. docs/RULES.md, "The static bound".
 use Rattle.std.specs.Prelude.{◌≡◌, ◌⊎◌, ℕ, ◌<◌, ◌≤◌, List, length, Option, Some, None, IfSome, slice_get, option_map}
 use Rattle.hk_model.specs.declared.names.Name.{Name}
 use Rattle.hk_model.specs.declared.entries.Entry.{Entry}

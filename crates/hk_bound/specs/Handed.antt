@@ -1,4 +1,5 @@
 -- What processes take of one another by way of a third: a process takes from another whatever comes to it of a third that takes from that one.
+-- docs/RULES.md, "The static bound".
 use Rattle.std.specs.Prelude.{◌≡◌, ℕ, true, List, Option, Some, None, IfSome, slice_index_or}
 use Rattle.hk_rights.specs.Rights.{has, env_right}
 use Rattle.hk_model.specs.WorldValue.{WorldValue}

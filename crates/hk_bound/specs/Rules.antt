@@ -1,4 +1,4 @@
--- The rules of taking over rows of cells: what a process gets where the rows have the cells of a rule.
+-- The rules of taking over rows of cells: what a process gets where the rows have the cells of a rule. docs/RULES.md, "The static bound".
 use Rattle.std.specs.Prelude.{◌≡◌, ◌==◌, ◌&&◌, ◌||◌, ◌⊎◌, ℕ, ◌+◌, ◌<◌, Bool, true, false, List, length, Option, Some, None, IsTrue, is_some, IfSome, MatchOption}
 use Rattle.std.specs.Prelude.{slice_get, if◌then◌else◌, bit_or, option_map}
 use Rattle.hk_model.specs.declared.names.Name.{Name}

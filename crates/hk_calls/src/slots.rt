@@ -23,7 +23,7 @@ pub fn slot_at(slot: Slot, step: u8) -> Result<usize, Refusal>
     }
 }
 
-/// What Look replies for an entry: its kind in the highest byte, and its rights.
+/// What Look replies for an entry: its kind in the highest byte, and its rights (`docs/RULES.md`, "Look").
 pub fn looked(entry: Entry) -> u32
     ensures { result ≡ looked entry }
 {

@@ -3,7 +3,7 @@
 use hk_model::{NoMemory, Refusal};
 use std::alloc::{AllocError, AllocFailed};
 
-/// Why a call has no answer. Either way it changes nothing.
+/// Why a call has no answer (`docs/RULES.md`, "The order of refusals"). Either way it changes nothing.
 #[derive(Clone, Copy, PartialEq, Eq, Debug)]
 pub enum Stop {
     /// The rule table refuses it.

@@ -5,15 +5,18 @@ ghost use Rattle.hk_calls.specs.Kinds.{is_wanted};
 
 use hk_model::Name;
 
-/// Which types a call is for.
+/// Which types a call is for (`docs/RULES.md`, "Objects, incarnations, processes").
 #[derive(Clone, Copy, PartialEq, Eq, Debug)]
 pub enum Wanted {
     /// DATA, UNIVERSAL and every type that is no kernel type.
     General,
     /// UNIVERSAL, PROCEDURE and every type that is no kernel type.
     Listed,
+    /// TYPE alone.
     Types,
+    /// SEMAPHORE alone.
     Semaphores,
+    /// PROCEDURE alone.
     Procedures,
 }
 

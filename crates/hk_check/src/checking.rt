@@ -44,7 +44,7 @@ pub fn check_on<K: Kernel>(
     }
 }
 
-/// What a record is found to be.
+/// What a record is found to be (`docs/FORMATS.md`, "Legal records").
 #[derive(Drop)]
 pub enum Judged {
     /// It is legal, and this is the state at the moment that was asked for.

@@ -29,6 +29,7 @@ pub fn load(alloc: Global, syntax: &Syntax) -> Result<World, LoadError>
 
 /// The world that a script declares, as `load` gives it. The script is used up: its names become the labels
 /// of the world, its instructions take their paths from it, and each item is let go of once it is loaded.
+/// `Refused` and `NoMemory` are those of `load`.
 pub fn load_owned(alloc: Global, syntax: Syntax) -> Result<World, LoadError>
     ensures ok { IfOk result (λ w. load syntax ≡ Ok w) }
     ensures refused { (line : ℕ) (cause : LoadCause) → IsRefused result line cause → load syntax ≡ Err (line, cause) }

@@ -9,21 +9,25 @@ use hk_rights::Rights;
 use std::alloc::{AllocError, Global};
 use std::marker::Model;
 
-/// A number, or what a register holds.
+/// A number, or what a register holds (`docs/RULES.md`, "Control of a process").
 #[derive(Clone, Copy, PartialEq, Eq, Debug)]
 pub enum Operand {
     Number(u32),
+    /// What the register of this number holds, 0 to 7.
     Reg(u8),
 }
 
-/// An index of a path: a number, or what a register holds, at most 65,535.
+/// An index of a path: a number, or what a register holds, at most 65,535 (`docs/RULES.md`,
+/// "Control of a process").
 #[derive(Clone, Copy, PartialEq, Eq, Debug)]
 pub enum Index {
     Fixed(u16),
+    /// What the register of this number holds, 0 to 7.
     ByReg(u8),
 }
 
-/// One to eight indices, from which a path is made when the instruction is run.
+/// One to eight indices, from which a path is made when the instruction is run (`docs/RULES.md`,
+/// "Control of a process").
 #[derive(Drop)]
 pub struct Route {
     pub at: Indices,
@@ -36,7 +40,8 @@ enum OneOrMore {
     More(Box<Items<Index>>),
 }
 
-/// The indices of a route. Most routes have one, which takes no memory of its own. Contracts see the list.
+/// The indices of a route (`docs/RULES.md`, "Control of a process"). Most routes have one, which takes
+/// no memory of its own. Contracts see the list.
 #[derive(Drop)]
 pub struct Indices {
     kept: OneOrMore,

@@ -27,7 +27,7 @@ impl<T: Drop> From<AllocFailed<T>> for NoMemory {
     }
 }
 
-/// How a call was answered.
+/// How a call was answered (`docs/RULES.md`, "Steps of processors").
 #[derive(Clone, Copy, PartialEq, Eq, Debug)]
 pub struct Acted {
     pub reply: Reply,
@@ -99,7 +99,7 @@ pub trait Kernel: Drop {
     fn limit_reached(&self) -> bool
         ensures { result ≡ not (may_step (state self.now)) };
 
-    /// The state as plain data.
+    /// The state as plain data. NoMemory is want of memory.
     fn snapshot(&self, alloc: Global) -> Result<Snapshot, NoMemory>
         ensures { IfOk result (λ s. s ≡ shown (state self.now)) };
 }

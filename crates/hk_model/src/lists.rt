@@ -58,7 +58,7 @@ impl<T: Drop> Items<T> {
         self.items.len()
     }
 
-    /// Adds an item at the end.
+    /// Adds an item at the end. The only error is want of memory.
     pub fn push(&mut self, item: T) -> Result<(), AllocError>
         ensures ok { OnOk result (self.new ≡ self.old ++ item ∷ []) }
         ensures err { OnErr result (self.new ≡ self.old) }
@@ -69,7 +69,7 @@ impl<T: Drop> Items<T> {
 }
 
 impl<T: Drop + Copy> Items<T> {
-    /// An equal list.
+    /// An equal list. The only error is want of memory.
     pub fn copy(&self, alloc: Global) -> Result<Items<T>, AllocError>
         ensures { IfOk result (λ v. v ≡ self.now) }
     {
@@ -162,7 +162,7 @@ impl<T: Drop + Copy, const LIMIT: usize> Limited<T, LIMIT> {
         self.items.is_empty()
     }
 
-    /// Adds an item at the end.
+    /// Adds an item at the end. The only error is want of memory.
     pub fn push(&mut self, item: T) -> Result<(), AllocError>
         requires { length self.old < LIMIT }
         ensures ok { OnOk result (self.new ≡ self.old ++ item ∷ []) }
@@ -181,7 +181,7 @@ impl<T: Drop + Copy, const LIMIT: usize> Limited<T, LIMIT> {
         }
     }
 
-    /// An equal list.
+    /// An equal list. The only error is want of memory.
     pub fn copy(&self, alloc: Global) -> Result<Limited<T, LIMIT>, AllocError>
         ensures { IfOk result (λ v. v ≡ self.now) }
     {

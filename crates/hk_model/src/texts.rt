@@ -89,7 +89,7 @@ impl Text {
         Ok(Text { letters })
     }
 
-    /// An equal text: where it is short, without memory of its own.
+    /// An equal text: where it is short, without memory of its own. The only error is want of memory.
     pub fn from_str(alloc: Global, text: &str) -> Result<Text, AllocError>
         ensures { IfOk result (λ v. v ≡ text.now) }
     {
@@ -117,7 +117,7 @@ impl Text {
         self.as_str().as_bytes()
     }
 
-    /// An equal text.
+    /// An equal text. The only error is want of memory.
     pub fn copy(&self, alloc: Global) -> Result<Text, AllocError>
         ensures { IfOk result (λ v. v ≡ self.now) }
     {

@@ -177,7 +177,7 @@ impl Duplicate for Task {
 }
 
 impl World {
-    /// An equal world.
+    /// An equal world. NoMemory is want of memory.
     pub fn copy(&self, alloc: Global) -> Result<World, NoMemory>
         ensures { IfOk result (λ w. w ≡ self.now) }
     {

@@ -89,7 +89,7 @@ impl<K: Kernel> Machine<K> {
     }
 
     /// The same, where somebody is shown the call that is made, if one is, before the kernel answers it. Where no event
-    /// was made, it is free what they have seen.
+    /// was made, it is free what they have seen. False and NoMemory are those of `step_into`.
     #[inline(always)]
     pub fn step_watched<W: Watch<K>>(
         &mut self,

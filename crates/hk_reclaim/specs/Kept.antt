@@ -1,4 +1,4 @@
--- Which objects are kept, and which are reached. A set of objects is a test of names.
+-- Which objects are kept, and which are reached. A set of objects is a test of names. docs/RULES.md, "Objects that vanish".
 use Rattle.std.specs.Prelude.{◌≡◌, ℕ, ◌<◌, ◌⊎◌, Bool, true, List, map, length, Option, Some, None, IsSome, slice_index}
 use Rattle.std.specs.List.{count_by}
 use Rattle.std.specs.Option.{is_some}

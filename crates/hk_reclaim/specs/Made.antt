@@ -1,4 +1,4 @@
--- The objects made since the table opened, and what is left of their namings.
+-- The objects made since the table opened, and what is left of their namings. docs/RULES.md, "Objects that vanish".
 use Rattle.std.specs.Prelude.{◌≡◌, ℕ, ◌<◌, ◌≤◌, ◌⊎◌, ◌+◌, ◌&&◌, not, nat_lt, Bool, false, List, cond, length, Option, Some, None, IsSome, slice_index, slice_index_or}
 use Rattle.hk_model.specs.declared.names.Name.{Name}
 use Rattle.hk_objects.specs.declared.body.Body.{Body}

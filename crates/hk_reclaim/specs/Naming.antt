@@ -1,4 +1,4 @@
--- Who names whom.
+-- Who names whom. docs/RULES.md, "Objects that vanish".
 use Rattle.std.specs.Prelude.{ℕ, ◌==◌, Bool, false, List, [], ◌∷◌, Option, Some, None}
 use Rattle.std.specs.List.{count_by, sum_by, list_any, flat_map}
 use Rattle.hk_model.specs.declared.names.Name.{Name}

@@ -1,4 +1,4 @@
--- Marking what is reached.
+-- Marking what is reached. docs/RULES.md, "Objects that vanish".
 use Rattle.std.specs.Prelude.{◌≡◌, ℕ, ◌<◌, ◌≤◌, ◌||◌, ◌&&◌, not, slice_index, ◌⊎◌, nat_lt, Bool, true, false, List, [], ◌++◌, length, Option, Some, None, IsSome, slice_get}
 use Rattle.hk_model.specs.declared.names.Name.{Name}
 use Rattle.hk_objects.specs.declared.body.Body.{Body}

@@ -19,7 +19,8 @@ use std::marker::Model;
 
 /// How often each slot's object is named: `outside` by slots of live incarnations and by waiting processes, `total` by
 /// objects besides. A slot whose object nothing names any longer is pending, unless it is an opening object's. Contracts
-/// see these numbers, the list of the pending slots, and the first name that is no opening object's.
+/// see these numbers, the list of the pending slots, and the first name that is no opening object's (`docs/RULES.md`,
+/// "Objects that vanish").
 #[derive(Drop)]
 pub struct Counts {
     numbers: Numbers,
@@ -101,7 +102,8 @@ impl Counts {
         self.numbers.release_inside(slot, name);
     }
 
-    /// Takes down all that nothing names any longer: what is left is the greatest supported set.
+    /// Takes down all that nothing names any longer: what is left is the greatest supported set. Gives whether an object
+    /// was taken away (`docs/RULES.md`, "Objects that vanish").
     pub fn settle(&mut self, objects: &mut Objects) -> bool
         requires { IsCounted objects.old.slots self.old }
         ensures kept { IsKept self.old.first_new self.old.outside objects.old.slots (stands objects.new.slots) }
@@ -117,7 +119,7 @@ impl Counts {
     }
 
     /// Takes away all that is not reached: what is left is the least set that has the opening objects, those
-    /// that are named from outside, and all that its members name.
+    /// that are named from outside, and all that its members name. Gives whether an object was taken away.
     pub fn collect(&mut self, objects: &mut Objects) -> bool
         requires { IsCounted objects.old.slots self.old }
         ensures reached { IsReached self.old.first_new self.old.outside objects.old.slots (stands objects.new.slots) }

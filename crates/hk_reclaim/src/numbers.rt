@@ -44,7 +44,8 @@ fn is_due(total: u32, name: Name, first_new: Name) -> bool
     total == 0 && name.0 >= first_new.0
 }
 
-/// The name in an entry, if there is one: that of a capability's object, or of the type that a template is for.
+/// The name in an entry, if there is one: that of a capability's object, or of the type that a template is for
+/// (`docs/RULES.md`, "Objects that vanish").
 #[inline(always)]
 pub fn entry_name(entry: &Entry) -> Option<Name>
     ensures { result ≡ named entry.now }

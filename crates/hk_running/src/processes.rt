@@ -101,7 +101,7 @@ fn free(places: &mut [Option<Proc>; 16], before: ProcessState)
 }
 
 impl Processes {
-    /// The processes as they open: none runs.
+    /// The processes as they open: at most 256, and none runs.
     pub fn new(all: Vec<Process>) -> Processes
         requires few { length all.items ≤ 256 }
         requires rest { list_any (λ (p : Process). is_running p.run) all.items ≡ false }
@@ -133,7 +133,7 @@ impl Processes {
         self.all.len()
     }
 
-    /// The process that a processor runs.
+    /// The process that a processor runs. None exactly where it runs nothing.
     pub fn runner(&self, cpu: Cpu) -> Option<Proc>
         ensures { result ≡ runner_from self.now cpu 0 }
     {

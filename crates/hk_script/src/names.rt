@@ -11,8 +11,8 @@ use std::alloc::{AllocError, Global};
 use std::collections::BTreeMap;
 use std::marker::Model;
 
-/// Names, each once, in the order in which they came. No choice of names makes a look-up slow, and short
-/// ones are compared as numbers. Contracts see the list of their texts.
+/// Names (`docs/FORMATS.md`, "Names"), each once, in the order in which they came. No choice of names
+/// makes a look-up slow, and short ones are compared as numbers. Contracts see the list of their texts.
 #[derive(Drop)]
 pub struct Names {
     /// How many names there are.

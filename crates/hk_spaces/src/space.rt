@@ -52,7 +52,7 @@ impl Space {
         }
     }
 
-    /// What stands in a slot.
+    /// What stands in a slot, which is below 64.
     #[inline(always)]
     pub fn at(&self, slot: Slot) -> Entry
         requires { slot.0 < 64 }
@@ -61,7 +61,7 @@ impl Space {
         self.slots[slot.0 as usize]
     }
 
-    /// Writes an entry into a slot, over what stood there.
+    /// Writes an entry into a slot, which is below 64, over what stood there.
     #[inline(always)]
     pub fn set(&mut self, slot: Slot, entry: Entry)
         requires { slot.0 < 64 }
@@ -72,7 +72,7 @@ impl Space {
         self.written = self.written.max(at + 1);
     }
 
-    /// Writes entries into the slots from `start` on, over what stood there.
+    /// Writes entries into the slots from `start` on, over what stood there. All of them are below 64.
     pub fn write(&mut self, start: Slot, entries: &[Entry])
         requires { start.0 + length entries.now ≤ 64 }
         ensures value { self.new ≡ take start.0 self.old ++ (entries.now ++ drop (start.0 + length entries.now) self.old) }

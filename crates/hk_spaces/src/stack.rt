@@ -104,7 +104,7 @@ impl Stack {
         }
     }
 
-    /// Puts a frame on top. NoMemory is want of memory, and changes nothing.
+    /// Puts a frame on top, where there are fewer than 64. NoMemory is want of memory, and changes nothing.
     pub fn push(&mut self, frame: StackFrame) -> Result<(), NoMemory>
         requires { length self.old < 64 }
         ensures ok { OnOk result (self.new ≡ self.old ++ frame ∷ []) }
@@ -119,8 +119,8 @@ impl Stack {
         Ok(())
     }
 
-    /// Puts the frame of a call on top, which has what stands in this name space. It is written where a frame stood that
-    /// has gone, if there is such a place. NoMemory is want of memory, and changes nothing.
+    /// Puts the frame of a call on top, where there are fewer than 64. It has what stands in this name space. It is written
+    /// where a frame stood that has gone, if there is such a place. NoMemory is want of memory, and changes nothing.
     #[inline(always)]
     pub fn push_call(&mut self, space: &Space, linkage: Linkage) -> Result<(), NoMemory>
         requires { length self.old < 64 }
@@ -188,7 +188,7 @@ impl Stack {
         &self.places[at]
     }
 
-    /// Writes an entry into a slot of the top frame.
+    /// Writes an entry into a slot, which is below 64, of the top frame, which there is.
     #[inline(always)]
     pub fn set_top(&mut self, slot: Slot, entry: Entry)
         requires some { 0 < length self.old }

@@ -1,4 +1,4 @@
--- How the used places of a line are found, and their chains.
+-- How the used places of a line are found, and their chains. docs/RULES.md, "Traced descent".
 use Rattle.std.specs.Prelude.{ℕ, ◌+◌, Bool, true, false, List, [], ◌∷◌, ◌++◌, length, Option, Some, None}
 use Rattle.hk_model.specs.declared.calls.Call.{Call}
 use Rattle.hk_model.specs.declared.calls.Reply.{Reply}

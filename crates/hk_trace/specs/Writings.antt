@@ -1,4 +1,5 @@
 -- What each line writes, and from where: kept of a line once its state has gone. And the way back over such writings.
+-- docs/RULES.md, "Where entries come from".
 use Rattle.std.specs.Prelude.{ℕ, zero, suc, ◌+◌, ◌==◌, ◌&&◌, List, [], ◌∷◌, ◌++◌, length, map, take, slice_index_or, Option, Some, None, if◌then◌else◌}
 use Rattle.hk_model.specs.declared.names.Name.{Name}
 use Rattle.hk_model.specs.declared.names.Inc.{Inc}

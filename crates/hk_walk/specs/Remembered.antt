@@ -1,4 +1,4 @@
--- A walker, as contracts see it.
+-- A walker, as contracts see it. docs/RULES.md, "Walks".
 use Rattle.std.specs.Prelude.{ℕ, List}
 use Rattle.hk_model.specs.declared.entries.Entry.{Entry}
 use Rattle.hk_walk.specs.declared.trail.Trail.{Trail}

@@ -1,4 +1,4 @@
--- What a walker remembers.
+-- What a walker remembers. docs/RULES.md, "Walks".
 use Rattle.std.specs.Prelude.{◌≡◌, ◌⊎◌, ℕ, ◌-◌, List, [], ◌++◌, Contains, length, replicate, Ok, map, Some, None, Option}
 use Rattle.hk_model.specs.declared.names.Name.{Name}
 use Rattle.hk_model.specs.declared.entries.Cap.{Cap}

@@ -20,7 +20,7 @@ fn local_rights(rights: Rights) -> Rights
     rights.without(Rights::ENV)
 }
 
-/// What is left of rights that were obtained through a capability with the rights `by`.
+/// What is left of rights that were obtained through a capability with the rights `by` (`docs/RULES.md`, "Reduction").
 pub fn reduced_rights(by: Rights, rights: Rights) -> Rights
     ensures { result ≡ reduced_rights by rights }
 {

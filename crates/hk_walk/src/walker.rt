@@ -19,7 +19,7 @@ use std::num::NonZeroUsize;
 use std::sync::ledger::Ledger;
 
 /// Walks with the latest ones remembered. Contracts see how many there may be, and the pairs of a start and path with the
-/// entry that is there, the latest first.
+/// entry that is there, the latest first (`docs/RULES.md`, "Walks").
 #[derive(Drop)]
 pub struct Walker {
     cache: LruCache<Trail, Entry>,
@@ -34,7 +34,7 @@ impl Model for Walker {
 }
 
 impl Walker {
-    /// A walker that remembers up to so many walks, and none yet.
+    /// A walker that remembers up to so many walks, at least 1, and none yet. NoMemory is want of memory.
     pub fn with(alloc: Global, capacity: usize) -> Result<Walker, NoMemory>
         requires { 1 ≤ capacity }
         ensures { IfOk result (λ walker. walker ≡ record { capacity = capacity; pairs = [] }) }
@@ -43,8 +43,8 @@ impl Walker {
         Ok(Walker { cache })
     }
 
-    /// The walk over these objects: `from` is step 0, and each index leads one step further. A walk that is remembered
-    /// makes no find. Any other with an index is remembered from then on, unless it is refused or there is no memory for it.
+    /// The walk over these objects (`docs/RULES.md`, "Walks"): `from` is step 0, and each index leads one step further. A
+    /// walk that is remembered makes no find. Any other with an index is remembered from then on, unless it is refused or there is no memory for it.
     pub fn walk<L: Ledger>(
         &mut self,
         objects: &Objects,
