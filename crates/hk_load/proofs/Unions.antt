@@ -21,9 +21,6 @@ united_both : (rights word : ℕ) (rest : Option ℕ) → united rights (both (S
 united_both rights word (Some more) = ap (λ x. Some x) (sym (union_assoc rights word more))
 united_both rights word None = refl
 
-united_none : (rights : ℕ) (rest : Option ℕ) → united rights (both None rest) ≡ None
-united_none rights rest = refl
-
 at_turn : (names : List (List ℕ)) (n : ℕ) (t : List ℕ) (rights : ℕ) (o : Option ℕ) → (n < length names) × (t ≡ get_or names n t) → number_named t ≡ o
     → united rights (union_of (drop n names)) ≡ united rights (both (option_map (λ number. 2 ^ number) o) (union_of (drop (n + 1) names)))
 at_turn names n t rights o h e =

@@ -307,9 +307,6 @@ gone_are live stacks next proc h = ap (λ (xs : List Inc). remove_all xs live) (
 
 -- the stacks after a write, by each process
 
-proc_apart : (p q : Proc) → (p.0 == q.0) ≡ false → is_eq (nat_cmp q.0 p.0) ≡ false
-proc_apart p q e = grind (arith, nat_tests)
-
 abbrev held : Option (List Inc) → List Inc
 held o = unwrap_or o []
 

@@ -17,10 +17,6 @@ IsFrame w f = (f.code < length w.codes) × (f.at ≤ length (steps_of w f.code))
 abbrev pub AreFrames : WorldValue → List Frame → Type 0
 AreFrames w frames = AllByRecursion (IsFrame w) frames
 
--- a process can go on by these frames: there is one, and all are of the world
-abbrev pub Fits : WorldValue → List Frame → Type 0
-Fits w frames = (0 < length frames) × AreFrames w frames
-
 -- a return that was done
 abbrev pub is_return : Call → Reply → Bool
 is_return (call.Leave give) Done = true

@@ -61,11 +61,6 @@ or_second : (a b : Bool) → b ≡ true → (a || b) ≡ true
 or_second true b h = refl
 or_second false b h = h
 
-among_any : {X : Type 0} (p : X → Bool) (xs : List X) (x : X) → Has xs x → p x ≡ true → list_any p xs ≡ true
-among_any p [] x h g = absurd h
-among_any p (y ∷ ys) x (inl e) g = or_first (p y) (list_any p ys) (ap p e ∙ g)
-among_any p (y ∷ ys) x (inr h) g = or_second (p y) (list_any p ys) (among_any p ys x h g)
-
 some_is : {X : Type 0} (o : Option X) → is_some o ≡ true → (x : X) × (o ≡ Some x)
 some_is None h = absurd (true≢false (sym h))
 some_is (Some x) h = (x, refl)

@@ -49,14 +49,6 @@ pub record AreOrderedBelow (firsts : List (Option ℕ)) (first histories : List 
   pub left : (name : Name) → n ≤ name.0 → history_of histories name ≡ history_of first name
   pub ordered : (name : Name) → name.0 < n → AreByName (history_of histories name).spans
 
-ordered_none : (firsts : List (Option ℕ)) (histories : List History) → AreOrderedBelow firsts histories histories 0
-ordered_none firsts histories = record {
-  many = refl;
-  kept = λ name l. absurd (omega (arith, l));
-  left = λ name l. refl;
-  ordered = λ name l. absurd (omega (arith, l));
-}
-
 set_there : (hs : List History) (i : ℕ) (new : History) → i < length hs → slice_index_or (slice_set hs i new) i no_history ≡ new
 set_there [] i new l = absurd (omega (arith, l))
 set_there (x ∷ hs) zero new l = refl

@@ -22,9 +22,6 @@ pub begun : (space : List Entry) → space ≡ empty_slots → space ≡ take 0 
 unfolding empty_slots
 begun space e = e
 
-replicate_more : (n : ℕ) → replicate (suc n) Empty ≡ Empty ∷ replicate n Empty
-replicate_more n = refl
-
 one_more : (es : List Entry) (i : ℕ) (d : Entry) (space : List Entry) → i < length es → length es ≤ 64 → space ≡ take i es ++ replicate (64 - i) Empty
     → set space i (get_or es i d) ≡ take (i + 1) es ++ replicate (64 - (i + 1)) Empty
 one_more es i d space there few e =

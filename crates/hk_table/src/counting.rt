@@ -148,16 +148,6 @@ pub(crate) fn release_entry_inside(objects: &Objects, counts: &mut Counts, entry
     }
 }
 
-/// An object names what entries name no longer.
-pub(crate) fn release_entries_inside(objects: &Objects, counts: &mut Counts, entries: &[Entry])
-    requires { CanReleaseInside objects.now.slots (named_in entries.now) counts.old }
-    ensures { ReleasesInside objects.now.slots (named_in entries.now) counts.old counts.new }
-{
-    for entry in entries {
-        release_entry_inside(objects, counts, entry);
-    }
-}
-
 /// What the frames of a process name comes from outside.
 pub(crate) fn hold_stack(objects: &Objects, counts: &mut Counts, stack: &Stack)
     requires { CanHold objects.now.slots (stack_names stack.now) counts.old }

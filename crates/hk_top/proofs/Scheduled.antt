@@ -123,9 +123,6 @@ kept_slot s u inc slot e h = record { limit = h.limit; placed = h.placed }
 kept_incarnations : (s : State) (incarnations : List (Inc × Incarnation)) → Kept s (record s { incarnations = incarnations })
 kept_incarnations s incarnations = record { limit = refl; placed = λ h. h }
 
-kept_counted : (s u : State) (n : ℕ) → Kept s u → Kept s (counted n u)
-kept_counted s u n h = record { limit = h.limit; placed = h.placed }
-
 -- a process that ends or waits
 kept_stops : (s u : State) (proc : Proc) (new : Process) → ((ready : List Proc) (n : ℕ) → IsPlaced ready n new.run) → Kept s u → Kept s (put_process u proc new)
 kept_stops s u proc new stops h = record {

@@ -44,7 +44,8 @@ impl Walker {
     }
 
     /// The walk over these objects (`docs/RULES.md`, "Walks"): `from` is step 0, and each index leads one step further. A
-    /// walk that is remembered makes no find. Any other with an index is remembered from then on, unless it is refused or there is no memory for it.
+    /// walk that is remembered makes no find. Any other with an index is remembered from then on, unless it is refused or
+    /// there is no memory for it.
     pub fn walk<L: Ledger>(
         &mut self,
         objects: &Objects,
