@@ -1,4 +1,4 @@
-// Merges that have waited: of objects for which a process has got more rights, and of templates that it has got.
+//! Merges that have waited: of objects for which a process has got more rights, and of templates that it has got.
 
 ghost use Rattle.std.specs.Prelude.{◌≡◌, ◌<◌, OnOk, length};
 ghost use Rattle.hk_bound.specs.Rules.{IsKnown};

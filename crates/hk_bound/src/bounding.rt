@@ -1,4 +1,4 @@
-// The bounds of all processes of a world.
+//! The bounds of all processes of a world.
 
 ghost use Rattle.std.specs.Prelude.{◌≡◌, ◌↔◌, ◌<◌, ℕ, ◌+◌, IsTrue, IfOk, OnOk, IfSome, Some, length, slice_get};
 ghost use Rattle.hk_bound.specs.Columns.{proc_at, name_at, object_count};

@@ -1,5 +1,5 @@
-// All that the processes of a world can come to have: a worklist of cells that have grown, and looks
-// over all rules that see whether anything is missing.
+//! All that the processes of a world can come to have: a worklist of cells that have grown, and looks
+//! over all rules that see whether anything is missing.
 
 ghost use Rattle.std.specs.Prelude.{◌≡◌, ◌<◌, ◌≤◌, [], IfOk, OnOk, length};
 ghost use Rattle.hk_model.specs.WorldValue.{IsWorld};

@@ -1,5 +1,5 @@
-// What processes take from the lists of objects: by a call or a Load all entries, by a Copy those alone that the
-// list has with ENV, whoever put them there.
+//! What processes take from the lists of objects: by a call or a Load all entries, by a Copy those alone that the
+//! list has with ENV, whoever put them there.
 
 ghost use Rattle.std.specs.Prelude.{◌≡◌, ◌⊎◌, ◌↔◌, ◌<◌, ℕ, true, false, Some, IfOk, IfSome, OnOk, IsTrue, length};
 ghost use Rattle.hk_bound.specs.Taking.{type_of};

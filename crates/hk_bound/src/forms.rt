@@ -1,4 +1,4 @@
-// The templates of a world that a merge can use.
+//! The templates of a world that a merge can use.
 
 ghost use Rattle.std.specs.Prelude.{◌≡◌, ◌<◌, ◌≤◌, IfOk, OnOk, IfSome, IsSome, slice_get};
 ghost use Rattle.hk_bound.specs.Forms.{entry_form, param_form, made_form, Holds, IsFirst, AreSorted, IsStart, KeepsForms, HaveEntryForms, HaveParamForms, HaveObjectForms, AreForms};

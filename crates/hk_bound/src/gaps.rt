@@ -1,4 +1,4 @@
-// What the rules give to processes, and the rows do not have.
+//! What the rules give to processes, and the rows do not have.
 
 ghost use Rattle.std.specs.Prelude.{◌≡◌, ◌⊎◌, false, ◌↔◌, IsTrue, ◌<◌, ◌+◌, ◌^◌, ℕ, true, Some, IfSome, IsSome, IfOk, OnOk, is_some, length, slice_get, slice_index_or, []};
 ghost use Rattle.hk_rights.specs.Rights.{all_rights, has, env_right, a0_right};

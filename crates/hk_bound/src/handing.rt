@@ -1,4 +1,4 @@
-// What processes take of what others store: each from each, but where it has come by way of a third.
+//! What processes take of what others store: each from each, but where it has come by way of a third.
 
 ghost use Rattle.std.specs.Prelude.{◌≡◌, ◌<◌, true, IfOk, OnOk, length};
 ghost use Rattle.hk_rights.specs.Rights.{has, unconf_right, env_right};

@@ -1,5 +1,5 @@
-// Which rights processes have for the objects for whose types there are many templates, type by type: so a template
-// is held against many objects at a time.
+//! Which rights processes have for the objects for whose types there are many templates, type by type: so a template
+//! is held against many objects at a time.
 
 use crate::forms::Form;
 use crate::spreading::Grown;

@@ -1,4 +1,4 @@
-// Sets of numbers: of columns, and of processes.
+//! Sets of numbers: of columns, and of processes.
 
 use hk_model::NoMemory;
 use std::alloc::Global;

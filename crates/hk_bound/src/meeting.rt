@@ -1,4 +1,4 @@
-// Who takes from the lists of objects and who stores there, as far as that was looked at.
+//! Who takes from the lists of objects and who stores there, as far as that was looked at.
 
 use crate::marks::Marks;
 use hk_model::NoMemory;

@@ -1,5 +1,5 @@
-// What merges give to a process. Templates are passed over together, by what they all ask for and all that
-// they give, and rights for which merges gave nothing are kept.
+//! What merges give to a process. Templates are passed over together, by what they all ask for and all that
+//! they give, and rights for which merges gave nothing are kept.
 
 ghost use Rattle.std.specs.Prelude.{◌≡◌, ◌↔◌, IsTrue, ◌<◌, ◌≤◌, ◌+◌, ℕ, true, Some, None, IfSome, IfOk, OnOk, length};
 ghost use Rattle.hk_rights.specs.Rights.{HasAll, IsRightsWord};

@@ -1,4 +1,4 @@
-// What a world opens with (`docs/RULES.md`, "The opening").
+//! What a world opens with (`docs/RULES.md`, "The opening").
 
 ghost use Rattle.std.specs.Prelude.{◌≡◌, MatchOption};
 ghost use Rattle.hk_model.specs.WorldValue.{IsWorld};

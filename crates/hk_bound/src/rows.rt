@@ -1,4 +1,4 @@
-// What each process is known to have: a cell for each process and column.
+//! What each process is known to have: a cell for each process and column.
 
 ghost use Rattle.std.specs.Prelude.{◌≡◌, ◌<◌, IfOk, IfSome, OnOk, length, slice_set, slice_index_or, replicate, None, [], ◌∷◌, ◌++◌};
 ghost use Rattle.hk_rights.specs.Rights.{IsRightsWord};

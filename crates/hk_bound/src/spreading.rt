@@ -1,4 +1,4 @@
-// What comes of a cell that has grown.
+//! What comes of a cell that has grown.
 
 ghost use Rattle.std.specs.Prelude.{◌≡◌, ◌<◌, true, IfOk, OnOk, IfSome, length};
 ghost use Rattle.hk_bound.specs.Columns.{object_count, width_of, empty_rows};

@@ -1,5 +1,5 @@
-// Cells that have grown and wait: to be merged, and to be handed on. They wait as long as anything cheaper is to
-// be done, so that a cell that grows again meanwhile is taken once.
+//! Cells that have grown and wait: to be merged, and to be handed on. They wait as long as anything cheaper is to
+//! be done, so that a cell that grows again meanwhile is taken once.
 
 use crate::forms::Form;
 use crate::holdings::Holdings;

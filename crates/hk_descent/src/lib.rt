@@ -2,7 +2,7 @@
 //! parameter without ENV stays under its call. They hold of every history, whichever processors made
 //! its lines (`docs/RULES.md`, "Descent" and "Marks").
 //!
-//! A law is a function without a body: calling it costs nothing, and gives its caller the law of the
+//! A law is a function that does nothing: calling it costs nothing, and gives its caller the law of the
 //! lines that it has. The definitions are those of `hk_model`, and no law looks at a kernel.
 #![tactic(auto)]
 

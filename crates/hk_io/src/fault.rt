@@ -1,4 +1,4 @@
-// Why a call on a stream fails.
+//! Why a call on a stream fails.
 
 use std::alloc::{AllocError, AllocFailed};
 

@@ -1,4 +1,4 @@
-// The plan of a stream in memory: how much a call passes, which calls fail, and the counts.
+//! The plan of a stream in memory: how much a call passes, which calls fail, and the counts.
 
 ghost use Rattle.std.specs.Prelude.{◌≡◌, ◌↔◌, ◌≤◌, OnOk, OnErr, IsErr};
 ghost use Rattle.hk_io.specs.Causes.{HasCause, Rose};

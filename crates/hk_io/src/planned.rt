@@ -1,4 +1,4 @@
-// A source and a sink in memory that pass a little at a time and fail at planned calls.
+//! A source and a sink in memory that pass a little at a time and fail at planned calls.
 
 ghost use Rattle.std.specs.Prelude.{◌≡◌, ◌≤◌, ◌<◌, ◌-◌, ◌↔◌, [], length, min, take, IfOk, OnErr, IsErr, Some};
 ghost use Rattle.std.specs.Io.{ReadsAtMost, WritesAtMost};

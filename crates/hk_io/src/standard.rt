@@ -1,4 +1,4 @@
-// Std's readers and writers as sources and sinks.
+//! Std's readers and writers as sources and sinks.
 
 ghost use Rattle.std.specs.Prelude.{◌≡◌, ◌<◌, length, IfOk, OnOk, OnErr};
 ghost use Rattle.std.specs.Io.{ReadsAtMost, WritesAtMost};

@@ -1,4 +1,4 @@
-// What a source and a sink promise.
+//! What a source and a sink promise.
 
 ghost use Rattle.std.specs.Prelude.{◌<◌, List, ℕ, IfOk, length};
 ghost use Rattle.std.specs.declared.option.Option.{Option};

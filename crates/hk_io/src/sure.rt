@@ -1,4 +1,4 @@
-// A source and a sink that never fail.
+//! A source and a sink that never fail.
 
 ghost use Rattle.std.specs.Prelude.{◌≡◌, ◌<◌, ℕ, List, length, min, drop, Some, None, IfOk, IsOk, IsOkAnd};
 ghost use Rattle.std.specs.Io.{ReadsAtMost, WritesAtMost};

@@ -1,5 +1,5 @@
 //! Which objects stay (`docs/RULES.md`, "Objects that vanish"): what the definitions compute, in the
-//! words of sets. A law is a function without a body.
+//! words of sets. A law is a function that does nothing.
 
 ghost use Rattle.hk_model.specs.State.{State};
 ghost use Rattle.hk_model.specs.Keeping.{Leaves, AreKept, AreRooted, kept_objects, rooted_objects};

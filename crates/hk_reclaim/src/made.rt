@@ -24,7 +24,7 @@ pub(crate) struct Made {
     left: PerSlot<u32>,
 }
 
-/// A made object stands in a slot.
+/// Whether a made object stands in a slot.
 fn is_made(objects: &Objects, slot: SlotNo, first_new: Name) -> bool
     ensures { result ≡ is_made first_new (name_at objects.now.slots slot.0) }
 {
@@ -123,7 +123,7 @@ impl Made {
         })
     }
 
-    /// A made object stands in a slot.
+    /// Whether a made object stands in a slot.
     pub(crate) fn is_made(&self, slot: u32) -> bool
         requires { slot < length self.now.stands }
         ensures { result ≡ slice_index_or self.now.stands slot false }
@@ -131,7 +131,7 @@ impl Made {
         self.stands.get(slot)
     }
 
-    /// A made object stands in a slot, and a naming of it is left.
+    /// Whether a made object stands in a slot, and a naming of it is left.
     pub(crate) fn is_root(&self, slot: u32) -> bool
         requires stands { slot < length self.now.stands }
         requires left { slot < length self.now.left }

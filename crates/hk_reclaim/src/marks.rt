@@ -49,7 +49,7 @@ impl Marks {
         })
     }
 
-    /// A slot has a mark.
+    /// Whether a slot has a mark.
     pub(crate) fn is_marked(&self, slot: u32) -> bool
         requires { slot < self.now.size }
         ensures { result ≡ has self.now.slots slot }

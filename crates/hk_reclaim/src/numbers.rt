@@ -36,7 +36,7 @@ impl Model for Numbers {
     ghost invariant = { λ a. IsTally a.outside a.total a.pending };
 }
 
-/// Nothing counts an object any longer, and it is no opening object.
+/// Whether nothing counts an object any longer, and it is no opening object.
 #[inline(always)]
 fn is_due(total: u32, name: Name, first_new: Name) -> bool
     ensures { result ≡ is_due first_new total name }

@@ -25,7 +25,7 @@ fn release_if(numbers: &mut Numbers, objects: &Objects, slot: u32, so: bool)
     }
 }
 
-/// A made object stands in a slot without a mark.
+/// Whether a made object stands in a slot without a mark.
 fn is_lost(made: &Made, marks: &Marks, slot: u32) -> bool
     requires made { slot < length made.now.stands }
     requires marks { slot < marks.now.size }

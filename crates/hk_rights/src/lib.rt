@@ -1,5 +1,5 @@
 //! Rights of capabilities: single rights, sets of rights, and the words of bits that hold them
-//! (`docs/RULES.md`, 'Rights').
+//! (`docs/RULES.md`, "Rights").
 #![tactic(auto)]
 
 pub mod right;

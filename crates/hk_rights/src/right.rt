@@ -1,4 +1,4 @@
-// One right.
+//! One right.
 
 ghost use Rattle.std.specs.Prelude.{◌≡◌, ◌↔◌, ◌<◌, ℕ, false, IsTrue, IsSome, IfSome};
 ghost use Rattle.hk_rights.specs.Rights.{is_right, name_of, number_named, has, IsRightsWord};
@@ -7,7 +7,7 @@ use crate::word::RightsWord;
 use bitflags::Flags;
 use std::marker::Model;
 
-/// One of the 19 rights, by the number of its bit: 0 to 10 or 16 to 23 (`docs/RULES.md`, 'Rights').
+/// One of the 19 rights, by the number of its bit: 0 to 10 or 16 to 23 (`docs/RULES.md`, "Rights").
 #[derive(Clone, Copy, PartialEq, Eq, Debug)]
 pub struct Right {
     bit: u8,
@@ -27,48 +27,48 @@ impl Model for Right {
 }
 
 impl Right {
-    /// The right GETDATA (`docs/RULES.md`, 'Rights').
+    /// The right GETDATA (`docs/RULES.md`, "Rights").
     pub const GETDATA: Right = Right { bit: 0 };
 
-    /// The right PUTDATA (`docs/RULES.md`, 'Rights').
+    /// The right PUTDATA (`docs/RULES.md`, "Rights").
     pub const PUTDATA: Right = Right { bit: 1 };
 
-    /// The right ADDDATA (`docs/RULES.md`, 'Rights').
+    /// The right ADDDATA (`docs/RULES.md`, "Rights").
     pub const ADDDATA: Right = Right { bit: 2 };
 
-    /// The right LOAD (`docs/RULES.md`, 'Rights').
+    /// The right LOAD (`docs/RULES.md`, "Rights").
     pub const LOAD: Right = Right { bit: 3 };
 
-    /// The right STORE (`docs/RULES.md`, 'Rights').
+    /// The right STORE (`docs/RULES.md`, "Rights").
     pub const STORE: Right = Right { bit: 4 };
 
-    /// The right APPEND (`docs/RULES.md`, 'Rights').
+    /// The right APPEND (`docs/RULES.md`, "Rights").
     pub const APPEND: Right = Right { bit: 5 };
 
-    /// The right KILL (`docs/RULES.md`, 'Rights').
+    /// The right KILL (`docs/RULES.md`, "Rights").
     pub const KILL: Right = Right { bit: 6 };
 
-    /// The right COPY (`docs/RULES.md`, 'Rights').
+    /// The right COPY (`docs/RULES.md`, "Rights").
     pub const COPY: Right = Right { bit: 7 };
 
-    /// The right MODIFY (`docs/RULES.md`, 'Rights').
+    /// The right MODIFY (`docs/RULES.md`, "Rights").
     pub const MODIFY: Right = Right { bit: 8 };
 
-    /// The right ENV (`docs/RULES.md`, 'Rights').
+    /// The right ENV (`docs/RULES.md`, "Rights").
     pub const ENV: Right = Right { bit: 9 };
 
-    /// The right UNCONF (`docs/RULES.md`, 'Rights').
+    /// The right UNCONF (`docs/RULES.md`, "Rights").
     pub const UNCONF: Right = Right { bit: 10 };
 
-    /// The right A0 (`docs/RULES.md`, 'Rights').
+    /// The right A0 (`docs/RULES.md`, "Rights").
     pub const A0: Right = Right { bit: 16 };
 
-    /// The right A1 (`docs/RULES.md`, 'Rights').
+    /// The right A1 (`docs/RULES.md`, "Rights").
     pub const A1: Right = Right { bit: 17 };
 }
 
 impl Right {
-    /// The right of this number (`docs/RULES.md`, 'Rights'). None exactly where no right has it.
+    /// The right of this number (`docs/RULES.md`, "Rights"). None exactly where no right has it.
     pub fn new(bit: u8) -> Option<Right>
         ensures known { IsSome result ↔ IsTrue (is_right bit) }
         ensures same { IfSome result (λ right. right ≡ bit) }
@@ -79,7 +79,7 @@ impl Right {
         }
     }
 
-    /// The number of this right's bit: 0 to 10 or 16 to 23 (`docs/RULES.md`, 'Rights').
+    /// The number of this right's bit: 0 to 10 or 16 to 23 (`docs/RULES.md`, "Rights").
     pub fn number(self) -> u8
         ensures same { result ≡ self }
         ensures known { IsTrue (is_right result) }
@@ -88,7 +88,7 @@ impl Right {
         self.bit
     }
 
-    /// The name of this right (`docs/RULES.md`, 'Rights').
+    /// The name of this right (`docs/RULES.md`, "Rights").
     #[tactic(auto, unfolding(crate::specs::Rights::name_of, crate::specs::Rights::right_table))]
     pub fn name(self) -> &'static str
         ensures { result.now ≡ name_of self }
@@ -117,7 +117,7 @@ impl Right {
         }
     }
 
-    /// The right of this name (`docs/RULES.md`, 'Rights'). None exactly where no right has it: the name is spelled in
+    /// The right of this name (`docs/RULES.md`, "Rights"). None exactly where no right has it: the name is spelled in
     /// capitals, and is that of one right alone.
     pub fn by_name(name: &str) -> Option<Right>
         ensures { result ≡ number_named name.now }

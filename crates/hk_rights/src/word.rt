@@ -1,11 +1,11 @@
-// Words of 32 bits, with the names of the rights in them.
+//! Words of 32 bits, with the names of the rights in them.
 
 ghost use Rattle.std.specs.Prelude.{⊤};
 ghost use Rattle.hk_rights.specs.Rights.{word_table};
 
 use bitflags::{Flag, Flags, bitflag_items};
 
-/// Any word of 32 bits. The bits of the 19 rights have names (`docs/RULES.md`, 'Rights'); other bits may be set too.
+/// Any word of 32 bits. The bits of the 19 rights have names (`docs/RULES.md`, "Rights"); other bits may be set too.
 #[derive(Clone, Copy, PartialEq, Eq, Debug)]
 pub struct RightsWord(pub(crate) u32);
 

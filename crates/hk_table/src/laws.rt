@@ -1,4 +1,4 @@
-//! What the parts of a table say of the state that they tell. A law is a function without a body.
+//! What the parts of a table say of the state that they tell. A law is a function that does nothing.
 
 ghost use Rattle.std.specs.Prelude.{◌≡◌, ◌<◌, ◌≤◌, ◌+◌, ℕ, List, [], Option, length, slice_index_or, slice_set};
 ghost use Rattle.std.specs.List.{flat_map};

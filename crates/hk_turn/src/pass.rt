@@ -7,7 +7,7 @@ use atomic_table::Badge;
 
 /// The right to one turn at a time, and what its bearer has seen of the list. It can't be copied.
 ///
-/// It names the type of the entries alone, and stands for one seat that holds nothing. `docs/TURNS.md`, 'Passes'.
+/// It names the type of the entries alone, and stands for one seat that holds nothing. `docs/TURNS.md`, "Passes".
 #[derive(Drop)]
 pub struct Pass<E> {
     pub(crate) number: u16,

@@ -4,7 +4,7 @@ use crate::view::View;
 use atomic_table::TableRule;
 use std::marker::PhantomData;
 
-/// The rule of the turn, at a table whose key is the number of seats. docs/TURNS.md, 'The rule'.
+/// The rule of the turn, at a table whose key is the number of seats. `docs/TURNS.md`, "The rule".
 pub struct TurnRule<T> {
     of: PhantomData<T>,
 }

@@ -1,4 +1,4 @@
-//! The kinds of step at the table. docs/TURNS.md, 'The kinds of step'.
+//! The kinds of step at the table. `docs/TURNS.md`, "The kinds of step".
 use crate::story::Story;
 use crate::view::View;
 use atomic_table::{Join, Play, Split};

@@ -3,7 +3,7 @@ ghost use Rattle.std.specs.Prelude.{List, ℕ};
 
 /// A value that stands for a list of entries, as a counter for the list of its increments.
 ///
-/// Passes take turns at such a value, and each turn adds one entry or none. `docs/TURNS.md`, 'What the turn is for'.
+/// Passes take turns at such a value, and each turn adds one entry or none. `docs/TURNS.md`, "What the turn is for".
 pub trait Story: Drop {
     /// What a turn may add to the list.
     type Entry: Drop;

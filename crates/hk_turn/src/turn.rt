@@ -12,7 +12,7 @@ use std::marker::Brand;
 
 /// A turn that was taken, with the value. It ends by `finish` or `back`, and can't be dropped.
 ///
-/// `docs/TURNS.md`, 'A turn'.
+/// `docs/TURNS.md`, "A turn".
 pub struct Turn<'a, T: Story> {
     pub(crate) turns: &'a Turns<T>,
     pub(crate) seat: Seat<Option<T>, View<T::Entry>>,
@@ -47,7 +47,7 @@ impl<T: Story> Turn<'_, T> {
     /// Gives the turn back with one entry more, which the pass's number owns.
     ///
     /// The value has to stand for the list found with the entry behind it, and the list found to have fewer than 2^62
-    /// entries. The pass that comes back has seen the list with the entry. `docs/TURNS.md`, 'A turn'.
+    /// entries. The pass that comes back has seen the list with the entry. `docs/TURNS.md`, "A turn".
     pub fn finish(self, entry: T::Entry) -> Pass<T::Entry>
         requires stands { T.stands (turn_value self) (found_list self ++ entry ∷ []) }
         requires own { T.owner entry ≡ turn_number self }
@@ -68,7 +68,7 @@ impl<T: Story> Turn<'_, T> {
     /// Gives the turn back with no entry more.
     ///
     /// The value has to stand for the list found, and the pass that comes back has seen that list.
-    /// `docs/TURNS.md`, 'A turn'.
+    /// `docs/TURNS.md`, "A turn".
     pub fn back(self) -> Pass<T::Entry>
         requires stands { T.stands (turn_value self) (found_list self) }
         ensures pass { IsPassAfter self.entry result }

@@ -16,7 +16,7 @@ use std::sync::Wait;
 
 /// A value that passes take turns at. Threads share it by reference.
 ///
-/// It is one word and one slot of a table. `docs/TURNS.md`, 'The word and the slot'.
+/// It is one word and one slot of a table. `docs/TURNS.md`, "The word and the slot".
 #[derive(Drop)]
 pub struct Turns<T: Story> {
     pub(crate) table: Table<Option<T>, View<T::Entry>, u16, TurnRule<T>, Global>,
@@ -32,7 +32,7 @@ impl<T: Story> Turns<T> {
     /// Turns at a value that stands for the empty list, and a pass for each of the `seats`, which is at least 1.
     ///
     /// The passes are numbered from 0 in the order of the list, and have seen nothing. The one error is `NoMemory`,
-    /// which drops the value. `docs/TURNS.md`, 'Passes'.
+    /// which drops the value. `docs/TURNS.md`, "Passes".
     pub fn new(
         alloc: Global,
         value: T,
@@ -103,7 +103,7 @@ impl<T: Story> Turns<T> {
     ///
     /// The value of the turn stands for the list found. That list begins with the list that the pass had seen, the
     /// pass's number owns no entry behind that, and it has at least as many entries as the pass knew of.
-    /// `docs/TURNS.md`, 'A turn'.
+    /// `docs/TURNS.md`, "A turn".
     pub fn take<R: Wait>(&self, rt: &R, pass: Pass<T::Entry>) -> Turn<'_, T>
         requires { IsPassOf self.now pass }
         ensures turn { IsTurnOf pass result }
@@ -151,7 +151,7 @@ impl<T: Story> Turns<T> {
     /// The number of entries at one point of the call, which waits for nobody.
     ///
     /// It is at least what the pass had seen and knew, and the pass knows it from then on: each list that it is shown
-    /// later has at least so many entries. `docs/TURNS.md`, 'Passes'.
+    /// later has at least so many entries. `docs/TURNS.md`, "Passes".
     pub fn length(&self, pass: Pass<T::Entry>) -> (Pass<T::Entry>, u64)
         requires { IsPassOf self.now pass }
         ensures pass { IsSamePass pass result.0 × (seen_list result.0 ≡ seen_list pass) }
@@ -176,7 +176,7 @@ impl<T: Story> Turns<T> {
     /// The value, once all passes of these turns are back.
     ///
     /// It stands for a list that begins with what each pass had seen, has at least as many entries as each knew of,
-    /// and whose entries are owned by numbers below that of the seats. `docs/TURNS.md`, 'Closing'.
+    /// and whose entries are owned by numbers below that of the seats. `docs/TURNS.md`, "Closing".
     pub fn close(self, passes: Vec<Pass<T::Entry>>) -> T
         requires count { length passes.items ≡ seat_count self }
         requires own { ArePassesOf self passes.items }

@@ -3,7 +3,7 @@ use std::collections::LinkedList;
 
 /// What a seat at the table of the turn knows. It is there for the proofs, and no value of it is made.
 ///
-/// `docs/TURNS.md`, 'Views'.
+/// `docs/TURNS.md`, "Views".
 pub struct View<E> {
     /// The number of its pass, from 0.
     pub number: u64,

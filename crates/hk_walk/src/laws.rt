@@ -1,4 +1,4 @@
-//! How long what a walker remembers stays right. A law is a function without a body.
+//! How long what a walker remembers stays right. A law is a function that does nothing.
 
 ghost use Rattle.std.specs.Prelude.{◌≡◌, ◌⊎◌, [], List};
 ghost use Rattle.hk_model.specs.declared.names.Name.{Name};
