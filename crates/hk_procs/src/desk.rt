@@ -47,9 +47,9 @@ pub trait Desk {
     ///
     /// The process and what is next are those that the pass shows, and the context is the one that
     /// `hk_program::next` left. Stopped exactly where the history that the pass has then seen ends
-    /// with a stop. Else Limit exactly where the limit is reached. Else NoMemory only for a call that the desk's type
-    /// names: it adds this processor's stop to the history, and no line. Else one line is made, and
-    /// Gone is answered exactly where the process now waits, has yielded or has ended.
+    /// with a stop. Else Limit exactly where the limit is reached. Else NoMemory only for a call that
+    /// the desk's type names: it adds this processor's stop to the history, and no line. Else one line
+    /// is made, and Gone is answered exactly where the process now waits, has yielded or has ended.
     fn call<R: Wait>(
         &self,
         rt: &R,
