@@ -13,7 +13,7 @@ use std::marker::Model;
 #[derive(Clone, Copy, PartialEq, Eq, Debug)]
 pub enum Operand {
     Number(u32),
-    /// What the register of this number holds, 0 to 7.
+    /// What the register of this number, 0 to 7, holds.
     Reg(u8),
 }
 
@@ -22,7 +22,7 @@ pub enum Operand {
 #[derive(Clone, Copy, PartialEq, Eq, Debug)]
 pub enum Index {
     Fixed(u16),
-    /// What the register of this number holds, 0 to 7.
+    /// What the register of this number, 0 to 7, holds.
     ByReg(u8),
 }
 

@@ -30,7 +30,8 @@ pub struct Live {
 }
 
 /// The state, but for the current incarnations, which the callers show, and the first name that was
-/// not given at the opening, which the world shows. Objects and incarnations stand by rising number, processes by their number.
+/// not given at the opening, which the world shows. Objects and incarnations stand by rising number,
+/// processes by their number.
 #[derive(Drop)]
 pub struct Snapshot {
     pub objects: Items<Seen>,
