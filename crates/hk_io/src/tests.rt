@@ -1,10 +1,10 @@
 use crate::{
-    Bytes, Failed, Out, ReadError, Source, StdIn, StdOut, SureBytes, SureOut, WriteFault, read_all,
-    write_all,
+    Bytes, Failed, Out, ReadError, Sink, Source, StdIn, StdOut, SureBytes, SureOut, WriteFault,
+    read_all, write_all,
 };
 use std::alloc::{AllocError, Global};
 use std::io;
-use std::io::{ErrorKind, Read};
+use std::io::{ErrorKind, Read, Write};
 use std::test::Fail;
 
 const TEXT: &'static [u8; 48] = b"hydra 1\nlimit 8\nprocess a code\nend\nmore words\n..";
@@ -96,6 +96,20 @@ impl Read for Interrupted {
     }
 }
 
+impl Write for Interrupted {
+    fn write(&mut self, buf: &[u8]) -> io::Result<usize> {
+        if self.calls > 0 {
+            self.calls -= 1;
+            return Err(io::Error::from(ErrorKind::Interrupted));
+        }
+        Ok(buf.len().min(1))
+    }
+
+    fn flush(&mut self) -> io::Result<()> {
+        Ok(())
+    }
+}
+
 #[test]
 fn reads_again_where_the_system_interrupts(rt: HostRuntime) -> Result<(), Fail> {
     let mut buf = [0u8; 4];
@@ -104,5 +118,15 @@ fn reads_again_where_the_system_interrupts(rt: HostRuntime) -> Result<(), Fail> 
     let mut source = StdIn::new(Interrupted { calls: 1_048_576 });
     assert_eq!(rt; source.read(&mut buf), Err(Failed));
     assert_eq!(rt; source.read(&mut buf), Ok(1));
+    Ok(())
+}
+
+#[test]
+fn writes_again_where_the_system_interrupts(rt: HostRuntime) -> Result<(), Fail> {
+    let mut sink = StdOut::new(Interrupted { calls: 3 });
+    assert_eq!(rt; sink.write(TEXT), Ok(1));
+    let mut sink = StdOut::new(Interrupted { calls: 1_048_576 });
+    assert_eq!(rt; sink.write(TEXT), Err(Failed));
+    assert_eq!(rt; sink.write(TEXT), Ok(1));
     Ok(())
 }

@@ -44,7 +44,7 @@ fn made(alloc: Global, objects: &mut Objects) -> Result<SlotNo, AllocError>
     }
 }
 
-/// Writes over the word and the entry.
+/// Writes over the word, and Empty over the entry, which was Empty.
 fn written_over(objects: &mut Objects, slot: SlotNo) -> Result<(), AllocError> {
     let slot = standing(objects, slot)?;
     if objects.words(slot).is_empty() {
@@ -115,7 +115,7 @@ fn empty(alloc: Global) -> Result<Objects, AllocError>
     }
 }
 
-/// What an object has that was changed in each of its parts.
+/// What an object has, each of whose parts was written.
 fn changed(alloc: Global) -> Result<Parts, AllocError> {
     let mut objects = empty(alloc)?;
     let slot = made(alloc, &mut objects)?;

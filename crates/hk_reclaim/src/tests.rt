@@ -18,8 +18,9 @@ fn nothing_goes_where_nothing_stands(rt: HostRuntime) -> Result<(), Fail> {
     Ok(())
 }
 
+/// What each of these calls leaves is its clause.
 #[test]
-fn namings_are_counted(rt: HostRuntime) -> Result<(), Fail> {
+fn namings_are_held_and_released(rt: HostRuntime) -> Result<(), Fail> {
     let Ok(mut counts) = Counts::with(rt.alloc(), 4, Name(7)) else {
         return Err(AllocError.into());
     };
