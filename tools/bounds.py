@@ -1,6 +1,6 @@
 """The static bound of docs/RULES.md as a plain program: the eight rules, used again and again until nothing comes.
 
-It is not proved, and no verdict rests on it: tests/bounds compares the proved bound with it. It reads canonical scripts alone.
+It is not proved, and no verdict rests on it: tests/bounds compares the proved bound with it. It reads scripts as tools/rules.py does.
 """
 import rules
 from rules import ALL, BIT, DATA, ENV, LNS, LOAD, MODIFY, PROCEDURE, SEMAPHORE, SPECIAL, TYPE, UNCONF, UNIVERSAL, Cap, Template

@@ -231,7 +231,7 @@ def read_script(source):
 
 
 def is_number(text, below):
-    return re.fullmatch("0|[1-9][0-9]*", text) is not None and int(text) < below
+    return re.fullmatch("0|[1-9][0-9]*", text) is not None and len(text) <= 20 and int(text) < below
 
 
 def is_operand(kind, text):

@@ -10,10 +10,11 @@ SOURCE = """
 #include <stdio.h>
 #include <stdlib.h>
 extern void *__libc_malloc(size_t); extern void *__libc_calloc(size_t, size_t); extern void *__libc_realloc(void *, size_t);
-static long left = -1, made;
+static long left, made;
+static int asked;
 static int refused(void) {
   __sync_add_and_fetch(&made, 1);
-  if (left < 0) { const char *n = getenv("REFUSED_ALLOCATION"); left = n ? atol(n) : 0; }
+  if (!asked) { const char *n = getenv("REFUSED_ALLOCATION"); left = n ? atol(n) : 0; asked = 1; }
   if (left <= 0 || __sync_sub_and_fetch(&left, 1) != 0) return 0;
   errno = ENOMEM; /* the C library relies on it where it starts a thread */
   return 1;

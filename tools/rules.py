@@ -1,7 +1,8 @@
-"""The rules of docs/RULES.md as a plain program, for tools/explain: what a processor does next, and why a call is refused.
+"""The rules of docs/RULES.md as a plain program: what a processor does next, and why a call is refused. tools/explain, tools/told.py,
+tools/bounds.py and tools/reading.py stand on it.
 
-It is not proved, and no verdict rests on it: it reads canonical scripts alone, which the proved program prints. tests/tools
-compares its runs with the worked rows.
+It is not proved, and no verdict of the program rests on it. It reads scripts that are right and have no comments and no empty lines, as
+canonical ones. tests/tools compares its runs with the worked rows.
 """
 from dataclasses import dataclass, field
 
@@ -18,7 +19,7 @@ FORMS = {
     "getdata": "getdata PATH AT REG", "putdata": "putdata PATH AT WORD", "adddata": "adddata PATH WORD",
     "length": "length PATH REG", "load": "load PATH INTO", "store": "store PATH AT FROM", "append": "append PATH FROM",
     "erase": "erase PATH AT", "drop": "drop SLOT", "restrict": "restrict SLOT RIGHTS", "look": "look PATH REG",
-    "create": "create PATH INTO", "merge": "merge PATH CAP INTO",
+    "create": "create PATH INTO in a code, create TYPE GIVE in an object, a procedure or a process", "merge": "merge PATH CAP INTO",
     "template": "template PATH amplify CHECK GIVE INTO, or template PATH create GIVE INTO", "copy": "copy PATH INTO",
     "call": "call PATH ARG.. INTO", "return": "return, or return SLOT", "p": "p PATH", "v": "v PATH", "yield": "yield",
     "set": "set REG OP", "add": "add REG OP", "goto": "goto L", "ifeq": "ifeq OP OP L", "iflt": "iflt OP OP L", "ifdenied": "ifdenied L",
