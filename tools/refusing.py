@@ -1,5 +1,5 @@
 """A library that refuses one allocation of a program that is run with it: the one whose number, from 1 on, is in REFUSED_ALLOCATION. It
-tells on standard error how many there were, where COUNT_ALLOCATIONS is set."""
+tells on standard error that it did, and where COUNT_ALLOCATIONS is set how many there were, if the program ends by the C library."""
 import os
 import shutil
 import subprocess
@@ -9,6 +9,7 @@ SOURCE = """
 #include <errno.h>
 #include <stdio.h>
 #include <stdlib.h>
+#include <unistd.h>
 extern void *__libc_malloc(size_t); extern void *__libc_calloc(size_t, size_t); extern void *__libc_realloc(void *, size_t);
 static long left, made;
 static int asked;
@@ -16,6 +17,7 @@ static int refused(void) {
   __sync_add_and_fetch(&made, 1);
   if (!asked) { const char *n = getenv("REFUSED_ALLOCATION"); left = n ? atol(n) : 0; asked = 1; }
   if (left <= 0 || __sync_sub_and_fetch(&left, 1) != 0) return 0;
+  if (write(2, "refused\\n", 8) < 0) return 1;
   errno = ENOMEM; /* the C library relies on it where it starts a thread */
   return 1;
 }
