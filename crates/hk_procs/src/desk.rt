@@ -33,9 +33,10 @@ pub trait Desk {
 
     /// Asks for a process for a processor that runs nothing, as the pass shows. It may wait.
     ///
-    /// Stopped exactly where the history that the pass has then seen ends with a stop. Else Over
-    /// exactly where the limit is reached, or no process is ready and none runs; else Given exactly
-    /// where a process was ready, and its dispatch is one line; else Idle. It takes no memory.
+    /// It finds a history that goes on from what the pass had seen. Stopped exactly where this ends
+    /// with a stop. Else Over exactly where the limit is reached, or no process is ready and none
+    /// runs; else Given exactly where a process is ready, and its dispatch is one line more; else
+    /// Idle. It takes no memory.
     fn ask<R: Wait>(&self, rt: &R, pass: Pass<Noted>) -> (Pass<Noted>, Asked)
         requires own { belongs self.now pass }
         requires idle { RunsNothing world (cpu_of pass) (seen_list pass) }
@@ -46,10 +47,11 @@ pub trait Desk {
     /// Makes the call or the halt that is next for the process that the processor runs. It may wait.
     ///
     /// The process and what is next are those that the pass shows, and the context is the one that
-    /// `hk_program::next` left. Stopped exactly where the history that the pass has then seen ends
-    /// with a stop. Else Limit exactly where the limit is reached. Else NoMemory only for a call that
-    /// the desk's type names: it adds this processor's stop to the history, and no line. Else one line
-    /// is made, and Gone is answered exactly where the process now waits, has yielded or has ended.
+    /// `hk_program::next` left. It finds a history that goes on from what the pass had seen. Stopped
+    /// exactly where this ends with a stop. Else Limit exactly where the limit is reached. Else
+    /// NoMemory only for a call that the desk's type names: it adds this processor's stop to the
+    /// history, and no line. Else one line is made, and Gone is answered exactly where the process now
+    /// waits, has yielded or has ended.
     fn call<R: Wait>(
         &self,
         rt: &R,
