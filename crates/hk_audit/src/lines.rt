@@ -1,15 +1,15 @@
 //! The text of an audit line (`docs/FORMATS.md`, "Audit lines and records").
 
-ghost use Rattle.std.specs.Prelude.{◌≡◌, ◌++◌, ◌∷◌, [], All, IfOk, OnOk, string_bytes};
+ghost use Rattle.std.specs.Prelude.{◌≡◌, ◌++◌, ◌∷◌, [], All, IfOk, OnOk, codes, string_bytes};
 ghost use Rattle.std.specs.Fmt.{decimal};
 ghost use Rattle.hk_format.specs.LineRanges.{IsLine, IsWhat};
-ghost use Rattle.hk_format.specs.AuditLines.{line_text, what_pieces};
+ghost use Rattle.hk_format.specs.AuditLines.{line_text, reply_pieces, what_pieces};
 ghost use Rattle.hk_format.specs.Records.{lines_text};
 ghost use Rattle.hk_format.specs.Texts.{spell_line};
 
 use crate::calls::write_call;
-use crate::replies::write_reply;
-use hk_model::{Line, NoMemory, Text, What};
+use crate::replies::write_refusal;
+use hk_model::{Line, NoMemory, Reply, Text, What};
 use hk_print::{write_next_number, write_number, write_word};
 use std::alloc::Global;
 
@@ -41,9 +41,29 @@ pub(crate) fn write_line(out: &mut String, line: &Line) -> Result<(), NoMemory>
 {
     write_actor(out, line)?;
     write_what(out, &line.what)?;
-    out.push_str(" -> ")?;
-    write_reply(out, &line.reply)?;
-    out.push('\n')?;
+    write_ending(out, &line.reply)?;
+    Ok(())
+}
+
+/// Writes an arrow, a reply and a line feed.
+#[inline(always)]
+fn write_ending(out: &mut String, reply: &Reply) -> Result<(), NoMemory>
+    ensures { OnOk result (string_bytes out.new ≡ string_bytes out.old ++ (codes " -> " ++ (spell_line (reply_pieces reply.now) ++ 10 ∷ []))) }
+{
+    match reply {
+        Reply::Done => out.push_str(" -> done\n")?,
+        Reply::Waits => out.push_str(" -> waits\n")?,
+        Reply::Word(word) => {
+            out.push_str(" -> word")?;
+            write_next_number(out, u64::from(*word))?;
+            out.push('\n')?;
+        }
+        Reply::No(refusal) => {
+            out.push_str(" -> ")?;
+            write_refusal(out, refusal)?;
+            out.push('\n')?;
+        }
+    }
     Ok(())
 }
 

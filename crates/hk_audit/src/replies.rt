@@ -1,27 +1,15 @@
 //! How replies are spelled in audit lines (`docs/FORMATS.md`, "Audit lines and records").
 
 ghost use Rattle.std.specs.Prelude.{◌≡◌, ◌++◌, ◌∷◌, [], OnOk, codes, string_bytes};
-ghost use Rattle.hk_format.specs.AuditLines.{full_word, refusal_pieces, reply_pieces};
+ghost use Rattle.hk_format.specs.AuditLines.{full_word, refusal_pieces};
 ghost use Rattle.hk_format.specs.Pieces.{Number, Word};
 ghost use Rattle.hk_format.specs.Texts.{spell_line};
 
-use hk_model::{NoMemory, Refusal, Reply, What8};
+use hk_model::{NoMemory, Refusal, What8};
 use hk_print::{write_with_one, write_with_two, write_word};
 
-/// Writes a reply.
-pub(crate) fn write_reply(out: &mut String, reply: &Reply) -> Result<(), NoMemory>
-    ensures { OnOk result (string_bytes out.new ≡ string_bytes out.old ++ spell_line (reply_pieces reply.now)) }
-{
-    match reply {
-        Reply::Done => write_word(out, "done"),
-        Reply::Word(word) => write_with_one(out, "word", word),
-        Reply::Waits => write_word(out, "waits"),
-        Reply::No(refusal) => write_refusal(out, refusal),
-    }
-}
-
 /// Writes a refusal.
-fn write_refusal(out: &mut String, refusal: &Refusal) -> Result<(), NoMemory>
+pub(crate) fn write_refusal(out: &mut String, refusal: &Refusal) -> Result<(), NoMemory>
     ensures { OnOk result (string_bytes out.new ≡ string_bytes out.old ++ spell_line (refusal_pieces refusal.now)) }
 {
     match refusal {

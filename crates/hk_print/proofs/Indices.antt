@@ -1,5 +1,5 @@
 -- The indices of a path, joined by points.
-use Rattle.std.proofs.Common.{◌≡◌, ℕ, suc, ◌+◌, ◌-◌, ◌<◌, ◌≤◌, List, [], ◌∷◌, ◌++◌, length, map, take, drop, sym, ap, ◌∙◌, append_assoc, arith}
+use Rattle.std.proofs.Common.{◌≡◌, ℕ, suc, ◌-◌, ◌<◌, List, [], ◌∷◌, ◌++◌, length, map, take, drop, sym, ap, ◌∙◌, append_assoc, arith}
 use Rattle.std.specs.Prelude.{slice_index}
 use Rattle.std.specs.List.{join_with_byte, flat_map}
 use Rattle.std.specs.Fmt.{decimal}
@@ -18,16 +18,23 @@ path_spelled : (first : ℕ) (rest : List ℕ) → spell (path_piece (first ∷ 
 path_spelled first [] = sym (append-nil (decimal first))
 path_spelled first (index ∷ rest) = indices_joined first (index ∷ rest)
 
--- all of the indices behind the first are taken
-behind_first : (rest : List ℕ) (taken : ℕ) → length rest ≤ taken → take taken (take (suc (length rest) - 1) rest) ≡ rest
-behind_first rest taken all =
+-- the indices behind the first
+behind_first : (rest : List ℕ) → take (suc (length rest) - 1) rest ≡ rest
+behind_first rest =
     let same : suc (length rest) - 1 ≡ length rest = omega arith in
-    rw (same, take_all (length rest) rest (omega arith)) (take_all taken rest all)
+    rw same (take_all (length rest) rest (omega arith))
 
 -- a path of one index at least, by its first index and the others
-pub path_whole : (path old begun new : List ℕ) (taken : ℕ) → 0 < length path → length path ≤ taken + 1 → begun ≡ old ++ decimal (slice_index path 0)
-    → new ≡ begun ++ flat_map (λ index. 46 ∷ decimal index) (take taken (take (length path - 1) (drop 1 path))) → new ≡ old ++ spell (path_piece path)
-path_whole [] old begun new taken some all b n = absurd (omega arith)
-path_whole (first ∷ rest) old begun new taken some all b n =
-    n ∙ rw (b, behind_first rest taken (omega arith)) (append_assoc old (decimal first) (flat_map (λ index. 46 ∷ decimal index) rest)
+pub path_whole : (path old begun new : List ℕ) → 0 < length path → begun ≡ old ++ decimal (slice_index path 0)
+    → new ≡ begun ++ flat_map (λ index. 46 ∷ decimal index) (take (length path - 1) (drop 1 path)) → new ≡ old ++ spell (path_piece path)
+path_whole [] old begun new some b n = absurd (omega arith)
+path_whole (first ∷ rest) old begun new some b n =
+    n ∙ rw (b, behind_first rest) (append_assoc old (decimal first) (flat_map (λ index. 46 ∷ decimal index) rest)
     ∙ ap (λ (t : List ℕ). old ++ t) (sym (path_spelled first rest)))
+
+-- the same behind a space
+pub next_path_whole : (path old begun new : List ℕ) → 0 < length path → begun ≡ old ++ 32 ∷ decimal (slice_index path 0)
+    → new ≡ begun ++ flat_map (λ index. 46 ∷ decimal index) (take (length path - 1) (drop 1 path)) → new ≡ old ++ 32 ∷ spell (path_piece path)
+next_path_whole path old begun new some b n =
+    path_whole path (old ++ 32 ∷ []) begun new some (b ∙ sym (append_assoc old (32 ∷ []) (decimal (slice_index path 0)))) n
+    ∙ append_assoc old (32 ∷ []) (spell (path_piece path))

@@ -1,11 +1,13 @@
 //! Operands of instructions and calls, each one piece of a line (`docs/FORMATS.md`, "Pieces" and
 //! "Rights").
 
-ghost use Rattle.std.specs.Prelude.{◌≡◌, ◌++◌, OnOk, string_bytes};
+ghost use Rattle.std.specs.Prelude.{◌≡◌, ◌++◌, ◌∷◌, OnOk, string_bytes};
+ghost use Rattle.std.specs.Fmt.{decimal};
+ghost use Rattle.std.specs.List.{flat_map};
 ghost use Rattle.hk_model.specs.WorldValue.{IsIndex, IsReg};
 ghost use Rattle.hk_format.specs.Pieces.{spell, spell_index, register_text};
 
-use crate::numbers::write_number;
+use crate::numbers::{write_next_operand, write_number};
 use crate::rights::write_rights;
 use hk_model::{Index, NoMemory, Operand, Path, Route, Slot};
 use hk_rights::{Right, Rights};
@@ -24,6 +26,15 @@ pub trait AsPiece {
     fn write(&self, out: &mut String) -> Result<(), NoMemory>
         requires { has_piece self.now }
         ensures { OnOk result (string_bytes out.new ≡ string_bytes out.old ++ spell (piece self.now)) };
+
+    /// Writes a space and the piece. The only error is want of memory.
+    fn write_next(&self, out: &mut String) -> Result<(), NoMemory>
+        requires { has_piece self.now }
+        ensures { OnOk result (string_bytes out.new ≡ string_bytes out.old ++ 32 ∷ spell (piece self.now)) }
+    {
+        out.push(' ')?;
+        self.write(out)
+    }
 }
 
 /// A number.
@@ -35,6 +46,11 @@ impl AsPiece for u32 {
     fn write(&self, out: &mut String) -> Result<(), NoMemory> {
         write_number(out, u64::from(*self))
     }
+
+    #[inline(always)]
+    fn write_next(&self, out: &mut String) -> Result<(), NoMemory> {
+        write_next_operand(out, u64::from(*self))
+    }
 }
 
 /// The number of a slot.
@@ -45,6 +61,11 @@ impl AsPiece for Slot {
 
     fn write(&self, out: &mut String) -> Result<(), NoMemory> {
         write_number(out, u64::from(self.0))
+    }
+
+    #[inline(always)]
+    fn write_next(&self, out: &mut String) -> Result<(), NoMemory> {
+        write_next_operand(out, u64::from(self.0))
     }
 }
 
@@ -157,12 +178,40 @@ impl AsPiece for Path {
     fn write(&self, out: &mut String) -> Result<(), NoMemory> {
         let indices = self.as_slice();
         write_number(out, u64::from(indices[0]))?;
-        for index in &indices[1..] {
-            out.push('.')?;
-            write_number(out, u64::from(*index))?;
-        }
+        write_rest(out, &indices[1..])?;
         Ok(())
     }
+
+    #[inline(always)]
+    fn write_next(&self, out: &mut String) -> Result<(), NoMemory> {
+        let indices = self.as_slice();
+        write_next_operand(out, u64::from(indices[0]))?;
+        write_rest(out, &indices[1..])?;
+        Ok(())
+    }
+}
+
+/// Writes the indices of a path behind the first, a point before each. Most paths have none.
+#[inline(always)]
+fn write_rest(out: &mut String, rest: &[u16]) -> Result<(), NoMemory>
+    ensures { OnOk result (string_bytes out.new ≡ string_bytes out.old ++ flat_map (λ index. 46 ∷ decimal index) rest.now) }
+{
+    if rest.is_empty() {
+        return Ok(());
+    }
+    write_points(out, rest)
+}
+
+/// Writes indices, a point before each.
+#[inline(never)]
+fn write_points(out: &mut String, indices: &[u16]) -> Result<(), NoMemory>
+    ensures { OnOk result (string_bytes out.new ≡ string_bytes out.old ++ flat_map (λ index. 46 ∷ decimal index) indices.now) }
+{
+    for index in indices {
+        out.push('.')?;
+        write_number(out, u64::from(*index))?;
+    }
+    Ok(())
 }
 
 /// Writes an index of a path.

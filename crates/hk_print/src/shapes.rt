@@ -15,6 +15,7 @@ use crate::rights::{write_both, write_rights};
 use hk_model::{Args, Making, NoMemory, Slot};
 
 /// Writes a word alone. The only error is want of memory.
+#[inline(always)]
 pub fn write_word(out: &mut String, word: &str) -> Result<(), NoMemory>
     ensures { OnOk result (string_bytes out.new ≡ string_bytes out.old ++ spell_line (Word word.now ∷ [])) }
 {
@@ -23,15 +24,17 @@ pub fn write_word(out: &mut String, word: &str) -> Result<(), NoMemory>
 }
 
 /// Writes a word and one piece. The only error is want of memory.
+#[inline(always)]
 pub fn write_with_one<A: AsPiece>(out: &mut String, word: &str, one: &A) -> Result<(), NoMemory>
     requires { A.has_piece one.now }
     ensures { OnOk result (string_bytes out.new ≡ string_bytes out.old ++ spell_line (Word word.now ∷ A.piece one.now ∷ [])) }
 {
     out.push_str(word)?;
-    write_next(out, one)
+    one.write_next(out)
 }
 
 /// Writes a word and two pieces. The only error is want of memory.
+#[inline(always)]
 pub fn write_with_two<A: AsPiece, B: AsPiece>(
     out: &mut String,
     word: &str,
@@ -43,11 +46,12 @@ pub fn write_with_two<A: AsPiece, B: AsPiece>(
     ensures { OnOk result (string_bytes out.new ≡ string_bytes out.old ++ spell_line (Word word.now ∷ A.piece first.now ∷ B.piece second.now ∷ [])) }
 {
     out.push_str(word)?;
-    write_next(out, first)?;
-    write_next(out, second)
+    first.write_next(out)?;
+    second.write_next(out)
 }
 
 /// Writes a word and three pieces. The only error is want of memory.
+#[inline(always)]
 pub fn write_with_three<A: AsPiece, B: AsPiece, C: AsPiece>(
     out: &mut String,
     word: &str,
@@ -61,9 +65,9 @@ pub fn write_with_three<A: AsPiece, B: AsPiece, C: AsPiece>(
     ensures { OnOk result (string_bytes out.new ≡ string_bytes out.old ++ spell_line (Word word.now ∷ A.piece first.now ∷ B.piece second.now ∷ C.piece third.now ∷ [])) }
 {
     out.push_str(word)?;
-    write_next(out, first)?;
-    write_next(out, second)?;
-    write_next(out, third)
+    first.write_next(out)?;
+    second.write_next(out)?;
+    third.write_next(out)
 }
 
 /// Writes a word, a piece, the slots of arguments and a last slot. The only error is want of memory.
@@ -79,7 +83,7 @@ pub fn write_with_arguments<A: AsPiece>(
 {
     write_with_one(out, word, of)?;
     write_slots(out, args)?;
-    write_next(out, into)
+    into.write_next(out)
 }
 
 /// Writes a word, a piece, what a template is made of and a last slot. The only error is want of
@@ -97,17 +101,7 @@ pub fn write_with_making<A: AsPiece>(
 {
     write_with_one(out, word, of)?;
     write_making(out, *making)?;
-    write_next(out, into)
-}
-
-/// Writes a space and a piece.
-#[inline(always)]
-fn write_next<A: AsPiece>(out: &mut String, piece: &A) -> Result<(), NoMemory>
-    requires { A.has_piece piece.now }
-    ensures { OnOk result (string_bytes out.new ≡ string_bytes out.old ++ 32 ∷ spell (A.piece piece.now)) }
-{
-    out.push(' ')?;
-    piece.write(out)
+    into.write_next(out)
 }
 
 /// Writes the slots of arguments, each behind a space.

@@ -104,6 +104,7 @@ impl Counts {
 
     /// Takes down all that nothing names any longer: what is left is the greatest supported set. Gives whether an object
     /// was taken away (`docs/RULES.md`, "Objects that vanish").
+    #[inline(always)]
     pub fn settle(&mut self, objects: &mut Objects) -> bool
         requires { IsCounted objects.old.slots self.old }
         ensures kept { IsKept self.old.first_new self.old.outside objects.old.slots (stands objects.new.slots) }

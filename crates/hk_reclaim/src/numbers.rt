@@ -188,6 +188,7 @@ impl Numbers {
     }
 
     /// Takes down all that nothing names any longer.
+    #[inline(always)]
     pub(crate) fn settle(&mut self, objects: &mut Objects) -> bool
         requires { IsCounted objects.old.slots self.old }
         ensures kept { IsKept self.old.first_new self.old.outside objects.old.slots (stands objects.new.slots) }

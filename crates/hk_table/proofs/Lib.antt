@@ -18,6 +18,7 @@ pub mod FramePushes
 pub mod FrameMoves
 pub mod CallMoves
 pub mod TargetLemmas
+pub mod DraftLemmas
 pub mod EndMoves
 pub mod Makings
 pub mod Restricted

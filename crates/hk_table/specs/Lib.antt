@@ -2,6 +2,7 @@ pub mod Whole
 pub mod Stacked
 pub mod Joined
 pub mod Born
+pub mod Drafts
 pub mod Giving
 pub mod Woken
 pub mod Additions

@@ -3,9 +3,9 @@
 ghost use Rattle.std.specs.Prelude.{◌≡◌, ◌<◌, ◌+◌, ◌^◌, true, not, length, IsTrue, IfOk, OnOk, OnErr};
 ghost use Rattle.hk_model.specs.declared.calls.Reply.TheVariants.{Done};
 ghost use Rattle.hk_model.specs.State.{process};
-ghost use Rattle.hk_model.specs.Processors.{is_running, may_step, code_found, entered_code};
+ghost use Rattle.hk_model.specs.Processors.{is_running, may_step, entered_code};
 ghost use Rattle.hk_model.specs.Rule.{outcome, rule, answered, settled, counted};
-ghost use Rattle.hk_model.specs.Walking.{walk};
+ghost use Rattle.hk_table.specs.Drafts.{code_drafted};
 ghost use Rattle.hk_table.specs.Giving.{Gives, WantsOnly, TakesOne, takes_memory};
 ghost use Rattle.hk_table.specs.Joined.{FewNumbers};
 ghost use Rattle.hk_table.specs.Rooms.{IsKnownRooted};
@@ -14,7 +14,7 @@ ghost use Rattle.hk_table.specs.Told.{AllNamedStand};
 use crate::draft::Draft;
 use crate::parts::Parts;
 use hk_calls::Stop;
-use hk_model::{Acted, Answer, Call, Entry, NoMemory, Path, Proc, Reply};
+use hk_model::{Acted, Answer, Call, NoMemory, Proc, Reply};
 use std::alloc::Global;
 
 /// The reply that says an answer.
@@ -25,6 +25,17 @@ fn answered(answer: Answer) -> Reply
         Answer::Done => Reply::Done,
         Answer::Word(word) => Reply::Word(word),
         Answer::Waits => Reply::Waits,
+    }
+}
+
+/// The code of the procedure that a call has entered: that of the draft, where the call is an Enter answered Done.
+#[inline(always)]
+fn code_entered(call: &Call, reply: &Reply, draft: &Draft) -> Option<u16>
+    ensures { result ≡ code_drafted call.now reply.now draft.now.code }
+{
+    match (call, reply) {
+        (Call::Enter { .. }, Reply::Done) => draft.code,
+        _ => None,
     }
 }
 
@@ -47,6 +58,7 @@ impl Parts {
         requires next_inc { self.old.next_inc.0 < 2 ^ 63 }
         requires rooted { IsKnownRooted rooted.old self.old }
         ensures row { Gives self.old (outcome self.old proc (process self.old proc).current call.now) result self.new }
+        ensures code { OnOk result (code_drafted call.now Done draft.new.code ≡ entered_code self.old (process self.old proc).current call.now Done) }
         ensures memory { WantsOnly call.now result }
         ensures rooted { OnErr result (IsKnownRooted rooted.new self.new) }
     {
@@ -79,65 +91,12 @@ impl Parts {
             Call::Yield => Ok(self.yield_up(proc)),
         }
     }
-    /// Makes a call of a process that runs: what nothing names then vanishes, where it is answered.
-    fn reply_to(
-        &mut self,
-        alloc: Global,
-        proc: Proc,
-        call: &Call,
-        draft: &mut Draft,
-        rooted: &mut bool,
-    ) -> Result<Reply, NoMemory>
-        requires known { proc.0 < length self.old.processes }
-        requires runs { is_running (process self.old proc).run ≡ true }
-        requires named { AllNamedStand self.old }
-        requires next_name { self.old.next_name.0 < 2 ^ 63 }
-        requires next_inc { self.old.next_inc.0 < 2 ^ 63 }
-        requires rooted { IsKnownRooted rooted.old self.old }
-        ensures reply { IfOk result (λ reply. settled self.old (outcome self.old proc (process self.old proc).current call.now) ≡ (reply, counted (self.old.events + 1) self.new)) }
-        ensures numbers { OnOk result (TakesOne self.old self.new) }
-        ensures memory { OnErr result (takes_memory call.now ≡ true) }
-        ensures err { OnErr result (self.new ≡ self.old) }
-        ensures rooted { IsKnownRooted rooted.new self.new }
-    {
-        match self.serve(alloc, proc, call, draft, rooted) {
-            Ok(answer) => {
-                self.settle();
-                *rooted = false;
-                Ok(answered(answer))
-            }
-            Err(Stop::Refused(refusal)) => Ok(Reply::No(refusal)),
-            Err(Stop::OutOfMemory) => Err(NoMemory),
-        }
-    }
 
-    /// The code of the procedure that a path leads to.
-    fn code_at(&mut self, proc: Proc, path: &Path) -> Option<u16>
-        requires { proc.0 < length self.old.processes }
-        ensures value { result ≡ code_found self.old (walk self.old (process self.old proc).current path.now) }
-        ensures same { self.new ≡ self.old }
-    {
-        match self.walk(proc, path) {
-            Ok(Entry::Held(cap)) => self.code_of(cap.name),
-            _ => None,
-        }
-    }
-
-    /// The code of the procedure that a call enters if it is answered Done.
-    fn code_entered(&mut self, proc: Proc, call: &Call) -> Option<u16>
-        requires { proc.0 < length self.old.processes }
-        ensures value { result ≡ entered_code self.old (process self.old proc).current call.now Done }
-        ensures same { self.new ≡ self.old }
-    {
-        match call {
-            Call::Enter { proc: path, .. } => self.code_at(proc, path),
-            _ => None,
-        }
-    }
-
-    /// Makes a call of a process that runs. It is one event, refused or not. NoMemory is want of memory of an Add, an
-    /// Append, a Copy or an Enter, and changes nothing. A call of a procedure is put together in the draft, whatever stands there.
-    /// Where `rooted` says that names lead to each object, that holds before and behind it.
+    /// Makes a call of a process that runs: what nothing names then vanishes, where it is answered. It is one event, refused or
+    /// not. NoMemory is want of memory of an Add, an Append, a Copy or an Enter, and changes nothing. A call of a procedure is put
+    /// together in the draft, whatever stands there. Where `rooted` says that names lead to each object, that holds before and
+    /// behind it.
+    #[tactic(auto, using(crate::proofs::DraftLemmas::code_answered, crate::proofs::DraftLemmas::refused_enters))]
     pub(crate) fn act(
         &mut self,
         alloc: Global,
@@ -161,13 +120,27 @@ impl Parts {
         ensures rooted { IsKnownRooted rooted.new self.new }
     {
         let events = self.next_event();
-        let code = self.code_entered(proc, call);
-        let reply = self.reply_to(alloc, proc, call, draft, rooted)?;
-        self.set_events(events);
-        Ok(Acted {
-            reply,
-            code: if reply == Reply::Done { code } else { None },
-            gone: self.rests(proc),
-        })
+        match self.serve(alloc, proc, call, draft, rooted) {
+            Ok(answer) => {
+                self.settle();
+                *rooted = false;
+                self.set_events(events);
+                let reply = answered(answer);
+                Ok(Acted {
+                    reply,
+                    code: code_entered(call, &reply, draft),
+                    gone: self.rests(proc),
+                })
+            }
+            Err(Stop::Refused(refusal)) => {
+                self.set_events(events);
+                Ok(Acted {
+                    reply: Reply::No(refusal),
+                    code: None,
+                    gone: self.rests(proc),
+                })
+            }
+            Err(Stop::OutOfMemory) => Err(NoMemory),
+        }
     }
 }

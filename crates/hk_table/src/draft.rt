@@ -3,12 +3,13 @@
 use hk_model::{Arg, Entry, Name};
 use hk_spaces::Space;
 
-/// The arguments of a call, and its name space. They stand in place for all calls of a kernel, so none lays them out anew; what
-/// they hold between calls is free.
+/// The arguments of a call, its name space, and the code of the procedure that is called. They stand in place for all calls of
+/// a kernel, so none lays them out anew; what they hold between calls is free.
 #[derive(Drop)]
 pub(crate) struct Draft {
     pub(crate) args: [Arg; 8],
     pub(crate) space: Space,
+    pub(crate) code: Option<u16>,
 }
 
 impl Draft {
@@ -21,6 +22,7 @@ impl Draft {
         Draft {
             args: [nothing; 8],
             space: Space::empty(),
+            code: None,
         }
     }
 }

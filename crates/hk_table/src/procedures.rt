@@ -1,8 +1,9 @@
 //! The calls of procedures: Enter and Leave.
 
-ghost use Rattle.std.specs.Prelude.{◌≡◌, ◌<◌, ◌≤◌, ◌+◌, ◌^◌, true, length, map, take};
+ghost use Rattle.std.specs.Prelude.{◌≡◌, ◌<◌, ◌≤◌, ◌+◌, ◌^◌, true, length, map, take, OnOk};
 ghost use Rattle.hk_model.specs.State.{incarnation, process};
-ghost use Rattle.hk_model.specs.Processors.{is_running};
+ghost use Rattle.hk_model.specs.Processors.{code_found, is_running};
+ghost use Rattle.hk_model.specs.Walking.{walk};
 ghost use Rattle.hk_model.specs.Rule.{slots_at, type_held, argument, enter_procedure, leave, returned_cap};
 ghost use Rattle.hk_table.specs.Giving.{Answers, Gives};
 ghost use Rattle.hk_table.specs.Returns.{returned_with};
@@ -65,8 +66,8 @@ impl Parts {
     }
 
     /// Enter: a new incarnation, with the merged parameters and what the procedure holds. They are put together in the draft,
-    /// whatever stands there.
-    #[tactic(auto, using(crate::proofs::TargetLemmas::target_lives), unfolding(hk_model::specs::Rule::enter_procedure))]
+    /// whatever stands there; behind a call that is answered it has the code of the procedure.
+    #[tactic(auto, using(crate::proofs::TargetLemmas::target_lives, crate::proofs::TargetLemmas::target_code), unfolding(hk_model::specs::Rule::enter_procedure))]
     pub(crate) fn enter(
         &mut self,
         proc: Proc,
@@ -77,7 +78,8 @@ impl Parts {
     ) -> Result<Answer, Stop>
         requires known { proc.0 < length self.old.processes }
         requires next { self.old.next_inc.0 < 2 ^ 63 }
-        ensures { Gives self.old (enter_procedure self.old proc (process self.old proc).current path.now args.now into) result self.new }
+        ensures row { Gives self.old (enter_procedure self.old proc (process self.old proc).current path.now args.now into) result self.new }
+        ensures code { OnOk result (draft.new.code ≡ code_found self.old (walk self.old (process self.old proc).current path.now)) }
     {
         let step = path.len() as u8;
         let into_step = step + args.len() as u8;
@@ -85,6 +87,7 @@ impl Parts {
         slot_at(into, into_step)?;
         let cap = self.target(proc, path, Wanted::Procedures, Rights::A0)?;
         let confined = !cap.rights.has(Right::UNCONF);
+        draft.code = self.code_of(cap.name);
         self.args(proc, args.as_slice(), &mut draft.args);
         draft.space.clear();
         fill_space(

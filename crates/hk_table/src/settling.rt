@@ -22,6 +22,7 @@ use hk_walk::Walker;
 
 /// The objects that nothing names vanish, one behind the other: the kept ones of each state that the slots tell are left.
 /// Whether one has gone.
+#[inline(always)]
 pub(crate) fn settle(objects: &mut Objects, counts: &mut Counts) -> bool
     requires { IsCounted objects.old.slots counts.old }
     ensures kept { (s : State) (waiting : List (List Proc)) → Tells s objects.old.slots waiting counts.old → standing (whole objects.new.slots waiting) ≡ kept_objects s }
@@ -73,6 +74,7 @@ fn forget_where(walker: &mut Walker, gone: bool)
 }
 
 /// The objects that nothing names vanish, as with `settle`; where one has gone, no walk is remembered.
+#[inline(always)]
 pub(crate) fn settle_and_forget(objects: &mut Objects, counts: &mut Counts, walker: &mut Walker)
     requires { IsCounted objects.old.slots counts.old }
     ensures kept { (s : State) (waiting : List (List Proc)) → Tells s objects.old.slots waiting counts.old → standing (whole objects.new.slots waiting) ≡ kept_objects s }

@@ -11,6 +11,7 @@ use hk_model::{Refusal, What8};
 
 impl Parts {
     /// The objects that nothing names vanish, one behind the other. It takes no memory.
+    #[inline(always)]
     pub(crate) fn settle(&mut self)
         ensures { self.new ≡ restricted self.old }
     {

@@ -36,6 +36,7 @@ fn walked_on<L: Ledger>(
 }
 
 /// A walk over the objects, by who counts no finds.
+#[inline(never)]
 fn walked(
     walker: &mut Walker,
     objects: &Objects,
@@ -52,6 +53,7 @@ fn walked(
 
 impl Parts {
     /// The entry at a path's first index, which is a slot.
+    #[inline(always)]
     fn first_entry(&self, proc: Proc, at: u16) -> Result<Entry, Refusal>
         requires { proc.0 < length self.now.processes }
         ensures { result ≡ item_at (incarnation self.now (process self.now proc).current).slots at 0 }
@@ -63,6 +65,7 @@ impl Parts {
     }
 
     /// What the rest of a path leads to, from an entry.
+    #[inline(always)]
     fn walk_on(&mut self, first: Entry, rest: &[u16]) -> Result<Entry, Refusal>
         requires { length rest.now ≤ 7 }
         ensures value { result ≡ walk_on self.old first rest.now 0 }
@@ -81,6 +84,7 @@ impl Parts {
     ///
     /// `Range` where an index is past its list; `Empty`, `NotCap` and `Denied` where the walk would go on through what is no
     /// capability with LOAD, or would take a template without ENV.
+    #[inline(always)]
     pub(crate) fn walk(&mut self, proc: Proc, path: &Path) -> Result<Entry, Refusal>
         requires { proc.0 < length self.old.processes }
         ensures value { result ≡ walk self.old (process self.old proc).current path.now }
