@@ -1,12 +1,12 @@
 //! The calls, each handed to its row.
 
-ghost use Rattle.std.specs.Prelude.{◌≡◌, ◌<◌, ◌+◌, ◌^◌, true, not, length, IsTrue, IfOk, OnOk, OnErr};
+ghost use Rattle.std.specs.Prelude.{◌≡◌, ◌<◌, ◌^◌, true, not, length, IsTrue, IfOk, OnOk, OnErr};
 ghost use Rattle.hk_model.specs.declared.calls.Reply.TheVariants.{Done};
 ghost use Rattle.hk_model.specs.State.{process};
 ghost use Rattle.hk_model.specs.Processors.{is_running, may_step, entered_code};
-ghost use Rattle.hk_model.specs.Rule.{outcome, rule, answered, settled, counted};
+ghost use Rattle.hk_model.specs.Rule.{outcome, rule, answered};
 ghost use Rattle.hk_table.specs.Drafts.{code_drafted};
-ghost use Rattle.hk_table.specs.Giving.{Gives, WantsOnly, TakesOne, takes_memory};
+ghost use Rattle.hk_table.specs.Giving.{Gives, WantsOnly, takes_memory};
 ghost use Rattle.hk_table.specs.Joined.{FewNumbers};
 ghost use Rattle.hk_table.specs.Rooms.{IsKnownRooted};
 ghost use Rattle.hk_table.specs.Told.{AllNamedStand};
