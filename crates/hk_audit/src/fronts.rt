@@ -15,7 +15,7 @@ ghost use Rattle.hk_format.specs.Texts.{spell_line};
 ghost use Rattle.hk_audit.specs.ThreeDigits.{three_digits};
 
 use crate::reading::behind;
-use crate::replies::kind_name;
+use crate::refusals::kind_name;
 use hk_model::{Args, Call, Line, Path, Refusal, Reply, Slot, What, What8};
 use hk_rights::Right;
 

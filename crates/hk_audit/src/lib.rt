@@ -19,7 +19,7 @@ mod reader;
 mod reading;
 mod record_lines;
 mod records;
-mod replies;
+mod refusals;
 mod rights;
 mod scripts;
 mod wanted;

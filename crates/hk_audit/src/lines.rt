@@ -8,7 +8,7 @@ ghost use Rattle.hk_format.specs.Records.{lines_text};
 ghost use Rattle.hk_format.specs.Texts.{spell_line};
 
 use crate::calls::write_call;
-use crate::replies::write_refusal;
+use crate::refusals::write_refusal;
 use hk_model::{Line, NoMemory, Reply, Text, What};
 use hk_print::{write_next_number, write_number, write_word};
 use std::alloc::Global;

@@ -1,11 +1,11 @@
--- The last digit of a number, and those before it; and letters that are ASCII.
+-- The last digit of a number, and those before it; and bytes that are ASCII.
 use Rattle.std.proofs.Common.{◌≡◌, ◌∙◌, ℕ, ◌+◌, ◌<◌, ◌≤◌, ◌/◌, ◌%◌, List, [], ◌∷◌, ◌++◌, ap, arith}
 use Rattle.std.specs.Fmt.{decimal}
 use Rattle.std.specs.Str.{IsAscii, IsUtf8}
 use Rattle.std.proofs.lemmas.Fmt.{decimal_digit, decimal_step}
 use Rattle.std.proofs.lemmas.Str.{IsUtf8-from_ascii}
 
-pub last_digit : (n : ℕ) → 10 ≤ n → n < 1000 → decimal n ≡ decimal (n / 10) ++ (48 + n % 10) ∷ []
+last_digit : (n : ℕ) → 10 ≤ n → n < 1000 → decimal n ≡ decimal (n / 10) ++ (48 + n % 10) ∷ []
 last_digit n more few = decimal_step n more (omega (arith, few))
 
 pub two_digits : (n : ℕ) → 10 ≤ n → n < 100 → decimal n ≡ (48 + n / 10) ∷ (48 + n % 10) ∷ []
@@ -22,5 +22,5 @@ three_digits n more few =
     front_is : decimal (n / 10) ≡ (48 + n / 100) ∷ (48 + n / 10 % 10) ∷ []
     front_is = two_digits (n / 10) (omega (arith, more)) (omega (arith, few)) ∙ ap (λ (d : ℕ). (48 + d) ∷ (48 + n / 10 % 10) ∷ []) (by_hundred n)
 
-pub letters_are_text : (letters : List ℕ) → IsAscii letters → IsUtf8 letters
-letters_are_text letters ascii = IsUtf8-from_ascii letters ascii
+pub ascii_is_text : (bytes : List ℕ) → IsAscii bytes → IsUtf8 bytes
+ascii_is_text bytes ascii = IsUtf8-from_ascii bytes ascii

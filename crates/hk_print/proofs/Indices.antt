@@ -25,7 +25,7 @@ behind_first rest =
     rw same (take_all (length rest) rest (omega arith))
 
 -- a path of one index at least, by its first index and the others
-pub path_whole : (path old begun new : List ℕ) → 0 < length path → begun ≡ old ++ decimal (slice_index path 0)
+path_whole : (path old begun new : List ℕ) → 0 < length path → begun ≡ old ++ decimal (slice_index path 0)
     → new ≡ begun ++ flat_map (λ index. 46 ∷ decimal index) (take (length path - 1) (drop 1 path)) → new ≡ old ++ spell (path_piece path)
 path_whole [] old begun new some b n = absurd (omega arith)
 path_whole (first ∷ rest) old begun new some b n =

@@ -1,7 +1,7 @@
 //! Numbers as decimal digits (`docs/FORMATS.md`, "Pieces").
 //!
-//! Most numbers of a record have up to three digits. These, and the space before them, are put together first, so that
-//! the text asks once whether it has room.
+//! Most numbers have up to three digits. Two or three digits, and the space before them, are put together first, so that the
+//! text asks once whether it has room; a digit alone is written as it is.
 
 ghost use Rattle.std.specs.Prelude.{◌≡◌, ◌++◌, ◌∷◌, ◌<◌, ◌≤◌, ◌+◌, OnOk, string_bytes};
 ghost use Rattle.std.specs.Fmt.{decimal};
@@ -33,7 +33,8 @@ pub fn write_next_number(out: &mut String, n: u64) -> Result<(), NoMemory>
     write_next_longer(out, n)
 }
 
-/// The same for an operand, which stands apart, since a line may have several and of many kinds.
+/// Writes a space and the number of an operand. It stands apart, since a line may have several operands, of many kinds, and
+/// each would lay it in. The only error is want of memory.
 #[inline(never)]
 pub(crate) fn write_next_operand(out: &mut String, n: u64) -> Result<(), NoMemory>
     ensures { OnOk result (string_bytes out.new ≡ string_bytes out.old ++ 32 ∷ decimal n) }
@@ -41,7 +42,7 @@ pub(crate) fn write_next_operand(out: &mut String, n: u64) -> Result<(), NoMemor
     write_next_number(out, n)
 }
 
-/// Writes a number of more than one digit, which stands apart.
+/// Writes a number of more than one digit. It stands apart, since most callers lay in the case of one digit.
 #[tactic(auto, using(crate::proofs::Digits::two_digits, crate::proofs::Digits::three_digits))]
 #[inline(never)]
 fn write_longer(out: &mut String, n: u64) -> Result<(), NoMemory>
@@ -49,16 +50,16 @@ fn write_longer(out: &mut String, n: u64) -> Result<(), NoMemory>
     ensures { OnOk result (string_bytes out.new ≡ string_bytes out.old ++ decimal n) }
 {
     if n < 100 {
-        return write_letters(out, &[digit(n / 10), digit(n % 10)]);
+        return write_ascii(out, &[digit(n / 10), digit(n % 10)]);
     }
     if n < 1000 {
-        let letters = [digit(n / 100), digit(n / 10 % 10), digit(n % 10)];
-        return write_letters(out, &letters);
+        let bytes = [digit(n / 100), digit(n / 10 % 10), digit(n % 10)];
+        return write_ascii(out, &bytes);
     }
-    write_any(out, n)
+    write_long(out, n)
 }
 
-/// Writes a space and a number of more than one digit, which stands apart.
+/// Writes a space and a number of more than one digit. It stands apart, as `write_longer` does.
 #[tactic(auto, using(crate::proofs::Digits::two_digits, crate::proofs::Digits::three_digits))]
 #[inline(never)]
 fn write_next_longer(out: &mut String, n: u64) -> Result<(), NoMemory>
@@ -66,19 +67,19 @@ fn write_next_longer(out: &mut String, n: u64) -> Result<(), NoMemory>
     ensures { OnOk result (string_bytes out.new ≡ string_bytes out.old ++ 32 ∷ decimal n) }
 {
     if n < 100 {
-        return write_letters(out, &[b' ', digit(n / 10), digit(n % 10)]);
+        return write_ascii(out, &[b' ', digit(n / 10), digit(n % 10)]);
     }
     if n < 1000 {
-        let letters = [b' ', digit(n / 100), digit(n / 10 % 10), digit(n % 10)];
-        return write_letters(out, &letters);
+        let bytes = [b' ', digit(n / 100), digit(n / 10 % 10), digit(n % 10)];
+        return write_ascii(out, &bytes);
     }
     out.push(' ')?;
-    write_any(out, n)
+    write_long(out, n)
 }
 
-/// Writes a number of any length.
+/// Writes a number of any length. It stands apart, since few numbers come to it.
 #[inline(never)]
-fn write_any(out: &mut String, n: u64) -> Result<(), NoMemory>
+fn write_long(out: &mut String, n: u64) -> Result<(), NoMemory>
     ensures { OnOk result (string_bytes out.new ≡ string_bytes out.old ++ decimal n) }
 {
     let mut digits = Buffer::new();
@@ -106,13 +107,13 @@ fn digit(n: u64) -> u8
     b'0' + n as u8
 }
 
-/// Writes letters that are ASCII.
-#[tactic(auto, using(crate::proofs::Digits::letters_are_text))]
+/// Writes bytes that are ASCII.
+#[tactic(auto, using(crate::proofs::Digits::ascii_is_text))]
 #[inline(always)]
-fn write_letters(out: &mut String, letters: &[u8]) -> Result<(), NoMemory>
-    requires { IsAscii letters.now }
-    ensures { OnOk result (string_bytes out.new ≡ string_bytes out.old ++ letters.now) }
+fn write_ascii(out: &mut String, bytes: &[u8]) -> Result<(), NoMemory>
+    requires { IsAscii bytes.now }
+    ensures { OnOk result (string_bytes out.new ≡ string_bytes out.old ++ bytes.now) }
 {
-    out.push_str(unsafe { str::from_utf8_unchecked(letters) })?;
+    out.push_str(unsafe { str::from_utf8_unchecked(bytes) })?;
     Ok(())
 }

@@ -8,7 +8,7 @@ ghost use Rattle.hk_model.specs.WorldValue.{IsIndex, IsReg};
 ghost use Rattle.hk_format.specs.Pieces.{spell, spell_index, register_text};
 
 use crate::numbers::{write_next_operand, write_number};
-use crate::rights::write_rights;
+use crate::rights::write_next_rights;
 use hk_model::{Index, NoMemory, Operand, Path, Route, Slot};
 use hk_rights::{Right, Rights};
 
@@ -22,19 +22,10 @@ pub trait AsPiece {
     /// The piece of each.
     ghost piece: { Self → Piece };
 
-    /// Writes the piece. The only error is want of memory.
-    fn write(&self, out: &mut String) -> Result<(), NoMemory>
-        requires { has_piece self.now }
-        ensures { OnOk result (string_bytes out.new ≡ string_bytes out.old ++ spell (piece self.now)) };
-
     /// Writes a space and the piece. The only error is want of memory.
     fn write_next(&self, out: &mut String) -> Result<(), NoMemory>
         requires { has_piece self.now }
-        ensures { OnOk result (string_bytes out.new ≡ string_bytes out.old ++ 32 ∷ spell (piece self.now)) }
-    {
-        out.push(' ')?;
-        self.write(out)
-    }
+        ensures { OnOk result (string_bytes out.new ≡ string_bytes out.old ++ 32 ∷ spell (piece self.now)) };
 }
 
 /// A number.
@@ -42,10 +33,6 @@ impl AsPiece for u32 {
     ghost use Rattle.hk_format.specs.Pieces.{Number};
 
     ghost piece = { Number };
-
-    fn write(&self, out: &mut String) -> Result<(), NoMemory> {
-        write_number(out, u64::from(*self))
-    }
 
     #[inline(always)]
     fn write_next(&self, out: &mut String) -> Result<(), NoMemory> {
@@ -58,10 +45,6 @@ impl AsPiece for Slot {
     ghost use Rattle.hk_format.specs.Operands.{slot_piece};
 
     ghost piece = { slot_piece };
-
-    fn write(&self, out: &mut String) -> Result<(), NoMemory> {
-        write_number(out, u64::from(self.0))
-    }
 
     #[inline(always)]
     fn write_next(&self, out: &mut String) -> Result<(), NoMemory> {
@@ -76,7 +59,8 @@ impl AsPiece for Right {
 
     ghost piece = { λ right. Upper (name_of right) };
 
-    fn write(&self, out: &mut String) -> Result<(), NoMemory> {
+    fn write_next(&self, out: &mut String) -> Result<(), NoMemory> {
+        out.push(' ')?;
         out.push_str(self.name())?;
         Ok(())
     }
@@ -89,8 +73,8 @@ impl AsPiece for Rights {
 
     ghost piece = { rights_set_piece };
 
-    fn write(&self, out: &mut String) -> Result<(), NoMemory> {
-        write_rights(out, *self)
+    fn write_next(&self, out: &mut String) -> Result<(), NoMemory> {
+        write_next_rights(out, *self)
     }
 }
 
@@ -107,7 +91,8 @@ impl AsPiece for Register {
 
     ghost piece = { λ register. register_piece register.0 };
 
-    fn write(&self, out: &mut String) -> Result<(), NoMemory> {
+    fn write_next(&self, out: &mut String) -> Result<(), NoMemory> {
+        out.push(' ')?;
         write_register(out, self.0)
     }
 }
@@ -121,10 +106,13 @@ impl AsPiece for Operand {
 
     ghost piece = { operand_piece };
 
-    fn write(&self, out: &mut String) -> Result<(), NoMemory> {
+    fn write_next(&self, out: &mut String) -> Result<(), NoMemory> {
         match self {
-            Operand::Number(number) => write_number(out, u64::from(*number)),
-            Operand::Reg(reg) => write_register(out, *reg),
+            Operand::Number(number) => write_next_operand(out, u64::from(*number)),
+            Operand::Reg(reg) => {
+                out.push(' ')?;
+                write_register(out, *reg)
+            }
         }
     }
 }
@@ -140,8 +128,8 @@ impl AsPiece for Target {
 
     ghost piece = { λ target. Word (label_text target.0) };
 
-    fn write(&self, out: &mut String) -> Result<(), NoMemory> {
-        out.push('l')?;
+    fn write_next(&self, out: &mut String) -> Result<(), NoMemory> {
+        out.push_str(" l")?;
         write_number(out, u64::from(self.0))
     }
 }
@@ -155,7 +143,8 @@ impl AsPiece for Route {
 
     ghost piece = { route_piece };
 
-    fn write(&self, out: &mut String) -> Result<(), NoMemory> {
+    fn write_next(&self, out: &mut String) -> Result<(), NoMemory> {
+        out.push(' ')?;
         let mut separator = "";
         for index in self.at.as_slice() {
             out.push_str(separator)?;
@@ -175,13 +164,6 @@ impl AsPiece for Path {
 
     ghost piece = { path_piece };
 
-    fn write(&self, out: &mut String) -> Result<(), NoMemory> {
-        let indices = self.as_slice();
-        write_number(out, u64::from(indices[0]))?;
-        write_rest(out, &indices[1..])?;
-        Ok(())
-    }
-
     #[inline(always)]
     fn write_next(&self, out: &mut String) -> Result<(), NoMemory> {
         let indices = self.as_slice();
@@ -199,12 +181,12 @@ fn write_rest(out: &mut String, rest: &[u16]) -> Result<(), NoMemory>
     if rest.is_empty() {
         return Ok(());
     }
-    write_points(out, rest)
+    write_indices(out, rest)
 }
 
 /// Writes indices, a point before each.
 #[inline(never)]
-fn write_points(out: &mut String, indices: &[u16]) -> Result<(), NoMemory>
+fn write_indices(out: &mut String, indices: &[u16]) -> Result<(), NoMemory>
     ensures { OnOk result (string_bytes out.new ≡ string_bytes out.old ++ flat_map (λ index. 46 ∷ decimal index) indices.now) }
 {
     for index in indices {

@@ -35,14 +35,20 @@ pub fn write_rights(out: &mut String, rights: Rights) -> Result<(), NoMemory>
     write_names(out, rights)
 }
 
+/// Writes a space and the canonical spelling of a set.
+pub(crate) fn write_next_rights(out: &mut String, rights: Rights) -> Result<(), NoMemory>
+    ensures { OnOk result (string_bytes out.new ≡ string_bytes out.old ++ 32 ∷ rights_text rights) }
+{
+    out.push(' ')?;
+    write_rights(out, rights)
+}
+
 /// Writes what is checked and what is given, a space before each.
 pub(crate) fn write_both(out: &mut String, check: Rights, give: Rights) -> Result<(), NoMemory>
     ensures { OnOk result (string_bytes out.new ≡ string_bytes out.old ++ 32 ∷ (rights_text check ++ 32 ∷ rights_text give)) }
 {
-    out.push(' ')?;
-    write_rights(out, check)?;
-    out.push(' ')?;
-    write_rights(out, give)
+    write_next_rights(out, check)?;
+    write_next_rights(out, give)
 }
 
 /// Writes the names of the rights of a set, by rising number and joined by `+`.

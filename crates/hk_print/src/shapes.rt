@@ -6,7 +6,7 @@ ghost use Rattle.std.specs.List.{flat_map};
 ghost use Rattle.std.specs.Fmt.{decimal};
 ghost use Rattle.hk_format.specs.AuditLines.{making_pieces};
 ghost use Rattle.hk_format.specs.Operands.{argument_pieces, slot_piece};
-ghost use Rattle.hk_format.specs.Pieces.{spell, Word};
+ghost use Rattle.hk_format.specs.Pieces.{Word};
 ghost use Rattle.hk_format.specs.Texts.{spell_line};
 
 use crate::numbers::write_next_number;

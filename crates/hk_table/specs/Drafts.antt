@@ -1,4 +1,4 @@
--- What a draft tells once a call is answered. docs/RULES.md, "Calls of procedures".
+-- The code that a draft tells, by the reply to its call. docs/RULES.md, "Steps of processors".
 use Rattle.std.specs.Prelude.{ℕ, Option, None}
 use Rattle.hk_model.specs.declared.calls.Call.{Call}
 use Rattle.hk_model.specs.declared.calls.Call.TheVariants as call

@@ -41,9 +41,10 @@ fn code_entered(call: &Call, reply: &Reply, draft: &Draft) -> Option<u16>
 
 impl Parts {
     /// What a call of a process that runs does, before objects vanish and the event is counted. Only Add, Append, Copy and
-    /// Enter may want memory. What `rooted` says, that names lead to each object, still holds where it is refused.
+    /// Enter may want memory. What `rooted` says, that names lead to each object, still holds where it is refused. Where an Enter
+    /// is answered, the draft has the code that it enters.
     #[tactic(auto, using(crate::proofs::Wanting::wants_any))]
-    pub(crate) fn serve(
+    fn serve(
         &mut self,
         alloc: Global,
         proc: Proc,
@@ -96,7 +97,7 @@ impl Parts {
     /// not. NoMemory is want of memory of an Add, an Append, a Copy or an Enter, and changes nothing. A call of a procedure is put
     /// together in the draft, whatever stands there. Where `rooted` says that names lead to each object, that holds before and
     /// behind it.
-    #[tactic(auto, using(crate::proofs::DraftLemmas::code_answered, crate::proofs::DraftLemmas::refused_enters))]
+    #[tactic(auto, using(crate::proofs::DraftLemmas::code_answered, crate::proofs::DraftLemmas::refused_drafts))]
     pub(crate) fn act(
         &mut self,
         alloc: Global,

@@ -66,7 +66,7 @@ impl Parts {
     }
 
     /// Enter: a new incarnation, with the merged parameters and what the procedure holds. They are put together in the draft,
-    /// whatever stands there; behind a call that is answered it has the code of the procedure.
+    /// whatever stands there. Where the call is answered, the draft has the code of the procedure.
     #[tactic(auto, using(crate::proofs::TargetLemmas::target_lives, crate::proofs::TargetLemmas::target_code), unfolding(hk_model::specs::Rule::enter_procedure))]
     pub(crate) fn enter(
         &mut self,

@@ -35,7 +35,7 @@ fn walked_on<L: Ledger>(
     walker.walk(objects, *from, rest, &mut steps)
 }
 
-/// A walk over the objects, by who counts no finds.
+/// A walk over the objects, by who counts no finds. It stands apart, since a path of one index makes none.
 #[inline(never)]
 fn walked(
     walker: &mut Walker,

@@ -4,7 +4,7 @@ use denote.Text.{Utf8}
 use denote.Shadow.{shadow}
 use Rattle.hk_format.specs.Pieces.{spell_index}
 use Rattle.hk_print.proofs.Joined.{separator}
-use Rattle.hk_print.proofs.operands.RouteAsPiece.write.Given as goal
+use Rattle.hk_print.proofs.operands.RouteAsPiece.write_next.Given as goal
 
 abbrev pub invariant-loop-index : goal.invariant-loop-index
 invariant-loop-index l = record {

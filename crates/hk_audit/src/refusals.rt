@@ -1,4 +1,4 @@
-//! How replies are spelled in audit lines (`docs/FORMATS.md`, "Audit lines and records").
+//! How refusals are spelled in audit lines (`docs/FORMATS.md`, "Audit lines and records").
 
 ghost use Rattle.std.specs.Prelude.{◌≡◌, ◌++◌, ◌∷◌, [], OnOk, codes, string_bytes};
 ghost use Rattle.hk_format.specs.AuditLines.{full_word, refusal_pieces};
