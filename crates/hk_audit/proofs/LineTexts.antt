@@ -99,15 +99,8 @@ line_body-parts line =
     ∙ ap (λ t. (decimal line.cpu.0 ++ (32 ∷ (decimal line.proc.0 ++ (32 ∷ (decimal line.inc.0 ++ (32 ∷ spell_line (what_pieces line.what))))))) ++ (32 ∷ t))
     (join-cons 32 arrow (map spell (reply_pieces line.reply)) (reply_some line.reply))
 
--- a line that is written piece by piece
-pub written_line : (line : Line) (old numbers said pointed replied new : List ℕ)
-    → numbers ≡ old ++ (decimal line.cpu.0 ++ (32 ∷ (decimal line.proc.0 ++ (32 ∷ (decimal line.inc.0 ++ (32 ∷ [])))))) → said ≡ numbers ++ spell_line (what_pieces line.what)
-    → pointed ≡ said ++ (32 ∷ 45 ∷ 62 ∷ 32 ∷ [])
-    → replied ≡ pointed ++ spell_line (reply_pieces line.reply) → new ≡ replied ++ (10 ∷ []) → new ≡ old ++ line_text line
-written_line line old numbers said pointed replied new a b c d e = rw (e, d, c, b, a, line_body-parts line) (simp append_assoc refl)
-
--- the same, where the arrow, the reply and the line feed are written together
-pub ended_line_written : (line : Line) (old numbers said new : List ℕ)
+-- a line that is written piece by piece: who acts, what happened, and the end
+pub written_line : (line : Line) (old numbers said new : List ℕ)
     → numbers ≡ old ++ (decimal line.cpu.0 ++ (32 ∷ (decimal line.proc.0 ++ (32 ∷ (decimal line.inc.0 ++ (32 ∷ [])))))) → said ≡ numbers ++ spell_line (what_pieces line.what)
     → new ≡ said ++ (32 ∷ 45 ∷ 62 ∷ 32 ∷ (spell_line (reply_pieces line.reply) ++ 10 ∷ [])) → new ≡ old ++ line_text line
-ended_line_written line old numbers said new a b c = rw (c, b, a, line_body-parts line) (simp append_assoc refl)
+written_line line old numbers said new a b c = rw (c, b, a, line_body-parts line) (simp append_assoc refl)

@@ -65,7 +65,7 @@ with_arguments w path args into bytes slots last rest front middle back =
     ap (λ (t : List ℕ). (w ++ 32 ∷ t) ++ rest) (sym (slots_spelled p args into)) ∙ parts_joined w p f (32 ∷ decimal into.0) rest
     ∙ ap (λ (t : List ℕ). (w ++ 32 ∷ p) ++ (f ++ t)) back ∙ ap (λ (t : List ℕ). (w ++ 32 ∷ p) ++ t) middle ∙ front
 
-line_joined : (a b c d e rest : List ℕ) → ((((a ++ b) ++ c) ++ d) ++ e) ++ rest ≡ a ++ (b ++ (c ++ (d ++ (e ++ rest))))
+line_joined : (a b c d e rest : List ℕ) → ((a ++ b) ++ (c ++ (d ++ e))) ++ rest ≡ a ++ (b ++ (c ++ (d ++ (e ++ rest))))
 line_joined a b c d e rest = simp append_assoc
 
 -- the end of a line: the arrow, the reply and the line feed
@@ -85,8 +85,7 @@ whole_line line bytes said pointed rest a b c =
     let what = spell_line (what_pieces line.what) in
     let arrow : List ℕ = 32 ∷ 45 ∷ 62 ∷ 32 ∷ [] in
     let reply = spell_line (reply_pieces line.reply) in
-    sym (ap (λ (t : List ℕ). t ++ rest) (written_line line [] actor (actor ++ what) ((actor ++ what) ++ arrow) (((actor ++ what) ++ arrow) ++ reply)
-    ((((actor ++ what) ++ arrow) ++ reply) ++ 10 ∷ []) refl refl refl refl refl))
+    sym (ap (λ (t : List ℕ). t ++ rest) (written_line line [] actor (actor ++ what) ((actor ++ what) ++ (arrow ++ (reply ++ 10 ∷ []))) refl refl refl))
     ∙ line_joined actor what arrow reply (10 ∷ []) rest
     ∙ ap (λ (t : List ℕ). actor ++ (what ++ t)) c
     ∙ ap (λ (t : List ℕ). actor ++ t) b

@@ -1,5 +1,5 @@
-use Rattle.hk_audit.proofs.LineTexts.{ended_line_written}
+use Rattle.hk_audit.proofs.LineTexts.{written_line}
 use Rattle.hk_audit.proofs.lines.write_line.Goals as goal
 
 pub returns : goal.returns
-returns c = ended_line_written c.args.line.now _ _ _ _ c.in_ok-write_actor.ensures c.in_ok-write_what.ensures c.in_ok-write_ending.ensures
+returns c = written_line c.args.line.now _ _ _ _ c.in_ok-write_actor.ensures c.in_ok-write_what.ensures c.in_ok-write_ending.ensures
