@@ -81,10 +81,10 @@ module _ (made : Name → Bool) (told : Name → Option ℕ) where
   abbrev pub LeadsOn : ℕ → Span → Type 0
   LeadsOn m s = nat_lt m s.until ≡ true → IsBy (told s.cap.name) (later m s.from)
 
-  leads_on : (m : ℕ) (s : Span) → IsByThen (told s.cap.name) (goes_on First (Some m) s) → LeadsOn m s
+  pub leads_on : (m : ℕ) (s : Span) → IsByThen (told s.cap.name) (goes_on First (Some m) s) → LeadsOn m s
   leads_on m s h e = subst (λ (b : Bool). IsByThen (told s.cap.name) (cond b (Some (later m s.from)) None)) e h
 
-  ended_at : (m t : ℕ) (s : Span) → m ≤ t → nat_lt m s.until ≡ false → nat_lt (later t s.from) s.until ≡ false
+  pub ended_at : (m t : ℕ) (s : Span) → m ≤ t → nat_lt m s.until ≡ false → nat_lt (later t s.from) s.until ≡ false
   ended_at m t s l e = let x = ltb-false m s.until e in let y = later_from t s.from in le-ltb (later t s.from) s.until (omega (arith, l, x, y))
 
   open_at : (m t : ℕ) (s : Span) → m ≤ t → nat_lt (later t s.from) s.until ≡ true → nat_lt m s.until ≡ true
@@ -96,7 +96,7 @@ module _ (made : Name → Bool) (told : Name → Option ℕ) where
   LeadsTo None = Unit {0}
   LeadsTo (Some onward) = IsBy (told onward.to.name) onward.to.moment
 
-  where_it_is : (b : Bool) (onward : Onward) → (b ≡ true → LeadsTo (Some onward)) → LeadsTo (cond b (Some onward) None)
+  pub where_it_is : (b : Bool) (onward : Onward) → (b ≡ true → LeadsTo (Some onward)) → LeadsTo (cond b (Some onward) None)
   where_it_is true onward h = h refl
   where_it_is false onward h = tt
 
@@ -109,7 +109,7 @@ module _ (made : Name → Bool) (told : Name → Option ℕ) where
       by true = h
       by false = g
 
-  second : (a b : Bool) → (a && b) ≡ true → b ≡ true
+  pub second : (a b : Bool) → (a && b) ≡ true → b ≡ true
   second true b h = h
   second false b h = absurd (true≢false (sym h))
 
@@ -117,7 +117,7 @@ module _ (made : Name → Bool) (told : Name → Option ℕ) where
   first_of true b h = refl
   first_of false b h = h
 
-  arrives : (m : ℕ) (from : Arrived) (s : Span) → m ≤ from.moment → LeadsOn m s → nat_lt (later from.moment s.from) s.until ≡ true → IsBy (told s.cap.name) (later from.moment s.from)
+  pub arrives : (m : ℕ) (from : Arrived) (s : Span) → m ≤ from.moment → LeadsOn m s → nat_lt (later from.moment s.from) s.until ≡ true → IsBy (told s.cap.name) (later from.moment s.from)
   arrives m from s le h e =
       by_later (told s.cap.name) (later m s.from) (later from.moment s.from) (h (open_at m from.moment s le e)) (later_more m from.moment s.from le)
 

@@ -45,10 +45,12 @@ use Rattle.hk_report.specs.Histories.{history_of, told_histories}
 use Rattle.hk_report.specs.Hops.{is_made}
 use Rattle.hk_report.specs.Runs.{AreRearranged}
 use Rattle.hk_report.specs.Searches.{direct_param, IsFoundBy, IsFound}
+use Rattle.hk_report.specs.Fronts.{IsKeptFirst}
 use Rattle.hk_report.specs.Reasons.{params_at, IsReasonedBy, IsTold, AreTold, AreFew}
 use Rattle.hk_report.proofs.Listed.{changer_lives, live_numbered, changes_found, families_end, doings_few}
 use Rattle.hk_report.proofs.Spans.{has_all, SpansTell}
 use Rattle.hk_report.proofs.Found.{found_direct, found_behind}
+use Rattle.hk_report.proofs.FrontLemmas.{LeastKept, kept_least}
 use Rattle.hk_report.proofs.Replays.{spans_told}
 use Rattle.hk_report.proofs.Makers.{made_is}
 use Rattle.hk_report.proofs.Rearranged.{tells_after, made_after}
@@ -262,11 +264,26 @@ module _ (w : WorldValue) (lines : List Line) (steps : AreStepsOf w lines) where
                     (params_stand b.under.moment b.under.call) e reach g,
               )
 
+      least_kept : (reach : Reach) → made b.object ≡ false → IsKeptFirst test H b.under.moment (map cap_of params) b.object b.moment reach → IsLeast reach
+      least_kept reach none h = subst IsLeast (sym l.is) (none, l.least)
+        where
+          by_then : b.under.moment ≤ length lines
+          by_then = let x = begun in let y = by_end in omega (arith, x, y)
+
+          l : LeastKept (state_at w lines) made test test_is H (length lines) tells listed_named b.under.moment by_then params (params_stand b.under.moment b.under.call)
+              b.moment b.object reach
+          l =
+              kept_least (state_at w lines) made test test_is H (length lines) tells listed_named b.under.moment by_then params
+              (params_stand b.under.moment b.under.call) b.object b.moment reach by_end h
+
       reason_is : (reach : Reach) (m : Bool) → test b.object ≡ m → IsReasonedBy F H P (told_change b) reach m → IsLeast reach
       reason_is reach true e h = subst IsLeast (sym h) (sym (test_is b.object) ∙ e)
-      reason_is reach false e h =
+      reason_is reach false e (inl h) =
           least_found reach (sym (test_is b.object) ∙ e)
           (subst (λ (ps : List (Option Cap)). IsFound test H b.object (b.moment + 1) b.under.moment ps reach) (params_are b.under.moment b.under.call known.call.is) h)
+      reason_is reach false e (inr h) =
+          least_kept reach (sym (test_is b.object) ∙ e)
+          (subst (λ (ps : List (Option Cap)). IsKeptFirst test H b.under.moment ps b.object b.moment reach) (params_are b.under.moment b.under.call known.call.is) h)
 
       explained_one : (change : Change) → IsTold F H P (told_change b) change → IsExplained w lines b change
       explained_one change h = record { line = h.line; under = h.under; object = h.object; reason = reason_is change.reach (test b.object) refl h.reason }

@@ -16,19 +16,19 @@ use Rattle.hk_report.proofs.HistoryLemmas.{name_is}
 -- ---- one run more is kept
 
 module _ {X : Type 0} where
-  set_same : (all : List (List X)) (n : ℕ) (xs : List X) → n < length all → slice_index_or (slice_set all n xs) n [] ≡ xs
+  pub set_same : (all : List (List X)) (n : ℕ) (xs : List X) → n < length all → slice_index_or (slice_set all n xs) n [] ≡ xs
   set_same [] n xs l = absurd (omega (arith, l))
   set_same (ys ∷ all) zero xs l = refl
   set_same (ys ∷ all) (suc n) xs l = set_same all n xs (omega (arith, l))
 
-  set_other : (all : List (List X)) (n m : ℕ) (xs : List X) → (n == m) ≡ false → slice_index_or (slice_set all n xs) m [] ≡ slice_index_or all m []
+  pub set_other : (all : List (List X)) (n m : ℕ) (xs : List X) → (n == m) ≡ false → slice_index_or (slice_set all n xs) m [] ≡ slice_index_or all m []
   set_other [] n m xs e = refl
   set_other (ys ∷ all) zero zero xs e = absurd (true≢false e)
   set_other (ys ∷ all) zero (suc m) xs e = refl
   set_other (ys ∷ all) (suc n) zero xs e = refl
   set_other (ys ∷ all) (suc n) (suc m) xs e = set_other all n m xs (ne_eqb n m (λ f. eqb-false (suc n) (suc m) e (omega (arith, f))))
 
-  none_at : (n i : ℕ) → slice_index_or (replicate n (let none : List X = [] in none)) i [] ≡ []
+  pub none_at : (n i : ℕ) → slice_index_or (replicate n (let none : List X = [] in none)) i [] ≡ []
   none_at zero i = refl
   none_at (suc n) zero = refl
   none_at (suc n) (suc i) = none_at n i

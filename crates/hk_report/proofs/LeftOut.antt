@@ -30,8 +30,10 @@ use Rattle.hk_report.specs.Reasons.{params_at, IsReasonedBy, IsTold, AreTold}
 use Rattle.hk_report.specs.Reachable.{IsByThen, begins_at, goes_on, AreGoneOver, IsHeldBy, AreHeldBy, IsClosed, can_matter, AreKept, IsEnough}
 use Rattle.hk_report.specs.Runs.{IsRearranged, AreRearranged}
 use Rattle.hk_report.specs.Searches.{IsFound}
+use Rattle.hk_report.specs.Fronts.{IsKeptFirst}
 use Rattle.hk_report.proofs.Agreeing.{IsThinned, IsThinnedBy, found_same}
 use Rattle.hk_report.proofs.Explained.{report_is}
+use Rattle.hk_report.proofs.FrontsLeftOut.{kept_same}
 use Rattle.hk_report.proofs.HistoryLemmas.{beyond}
 
 -- ---- reasons by reasons
@@ -47,9 +49,12 @@ module _ (families : List (List Begun)) (params : List (List (Option Cap))) (fir
   reason_same : (bare : BareChange) (reach : Reach) (b : Bool) → AreHeldBy firsts bare.under.moment (params_at families params bare.under.call) → IsReasonedBy families few params bare reach b
       → IsReasonedBy families all params bare reach b
   reason_same bare reach true h g = g
-  reason_same bare reach false h g =
-      found_same (is_made families bare.under all) firsts few all thin closed bare.object (bare.moment + 1) bare.under.moment (params_at families params bare.under.call) reach h
-      (subst (λ (made : Name → Bool). IsFound made few bare.object (bare.moment + 1) bare.under.moment (params_at families params bare.under.call) reach) (made_same bare.under) g)
+  reason_same bare reach false h (inl g) =
+      inl (found_same (is_made families bare.under all) firsts few all thin closed bare.object (bare.moment + 1) bare.under.moment (params_at families params bare.under.call) reach h
+      (subst (λ (made : Name → Bool). IsFound made few bare.object (bare.moment + 1) bare.under.moment (params_at families params bare.under.call) reach) (made_same bare.under) g))
+  reason_same bare reach false h (inr g) =
+      inr (kept_same (is_made families bare.under all) firsts few all thin closed bare.object bare.under.moment bare.moment (params_at families params bare.under.call) reach h
+      (subst (λ (made : Name → Bool). IsKeptFirst made few bare.under.moment (params_at families params bare.under.call) bare.object bare.moment reach) (made_same bare.under) g))
 
   told_same : (bare : BareChange) (change : Change) → AreHeldBy firsts bare.under.moment (params_at families params bare.under.call) → IsTold families few params bare change
       → IsTold families all params bare change

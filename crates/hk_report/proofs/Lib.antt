@@ -7,6 +7,7 @@ pub mod Counts
 pub mod NextLines
 mod HistoryLemmas
 mod Keys
+mod WayLemmas
 mod HopLemmas
 mod HolderLemmas
 mod Stretches
@@ -16,6 +17,8 @@ mod Bounds
 mod Spans
 mod Onwards
 mod Found
+mod FrontOrder
+mod FrontLemmas
 mod Relists
 mod ListLemmas
 mod Unchanged
@@ -34,10 +37,13 @@ mod Rearranged
 mod ListsKept
 mod Replays
 mod Makers
+mod SpreadLemmas
+mod KeepingLemmas
 mod ReasonLemmas
 mod Explained
 mod MomentLemmas
 mod Agreeing
+mod FrontsLeftOut
 mod LeftOut
 mod WrittenLemmas
 pub mod Retold

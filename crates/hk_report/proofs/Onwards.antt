@@ -66,7 +66,7 @@ some_is None h = absurd (true≢false (sym h))
 some_is (Some x) h = (x, refl)
 
 -- a test that chooses gives what it gives where it holds
-chosen : {X : Type 0} (b : Bool) (x y : X) → cond b (Some x) None ≡ Some y → (b ≡ true) × (x ≡ y)
+pub chosen : {X : Type 0} (b : Bool) (x y : X) → cond b (Some x) None ≡ Some y → (b ≡ true) × (x ≡ y)
 chosen true x y h = (refl, some_same h)
   where
     some_same : {X : Type 0} {x y : X} → Some x ≡ Some y → x ≡ y
@@ -176,22 +176,22 @@ module _ (at : ℕ → State) (made test : Name → Bool) (test_is : (x : Name) 
 
   module _ (level : Name → Latest) (from : Arrived) (by_end : from.moment ≤ end) (there : stands (at from.moment) from.name ≡ true) where
     -- at the first moment at which a span can be gone over its capability is there
-    span_holds : (span : Span) → Stood at end from.name span → nat_lt (later from.moment span.from) span.until ≡ true
+    pub span_holds : (span : Span) → Stood at end from.name span → nat_lt (later from.moment span.from) span.until ≡ true
         → listed_cap (at (later from.moment span.from)) from.name span.index ≡ Some span.cap
     span_holds span stood before =
         stood.holds (later from.moment span.from) (later_second from.moment span.from) (ltb-true (later from.moment span.from) span.until before)
         (later_most from.moment span.from end by_end stood.by_end) (later_holds (λ m. stands (at m) from.name ≡ true) from.moment span.from there stood.begins)
 
-    by_then : (span : Span) → Stood at end from.name span → later from.moment span.from ≤ end
+    pub by_then : (span : Span) → Stood at end from.name span → later from.moment span.from ≤ end
     by_then span stood = later_most from.moment span.from end by_end stood.by_end
 
-    hop_entry : (index m : ℕ) (cap : Cap) → from.unconf ≡ true → listed_cap (at m) from.name index ≡ Some cap → from.moment ≤ m
+    pub hop_entry : (index m : ℕ) (cap : Cap) → from.unconf ≡ true → listed_cap (at m) from.name index ≡ Some cap → from.moment ≤ m
         → hop_to at made (hop_by.Entry index m) (reached from) ≡ Some (reached_by m cap)
     hop_entry index m cap u held late =
         ap (λ (b : Bool). cond b (option_and_then (onward made (hop_by.Entry index m) (reached from)) (listed_cap (at m) from.name index)) None) (le-leb from.moment m late)
         ∙ ap (option_and_then (onward made (hop_by.Entry index m) (reached from))) held ∙ ap (λ (b : Bool). cond b (Some (reached_by m cap)) None) u
 
-    hop_handed : (index m : ℕ) (cap : Cap) → from.modify ≡ true → made cap.name ≡ true → listed_cap (at m) from.name index ≡ Some cap → from.moment ≤ m
+    pub hop_handed : (index m : ℕ) (cap : Cap) → from.modify ≡ true → made cap.name ≡ true → listed_cap (at m) from.name index ≡ Some cap → from.moment ≤ m
         → hop_to at made (hop_by.Handed index m) (reached from) ≡ Some (handed_over m cap)
     hop_handed index m cap u y held late =
         ap (λ (b : Bool). cond b (option_and_then (onward made (hop_by.Handed index m) (reached from)) (listed_cap (at m) from.name index)) None) (le-leb from.moment m late)
@@ -280,13 +280,13 @@ module _ (at : ℕ → State) (made test : Name → Bool) (test_is : (x : Name) 
       by_span level from hop spans (earlier first (onward_over test level from next)) span h g
 
   -- what a hop has shown
-  record HopShown (from : Reached) (hop : Hop) (to : Reached) : Type 0 where
-    cap : Cap
-    late : from.moment ≤ moment_of hop
-    listed : listed_cap (at (moment_of hop)) from.name (index_of hop) ≡ Some cap
-    onward_is : onward made hop from cap ≡ Some to
+  pub record HopShown (from : Reached) (hop : Hop) (to : Reached) : Type 0 where
+    pub cap : Cap
+    pub late : from.moment ≤ moment_of hop
+    pub listed : listed_cap (at (moment_of hop)) from.name (index_of hop) ≡ Some cap
+    pub onward_is : onward made hop from cap ≡ Some to
 
-  hop_shown : (from : Reached) (hop : Hop) (to : Reached) → hop_to at made hop from ≡ Some to → HopShown from hop to
+  pub hop_shown : (from : Reached) (hop : Hop) (to : Reached) → hop_to at made hop from ≡ Some to → HopShown from hop to
   hop_shown from hop to h = by (nat_le from.moment (moment_of hop)) refl h
     where
       found : (o : Option Cap) → listed_cap (at (moment_of hop)) from.name (index_of hop) ≡ o → from.moment ≤ moment_of hop → option_and_then (onward made hop from) o ≡ Some to
@@ -299,7 +299,7 @@ module _ (at : ℕ → State) (made test : Name → Bool) (test_is : (x : Name) 
       by false e g = absurd (cc)
       by true e g = found (listed_cap (at (moment_of hop)) from.name (index_of hop)) refl (leb-true from.moment (moment_of hop) e) g
 
-  to_moment : (from : Reached) (hop : Hop) (to : Reached) (cap : Cap) → onward made hop from cap ≡ Some to → to.moment ≡ moment_of hop
+  pub to_moment : (from : Reached) (hop : Hop) (to : Reached) (cap : Cap) → onward made hop from cap ≡ Some to → to.moment ≡ moment_of hop
   to_moment from (hop_by.Entry index m) to cap h = sym (ap (λ (r : Reached). r.moment) (chosen from.unconf (reached_by m cap) to h).1)
   to_moment from (hop_by.Handed index m) to cap h = sym (ap (λ (r : Reached). r.moment) (chosen (from.modify && made cap.name) (handed_over m cap) to h).1)
 
@@ -457,7 +457,7 @@ module _ (at : ℕ → State) (made test : Name → Bool) (test_is : (x : Name) 
     }
 
     -- moments never fall
-    follow_later : (hops : List Hop) (from there : Reached) → follow at made hops from ≡ Some there → from.moment ≤ there.moment
+    pub follow_later : (hops : List Hop) (from there : Reached) → follow at made hops from ≡ Some there → from.moment ≤ there.moment
     follow_later [] from there h = let e = ap (λ (o : Option Reached). elim o as (λ x. ℕ) [ None ↦ 0 | Some r ↦ r.moment ]) h in omega (arith, e)
     follow_later (hop ∷ hops) from there h = by (λ to g. follow_later hops to there g) (hop_to at made hop from) refl h
       where

@@ -7,7 +7,9 @@ pub mod Runs
 pub mod Blocks
 pub mod Holders
 pub mod Searches
+pub mod Fronts
 pub mod Reasons
+pub mod Keeping
 pub mod ChangeTexts
 pub mod Counts
 pub mod Written

@@ -126,7 +126,7 @@ pub(crate) struct Ground<'a> {
 }
 
 /// Whether two calls are the same.
-fn same_begun(a: Begun, b: Begun) -> bool
+pub(crate) fn same_begun(a: Begun, b: Begun) -> bool
     ensures { result ≡ same_begun a b }
 {
     a.call.0 == b.call.0 && a.moment == b.moment
@@ -171,7 +171,7 @@ pub(crate) fn arrived_by(moment: u32, cap: Cap) -> Arrived
 }
 
 /// An object that was made under the call stands good for both.
-fn arrived_whole(moment: u32, cap: Cap) -> Arrived
+pub(crate) fn arrived_whole(moment: u32, cap: Cap) -> Arrived
     ensures { result ≡ arrived_whole moment cap }
 {
     Arrived {
@@ -250,7 +250,7 @@ pub(crate) fn moment_of(hop: &Hop) -> u32
 
 /// Whether a hop comes before another: by its moment, then its index, then an entry before what is handed.
 #[tactic(auto, using(crate::proofs::HopLemmas::moment_first, crate::proofs::HopLemmas::index_first, crate::proofs::HopLemmas::handed_last))]
-fn comes_before(a: &Hop, b: &Hop) -> bool
+pub(crate) fn comes_before(a: &Hop, b: &Hop) -> bool
     ensures { result ≡ is_lt (slice_cmp nat_cmp (hop_key a.now) (hop_key b.now)) }
 {
     if moment_of(a) != moment_of(b) {

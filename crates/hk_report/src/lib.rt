@@ -11,8 +11,9 @@
 //! the merged parameters of each call, `lists` how both stand in memory, `histories` what has stood in
 //! lists, `reachable` which lists ways can come to, `runs` how what stood in these is put in order, `blocks`
 //! which runs are passed over together, `holders` which of them hold an object, `held_blocks` which of these are passed over
-//! together, `hops` the hops over it, `first_hops` which of these comes first, `searching` the search for the least reach,
-//! `reasons` each change with its reason.
+//! together, `hops` the hops over it, `first_hops` which of these comes first, `searching` the search for the least reach, `ways` the
+//! order of ways, `spreading` how those of a call are found from the front, `fronts` whether those that are kept are all that matter,
+//! `keeping` of which calls they are kept, `reasons` each change with its reason.
 #![tactic(auto)]
 
 mod blocks;
@@ -20,10 +21,12 @@ mod counting;
 mod doings;
 mod families;
 mod first_hops;
+mod fronts;
 mod held_blocks;
 mod histories;
 mod holders;
 mod hops;
+mod keeping;
 mod lists;
 mod naming;
 mod params;
@@ -34,7 +37,9 @@ mod reporting;
 mod runs;
 mod searching;
 mod shows;
+mod spreading;
 mod texts;
+mod ways;
 
 pub use counting::Counting;
 pub use families::{BareChange, Begun};

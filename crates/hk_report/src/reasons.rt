@@ -8,6 +8,7 @@ ghost use Rattle.hk_report.specs.declared.reachable.Side.TheVariants.{Last};
 ghost use Rattle.hk_report.specs.Reachable.{moment_at, from_end, AreHeldBy, AreReachable, IsClosed, IsClosed-prop, IsEnough};
 ghost use Rattle.hk_report.specs.HeldBlocks.{AreHeldBlocked, AreHeldBlocked-prop};
 ghost use Rattle.hk_report.specs.Holders.{AreHolders};
+ghost use Rattle.hk_report.specs.Keeping.{AreKeptOf};
 ghost use Rattle.hk_report.specs.Reasons.{params_at, IsReasoned, IsTold, AreFew, AreTold};
 ghost use Rattle.hk_report.specs.Written.{AreWritten};
 
@@ -17,6 +18,7 @@ use crate::held_blocks::{HeldBlock, held_blocks};
 use crate::histories::History;
 use crate::holders::{Stretch, holders};
 use crate::hops::{Ground, is_made};
+use crate::keeping::Keeping;
 use crate::lists::Lists;
 use crate::params::GivenParams;
 use crate::reachable::{Side, lasts, reachable};
@@ -109,10 +111,17 @@ impl<'a> Grounds<'a> {
     }
 
     /// Why a change could be made.
-    fn reason(&self, alloc: Global, bare: &BareChange) -> Result<Reach, NoMemory>
+    fn reason(
+        &self,
+        alloc: Global,
+        keeping: &mut Keeping,
+        bare: &BareChange,
+    ) -> Result<Reach, NoMemory>
         requires few { bare.now.moment + 1 < 2 ^ 32 }
+        requires kept { AreKeptOf self.now.families.now self.now.histories.now self.now.params.now keeping.old.fronts.items }
         requires held { AreHeldBy (moment_at self.now.lasts.now) (from_end bare.now.under.moment) (params_at self.now.families.now self.now.params.now bare.now.under.call) }
-        ensures { IfOk result (λ reach. IsReasoned self.now.families.now self.now.histories.now self.now.params.now bare.now reach) }
+        ensures kept { OnOk result (AreKeptOf self.now.families.now self.now.histories.now self.now.params.now keeping.new.fronts.items) }
+        ensures reason { IfOk result (λ reach. IsReasoned self.now.families.now self.now.histories.now self.now.params.now bare.now reach) }
     {
         let ground = Ground {
             histories: self.histories,
@@ -127,9 +136,16 @@ impl<'a> Grounds<'a> {
         if ground.is_made(bare.object) {
             return Ok(Reach::Made);
         }
+        let params = self.params.of(self.families, bare.under.call);
+        if direct_param(params, bare.object).is_none() {
+            if let Some(reach) = keeping.reach(alloc, bare.under, bare.object, bare.moment)? {
+                return Ok(reach);
+            }
+            keeping.seek(alloc, &ground, params)?;
+        }
         let search = Search {
             ground,
-            params: self.params.of(self.families, bare.under.call),
+            params,
             wanted: bare.object,
             before: bare.moment + 1,
         };
@@ -137,13 +153,20 @@ impl<'a> Grounds<'a> {
     }
 
     /// A change with its reason.
-    fn explain(&self, alloc: Global, bare: &KeptChange) -> Result<Change, NoMemory>
+    fn explain(
+        &self,
+        alloc: Global,
+        keeping: &mut Keeping,
+        bare: &KeptChange,
+    ) -> Result<Change, NoMemory>
+        requires kept { AreKeptOf self.now.families.now self.now.histories.now self.now.params.now keeping.old.fronts.items }
         requires few { bare.now.moment + 1 < 2 ^ 32 }
         requires held { AreHeldBy (moment_at self.now.lasts.now) (from_end bare.now.under.moment) (params_at self.now.families.now self.now.params.now bare.now.under.call) }
-        ensures { IfOk result (λ change. IsTold self.now.families.now self.now.histories.now self.now.params.now bare.now change) }
+        ensures kept { OnOk result (AreKeptOf self.now.families.now self.now.histories.now self.now.params.now keeping.new.fronts.items) }
+        ensures told { IfOk result (λ change. IsTold self.now.families.now self.now.histories.now self.now.params.now bare.now change) }
     {
         let bare = bare.whole();
-        let reach = self.reason(alloc, &bare)?;
+        let reach = self.reason(alloc, keeping, &bare)?;
         Ok(told_with(&bare, reach))
     }
 
@@ -154,9 +177,10 @@ impl<'a> Grounds<'a> {
         requires held { AllByRecursion (λ bare. AreHeldBy (moment_at self.now.lasts.now) (from_end bare.under.moment) (params_at self.now.families.now self.now.params.now bare.under.call)) bares.now }
         ensures { IfOk result (λ changes. AreTold self.now.families.now self.now.histories.now self.now.params.now bares.now changes.items) }
     {
+        let mut keeping = Keeping::none(alloc, self.families.len())?;
         let mut changes = Vec::with_capacity(alloc, bares.len())?;
         for bare in bares {
-            changes.push(self.explain(alloc, bare)?)?;
+            changes.push(self.explain(alloc, &mut keeping, bare)?)?;
         }
         Ok(changes)
     }
@@ -173,8 +197,9 @@ impl<'a> Grounds<'a> {
         requires held { AllByRecursion (λ bare. AreHeldBy (moment_at self.now.lasts.now) (from_end bare.under.moment) (params_at self.now.families.now self.now.params.now bare.under.call)) bares.now }
         ensures { OnOk result (AreWritten self.now.families.now self.now.histories.now self.now.params.now bares.now (string_bytes out.old) (string_bytes out.new)) }
     {
+        let mut keeping = Keeping::none(alloc, self.families.len())?;
         for bare in bares {
-            let change = self.explain(alloc, bare)?;
+            let change = self.explain(alloc, &mut keeping, bare)?;
             write_change(out, &change)?;
         }
         Ok(())
