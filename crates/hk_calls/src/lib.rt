@@ -8,6 +8,3 @@ mod wanted;
 pub use slots::{looked, slot_at};
 pub use stop::Stop;
 pub use wanted::Wanted;
-
-#[cfg(test)]
-mod tests;

@@ -7,9 +7,6 @@
 //! those of `hk_model`, and no law looks at a kernel.
 #![tactic(auto)]
 
-#[cfg(test)]
-mod tests;
-
 ghost use Rattle.hk_model.specs.Running.{AreStepsOf};
 ghost use Rattle.hk_model.specs.Confinement.{ConfinementLaw, ClosedCallLaw};
 ghost use Rattle.hk_model.specs.Effects.{LeavesOthers, NamesLast};

@@ -6,9 +6,6 @@
 //! lines that it has. The definitions are those of `hk_model`, and no law looks at a kernel.
 #![tactic(auto)]
 
-#[cfg(test)]
-mod tests;
-
 ghost use Rattle.hk_model.specs.Running.{AreStepsOf};
 ghost use Rattle.hk_model.specs.Descent.{DescentLaw, ChainsFall};
 ghost use Rattle.hk_model.specs.Marks.{EnvironmentLaw};

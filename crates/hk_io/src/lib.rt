@@ -9,8 +9,6 @@ mod planned;
 mod standard;
 mod stream;
 mod sure;
-#[cfg(test)]
-mod tests;
 mod whole;
 
 pub use crate::fault::{Failed, NoMemory};

@@ -9,6 +9,3 @@ mod rows;
 
 pub use chains::Chains;
 pub use memory::NoMemory;
-
-#[cfg(test)]
-mod tests;

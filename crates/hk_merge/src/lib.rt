@@ -10,6 +10,3 @@ pub use hk_model::Arg;
 pub use merging::{amplify_form, merge};
 pub use name_space::{build_space, fill_space};
 pub use refusing::{allowed, confined_rights, held};
-
-#[cfg(test)]
-mod tests;

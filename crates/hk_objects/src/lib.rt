@@ -13,6 +13,3 @@ mod steps;
 pub use body::{Body, Procedure};
 pub use objects::{Objects, SlotNo};
 pub use steps::Steps;
-
-#[cfg(test)]
-mod tests;

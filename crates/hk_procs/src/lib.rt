@@ -7,8 +7,6 @@ mod answers;
 mod desk;
 mod gate;
 mod notes;
-#[cfg(test)]
-mod tests;
 mod worker;
 
 pub use answers::{Asked, Called};

@@ -4,6 +4,3 @@
 mod queues;
 
 pub use queues::Queues;
-
-#[cfg(test)]
-mod tests;

@@ -13,6 +13,3 @@ mod sweep;
 
 pub use counts::Counts;
 pub use numbers::entry_name;
-
-#[cfg(test)]
-mod tests;

@@ -4,6 +4,3 @@
 mod processes;
 
 pub use processes::Processes;
-
-#[cfg(test)]
-mod tests;

@@ -7,6 +7,3 @@ mod stack;
 
 pub use space::Space;
 pub use stack::{Linkage, Stack, StackFrame};
-
-#[cfg(test)]
-mod tests;

@@ -8,8 +8,6 @@ mod errors;
 mod numerals;
 mod pieces;
 mod reader;
-#[cfg(test)]
-mod tests;
 mod text;
 
 pub use crate::bytes::{first_of, is_register};

@@ -19,6 +19,3 @@ pub use story::Story;
 pub use turn::Turn;
 pub use turns::Turns;
 pub use view::View;
-
-#[cfg(test)]
-mod tests;

@@ -10,6 +10,3 @@ pub use hops::reduced_rights;
 pub use laws::{right_while_lists_appear, right_while_lists_stay};
 pub use trail::Trail;
 pub use walker::Walker;
-
-#[cfg(test)]
-mod tests;

@@ -1,6 +1,5 @@
-// Scripts that are read as items, and the first cause where they are none; each item is spelled by the lines that it was read from.
+// Scripts that are read as items; each is spelled by the lines that it was read from.
 
-use hk_format::ParseCause;
 use hk_script::{ParseError, lines_spell_their_items, parse};
 use hk_text::lines;
 use std::alloc::Global;
@@ -22,28 +21,6 @@ fn count(alloc: Global, source: &[u8]) -> Option<Result<usize, ParseError>> {
         }
         Err(error) => Some(Err(error)),
     }
-}
-
-#[test]
-fn refuses_the_first_cause(rt: HostRuntime) -> Result<(), Fail> {
-    let rows: [(&[u8], u32, ParseCause); 7] = [
-        (b"\n# nothing\n", 1, ParseCause::Missing),
-        (b"hydra 2\n", 1, ParseCause::OutOfRange),
-        (b"hydra 1\nfoo x\n", 2, ParseCause::UnknownWord),
-        (b"hydra 1\ntype a\ntype a\n", 3, ParseCause::Repeated),
-        (b"hydra 1\ntype a\ntype a b\n", 3, ParseCause::Extra),
-        (b"hydra 1\ncode c\n", 2, ParseCause::Unclosed),
-        (
-            b"hydra 1\ncode c\nlabel l\nlabel l\nend\n",
-            4,
-            ParseCause::Repeated,
-        ),
-    ];
-    for (source, line, cause) in rows {
-        let refused = Some(Err(ParseError::Refused { line, cause }));
-        assert_eq!(rt; count(rt.alloc(), source), refused, "at {line}");
-    }
-    Ok(())
 }
 
 #[test]
