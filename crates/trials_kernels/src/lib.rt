@@ -1,5 +1,4 @@
-//! Public calls run with ample memory, each against what was worked out by hand: both kernels, the control of processes, and histories
-//! that are taken back.
+//! Public calls run with ample memory, each against what was worked out by hand: both kernels, and the control of processes.
 //!
 //! A crate with tests of its own is proved twice, so those of large crates stand here (`CONTRIBUTING.md`, "The gate").
 #![tactic(auto)]
@@ -10,9 +9,5 @@ mod calls;
 mod control;
 #[cfg(test)]
 mod machines;
-#[cfg(test)]
-mod past;
-#[cfg(test)]
-mod states;
 #[cfg(test)]
 mod worlds;

@@ -87,20 +87,6 @@ pub fn sink(alloc: Global, fails: Vec<u32>) -> Result<Out, Fail> {
     Ok(Out::with(alloc, 400, 10, fails).ok().ok_or("a sink")?)
 }
 
-#[test]
-fn writes_the_record_of_the_run(rt: HostRuntime) -> Result<(), Fail> {
-    let alloc = rt.alloc();
-    let run = words(alloc, &["run"])?;
-    let mut input = source(alloc, Vec::new(alloc))?;
-    let mut output = sink(alloc, Vec::new(alloc))?;
-    assert_eq!(rt;
-        status_of(&rt, alloc, &run, &mut input, &mut output),
-        status::DONE
-    );
-    assert_eq!(rt; output.taken(), RECORD.as_slice());
-    Ok(())
-}
-
 /// The word `run`.
 fn run_word(alloc: Global) -> Result<Vec<String>, AllocError>
     ensures { IfOk result (λ words. map string_bytes words.items ≡ codes "run" ∷ []) }
