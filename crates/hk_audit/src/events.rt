@@ -12,7 +12,7 @@ use hk_model::{Cpu, Inc, Line, Proc, Reply, What};
 use hk_script::verb_of;
 
 /// Which processor, process and incarnation an event is of, and what happened.
-#[derive(Clone, Copy, PartialEq, Eq, Debug)]
+#[derive(Clone, Copy, PartialEq, Eq)]
 pub struct Event {
     cpu: Cpu,
     proc: Proc,

@@ -7,7 +7,7 @@ use crate::paths::{Args, Path};
 use hk_rights::{Right, Rights};
 
 /// A kernel call, with its operands. Slots go to 255 here; those from 64 on are refused.
-#[derive(Clone, Copy, PartialEq, Eq, Debug)]
+#[derive(Clone, Copy, PartialEq, Eq)]
 pub enum Call {
     /// Replies the word at index `at`.
     Get {

@@ -3,7 +3,7 @@
 use crate::calls::Call;
 
 /// What a process does next.
-#[derive(Clone, Copy, PartialEq, Eq, Debug)]
+#[derive(Clone, Copy, PartialEq, Eq)]
 pub enum Todo {
     /// It makes this kernel call.
     Do(Call),
@@ -12,7 +12,7 @@ pub enum Todo {
 }
 
 /// The control of one incarnation.
-#[derive(Clone, Copy, PartialEq, Eq, Debug)]
+#[derive(Clone, Copy, PartialEq, Eq)]
 pub struct Frame {
     /// The number of the code.
     pub code: u16,

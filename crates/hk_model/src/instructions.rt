@@ -10,7 +10,7 @@ use std::alloc::{AllocError, Global};
 use std::marker::Model;
 
 /// A number, or what a register holds (`docs/RULES.md`, "Control of a process").
-#[derive(Clone, Copy, PartialEq, Eq, Debug)]
+#[derive(Clone, Copy, PartialEq, Eq)]
 pub enum Operand {
     Number(u32),
     /// What the register of this number, 0 to 7, holds.
@@ -19,7 +19,7 @@ pub enum Operand {
 
 /// An index of a path: a number, or what a register holds, at most 65,535 (`docs/RULES.md`,
 /// "Control of a process").
-#[derive(Clone, Copy, PartialEq, Eq, Debug)]
+#[derive(Clone, Copy, PartialEq, Eq)]
 pub enum Index {
     Fixed(u16),
     /// What the register of this number, 0 to 7, holds.

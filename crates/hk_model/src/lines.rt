@@ -4,7 +4,7 @@ use crate::calls::{Call, Reply};
 use crate::names::{Cpu, Inc, Proc};
 
 /// What a line of the record tells.
-#[derive(Clone, Copy, PartialEq, Eq, Debug)]
+#[derive(Clone, Copy, PartialEq, Eq)]
 pub enum What {
     /// The processor got the process.
     Dispatch,
@@ -15,7 +15,7 @@ pub enum What {
 }
 
 /// One event: which processor, process and incarnation made it, and the reply.
-#[derive(Clone, Copy, PartialEq, Eq, Debug)]
+#[derive(Clone, Copy, PartialEq, Eq)]
 pub struct Line {
     pub cpu: Cpu,
     pub proc: Proc,

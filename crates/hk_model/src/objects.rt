@@ -36,7 +36,7 @@ pub struct Incarnation {
 }
 
 /// What a process does.
-#[derive(Clone, Copy, PartialEq, Eq, Debug)]
+#[derive(Clone, Copy, PartialEq, Eq)]
 pub enum ProcessState {
     Ready,
     Running(Cpu),
@@ -46,7 +46,7 @@ pub enum ProcessState {
 }
 
 /// A process: what it does, and its current incarnation.
-#[derive(Clone, Copy, PartialEq, Eq, Debug)]
+#[derive(Clone, Copy, PartialEq, Eq)]
 pub struct Process {
     pub run: ProcessState,
     pub current: Inc,

@@ -7,7 +7,7 @@ use std::marker::Model;
 
 /// One to eight indices: the slot that a walk begins at, and then the index in a list for each step
 /// (`docs/RULES.md`, "Walks"). Contracts see the list.
-#[derive(Clone, Copy, Debug)]
+#[derive(Clone, Copy)]
 pub struct Path {
     indices: [u16; 8],
     count: u8,
@@ -110,7 +110,7 @@ impl Path {
 }
 
 /// Zero to eight slots, the arguments of a call. Contracts see the list of their numbers.
-#[derive(Clone, Copy, Debug)]
+#[derive(Clone, Copy)]
 pub struct Args {
     slots: [u8; 8],
     count: u8,

@@ -3,7 +3,7 @@
 use hk_model::{Cpu, Line};
 
 /// An entry of the history of a desk.
-#[derive(Clone, Copy, PartialEq, Eq, Debug)]
+#[derive(Clone, Copy, PartialEq, Eq)]
 pub enum Noted {
     /// A processor made this line.
     Event(Line),

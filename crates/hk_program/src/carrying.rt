@@ -14,7 +14,7 @@ use hk_model::{Cpu, Inc, Kernel, Line, NoMemory, Proc, Reply, Todo, What, World}
 use std::alloc::Global;
 
 /// What was done for a process.
-#[derive(Clone, Copy, PartialEq, Eq, Debug)]
+#[derive(Clone, Copy, PartialEq, Eq)]
 pub struct Carried {
     pub what: What,
     pub reply: Reply,
