@@ -21,7 +21,7 @@ use hk_rights::{Right, Rights};
 use std::alloc::Global;
 
 /// Rights that the rules give to a process, and that its row lacks.
-#[derive(Clone, Copy, Drop, Debug)]
+#[derive(Clone, Copy, Drop)]
 pub(crate) struct Gap {
     pub process: usize,
     pub column: usize,
@@ -42,7 +42,7 @@ pub(crate) struct Table<'a> {
 }
 
 /// How a process takes from the list of an object.
-#[derive(Clone, Copy, Debug)]
+#[derive(Clone, Copy)]
 pub(crate) struct Taking {
     /// Through these rights.
     pub by: Rights,

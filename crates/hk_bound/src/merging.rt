@@ -25,7 +25,7 @@ const STRETCH: usize = 16;
 const MOST_SETTLED: usize = 4093;
 
 /// Templates that stand one behind another.
-#[derive(Clone, Copy, Drop, Debug)]
+#[derive(Clone, Copy, Drop)]
 pub(crate) struct Stretch {
     /// The place of the first.
     pub start: usize,
@@ -38,7 +38,7 @@ pub(crate) struct Stretch {
 }
 
 /// A type, and rights of a process for objects of it for which merges give it nothing that it lacks.
-#[derive(Clone, Copy, Drop, PartialEq, Eq, Debug)]
+#[derive(Clone, Copy, Drop)]
 pub(crate) struct Settled {
     pub of: Name,
     pub rights: Rights,

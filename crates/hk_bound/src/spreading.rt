@@ -16,7 +16,7 @@ use hk_rights::{Right, Rights};
 use std::alloc::Global;
 
 /// A cell that has grown, with the rights that it then had.
-#[derive(Clone, Copy, Drop, Debug)]
+#[derive(Clone, Copy, Drop)]
 pub(crate) struct Grown {
     pub process: usize,
     pub column: usize,

@@ -13,7 +13,7 @@ use std::alloc::Global;
 pub(crate) const IN_BLOCK: usize = 64;
 
 /// What is known of a block of the runs of a list.
-#[derive(Clone, Copy, PartialEq, Eq, Debug)]
+#[derive(Clone, Copy)]
 pub struct Block {
     /// None of its spans begins before this moment.
     pub from: u32,

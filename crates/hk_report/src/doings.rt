@@ -18,7 +18,7 @@ use hk_plain::Plain;
 use hk_program::Watch;
 
 /// An incarnation that an Enter has made.
-#[derive(Clone, Copy, PartialEq, Eq, Debug)]
+#[derive(Clone, Copy)]
 pub struct Entered {
     pub inc: Inc,
     /// Whether the call is confined.
@@ -26,7 +26,7 @@ pub struct Entered {
 }
 
 /// What a line did.
-#[derive(Clone, Copy, PartialEq, Eq, Debug)]
+#[derive(Clone, Copy)]
 pub struct Doing {
     /// The incarnation of the line.
     pub inc: Inc,
@@ -41,7 +41,7 @@ pub struct Doing {
 }
 
 /// What is known of a line before its step.
-#[derive(Clone, Copy, PartialEq, Eq, Debug)]
+#[derive(Clone, Copy)]
 pub struct Before {
     /// The incarnation of the line.
     pub inc: Inc,

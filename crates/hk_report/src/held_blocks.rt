@@ -13,7 +13,7 @@ use hk_model::{Items, Name, NoMemory};
 use std::alloc::Global;
 
 /// What is known of a block of the runs that hold an object.
-#[derive(Clone, Copy, PartialEq, Eq, Debug)]
+#[derive(Clone, Copy)]
 pub struct HeldBlock {
     /// None of them begins before this moment.
     pub from: u32,

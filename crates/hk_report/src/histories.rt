@@ -16,7 +16,7 @@ use std::marker::PhantomData;
 use std::mem;
 
 /// A capability that stands at an index of a list.
-#[derive(Clone, Copy, PartialEq, Eq, Debug)]
+#[derive(Clone, Copy)]
 pub struct Since {
     pub cap: Cap,
     /// The first moment at which it stood there.
@@ -24,7 +24,7 @@ pub struct Since {
 }
 
 /// A capability that stood at an index of a list up to a moment.
-#[derive(Clone, Copy, PartialEq, Eq, Debug)]
+#[derive(Clone, Copy)]
 pub struct Span {
     pub index: u16,
     pub cap: Cap,

@@ -10,7 +10,7 @@ use hk_model::{Cap, Items, Name, NoMemory};
 use std::alloc::Global;
 
 /// A run of a list.
-#[derive(Clone, Copy, PartialEq, Eq, Debug)]
+#[derive(Clone, Copy)]
 pub struct Stretch {
     /// The object in whose list it stood.
     pub by: Name,

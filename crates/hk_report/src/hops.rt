@@ -30,7 +30,7 @@ use std::alloc::Global;
 use std::collections::BTreeMap;
 
 /// Where a way has come to.
-#[derive(Clone, Copy, PartialEq, Eq, Debug)]
+#[derive(Clone, Copy)]
 pub struct Arrived {
     pub name: Name,
     /// Whether the object stands good for the modifiable reach.
@@ -41,7 +41,7 @@ pub struct Arrived {
 }
 
 /// From which moments on an object the rest of a way can be made: from those below these.
-#[derive(Clone, Copy, PartialEq, Eq, Debug)]
+#[derive(Clone, Copy)]
 pub struct Latest {
     /// Where the object stands good for the modifiable reach.
     pub modify: u32,
@@ -92,7 +92,7 @@ fn begins_late(held: &Stretch, most: Latest) -> bool
 }
 
 /// A hop, and where it leads.
-#[derive(Clone, Copy, PartialEq, Eq, Debug)]
+#[derive(Clone, Copy)]
 pub struct Onward {
     pub hop: Hop,
     pub to: Arrived,

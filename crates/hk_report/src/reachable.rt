@@ -24,7 +24,7 @@ use std::cmp::Reverse;
 use std::collections::BinaryHeap;
 
 /// What is told of each object.
-#[derive(Clone, Copy, PartialEq, Eq, Debug)]
+#[derive(Clone, Copy)]
 pub enum Side {
     /// The first moment at which a way can be at it.
     First,
@@ -33,7 +33,7 @@ pub enum Side {
 }
 
 /// An object whose list is to be gone over, and what was told of it.
-#[derive(Clone, Copy, PartialEq, Eq, PartialOrd, Ord, Debug)]
+#[derive(Clone, Copy, PartialEq, Eq, PartialOrd, Ord)]
 pub struct Due {
     pub moment: u32,
     pub name: Name,

@@ -12,7 +12,7 @@ use hk_rights::Right;
 use std::alloc::Global;
 
 /// A parameter, and the first hop from its object.
-#[derive(Clone, Copy, PartialEq, Eq, Debug)]
+#[derive(Clone, Copy)]
 pub struct Start {
     pub arg: u8,
     pub onward: Onward,

@@ -21,7 +21,7 @@ use std::alloc::Global;
 use std::mem;
 
 /// A way that is kept: by the name of its object, and how many of that object stand before it.
-#[derive(Clone, Copy, PartialEq, Eq, Debug)]
+#[derive(Clone, Copy)]
 pub struct Kept {
     /// The name of its object.
     pub name: Name,
@@ -31,7 +31,7 @@ pub struct Kept {
 
 /// A hop that is to be made over a span, by the place of the span. The derived order is that of hops: by moment, then by index,
 /// then an entry before what is handed.
-#[derive(Clone, Copy, PartialEq, Eq, PartialOrd, Ord, Debug)]
+#[derive(Clone, Copy, PartialEq, Eq, PartialOrd, Ord)]
 pub struct Next {
     /// When it is made.
     pub moment: u32,

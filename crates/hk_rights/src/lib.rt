@@ -4,8 +4,6 @@
 
 pub mod right;
 pub mod rights;
-#[cfg(test)]
-mod tests;
 pub mod word;
 
 pub use crate::right::Right;

@@ -18,7 +18,7 @@ pub const BACK_LIMIT: u32 = 999;
 pub const JSON_BYTES: usize = 16_777_216;
 
 /// What the program can do.
-#[derive(Clone, Copy, PartialEq, Eq, Debug)]
+#[derive(Clone, Copy)]
 pub enum Command {
     /// Runs a script on processor 0, and writes its record.
     Run,

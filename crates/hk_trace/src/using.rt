@@ -17,7 +17,7 @@ use hk_plain::Plain;
 use std::alloc::Global;
 
 /// A place that a line used, with what stood there before it.
-#[derive(Clone, Copy, PartialEq, Eq, Debug)]
+#[derive(Clone, Copy)]
 pub struct UsedPlace {
     /// The step of the call.
     pub step: u8,

@@ -13,7 +13,7 @@ use hk_plain::Plain;
 use std::alloc::Global;
 
 /// Where an entry that a line wrote came from.
-#[derive(Clone, Copy, PartialEq, Eq, Debug)]
+#[derive(Clone, Copy)]
 pub enum CameFrom {
     /// None: the line wrote nothing there.
     Nowhere,

@@ -7,6 +7,8 @@
 #[cfg(test)]
 mod counts;
 #[cfg(test)]
+mod rights;
+#[cfg(test)]
 mod streams;
 #[cfg(test)]
 mod walks;

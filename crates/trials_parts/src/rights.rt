@@ -1,6 +1,6 @@
 // Each public call once, against answers that were written out by hand.
 
-use crate::{Right, Rights};
+use hk_rights::{Right, Rights};
 use std::test::Fail;
 
 #[test]
