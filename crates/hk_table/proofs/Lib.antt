@@ -1,6 +1,7 @@
 pub mod Bases
 pub mod Whole
 pub mod ObjectsOpened
+pub mod Gathered
 pub mod Opens
 pub mod QueueMoves
 pub mod Live

@@ -1,6 +1,6 @@
 //! The state in which a world opens (`docs/RULES.md`, "The opening").
 
-ghost use Rattle.std.specs.Prelude.{◌≡◌, ◌≤◌, [], false, IfOk, length, replicate};
+ghost use Rattle.std.specs.Prelude.{◌≡◌, ◌≤◌, [], false, IfOk, Ok, length, replicate};
 ghost use Rattle.std.specs.List.{list_any};
 ghost use Rattle.hk_model.specs.declared.objects.Process.{Process};
 ghost use Rattle.hk_model.specs.Processors.{is_running};
@@ -78,6 +78,16 @@ fn tasks_of(world: &World) -> &[Task]
     world.tasks()
 }
 
+/// What was made before, and what was made now if it was. NoMemory is want of memory.
+fn with<A: Drop, B: Drop>(before: A, now: Result<B, NoMemory>) -> Result<(A, B), NoMemory>
+    ensures { IfOk result (λ both. (both.0 ≡ before) × (now ≡ Ok both.1)) }
+{
+    match now {
+        Ok(now) => Ok((before, now)),
+        Err(NoMemory) => Err(NoMemory),
+    }
+}
+
 impl Parts {
     /// The state in which a world opens. NoMemory is want of memory.
     pub(crate) fn open(alloc: Global, world: &World) -> Result<Parts, NoMemory>
@@ -87,12 +97,14 @@ impl Parts {
     {
         let born = born_of(world);
         let tasks = tasks_of(world);
+        // (what was made so far goes into each `with`, so that nothing is let go of here; a proof of that takes minutes)
         let objects = objects_of(alloc, born)?;
-        let processes = all_ready(alloc, tasks)?;
-        let queues = all_queued(alloc, tasks)?;
-        let stacks = Stacks::open(alloc, world)?;
-        let walker = Walker::with(alloc, REMEMBERED)?;
-        let counts = counted(alloc, &objects, &stacks)?;
+        let made = with(objects, all_ready(alloc, tasks))?;
+        let made = with(made, all_queued(alloc, tasks))?;
+        let made = with(made, Stacks::open(alloc, world))?;
+        let made = with(made, Walker::with(alloc, REMEMBERED))?;
+        let counts = counted(alloc, &made.0.0.0.0, &made.0.1);
+        let (((((objects, processes), queues), stacks), walker), counts) = with(made, counts)?;
         let first_new = objects.next_name();
         Ok(Parts {
             objects,
