@@ -97,9 +97,9 @@ all_told c =
     let few : length c.in_ok-objects-2.processes ≤ 256 = omega (arith, many_processes c, c.tasks_of-tasks.ensures.few) in
     let found : AreTold c.in_ok-made-4.made.0.0.0.0 c.in_ok-made-4.made.0.1.stacks c.in_ok-objects-2.processes c.in_ok-made-4.made.0.0.0.0.next c.in_ok-objects-2.counts =
     fact_of (λ (t : Tally). (ps : List Process) → length ps ≤ 256 → ((n : Name) → wait_namings n ps ≡ 0)
-        → AreTold c.in_ok-made-4.made.0.0.0.0 c.in_ok-made-4.made.0.1.stacks ps c.in_ok-made-4.made.0.0.0.0.next t)
-        c.counted-counts.ensures c.in_ok-objects-2.ensures.1 c.in_ok-objects-2.processes few
-        (λ n. ap (λ (ps : List Process). wait_namings n ps) (processes_ready c) ∙ ready_unnamed n 0 c.args.world.now.tasks) in
+    → AreTold c.in_ok-made-4.made.0.0.0.0 c.in_ok-made-4.made.0.1.stacks ps c.in_ok-made-4.made.0.0.0.0.next t)
+    c.counted-counts.ensures c.in_ok-objects-2.ensures.1 c.in_ok-objects-2.processes few
+    (λ n. ap (λ (ps : List Process). wait_namings n ps) (processes_ready c) ∙ ready_unnamed n 0 c.args.world.now.tasks) in
     subst (λ (new : Name). AreTold c.in_ok-objects-2.objects c.in_ok-objects-2.stacks.stacks c.in_ok-objects-2.processes new c.in_ok-objects-2.counts)
     (sym c.next_name-first_new.ensures.name)
     (subst (λ m. AreTold m.0.0.0.0 m.0.1.stacks c.in_ok-objects-2.processes m.0.0.0.0.next c.in_ok-objects-2.counts) (sym c.in_ok-objects-2.ensures.0) found)
