@@ -10,7 +10,7 @@ use crate::stream::{Sink, Source};
 use std::alloc::{AllocError, Global};
 
 /// How many bytes a read of `read_all` asks for.
-const READ_SIZE: usize = 65536;
+const READ_SIZE: usize = 4096;
 
 /// Why a source was not read to its end (`docs/STREAMS.md`, "Reading a whole source").
 #[derive(Clone, Copy, Debug, PartialEq, Eq)]
@@ -56,7 +56,7 @@ pub struct WriteFault {
 /// Reads a source to its end, and returns all bytes that were taken, at most `limit`
 /// (`docs/STREAMS.md`, "Reading a whole source").
 ///
-/// Each turn reads once into a buffer of 65,536 bytes. Room is wanted as bytes come, never for the limit at once.
+/// Each turn reads once into a buffer of 4,096 bytes. Room is wanted as bytes come, never for the limit at once.
 /// After an error the bytes taken stay taken.
 ///
 /// - `ReadFault`: a read failed, and the source's count of faults rose.

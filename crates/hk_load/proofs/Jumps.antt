@@ -46,6 +46,15 @@ pub label_added : (ts new : List (List ℕ)) (places later : List ℕ) (labels :
     → new ≡ ts ++ t ∷ [] → later ≡ places ++ place ∷ [] → labels_seen new later ≡ labels ++ label_at t place ∷ []
 label_added ts new places later labels t place same v e f = rw (e, f, labels_more ts places t place same, v) refl
 
+-- a name that is put where it is not yet stands at the end
+pub new_at_end : (ts new : List (List ℕ)) (t : List ℕ) (is : Bool) → is_among ts t ≡ false → is ≡ not (is_among ts t) → new ≡ cond is (ts ++ t ∷ []) ts → new ≡ ts ++ t ∷ []
+new_at_end ts new t is absent found e = e ∙ ap (λ b. cond b (ts ++ t ∷ []) ts) (found ∙ ap not absent)
+
+-- as many labels as places, once more
+pub as_many : (ts new : List (List ℕ)) (places later : List ℕ) (t : List ℕ) (place : ℕ) → length ts ≡ length places → new ≡ ts ++ t ∷ [] → later ≡ places ++ place ∷ [] → length new ≡ length later
+as_many ts new places later t place same e f =
+    rw (e, f) (let a = length-append ts (t ∷ []) in let b = length-append places (place ∷ []) in omega (arith, a, b, same))
+
 at_part : {A : Type 0} (f : List Part → A) (parts : List Part) (at : ℕ) (p : Part) → at < length parts → p ≡ get_or parts at p → f (drop at parts) ≡ f (p ∷ drop (at + 1) parts)
 at_part f parts at p more e = at_drop_more f parts at p more ∙ ap (λ (x : Part). f (x ∷ drop (at + 1) parts)) (sym e)
 

@@ -92,7 +92,7 @@ impl Loaded {
                 name,
                 &code,
             ),
-            Head::CodeIs { name } => self.add_code(alloc, line, parts, name),
+            Head::CodeIs { name } => self.add_code(alloc, declared, line, parts, name),
             Head::ProcessIs { name, code } => self.add_task(
                 alloc,
                 declared,
@@ -171,6 +171,7 @@ impl Loaded {
     fn add_code(
         &mut self,
         alloc: Global,
+        declared: &Declared,
         line: u32,
         parts: Items<Part>,
         name: Text,
@@ -182,7 +183,7 @@ impl Loaded {
             let cause = LoadCause::TooMany;
             return Err(LoadError::Refused { line, cause });
         }
-        let steps = steps(alloc, parts)?;
+        let steps = steps(alloc, declared, parts)?;
         self.codes.push(Code { label: name, steps })?;
         Ok(())
     }

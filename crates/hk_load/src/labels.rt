@@ -7,6 +7,7 @@ ghost use Rattle.hk_format.specs.Outcomes.{Gives};
 ghost use Rattle.hk_load.specs.Jumping.{label_at, label_texts, HasNewLabels};
 
 use crate::errors::LineError;
+use crate::names::Declared;
 use hk_format::{Body, LoadCause, Part};
 use hk_model::Text;
 use hk_model::limits::CODE_LIMIT;
@@ -35,13 +36,13 @@ impl Model for Labels {
 }
 
 impl Labels {
-    /// The labels of a code's lines.
-    pub fn of(alloc: Global, parts: &[Part]) -> Result<Labels, AllocError>
+    /// The labels of a code's lines, in the script that declares these names.
+    pub fn of(alloc: Global, declared: &Declared, parts: &[Part]) -> Result<Labels, AllocError>
         requires { HasNewLabels [] parts.now }
         ensures { IfOk result (λ labels. labels ≡ labels_from 0 parts.now) }
     {
         let mut labels = Labels {
-            names: Names::new(alloc),
+            names: declared.no_labels(alloc),
             places: Vec::new(alloc),
         };
         let mut place = 0;
@@ -60,7 +61,7 @@ impl Labels {
         ensures { OnOk result (self.new ≡ self.old ++ label_at label.now place ∷ []) }
     {
         self.places.push(place)?;
-        if let Err(error) = self.names.push(alloc, label) {
+        if let Err(error) = self.names.add(alloc, label) {
             self.places.pop();
             return Err(error);
         }

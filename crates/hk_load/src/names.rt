@@ -1,6 +1,6 @@
 //! The names that the heads of a script declare (`docs/FORMATS.md`, "Loading").
 
-ghost use Rattle.std.specs.Prelude.{◌≡◌, IfOk, map};
+ghost use Rattle.std.specs.Prelude.{◌≡◌, [], IfOk, map};
 ghost use Rattle.hk_format.specs.declared.syntax.Item.{Item};
 ghost use Rattle.hk_format.specs.Syntax.{IsSyntax};
 ghost use Rattle.hk_format.specs.Loading.{names_of, object_named, type_named, kind_named, code_named};
@@ -47,6 +47,13 @@ impl<'a> Declared<'a> {
     {
         let meanings = meanings_of(alloc, items)?;
         Ok(Declared { names, meanings })
+    }
+
+    /// The labels of a code of the script, before the first.
+    pub fn no_labels(&self, alloc: Global) -> Names
+        ensures { result ≡ [] }
+    {
+        self.names.of_same_script(alloc)
     }
 
     /// The object of this name, of any kind. UnknownName where none is declared.

@@ -7,18 +7,23 @@ ghost use Rattle.hk_load.specs.Jumping.{HasNewLabels, step_added};
 
 use crate::errors::{LineError, LoadError};
 use crate::labels::Labels;
+use crate::names::Declared;
 use hk_format::{Body, LoadCause, Part};
 use hk_model::limits::CODE_LIMIT;
 use hk_model::{Instr, Items};
 use std::alloc::Global;
 
-/// The instructions of a code with these lines, which are used up. A line's UnknownName and BadRights
-/// come from the left, then TooMany.
-pub fn steps(alloc: Global, parts: Items<Part>) -> Result<Items<Instr>, LoadError>
+/// The instructions of a code with these lines, which are used up, of the script that declares these names.
+/// A line's UnknownName and BadRights come from the left, then TooMany.
+pub fn steps(
+    alloc: Global,
+    declared: &Declared,
+    parts: Items<Part>,
+) -> Result<Items<Instr>, LoadError>
     requires { HasNewLabels [] parts }
     ensures { GivesAll (λ x. x) result (instrs_of (labels_from 0 parts) 0 parts) }
 {
-    let labels = Labels::of(alloc, parts.as_slice())?;
+    let labels = Labels::of(alloc, declared, parts.as_slice())?;
     steps_with(alloc, &labels, parts.into_vec())
 }
 

@@ -1,6 +1,6 @@
 //! What processors share (`docs/TURNS.md`, "The desk").
 
-ghost use Rattle.std.specs.Prelude.{◌≡◌, Bool};
+ghost use Rattle.std.specs.Prelude.{◌≡◌, ◌<◌, Bool};
 ghost use Rattle.hk_model.specs.declared.calls.Call.{Call};
 ghost use Rattle.hk_model.specs.WorldValue.{WorldValue};
 ghost use Rattle.hk_turn.specs.declared.pass.Pass.{Pass as PassOf};
@@ -66,4 +66,7 @@ pub trait Desk {
         ensures own { belongs self.now result.0 }
         ensures number { pass_number result.0 ≡ pass_number pass }
         ensures answer { AnswersCall world wants (cpu_of pass) (seen_list pass) (seen_list result.0) proc next result.1 };
+
+    /// The number of a pass of the desk is a processor's, below 16.
+    ghost few: { (desk : Self) (pass : PassOf NotedOf) → belongs desk pass → pass_number pass < 16 };
 }

@@ -42,7 +42,7 @@ pub(crate) enum Outcome {
 /// Makes steps of the pass's processor at the desk until there is no more to do
 /// (`docs/TURNS.md`, "Workers"). It may wait.
 ///
-/// The world is the desk's, and the pass shows that its processor, below 16, runs nothing. The gate is
+/// The world is the desk's, and the pass shows that its processor runs nothing. The gate is
 /// told of each call of the desk beforehand, with the number of calls before it. The pass that comes
 /// back is the desk's and has the same number. Over comes only where that pass shows that the limit is
 /// reached, or that no process is ready and none runs; Stopped and NoMemory only where what it has
@@ -57,7 +57,6 @@ pub fn work<D: Desk, G: Gate, R: Wait>(
 ) -> (Pass<Noted>, Ended)
     requires world { world.now ≡ D.world }
     requires own { D.belongs desk.now pass }
-    requires cpu { pass_number pass < 16 }
     requires idle { RunsNothing D.world (cpu_of pass) (seen_list pass) }
     ensures own { D.belongs desk.now result.0 }
     ensures number { pass_number result.0 ≡ pass_number pass }

@@ -1,6 +1,4 @@
-pub mod ShortKeys
-pub mod ShelfLists
-pub mod NameLists
+pub mod NameTexts
 pub mod TextBytes
 pub mod Routes
 pub mod Lists

@@ -4,6 +4,3 @@ pub mod Outcomes
 pub mod Readings
 pub mod Progresses
 pub mod Paths
-pub mod Keys
-pub mod Shelves
-pub mod Numbered

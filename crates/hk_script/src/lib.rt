@@ -7,14 +7,13 @@ mod errors;
 mod forms;
 mod heads;
 mod instructions;
-mod keys;
+mod keyed;
 mod line;
 pub mod names;
 mod parts;
 mod progress;
 mod reading;
 mod script;
-mod shelves;
 mod spelled;
 mod verbs;
 

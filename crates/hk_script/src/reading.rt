@@ -135,7 +135,7 @@ impl Reading {
     {
         let parts = Items::from_vec(Vec::with_capacity(alloc, 1)?);
         let item = Item { line, head, parts };
-        let labels = Names::new(alloc);
+        let labels = self.names.of_same_script(alloc);
         self.unclosed = Some(Opened { item, labels });
         Ok(())
     }

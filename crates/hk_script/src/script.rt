@@ -80,7 +80,7 @@ pub fn parse(alloc: Global, lines: &[TextLine], source: &[u8]) -> Result<Syntax,
     ensures ok { IfOk result (λ syntax. script (map (line_seen source.now) lines.now) ≡ Ok syntax) }
     ensures refused { (line : ℕ) (cause : ParseCause) → IsRefused result line cause → script (map (line_seen source.now) lines.now) ≡ Err (line, cause) }
 {
-    let names = Names::with_shelves(alloc, lines.len() / 8)?;
+    let names = Names::of_script(alloc, source);
     let mut progress = Progress::new(alloc, names);
     for line in lines {
         progress.line(alloc, source, line.number, line.pieces.as_slice())?;
@@ -98,7 +98,7 @@ pub fn parse_source(alloc: Global, source: &[u8]) -> Result<Syntax, SourceError>
     ensures ok { IfOk result (λ syntax. source_items source.now ≡ Ok syntax) }
     ensures refused { (line : ℕ) (cause : Cause) → IsRefused result line cause → source_items source.now ≡ Err (line, cause) }
 {
-    let names = Names::with_shelves(alloc, source.len() / 128)?;
+    let names = Names::of_script(alloc, source);
     let mut progress = Progress::new(alloc, names);
     read_lines(alloc, source, &mut progress)?;
     let (items, names) = progress.finish()?;

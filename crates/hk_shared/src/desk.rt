@@ -26,6 +26,8 @@ impl<K: Kernel, J: Naming> Desk for Shared<K, J> {
 
     ghost belongs = { λ desk pass. IsPassOf desk.turns pass × (pass_number pass < 16) };
 
+    ghost few = { λ desk pass own. own.1 };
+
     fn ask<R: Wait>(&self, rt: &R, pass: Pass<Noted>) -> (Pass<Noted>, Asked) {
         let cpu = Cpu(pass.number() as u8);
         let mut turn = self.turns.take(rt, pass);

@@ -1,11 +1,12 @@
 -- How answers come about: a text that is due and said, and a text that is due to an input.
-use Rattle.std.proofs.Common.{◌≡◌, ◌∙◌, ap, ◌≢◌, ◌<◌, ◌≤◌, ◌↔◌, ℕ, List, length, codes, Option, None, option_map, Ok, Err, IfOk, IfErr, IsErrOf, refl, subst, sym, inl, inr, Vec}
+use Rattle.std.proofs.Common.{◌≡◌, ◌∙◌, ap, ◌≢◌, ◌<◌, ◌≤◌, ◌↔◌, ℕ, List, length, codes, Option, None, option_map, Ok, Err, IfOk, IfErr, IsErrOf, refl, subst, sym, inl, inr, Vec, arith}
 use Rattle.std.proofs.Common.{Global, Result}
 use Rattle.hk_io.specs.Streams.{Took}
 use Rattle.hk_io.specs.declared.whole.ReadError.{ReadError}
 use Rattle.std.specs.Fmt.{digits}
 use Rattle.std.specs.Io.KnownBytes.{Consumes, IsAtEnd}
 use Rattle.hk_format.specs.declared.causes.Cause.{Cause}
+use Rattle.hk_io.specs.Causes.{Rose}
 use Rattle.hk_model.specs.declared.verdicts.Misstep.{Misstep}
 use Rattle.hk_model.specs.declared.verdicts.Verdict.{Verdict}
 use Rattle.hk_model.specs.declared.verdicts.Verdict.TheVariants.{Legal, Illegal}
@@ -38,7 +39,7 @@ use Rattle.hk_top.specs.Served.{IsSummary, IsTooLong, silent_status}
 use Rattle.hk_top.specs.Outputs.{Due, DueTo, Answer, IsRecorded, IsSummed, IsChecked, IsLawful, Stream, IsSaid, status_of, read}
 use Rattle.hk_top.specs.Outputs.{record_of, script_of, bounds_of, json_of, world_of, verdict_of, changes_of, chains_of, state_of, script_refused, bad_json_text}
 use Rattle.hk_top.specs.Outputs.{TellsLegal, TellsChanges, TellsChains, TellsState}
-use Rattle.hk_top.specs.Outputs.{record_refused, json_refused, legal, illegal, summed, too_long, written, read_fault, no_memory, write_fault, HadFault}
+use Rattle.hk_top.specs.Outputs.{record_refused, json_refused, legal, illegal, summed, too_long, written, read_fault, no_memory, write_fault, FailedReading, stream}
 
 -- a text that is due and said is an answer
 pub said : {words : List (List ℕ)} {input output : Stream} {status result : ℕ} {text : List ℕ} {made : Option State} → Due words input.before input.after status text made
@@ -265,7 +266,7 @@ of_reads words limit (inr (inl h)) = inr (inl h.0)
 of_reads words limit (inr (inr h)) = inr (inr h.0)
 
 -- the words of a command that reads something are those of such a command
-pub is_reading : (c : Command) → TakesInput c → IsInRange c → IsReading (words_of c)
+is_reading : (c : Command) → TakesInput c → IsInRange c → IsReading (words_of c)
 is_reading c reads range = of_reads (words_of c) (byte_limit c) (at_most c reads range)
 
 -- the words of each command are those of a command
@@ -302,16 +303,38 @@ unread_due state c limit before after r error (Ok served) reads range limit_is i
     too_long_due c limit reads range limit_is (too_long_taken limit before after r (is ∙ ap (λ e. Err e) h.0) took) (h.1.0, h.1.1, ap (option_map state) h.1.2)
 unread_due state c limit before after r error (Err silence) reads range limit_is is took h = tt
 
+-- a read that failed, where the source was not read to its end
+pub unread_failed : {K : Type 0} (c : Command) (limit : ℕ) (before after : Option (List ℕ)) (faults_before faults_after : ℕ) (r : Result (Vec ℕ Global) ReadError) (error : ReadError)
+    (out : Result (Served K) Silence) → TakesInput c → IsInRange c → limit ≡ byte_limit c → r ≡ Err error
+    → Took before after (λ bytes. IsErrOf r ReadError.TooLong ↔ (limit < length bytes)) → (IsErrOf r ReadError.ReadFault → Rose faults_before faults_after)
+    → (IsErrOf out Silence.ReadFault → error ≡ ReadError.ReadFault)
+    → IsErrOf out Silence.ReadFault → FailedReading (words_of c) (stream before after faults_before faults_after)
+unread_failed c limit before after faults_before faults_after r error out reads range limit_is is took rose cause failed = record {
+  limit = limit;
+  reads = subst (λ n. ReadsAtMost (words_of c) n) (sym limit_is) (at_most c reads range);
+  fault = rose fault_is;
+  few = (took.0, took.1, few);
+}
+  where
+    fault_is : r ≡ Err ReadError.ReadFault
+    fault_is = is ∙ ap (λ e. Err e) (cause failed)
+
+    no_more : limit < length took.0 → ⊥
+    no_more more = let clash : Err ReadError.ReadFault ≡ Err ReadError.TooLong = sym fault_is ∙ took.2.1 more in cc
+
+    few : length took.0 ≤ limit
+    few = omega (arith, no_more)
+
 -- a call whose text is said, or that is silent, with the kernel that it hands back
 pub answered : {K : Type 0} (P : Type 0) (state : K → State) {words : List (List ℕ)} {input output : Stream} (c : Command) (due : Result (Served K) Silence) (out : ℕ × Option K)
     → IsInRange c → words ≡ words_of c
     → IfOk due (λ served. Due (words_of c) input.before input.after served.due.status served.due.text (option_map state served.kernel))
-    → (IsErrOf due Silence.ReadFault → IsReading (words_of c) × HadFault input)
+    → (IsErrOf due Silence.ReadFault → FailedReading (words_of c) input)
     → IfOk due (λ served. (out.1 ≡ served.kernel) × IsSaid served.due.status served.due.text output out.0) → IfErr due (λ silence. (out ≡ (silent_status silence, None)) × P)
     → Answer words input output out.0 (option_map state out.1)
 answered {K} P state {words} {input} {output} c (Ok served) out range is due fault spoken quiet =
     let said_as : Answer words input output out.0 (option_map state served.kernel) = said (due_at (sym is) refl refl due) spoken.1 in
     subst (λ (k : Option K). Answer words input output out.0 (option_map state k)) (sym spoken.0) said_as
 answered {K} P state {words} {input} {output} c (Err silence.ReadFault) out range is due fault spoken quiet = rw quiet.0
-    (read_fault (subst IsReading (sym is) (fault refl).0) (fault refl).1)
+    (read_fault (subst (λ ws. FailedReading ws input) (sym is) (fault refl)))
 answered {K} P state {words} {input} {output} c (Err silence.NoMemory) out range is due fault spoken quiet = rw quiet.0 (no_memory (of_command c range is))

@@ -65,7 +65,7 @@ module _ {words : List (List ℕ)} {input output : Stream} where
       → (bytes : List ℕ) (limit : ℕ) → input.before ≡ Some bytes → ReadsAtMost words limit → length bytes ≤ limit → (HadFault input → ⊥) → (HadFault output → ⊥)
       → (status ≡ 5) ⊎ ((text : List ℕ) × DueTo words bytes status text made × Appends output.before output.after text)
   complete_reading (written _ text _ due said) bytes limit told reads few quiet_in quiet_out = inr (text, due_told bytes limit told reads few due, said)
-  complete_reading (read_fault command fault) bytes limit told reads few quiet_in quiet_out = absurd (quiet_in fault)
+  complete_reading (read_fault failed) bytes limit told reads few quiet_in quiet_out = absurd (quiet_in failed.fault)
   complete_reading (no_memory command) bytes limit told reads few quiet_in quiet_out = inl refl
   complete_reading (write_fault _ text _ sent due fault some said) bytes limit told reads few quiet_in quiet_out = absurd (quiet_out fault)
 
@@ -73,7 +73,7 @@ module _ {words : List (List ℕ)} {input output : Stream} where
       → (count : ℕ) → IsGen words count → (HadFault output → ⊥)
       → (status ≡ 5) ⊎ ((text : List ℕ) × IsSummed count status text made × Appends output.before output.after text)
   complete_generating (written _ text _ due said) count gen quiet_out = inr (text, due_summed count gen due, said)
-  complete_generating (read_fault reads fault) count gen quiet_out = absurd (gen_reads_nothing (count, gen) reads)
+  complete_generating (read_fault failed) count gen quiet_out = absurd (gen_reads_nothing (count, gen) (of_reading failed.reads))
   complete_generating (no_memory command) count gen quiet_out = inl refl
   complete_generating (write_fault _ text _ sent due fault some said) count gen quiet_out = absurd (quiet_out fault)
 

@@ -67,7 +67,7 @@ no_fault before after h = omega (arith, h)
 pub never_fails : {words : List (List ℕ)} {before after taken_before taken_after : Option (List ℕ)} {status : ℕ} {made : Option State}
     → Answer words (stream before after 0 0) (stream taken_before taken_after 0 0) status made → (status ≡ 4 → ⊥) × (status ≡ 6 → ⊥)
 never_fails (written status text made due appends) = due_is due
-never_fails {before = before} {after = after} (read_fault reads fault) = absurd (no_fault before after fault)
+never_fails {before = before} {after = after} (read_fault failed) = absurd (no_fault before after failed.fault)
 never_fails (no_memory command) = five_is
 never_fails {taken_before = before} {taken_after = after} (write_fault status text made sent due fault few appends) = absurd (no_fault before after fault)
 

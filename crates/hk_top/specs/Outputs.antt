@@ -41,7 +41,7 @@ use Rattle.hk_undo.specs.StateTexts.{state_text}
 use Rattle.hk_trace.specs.ChainTexts.{chains_text}
 use Rattle.hk_trace.specs.Traced.{trace_of}
 use Rattle.hk_top.specs.Words.{IsRun, IsRunOn, IsShow, IsBound, IsJson, IsUnjson, IsCheck, IsConfine}
-use Rattle.hk_top.specs.Words.{IsTrace, IsBack, IsGen, ReadsScript, ReadsRecord, IsReading, IsCommand, ReadsAtMost}
+use Rattle.hk_top.specs.Words.{IsTrace, IsBack, IsGen, ReadsScript, ReadsRecord, IsCommand, ReadsAtMost}
 
 -- what is written of words that are no command
 abbrev pub usage_text : List ℕ
@@ -229,13 +229,20 @@ stream before after faults_before faults_after =
 abbrev pub HadFault : Stream → Type 0
 HadFault s = Rose s.faults_before s.faults_after
 
+-- a read failed before more bytes were taken than these words may read
+pub record FailedReading (words : List (List ℕ)) (input : Stream) : Type 0 where
+  pub limit : ℕ
+  pub reads : ReadsAtMost words limit
+  pub fault : HadFault input
+  pub few : Took input.before input.after (λ bytes. length bytes ≤ limit)
+
 -- the status of a call and the state of the kernel that it hands back, if it does, and why they come
 pub data Answer (words : List (List ℕ)) (input output : Stream) : ℕ → Option State → Type 0 where
   -- 0, 1, 2, 3, 7, 8: the sink took the whole text that is due
   written : (status : ℕ) (text : List ℕ) (made : Option State) → Due words input.before input.after status text made → Appends output.before output.after text
       → Answer words input output status made
-  -- 4: a read failed
-  read_fault : IsReading words → HadFault input → Answer words input output 4 None
+  -- 4: a read failed, and no more bytes were taken before than these words may read
+  read_fault : FailedReading words input → Answer words input output 4 None
   -- 5: want of memory
   no_memory : IsCommand words → Answer words input output 5 None
   -- 6: a write failed, and the sink took a part of the text that is due, from its front

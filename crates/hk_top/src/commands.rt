@@ -1,11 +1,10 @@
 //! The commands, from words and bytes to bytes and a status.
 
 ghost use Rattle.std.specs.Prelude.{◌≡◌, ◌≢◌, ◌⊎◌, IfOk, IfErr, IsErrOf, None, map, option_map, string_bytes};
-ghost use Rattle.hk_io.specs.Causes.{Rose};
 ghost use Rattle.hk_io.specs.Streams.{Took};
 ghost use Rattle.hk_model.specs.Limits.{script_bytes};
 ghost use Rattle.hk_top.specs.Words.{IsReading, IsAlone, IsInRange, MayRun, ReadsAlone, RunsOnMany, words_of, byte_limit};
-ghost use Rattle.hk_top.specs.Outputs.{Answer, IsComplete, IsSaid, stream};
+ghost use Rattle.hk_top.specs.Outputs.{Answer, FailedReading, IsComplete, IsSaid, stream};
 ghost use Rattle.hk_top.specs.Served.{IsDue, IsTooLong, silent_status};
 
 use crate::generated::run_generated;
@@ -105,7 +104,7 @@ fn due<S: Source, M: Maker>(
     ensures status { IfOk result (λ served. served.due.status ≢ 4 × served.due.status ≢ 5) }
     ensures taken { Took (S.left input.old) (S.left input.new) (λ _. Unit {0}) }
     ensures untouched { (IsReading (words_of command) → ⊥) → input.new ≡ input.old }
-    ensures fault { IsErrOf result Silence.ReadFault → IsReading (words_of command) × Rose (S.faults input.old) (S.faults input.new) }
+    ensures fault { IsErrOf result Silence.ReadFault → FailedReading (words_of command) (stream (S.left input.old) (S.left input.new) (S.faults input.old) (S.faults input.new)) }
 {
     match command {
         Command::Gen(count) => Ok(run_generated(alloc, count, kernels)?),
@@ -125,7 +124,7 @@ fn due_to_source<S: Source, M: Maker>(
     ensures due { IfOk result (λ served. IsDue M.Made.state (words_of command) (S.left input.old) (S.left input.new) served) }
     ensures status { IfOk result (λ served. served.due.status ≢ 4 × served.due.status ≢ 5) }
     ensures taken { Took (S.left input.old) (S.left input.new) (λ _. Unit {0}) }
-    ensures fault { IsErrOf result Silence.ReadFault → Rose (S.faults input.old) (S.faults input.new) }
+    ensures fault { IsErrOf result Silence.ReadFault → FailedReading (words_of command) (stream (S.left input.old) (S.left input.new) (S.faults input.old) (S.faults input.new)) }
 {
     match read_all(alloc, input, byte_limit(command)) {
         Ok(bytes) => Ok(due_to_bytes(alloc, command, &bytes, kernels)?),
@@ -146,7 +145,7 @@ fn due_on<S: Source, G: Gate + Sync, M: Maker, R: Threads + Wait + Sync>(
     ensures due { IfOk result (λ served. IsDue M.Made.state (words_of (Command.RunOn cpus)) (S.left input.old) (S.left input.new) served) }
     ensures status { IfOk result (λ served. served.due.status ≢ 4 × served.due.status ≢ 5) }
     ensures taken { Took (S.left input.old) (S.left input.new) (λ _. Unit {0}) }
-    ensures fault { IsErrOf result Silence.ReadFault → Rose (S.faults input.old) (S.faults input.new) }
+    ensures fault { IsErrOf result Silence.ReadFault → FailedReading (words_of (Command.RunOn cpus)) (stream (S.left input.old) (S.left input.new) (S.faults input.old) (S.faults input.new)) }
 {
     match read_all(alloc, input, SCRIPT_BYTES) {
         Ok(bytes) => Ok(run_script_on(rt, alloc, cpus, &bytes, gate, kernels)?),

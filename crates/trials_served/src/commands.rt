@@ -88,7 +88,7 @@ pub fn sink(alloc: Global, fails: Vec<u32>) -> Result<Out, Fail> {
 }
 
 /// The word `run`.
-fn run_word(alloc: Global) -> Result<Vec<String>, AllocError>
+pub(crate) fn run_word(alloc: Global) -> Result<Vec<String>, AllocError>
     ensures { IfOk result (λ words. map string_bytes words.items ≡ codes "run" ∷ []) }
 {
     Ok(vec![in alloc; String::from_str(alloc, "run")?]?)

@@ -11,6 +11,8 @@ mod desk;
 #[cfg(test)]
 mod processors;
 #[cfg(test)]
+mod standing;
+#[cfg(test)]
 mod wanting;
 #[cfg(test)]
 mod worlds;

@@ -31,15 +31,17 @@ impl Story for Anything {
 struct Quiet;
 
 impl Desk for Quiet {
-    ghost use Rattle.std.specs.Prelude.{◌≡◌, [], false};
+    ghost use Rattle.std.specs.Prelude.{◌≡◌, ◌<◌, [], false};
     ghost use Rattle.hk_model.specs.WorldValue.{world_value};
-    ghost use Rattle.hk_turn.specs.Passes.{seen_list};
+    ghost use Rattle.hk_turn.specs.Passes.{pass_number, seen_list};
 
     ghost world = { world_value 1 [] [] [] };
 
     ghost wants = { λ _. false };
 
-    ghost belongs = { λ _ pass. seen_list pass ≡ [] };
+    ghost belongs = { λ _ pass. (seen_list pass ≡ []) × (pass_number pass < 16) };
+
+    ghost few = { λ _ pass own. own.1 };
 
     fn ask<R: Wait>(&self, _rt: &R, pass: Pass<Noted>) -> (Pass<Noted>, Asked) {
         (pass, Asked::Over)

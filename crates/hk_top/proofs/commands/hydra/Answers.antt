@@ -1,5 +1,5 @@
 use Rattle.hk_top.specs.declared.words.Command.TheVariants as command
-use Rattle.hk_top.proofs.AnswerLemmas.{answered, is_reading}
+use Rattle.hk_top.proofs.AnswerLemmas.{answered}
 use Rattle.hk_top.proofs.Complete.{complete}
 use Rattle.hk_top.proofs.commands.hydra.Goals as goal
 
@@ -7,7 +7,7 @@ pub returns-in-Some-RunOn-clause-answer : goal.returns-in-Some-RunOn-clause-answ
 returns-in-Some-RunOn-clause-answer g c =
     let read = rw c.in-Some-RunOn.field-0-is at c.in-Some-RunOn.ensures in
     answered _ g.M.Made.Kernel.state (command.RunOn c.in-Some-RunOn.cpus) c.due_on-due.result c.say_due.result read.1 read.0 c.due_on-due.ensures.due
-    (λ failed. (is_reading (command.RunOn c.in-Some-RunOn.cpus) tt read.1, c.due_on-due.ensures.fault failed))
+    c.due_on-due.ensures.fault
     c.say_due.ensures.said c.say_due.ensures.silent
 
 pub returns-in-Some-RunOn-clause-complete : goal.returns-in-Some-RunOn-clause-complete
