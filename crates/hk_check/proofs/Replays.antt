@@ -16,7 +16,7 @@ use Rattle.hk_model.specs.Running.{Machine, after_lines, opened, step, line_of}
 use Rattle.hk_model.specs.Legal.{IsLegal, end_word}
 use Rattle.hk_model.specs.Verdicts.{Differs, IsBySame, IsMisstep}
 use Rattle.hk_check.specs.Causes.{first_cause}
-use Rattle.hk_check.specs.Judged.{IsReplay}
+use Rattle.hk_check.specs.Replays.{IsReplay}
 use Rattle.hk_program.specs.Machines.{IsSound}
 use Rattle.hk_program.proofs.Machines.{steps_snoc, step_cpu, lines_within}
 
@@ -82,16 +82,7 @@ pub end_is_bad : (w : WorldValue) (lines : List Line) (end : End) (n : ℕ) (m :
     → IsMisstep w lines end (n + 1) misstep.EndWord
 end_is_bad w lines end n m many h e = record { number = ap (λ (k : ℕ). k + 1) many; steps = h.steps; differs = subst (λ (k : Machine). end_word k.state ≡ Some end → ⊥) h.is e }
 
--- behind all lines
-take_all : (lines : List Line) (n : ℕ) → length lines ≤ n → take n lines ≡ lines
-take_all [] zero h = refl
-take_all [] (suc n) h = refl
-take_all (x ∷ lines) zero h = absurd (omega arith)
-take_all (x ∷ lines) (suc n) h = ap (λ (l : List Line). x ∷ l) (take_all lines n (omega arith))
-
-pub whole_replay : (w : WorldValue) (lines : List Line) (n : ℕ) (m : Machine) → IsReplay w (take n lines) m → length lines ≤ n → IsReplay w lines m
-whole_replay w lines n m h all = subst (λ (l : List Line). IsReplay w l m) (take_all lines n all) h
-
+-- all lines can be numbered
 pub few_in_all : (w : WorldValue) (lines : List Line) (m : Machine) → IsReplay w lines m → length lines ≤ 1000000
 few_in_all w lines m h = let a = lines_within w lines h.sound.world h.steps in let c = h.sound.world.few_events in omega (arith, a, c)
 

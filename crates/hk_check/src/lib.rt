@@ -8,6 +8,6 @@ mod checking;
 mod differences;
 mod verdicts;
 
-pub use checking::{Judged, check, check_and_show, check_and_show_on, check_on};
-pub use hk_model::{End, Line, Misstep, NoMemory, Snapshot, Verdict, World};
+pub use checking::check;
+pub use hk_model::{End, Line, Misstep, NoMemory, Verdict, World};
 pub use verdicts::verdict_is_one;

@@ -182,7 +182,7 @@ pub counted_changes : (w : WorldValue) (lines : List Line) (c : Counted) → Are
 counted_changes w lines c steps e =
     let all : List BareChange = changes_from 0 (replicate (opened w).state.next_inc.0 []) (doings w (opened w) lines) in
     let sum = counts_from w (opened w) lines (replicate (opened w).state.next_inc.0 []) (counted_none w) 0 steps (opened_depths w) in
-    let found = ap (length {A = BareChange}) (changes_found w lines (opened w).state.next_inc (doings w (opened w) lines) all steps refl refl refl)
+    let found = ap (length {A = BareChange}) (changes_found w lines all steps refl)
     ∙ length-map (bare_changes w lines) told_change in
     let same = ap (λ (x : Counted). x.changes) e in
     omega (arith, sum, found, same)

@@ -367,7 +367,7 @@ pub report_is : (w : WorldValue) (lines : List Line) (told histories : List Hist
     → AreTold families histories params found all → AreExplained w lines (bare_changes w lines) all
 report_is w lines told histories params families found all world steps h same p g c is =
     let bares : found ≡ map told_change (bare_changes w lines)
-    = changes_found w lines (opened w).state.next_inc (doings w (opened w) lines) found steps refl refl c in
+    = changes_found w lines found steps c in
     explained_each w lines steps world histories (subst (λ (x : List History). AreRearranged x histories) h same) (bare_changes w lines) all (all_listed w lines steps world)
     (subst (λ (x : List BareChange).
     AreTold (families_after 0 (doings w (opened w) lines) (replicate (opened w).state.next_inc.0 [])) histories (params_given w (opened w) lines) x all)

@@ -1,5 +1,4 @@
 mod NamedLemmas
-mod Replaying
 pub mod Lengths
 mod Followed
 mod Listed

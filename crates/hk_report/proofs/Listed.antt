@@ -304,11 +304,11 @@ unfolding opened
 opened_sound w = opening_sound w
 
 -- of a whole history
-pub changes_found : (w : WorldValue) (lines : List Line) (first : Inc) (all : List Doing) (found : List BareChange) → AreStepsOf w lines → first ≡ (opened w).state.next_inc
-    → all ≡ doings w (opened w) lines → found ≡ changes_from 0 (replicate first.0 []) all → found ≡ map told_change (bare_changes w lines)
-changes_found w lines first all found steps f a h =
-    rw (h, a, f)
-    (ap (λ (n : ℕ). changes_from n (replicate (opened w).state.next_inc.0 []) (doings w (opened w) lines)) (sym (opened_events w))
+pub changes_found : (w : WorldValue) (lines : List Line) (found : List BareChange) → AreStepsOf w lines
+    → found ≡ changes_from 0 (replicate (opened w).state.next_inc.0 []) (doings w (opened w) lines) → found ≡ map told_change (bare_changes w lines)
+changes_found w lines found steps h =
+    h
+    ∙ (ap (λ (n : ℕ). changes_from n (replicate (opened w).state.next_inc.0 []) (doings w (opened w) lines)) (sym (opened_events w))
     ∙ sym (lines_change w lines (opened w) lines (replicate (opened w).state.next_inc.0 []) [] (confined_calls w lines) [] steps (opened_sound w) (at_opening w lines) tt
     (fits_opening w lines) refl))
 

@@ -14,12 +14,11 @@ use Rattle.hk_model.specs.declared.lines.What.{What}
 use Rattle.hk_model.specs.declared.lines.What.TheVariants as what
 use Rattle.hk_model.specs.declared.lines.Line.{Line}
 use Rattle.hk_model.specs.WorldValue.{WorldValue}
-use Rattle.hk_model.specs.State.{State, incarnation, process}
+use Rattle.hk_model.specs.State.{State, process}
 use Rattle.hk_model.specs.Control.{is_refusal, next}
 use Rattle.hk_model.specs.Processors.{runner, running_on}
 use Rattle.hk_model.specs.Running.{Machine, context_of, line_of, moved, step}
-use Rattle.hk_model.specs.Lines.{done_by, done_call, enters_call}
-use Rattle.hk_model.proofs.Steps.{moved_holds}
+use Rattle.hk_model.specs.Lines.{done_by, done_call}
 use Rattle.hk_program.specs.Machines.{called, next_call}
 use Rattle.hk_program.specs.Watching.{seen_by, seen_in_step, seen_of}
 use Rattle.hk_program.proofs.NextCalls.{call_was_next}
@@ -27,30 +26,9 @@ use Rattle.hk_program.proofs.Machines.{step_cpu}
 use Rattle.hk_report.specs.declared.doings.Before.{Before}
 use Rattle.hk_report.specs.declared.doings.Known.{Known}
 use Rattle.hk_report.specs.declared.families.Begun.{Begun}
-use Rattle.hk_report.specs.Counts.{confined_on}
-use Rattle.hk_report.specs.Doings.{RunsEntered, asked_change, before_by, before_call, before_line, before_none, known_of, slots_on}
+use Rattle.hk_report.specs.Doings.{asked_change, before_by, before_call, before_line, before_none, known_of}
 use Rattle.hk_report.specs.Families.{changes_by}
 use Rattle.hk_report.specs.Named.{named_change, named_list}
-use Rattle.hk_report.proofs.Counts.{RunsNew, runs_each}
-
--- ---- what is told of the incarnation that a processor runs
-
-pub slots_run : (s : State) (cpu : Cpu) (inc : Inc) → option_map (λ (x : Proc × Inc). x.1) (running_on s cpu) ≡ Some inc → slots_on s cpu ≡ (incarnation s inc).slots
-slots_run s cpu inc h = by (running_on s cpu) h
-  where
-    by : (o : Option (Proc × Inc)) → option_map (λ (x : Proc × Inc). x.1) o ≡ Some inc
-        → unwrap_or (option_map (λ (x : Proc × Inc). (incarnation s x.1).slots) o) [] ≡ (incarnation s inc).slots
-    by None e = absurd (cc)
-    by (Some x) e = let same : x.1 ≡ inc = cc in ap (λ (i : Inc). (incarnation s i).slots) same
-
-pub confined_run : (s : State) (cpu : Cpu) (inc : Inc) → option_map (λ (x : Proc × Inc). x.1) (running_on s cpu) ≡ Some inc
-    → confined_on s cpu ≡ (incarnation s inc).confined
-confined_run s cpu inc h = by (running_on s cpu) h
-  where
-    by : (o : Option (Proc × Inc)) → option_map (λ (x : Proc × Inc). x.1) o ≡ Some inc
-        → unwrap_or (option_map (λ (x : Proc × Inc). (incarnation s x.1).confined) o) false ≡ (incarnation s inc).confined
-    by None e = absurd (cc)
-    by (Some x) e = let same : x.1 ≡ inc = cc in ap (λ (i : Inc). (incarnation s i).confined) same
 
 -- ---- a step
 
@@ -150,14 +128,3 @@ module _ (w : WorldValue) (m : Machine) (cpu : Cpu) (line : Line) (after : Machi
           (option_map (λ (proc : Proc). (proc, (process m.state proc).current)) found)
       seen_next None = none
       seen_next (Some proc) = shown proc (next w (context_of m proc)).0
-
-  pub step_enters : RunsEntered after.state line.cpu (before_line m.state line)
-  step_enters = by (enters_call (done_call line)) refl
-    where
-      by : (b : Bool) → enters_call (done_call line) ≡ b
-          → IfSome (elim b as (λ x. Option Inc) [ true ↦ Some m.state.next_inc | false ↦ None ])
-          (λ (inc : Inc). option_map (λ (x : Proc × Inc). x.1) (running_on after.state line.cpu) ≡ Some inc)
-      by false e = tt
-      by true e =
-          subst (λ (k : Machine). option_map (λ (x : Proc × Inc). x.1) (running_on k.state line.cpu) ≡ Some m.state.next_inc) (sym step_moves)
-          (ap (λ (o : Option (Proc × Inc)). option_map (λ (x : Proc × Inc). x.1) o) (moved_holds RunsNew runs_each w m line step_line e))

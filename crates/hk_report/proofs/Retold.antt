@@ -1,14 +1,16 @@
 -- What is told of lines as they come, one by one.
-use Rattle.std.proofs.Common.{◌≡◌, ℕ, suc, ◌+◌, ◌<◌, ◌^◌, List, [], ◌∷◌, ◌++◌, length, replicate, refl, sym, ap, ◌∙◌, arith, append_assoc}
-use Rattle.std.specs.Prelude.{Option, codes, slice_index_or}
+use Rattle.std.proofs.Common.{◌≡◌, ℕ, zero, suc, ◌+◌, ◌<◌, ◌≤◌, ◌^◌, List, [], ◌∷◌, ◌++◌, length, replicate, Bool, true, false, Option, Some, None, refl, sym, ap, subst, ◌∙◌, arith, append_assoc, take, option_map, slice_get}
+use Rattle.std.specs.Prelude.{codes, slice_index_or}
+use Rattle.std.specs.Option.{unwrap_or}
 use Rattle.std.specs.Fmt.{decimal}
-use Rattle.std.proofs.lemmas.List.{append-nil, length-append}
+use Rattle.std.proofs.lemmas.List.{append-nil, length-append, take_all}
 use Rattle.hk_format.specs.Texts.{ended_line}
 use Rattle.hk_model.specs.declared.entries.Cap.{Cap}
 use Rattle.hk_model.specs.declared.lines.Line.{Line}
 use Rattle.hk_model.specs.WorldValue.{WorldValue, IsWorld}
 use Rattle.hk_model.specs.State.{State}
-use Rattle.hk_model.specs.Running.{Machine, opened, moved, after_lines, AreStepsOf}
+use Rattle.hk_model.specs.Running.{Machine, opened, moved, after_lines, line_of, step, AreStepsOf}
+use Rattle.hk_model.proofs.Steps.{first_steps, line_steps}
 use Rattle.hk_report.specs.declared.doings.Before.{Before}
 use Rattle.hk_report.specs.declared.doings.Doing.{Doing}
 use Rattle.hk_report.specs.declared.families.Begun.{Begun}
@@ -17,7 +19,7 @@ use Rattle.hk_report.specs.declared.histories.History.{History}
 use Rattle.hk_report.specs.declared.replay.Retelling.{Retelling}
 use Rattle.hk_report.specs.Doings.{before_line, doing, doing_behind, doings, given_params, kept_params, params_given}
 use Rattle.hk_report.specs.Families.{changes_by, changes_from, families_after, families_by}
-use Rattle.hk_report.specs.Histories.{finished_below, histories_after, noted, opened_below}
+use Rattle.hk_report.specs.Histories.{finished_below, histories_after, noted, opened_below, told_histories}
 use Rattle.hk_report.specs.Reasons.{AreFew}
 use Rattle.hk_report.specs.Retold.{IsRetold, IsToldMore}
 use Rattle.hk_report.specs.Reachable.{IsEnough}
@@ -86,16 +88,34 @@ histories_one w n k m [] line histories e =
 histories_one w n k m (x ∷ lines) line histories e =
     histories_one w (n + 1) k (moved w m x.cpu) lines line (noted (n + 1) (doing m.state x (moved w m x.cpu).state) (moved w m x.cpu).state histories) (omega (arith, e))
 
+-- the first lines, and one more
+take_one : (lines : List Line) (n : ℕ) (line : Line) → slice_get lines n ≡ Some line → take (n + 1) lines ≡ take n lines ++ line ∷ []
+take_one lines n line h = ap (λ (k : ℕ). take k lines) (one_more n) ∙ by lines n h
+  where
+    one_more : (n : ℕ) → n + 1 ≡ suc n
+    one_more n = omega arith
+
+    by : (lines : List Line) (n : ℕ) → slice_get lines n ≡ Some line → take (suc n) lines ≡ take n lines ++ line ∷ []
+    by [] n h = absurd (cc)
+    by (x ∷ lines) zero h = let same : x ≡ line = cc in rw same refl
+    by (x ∷ lines) (suc n) h = ap (λ (l : List Line). x ∷ l) (by lines n h)
+
+some_same : {a b : Line} → Some a ≡ Some b → a ≡ b
+some_same h = cc
+
+none_some : {a : Line} → None ≡ Some a → ⊥
+none_some h = cc
+
 -- ---- what was told
 
 -- of no line
-pub retold_none : {K : Type 0} (w : WorldValue) (r : Retelling K) → r.machine ≡ opened w → r.count ≡ 0 → r.telling.families.changes.items ≡ []
+pub retold_none : (w : WorldValue) (r : Retelling) → r.machine ≡ opened w → r.count ≡ 0 → r.telling.families.changes.items ≡ []
     → r.telling.families.calls ≡ replicate (opened w).state.next_inc.0 [] → r.telling.params ≡ []
     → r.telling.histories.items ≡ opened_below (opened w).state (opened w).state.next_name.0 → IsRetold w [] r
 retold_none w r m n c f p h = record { steps = tt; machine = m; count = n; changes = c; calls = f; params = p; histories = h }
 
 -- of one line more
-pub retold_more : {K : Type 0} (w : WorldValue) (lines : List Line) (line : Line) (old new : Retelling K) → IsRetold w lines old → AreStepsOf w (lines ++ line ∷ [])
+pub retold_more : (w : WorldValue) (lines : List Line) (line : Line) (old new : Retelling) → IsRetold w lines old → AreStepsOf w (lines ++ line ∷ [])
     → new.machine ≡ moved w old.machine line.cpu → IsToldMore old new line → IsRetold w (lines ++ line ∷ []) new
 retold_more w lines line old new r steps m told =
     let c = told.changes in
@@ -138,8 +158,38 @@ retold_more w lines line old new r steps m told =
           ∙ sym (histories_one w 0 old.count (opened w) lines line (opened_below (opened w).state (opened w).state.next_name.0) few);
     }
 
+-- of one line more of a history, which is made once more
+pub retold_line : (w : WorldValue) (lines : List Line) (n : ℕ) (line made : Line) (moves : Bool) (old new : Retelling) → AreStepsOf w lines → slice_get lines n ≡ Some line
+    → IsRetold w (take n lines) old → (moves ≡ true → step w old.machine line.cpu ≡ Some (made, new.machine)) → (moves ≡ true → IsToldMore old new made)
+    → (moves ≡ false → (step w old.machine line.cpu ≡ None) × (new ≡ old)) → IsRetold w (take (n + 1) lines) new
+retold_line w lines n line made moves old new steps there r some told none = by moves some told none
+  where
+    longer : take (n + 1) lines ≡ take n lines ++ line ∷ []
+    longer = take_one lines n line there
+
+    is_line : line_of w old.machine line.cpu ≡ Some line
+    is_line = subst (λ (m : Machine). line_of w m line.cpu ≡ Some line) (sym r.machine) (line_steps w (opened w) lines n line steps there)
+
+    by : (b : Bool) → (b ≡ true → step w old.machine line.cpu ≡ Some (made, new.machine)) → (b ≡ true → IsToldMore old new made)
+        → (b ≡ false → (step w old.machine line.cpu ≡ None) × (new ≡ old)) → IsRetold w (take (n + 1) lines) new
+    by true some told none =
+        let e = some refl in
+        let same : made ≡ line = some_same (sym (ap (λ (f : Option (Line × Machine)). option_map (λ f. f.0) f) e) ∙ is_line) in
+        subst (λ (l : List Line). IsRetold w l new) (sym longer)
+        (retold_more w (take n lines) line old new r (subst (λ (l : List Line). AreStepsOf w l) longer (first_steps w (opened w) lines (n + 1) steps))
+        (sym (ap (λ (f : Option (Line × Machine)). unwrap_or (option_map (λ f. f.1) f) old.machine) e)) (subst (λ (l : Line). IsToldMore old new l) same (told refl)))
+    by false some told none = absurd (none_some (sym (ap (λ (f : Option (Line × Machine)). option_map (λ f. f.0) f) (none refl).0) ∙ is_line))
+
+-- of no line yet, and of all
+pub retold_begins : (w : WorldValue) (lines : List Line) (r : Retelling) → IsRetold w [] r → IsRetold w (take 0 lines) r
+retold_begins w [] r h = h
+retold_begins w (line ∷ lines) r h = h
+
+pub retold_whole : (w : WorldValue) (lines : List Line) (n : ℕ) (r : Retelling) → length lines ≤ n → IsRetold w (take n lines) r → IsRetold w lines r
+retold_whole w lines n r h is = subst (λ (l : List Line). IsRetold w l r) (take_all n lines h) is
+
 -- a line more, of which this was asked before it
-pub told_more : {K : Type 0} (old new : Retelling K) (line : Line) (t : Machine) (before : Before) → IsAsked old.telling.families.calls old.machine.state line before → new.machine ≡ t
+pub told_more : (old new : Retelling) (line : Line) (t : Machine) (before : Before) → IsAsked old.telling.families.calls old.machine.state line before → new.machine ≡ t
     → new.count ≡ old.count + 1
     → new.telling.families.changes.items ≡ old.telling.families.changes.items
     ++ changes_by old.count before.changed (slice_index_or old.telling.families.calls before.inc.0 [])
@@ -167,14 +217,21 @@ told_more old new line t before asked m n c f p h = let e = asked.is in record {
 }
 
 -- they can be numbered
-pub retold_count : {K : Type 0} (w : WorldValue) (lines : List Line) (r : Retelling K) → IsWorld w → IsRetold w lines r → r.count + 1 < 2 ^ 32
+pub retold_count : (w : WorldValue) (lines : List Line) (r : Retelling) → IsWorld w → IsRetold w lines r → r.count + 1 < 2 ^ 32
 retold_count w lines r world h = let a = h.count in let b = lines_few w lines world h.steps in omega (arith, a, b)
 
-pub retold_few : {K : Type 0} (w : WorldValue) (lines : List Line) (r : Retelling K) → IsWorld w → IsRetold w lines r → AreFew r.telling.families.changes.items
+pub retold_few : (w : WorldValue) (lines : List Line) (r : Retelling) → IsWorld w → IsRetold w lines r → AreFew r.telling.families.changes.items
 retold_few w lines r world h = few_told w lines r.telling.families.changes.items world h.steps h.changes
 
+-- what has stood in lists, where all that stands ends
+pub retold_ended : (w : WorldValue) (lines : List Line) (r : Retelling) (told : List History) → IsRetold w lines r
+    → told ≡ finished_below (r.count + 1) (length r.telling.histories.items) r.telling.histories.items → told ≡ told_histories w lines
+retold_ended w lines r told t h =
+    h ∙ ap (λ (k : ℕ). finished_below (k + 1) (length r.telling.histories.items) r.telling.histories.items) t.count
+    ∙ ap (λ (hs : List History). finished_below (length lines + 1) (length hs) hs) t.histories
+
 -- the text of what was told
-pub retold : {K : Type 0} (r : Retelling K) (told histories : List History) (params : List (List (Option Cap))) (families : List (List Begun)) (found : List BareChange)
+pub retold : (r : Retelling) (told histories : List History) (params : List (List (Option Cap))) (families : List (List Begun)) (found : List BareChange)
     (count : ℕ) (none mid text : List ℕ)
     → told ≡ finished_below (r.count + 1) (length r.telling.histories.items) r.telling.histories.items → IsEnough families params found told histories → params ≡ r.telling.params
     → families ≡ r.telling.families.calls → found ≡ r.telling.families.changes.items
@@ -182,6 +239,5 @@ pub retold : {K : Type 0} (r : Retelling K) (told histories : List History) (par
     → (w : WorldValue) → (lines : List Line) → IsWorld w → IsRetold w lines r → IsReport w lines text
 retold r told histories params families found count none mid text h same p f c many n is e w lines world t =
     reported w lines told histories params families found count none mid text world t.steps
-    (h ∙ ap (λ (k : ℕ). finished_below (k + 1) (length r.telling.histories.items) r.telling.histories.items) t.count
-    ∙ ap (λ (hs : List History). finished_below (length lines + 1) (length hs) hs) t.histories)
+    (retold_ended w lines r told t h)
     same (p ∙ t.params) (f ∙ t.calls) (c ∙ t.changes) many n is e

@@ -1,5 +1,5 @@
 -- What each line did that the changes under confined calls are told by. docs/RULES.md, "Under a call".
-use Rattle.std.specs.Prelude.{◌≡◌, true, false, List, [], ◌∷◌, ◌++◌, map, take, Option, Some, None, IfSome, is_some, option_map, slice_index_or}
+use Rattle.std.specs.Prelude.{true, false, List, [], ◌∷◌, ◌++◌, map, take, Option, Some, None, is_some, option_map, slice_index_or}
 use Rattle.std.specs.Option.{unwrap_or}
 use Rattle.hk_model.specs.declared.calls.Call.{Call}
 use Rattle.hk_model.specs.declared.entries.Cap.{Cap}
@@ -7,12 +7,9 @@ use Rattle.hk_model.specs.declared.entries.Entry.{Entry}
 use Rattle.hk_model.specs.declared.lines.Line.{Line}
 use Rattle.hk_model.specs.declared.names.Name.{Name}
 use Rattle.hk_model.specs.declared.names.Inc.{Inc}
-use Rattle.hk_model.specs.declared.names.Proc.{Proc}
-use Rattle.hk_model.specs.declared.names.Cpu.{Cpu}
 use Rattle.hk_model.specs.WorldValue.{WorldValue}
 use Rattle.hk_model.specs.State.{State, incarnation}
 use Rattle.hk_model.specs.Places.{cap_of}
-use Rattle.hk_model.specs.Processors.{running_on}
 use Rattle.hk_model.specs.Running.{Machine, moved}
 use Rattle.hk_model.specs.Lines.{done_call, makes_object, enters_call, param_count}
 use Rattle.hk_report.specs.declared.doings.Before.{Before}
@@ -92,11 +89,3 @@ params_given w m [] = []
 params_given w m (line ∷ lines) =
     kept_params (doing m.state line (moved w m line.cpu).state).entered (given_params line (before_line m.state line) (moved w m line.cpu).state)
     ++ params_given w (moved w m line.cpu) lines
-
--- the slots of the incarnation that the processor runs; where it runs nothing, none
-abbrev pub slots_on : State → Cpu → List Entry
-slots_on s cpu = unwrap_or (option_map (λ (x : Proc × Inc). (incarnation s x.1).slots) (running_on s cpu)) []
-
--- behind a line of which this was known its processor runs the incarnation that it has made, if it has made one
-abbrev pub RunsEntered : State → Cpu → Before → Type 0
-RunsEntered t cpu before = IfSome before.enters (λ (inc : Inc). option_map (λ (x : Proc × Inc). x.1) (running_on t cpu) ≡ Some inc)

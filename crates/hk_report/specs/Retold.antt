@@ -9,7 +9,7 @@ use Rattle.hk_report.specs.Families.{changes_by, changes_from, families_after, f
 use Rattle.hk_report.specs.Histories.{histories_at_end, noted}
 
 -- these lines have come, steps of the world from its opening on
-pub record IsRetold {K : Type 0} (w : WorldValue) (lines : List Line) (r : Retelling K) : Type 0 where
+pub record IsRetold (w : WorldValue) (lines : List Line) (r : Retelling) : Type 0 where
   pub steps : AreStepsOf w lines
   pub machine : r.machine ≡ after_lines w (opened w) lines
   pub count : r.count ≡ length lines
@@ -19,7 +19,7 @@ pub record IsRetold {K : Type 0} (w : WorldValue) (lines : List Line) (r : Retel
   pub histories : r.telling.histories.items ≡ histories_at_end w lines
 
 -- a line more was told, which led from the one machine to the other
-pub record IsToldMore {K : Type 0} (old new : Retelling K) (line : Line) : Type 0 where
+pub record IsToldMore (old new : Retelling) (line : Line) : Type 0 where
   pub count : new.count ≡ old.count + 1
   pub changes : new.telling.families.changes.items ≡ old.telling.families.changes.items
       ++ changes_by old.count (before_line old.machine.state line).changed (slice_index_or old.telling.families.calls line.inc.0 [])

@@ -3,16 +3,15 @@
 
 ghost use Rattle.std.specs.Prelude.{◌≡◌, true, [], None, Some, is_some, option_copied, option_map, slice_index_or};
 ghost use Rattle.hk_model.specs.Control.{is_refusal};
-ghost use Rattle.hk_model.specs.State.{incarnation};
 ghost use Rattle.hk_model.specs.Lines.{changes_path, done_call};
 ghost use Rattle.hk_model.specs.Places.{named_by};
 ghost use Rattle.hk_report.specs.Named.{lists_path, named_list};
-ghost use Rattle.hk_report.specs.Doings.{RunsEntered, asked_change, before_by, before_call, before_line, before_none, doing_behind, slots_on};
+ghost use Rattle.hk_report.specs.Doings.{asked_change, before_by, before_call, before_none, doing_behind};
 
 use crate::families::{Begun, calls_over};
 use crate::lists::Lists;
-use crate::naming::{Caller, named_by};
-use crate::shows::{Shows, is_confined, slots_of};
+use crate::naming::named_by;
+use crate::shows::is_confined;
 use hk_model::{Call, Cpu, Inc, Line, Name, Path, Reply, What};
 use hk_plain::Plain;
 use hk_program::Watch;
@@ -84,15 +83,15 @@ fn listed_path(call: &Call) -> Option<&Path>
 }
 
 /// What is known of a call that is done, before it, where it changes this object and this object's list.
-fn before_call<K: Shows>(
-    kernel: &K,
+fn before_call(
+    kernel: &Plain,
     inc: Inc,
     changed: Option<Name>,
     listed: Option<Name>,
     call: &Call,
 ) -> Before
-    requires { listed ≡ named_list (K.state kernel.now) inc (Some call.now) }
-    ensures { result ≡ record (before_call (K.state kernel.now) inc (Some call.now)) { changed = changed } }
+    requires { listed ≡ named_list kernel.now inc (Some call.now) }
+    ensures { result ≡ record (before_call kernel.now inc (Some call.now)) { changed = changed } }
 {
     let made = match call {
         Call::Create { .. } => Some(kernel.next_name()),
@@ -117,25 +116,7 @@ fn named(kernel: &Plain, inc: Inc, path: Option<&Path>) -> Option<Name>
     ensures { result ≡ option_map (named_by kernel.now inc) (option_copied path.entry) }
 {
     match path {
-        Some(path) => {
-            let slots = slots_of(kernel, inc);
-            Some(named_by(kernel, Caller { inc, slots }, path))
-        }
-        None => None,
-    }
-}
-
-/// The same of the incarnation that the processor runs. Where there is no path, as for most calls, its slots are not looked up.
-#[inline(always)]
-fn named_on<K: Shows>(kernel: &K, cpu: Cpu, inc: Inc, path: Option<&Path>) -> Option<Name>
-    requires { slots_on (K.state kernel.now) cpu ≡ (incarnation (K.state kernel.now) inc).slots }
-    ensures { result ≡ option_map (named_by (K.state kernel.now) inc) (option_copied path.entry) }
-{
-    match path {
-        Some(path) => {
-            let slots = kernel.running_slots(cpu);
-            Some(named_by(kernel, Caller { inc, slots }, path))
-        }
+        Some(path) => Some(named_by(kernel, inc, path)),
         None => None,
     }
 }
@@ -163,25 +144,6 @@ fn is_refusal(reply: &Reply) -> bool
     }
 }
 
-/// What is known of a line, by a kernel in the state before it.
-pub(crate) fn before_line(kernel: &Plain, line: &Line) -> Before
-    ensures { result ≡ before_line kernel.now line.now }
-{
-    match &line.what {
-        What::Dispatch => before_none(line.inc),
-        What::Halt => before_none(line.inc),
-        What::Call(call) => {
-            if is_refusal(&line.reply) {
-                before_none(line.inc)
-            } else {
-                let changed = named(kernel, line.inc, changed_path(call));
-                let listed = named(kernel, line.inc, listed_path(call));
-                before_call(kernel, line.inc, changed, listed, call)
-            }
-        }
-    }
-}
-
 /// What is known of the call that a step makes, if it makes one. Of an incarnation that is under no confined call it is not
 /// asked which object it changes, unless it changes the object's list.
 #[derive(Drop)]
@@ -192,18 +154,10 @@ pub(crate) struct Known<'a> {
 }
 
 impl<'a> Known<'a> {
-    /// The object that a call of the incarnation that the processor runs changes, where it changes this object's list.
-    fn asked<K: Shows>(
-        &self,
-        kernel: &K,
-        cpu: Cpu,
-        inc: Inc,
-        call: &Call,
-        listed: Option<Name>,
-    ) -> Option<Name>
-        requires slots { slots_on (K.state kernel.now) cpu ≡ (incarnation (K.state kernel.now) inc).slots }
-        requires listed { listed ≡ named_list (K.state kernel.now) inc (Some call.now) }
-        ensures { result ≡ asked_change (slice_index_or self.now.calls.now inc.0 []) (K.state kernel.now) inc call.now }
+    /// The object that an incarnation's call changes, where it changes this object's list.
+    fn asked(&self, kernel: &Plain, inc: Inc, call: &Call, listed: Option<Name>) -> Option<Name>
+        requires { listed ≡ named_list kernel.now inc (Some call.now) }
+        ensures { result ≡ asked_change (slice_index_or self.now.calls.now inc.0 []) kernel.now inc call.now }
     {
         if listed.is_some() {
             return listed;
@@ -212,18 +166,18 @@ impl<'a> Known<'a> {
         if calls_over(self.calls, inc).is_empty() {
             return None;
         }
-        named_on(kernel, cpu, inc, Some(path))
+        named(kernel, inc, Some(path))
     }
 }
 
-impl<'a, K: Shows> Watch<K> for Known<'a> {
+impl<'a> Watch<Plain> for Known<'a> {
     ghost use Rattle.hk_report.specs.Doings.{known_of};
 
     ghost seen = { λ known s inc call. known_of known s inc call };
 
-    fn see(&mut self, kernel: &K, cpu: Cpu, inc: Inc, call: &Call) {
-        let listed = named_on(kernel, cpu, inc, listed_path(call));
-        let changed = self.asked(kernel, cpu, inc, call, listed);
+    fn see(&mut self, kernel: &Plain, _cpu: Cpu, inc: Inc, call: &Call) {
+        let listed = named(kernel, inc, listed_path(call));
+        let changed = self.asked(kernel, inc, call, listed);
         self.before = Some(before_call(kernel, inc, changed, listed, call));
     }
 }
@@ -269,27 +223,6 @@ pub(crate) fn doing_behind(before: Before, kernel: &Plain) -> Doing
         Some(inc) => Some(Entered {
             inc,
             confined: is_confined(kernel, inc),
-        }),
-        None => None,
-    };
-    Doing {
-        inc: before.inc,
-        changed: before.changed,
-        listed: before.listed,
-        made: before.made,
-        entered,
-    }
-}
-
-/// The same, where the processor of the line runs the incarnation that it has made, if it has made one.
-pub(crate) fn doing_on<K: Shows>(before: Before, kernel: &K, cpu: Cpu) -> Doing
-    requires { RunsEntered (K.state kernel.now) cpu before }
-    ensures { result ≡ doing_behind before (K.state kernel.now) }
-{
-    let entered = match before.enters {
-        Some(inc) => Some(Entered {
-            inc,
-            confined: kernel.runs_confined(cpu),
         }),
         None => None,
     };

@@ -1,8 +1,8 @@
 //! The confined calls that each incarnation is under, and what is changed under them
 //! (`docs/RULES.md`, "Changes and their reasons").
 
-ghost use Rattle.std.specs.Prelude.{◌≡◌, ◌+◌, ◌<◌, ◌^◌, ◌++◌, [], length, map, replicate, slice_index_or, IfOk, OnOk};
-ghost use Rattle.hk_report.specs.Families.{families_by, change_under, changes_by, changes_from};
+ghost use Rattle.std.specs.Prelude.{◌≡◌, ◌+◌, ◌<◌, ◌^◌, ◌++◌, [], map, replicate, slice_index_or, IfOk, OnOk};
+ghost use Rattle.hk_report.specs.Families.{families_by, change_under, changes_by};
 
 use crate::doings::Doing;
 use crate::lists::Lists;
@@ -178,17 +178,4 @@ impl Families {
         add_changes(&mut self.changes, &self.calls, moment, doing)?;
         add_family(&mut self.calls, moment, doing)
     }
-}
-
-/// The changes under confined calls of lines that did this, where the incarnations of the opening
-/// are those below `first`. NoMemory is want of memory.
-pub(crate) fn changes_of(alloc: Global, first: Inc, doings: &[Doing]) -> Result<Families, NoMemory>
-    requires { length doings.now < 2 ^ 32 }
-    ensures { IfOk result (λ f. f.changes.items ≡ changes_from 0 (replicate first.0 []) doings.now) }
-{
-    let mut families = Families::begin(alloc, first)?;
-    for (index, doing) in doings.iter().enumerate() {
-        families.add(index as u32, doing)?;
-    }
-    Ok(families)
 }

@@ -8,9 +8,10 @@ ghost use Rattle.hk_model.specs.Places.{cap_of};
 ghost use Rattle.hk_report.specs.Histories.{StaysListed, same_at, same_cap, stays, since_by, ended_by, added, padded, relisted, no_history, touched, touched_name, maker_of, noted, opened_below, finished_below};
 
 use crate::doings::Doing;
-use crate::shows::Shows;
+use crate::shows::entries_of;
 use hk_model::lists::Limited;
 use hk_model::{Cap, Entry, Inc, Items, Name, NoMemory, Template};
+use hk_plain::Plain;
 use std::alloc::Global;
 use std::marker::PhantomData;
 use std::mem;
@@ -254,16 +255,13 @@ fn touch(
 }
 
 /// The histories at the opening of a world, by a kernel in that state. NoMemory is want of memory.
-pub(crate) fn opened_histories<K: Shows>(
-    alloc: Global,
-    kernel: &K,
-) -> Result<Vec<History>, NoMemory>
-    ensures { IfOk result (λ all. all.items ≡ opened_below (K.state kernel.now) (K.state kernel.now).next_name.0) }
+pub(crate) fn opened_histories(alloc: Global, kernel: &Plain) -> Result<Vec<History>, NoMemory>
+    ensures { IfOk result (λ all. all.items ≡ opened_below kernel.now kernel.now.next_name.0) }
 {
     let mut all = Vec::new(alloc);
     for number in 0..kernel.next_name().0 {
         let name = Name(number);
-        touch(alloc, &mut all, name, 0, None, kernel.entries(name))?;
+        touch(alloc, &mut all, name, 0, None, entries_of(kernel, name))?;
     }
     Ok(all)
 }
@@ -290,19 +288,26 @@ fn maker_of(doing: &Doing) -> Option<Inc>
 
 /// The histories after one line more, by a kernel in the state behind it. `moment` is the number of
 /// lines up to and with it. NoMemory is want of memory.
-pub(crate) fn note<K: Shows>(
+pub(crate) fn note(
     alloc: Global,
     histories: &mut Vec<History>,
-    kernel: &K,
+    kernel: &Plain,
     moment: u32,
     doing: &Doing,
 ) -> Result<(), NoMemory>
-    ensures { OnOk result (histories.new.items ≡ noted moment doing.now (K.state kernel.now) histories.old.items) }
+    ensures { OnOk result (histories.new.items ≡ noted moment doing.now kernel.now histories.old.items) }
 {
     match touched_name(doing) {
         Some(name) => {
             let maker = maker_of(doing);
-            touch(alloc, histories, name, moment, maker, kernel.entries(name))
+            touch(
+                alloc,
+                histories,
+                name,
+                moment,
+                maker,
+                entries_of(kernel, name),
+            )
         }
         None => Ok(()),
     }

@@ -46,5 +46,4 @@ pub use families::{BareChange, Begun};
 pub use hk_model::{Change, Hop, Line, NoMemory, Reach, World};
 pub use replay::Retelling;
 pub use reporting::{changes_under, report, report_text};
-pub use shows::Shows;
 pub use texts::changes_text;

@@ -4,18 +4,11 @@ ghost use Rattle.std.specs.Prelude.{◌≡◌, slice_index_or};
 ghost use Rattle.hk_model.specs.declared.entries.Entry.TheVariants.{Empty};
 ghost use Rattle.hk_model.specs.Places as places;
 ghost use Rattle.hk_model.specs.Places.{standing, object_named, named_by};
-ghost use Rattle.hk_model.specs.State.{incarnation};
 
-use crate::shows::Shows;
+use crate::shows::{entries_of, slots_of};
 use hk_model::{Entry, Inc, Name, Path, Template};
+use hk_plain::Plain;
 use std::marker::PhantomData;
-
-/// An incarnation that makes a call.
-#[derive(Clone, Copy)]
-pub(crate) struct Caller<'a> {
-    pub inc: Inc,
-    pub slots: &'a [Entry],
-}
 
 /// The object that a capability names; of another entry the name 0.
 fn object_named(entry: &Entry) -> Name
@@ -40,23 +33,22 @@ fn named_in_slot(slots: &[Entry], slot: u16) -> Name
 }
 
 /// The object that is named at an index of an object's list.
-fn named_in_list<K: Shows>(kernel: &K, name: Name, index: u16) -> Name
-    ensures { result ≡ object_named (standing (K.state kernel.now) (places.EntryOf name index)) }
+fn named_in_list(kernel: &Plain, name: Name, index: u16) -> Name
+    ensures { result ≡ object_named (standing kernel.now (places.EntryOf name index)) }
 {
-    match kernel.entries(name).get(index as usize) {
+    match entries_of(kernel, name).get(index as usize) {
         Some(entry) => object_named(entry),
         None => Name(0),
     }
 }
 
-/// The object that the capability at the end of a path names.
+/// The object that the capability at the end of an incarnation's path names.
 #[tactic(auto, using(crate::proofs::NamedLemmas::named_begins))]
-pub(crate) fn named_by<K: Shows>(kernel: &K, caller: Caller<'_>, path: &Path) -> Name
-    requires { caller.slots.now ≡ (incarnation (K.state kernel.now) caller.inc).slots }
-    ensures { result ≡ named_by (K.state kernel.now) caller.entry.inc path.now }
+pub(crate) fn named_by(kernel: &Plain, inc: Inc, path: &Path) -> Name
+    ensures { result ≡ named_by kernel.now inc path.now }
 {
     let len = path.len();
-    let mut name = named_in_slot(caller.slots, path.at(0));
+    let mut name = named_in_slot(slots_of(kernel, inc), path.at(0));
     for step in 1..len {
         name = named_in_list(kernel, name, path.at(step));
     }

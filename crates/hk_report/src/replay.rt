@@ -1,39 +1,27 @@
 //! A history once more, with what its lines did (`docs/RULES.md`, "Steps of processors").
 
-ghost use Rattle.std.specs.Prelude.{◌≡◌, ◌+◌, ◌<◌, ◌≤◌, ◌^◌, ◌++◌, ◌∷◌, [], true, false, Some, None, length, map, replicate, take, slice_index_or, IfOk, OnOk};
+ghost use Rattle.std.specs.Prelude.{◌≡◌, ◌+◌, ◌<◌, ◌≤◌, ◌^◌, ◌++◌, [], true, false, Some, None, length, map, replicate, take, slice_index_or, IfOk, OnOk};
 ghost use Rattle.hk_model.specs.Lines.{done_call, param_count};
-ghost use Rattle.hk_model.specs.Opening.{opening};
 ghost use Rattle.hk_model.specs.Places.{cap_of};
-ghost use Rattle.hk_model.specs.Running.{opened, step};
+ghost use Rattle.hk_model.specs.Running.{AreStepsOf, opened, step};
 ghost use Rattle.hk_program.specs.Machines.{IsSound};
-ghost use Rattle.hk_report.specs.Doings.{RunsEntered, doing_behind, doings, given_params, given_slots, kept_params, params_given};
-ghost use Rattle.hk_report.specs.Families.{changes_by, changes_from, families_after, families_by};
-ghost use Rattle.hk_report.specs.Histories.{finished_below, noted, opened_below, told_histories};
-ghost use Rattle.hk_report.specs.Retold.{IsToldMore};
+ghost use Rattle.hk_report.specs.Doings.{doing_behind, given_params, given_slots, kept_params};
+ghost use Rattle.hk_report.specs.Families.{changes_by, families_by};
+ghost use Rattle.hk_report.specs.Histories.{finished_below, noted, opened_below};
+ghost use Rattle.hk_report.specs.Retold.{IsRetold, IsToldMore};
 
-use crate::doings::{
-    Before, Doing, Entered, Known, before_by, before_line, does_nothing, doing_behind, doing_on,
-};
+use crate::doings::{Before, Doing, Entered, Known, before_by, does_nothing, doing_behind};
 use crate::families::Families;
 use crate::histories::{History, finish, note, opened_histories};
 use crate::params::GivenParams;
-use crate::shows::{Shows, slots_of};
+use crate::shows::slots_of;
 use hk_model::{
     Call, Cpu, Entry, Inc, Line, Making, NoMemory, Refusal, Reply, Template, What, World,
 };
 use hk_plain::Plain;
-use hk_program::Machine;
+use hk_program::{Machine, blank_line};
 use std::alloc::Global;
 use std::marker::PhantomData;
-
-/// What the lines of a history did.
-#[derive(Drop)]
-pub struct Replay {
-    /// The number that the first incarnation takes which a line makes.
-    pub first: Inc,
-    /// What each line did.
-    pub doings: Vec<Doing>,
-}
 
 /// What the reasons of changes are told by.
 #[derive(Drop)]
@@ -80,18 +68,6 @@ fn param_slots_behind<'a>(kernel: &'a Plain, line: &Line, before: &Before) -> &'
     }
 }
 
-/// The same, where the processor of the line runs the incarnation that it has made, if it has made one.
-fn param_slots_on<'a, K: Shows>(kernel: &'a K, line: &Line, before: &Before) -> &'a [Entry]
-    requires { RunsEntered (K.state kernel.now) line.now.cpu before.now }
-    ensures value { result.now ≡ given_slots line.now before.now (K.state kernel.now) }
-    ensures few { length result.now ≤ 8 }
-{
-    match before.enters {
-        Some(_) => param_slots(line, kernel.running_slots(line.cpu)),
-        None => &[],
-    }
-}
-
 /// The parameters of one call more, which are in these slots, where a line has begun one.
 fn keep_params(
     all: &mut GivenParams,
@@ -107,30 +83,13 @@ fn keep_params(
     }
 }
 
-/// The lines of a history once more, from the opening of its world on. NoMemory is want of memory.
-pub(crate) fn replayed(alloc: Global, world: &World, lines: &[Line]) -> Result<Replay, NoMemory>
-    ensures first { IfOk result (λ r. r.first ≡ (opened world.now).state.next_inc) }
-    ensures doings { IfOk result (λ r. r.doings.items ≡ doings world.now (opened world.now) lines.now) }
-{
-    let kernel = Plain::new(alloc, world)?;
-    let mut machine = Machine::open(alloc, world, kernel)?;
-    let first = machine.kernel().next_inc();
-    let mut doings = Vec::with_capacity(alloc, lines.len())?;
-    for line in lines {
-        let before = before_line(machine.kernel(), line);
-        let _made = machine.step(alloc, world, line.cpu)?;
-        doings.push(doing_behind(before, machine.kernel()))?;
-    }
-    Ok(Replay { first, doings })
-}
-
 impl Telling {
     /// What no line tells yet, by a kernel in the state of the opening.
-    fn begin<K: Shows>(alloc: Global, kernel: &K) -> Result<Telling, NoMemory>
+    fn begin(alloc: Global, kernel: &Plain) -> Result<Telling, NoMemory>
         ensures changes { IfOk result (λ t. t.families.changes.items ≡ []) }
-        ensures calls { IfOk result (λ t. t.families.calls ≡ replicate (K.state kernel.now).next_inc.0 []) }
+        ensures calls { IfOk result (λ t. t.families.calls ≡ replicate kernel.now.next_inc.0 []) }
         ensures params { IfOk result (λ t. t.params ≡ []) }
-        ensures histories { IfOk result (λ t. t.histories.items ≡ opened_below (K.state kernel.now) (K.state kernel.now).next_name.0) }
+        ensures histories { IfOk result (λ t. t.histories.items ≡ opened_below kernel.now kernel.now.next_name.0) }
     {
         Ok(Telling {
             families: Families::begin(alloc, kernel.next_inc())?,
@@ -141,10 +100,10 @@ impl Telling {
 
     /// What a line tells that has done this and given the parameters in these slots, by a kernel in the state behind it.
     /// `index` is the number of lines before it.
-    fn add<K: Shows>(
+    fn add(
         &mut self,
         alloc: Global,
-        kernel: &K,
+        kernel: &Plain,
         doing: &Doing,
         slots: &[Entry],
         index: u32,
@@ -154,7 +113,7 @@ impl Telling {
         ensures changes { OnOk result (self.new.families.changes.items ≡ self.old.families.changes.items ++ changes_by index doing.now.changed (slice_index_or self.old.families.calls doing.now.inc.0 [])) }
         ensures calls { OnOk result (self.new.families.calls ≡ families_by index doing.now self.old.families.calls) }
         ensures params { OnOk result (self.new.params ≡ self.old.params ++ kept_params doing.now.entered (map cap_of slots.now)) }
-        ensures histories { OnOk result (self.new.histories.items ≡ noted (index + 1) doing.now (K.state kernel.now) self.old.histories.items) }
+        ensures histories { OnOk result (self.new.histories.items ≡ noted (index + 1) doing.now kernel.now self.old.histories.items) }
     {
         note(alloc, &mut self.histories, kernel, index + 1, doing)?;
         keep_params(&mut self.params, &doing.entered, slots)?;
@@ -164,19 +123,18 @@ impl Telling {
 
 /// The lines of a history as they come: a machine makes each step, and its line is told at once.
 #[derive(Drop)]
-pub struct Retelling<K: Shows> {
+pub struct Retelling {
     /// Where the lines so far have led.
-    pub machine: Machine<K>,
+    pub machine: Machine<Plain>,
     /// How many lines there were.
     pub count: u32,
     /// What they tell.
     pub telling: Telling,
 }
 
-impl<K: Shows> Retelling<K> {
-    /// No line of a history of this world has come yet, on a kernel that has opened it. NoMemory is want of memory.
-    pub fn begin(alloc: Global, world: &World, kernel: K) -> Result<Retelling<K>, NoMemory>
-        requires { K.state kernel ≡ opening world.now }
+impl Retelling {
+    /// No line of a history of this world has come yet. NoMemory is want of memory.
+    pub fn begin(alloc: Global, world: &World) -> Result<Retelling, NoMemory>
         ensures machine { IfOk result (λ r. r.machine ≡ opened world.now) }
         ensures sound { IfOk result (λ r. IsSound world.now r.machine) }
         ensures count { IfOk result (λ r. r.count ≡ 0) }
@@ -185,6 +143,7 @@ impl<K: Shows> Retelling<K> {
         ensures params { IfOk result (λ r. r.telling.params ≡ []) }
         ensures histories { IfOk result (λ r. r.telling.histories.items ≡ opened_below (opened world.now).state (opened world.now).state.next_name.0) }
     {
+        let kernel = Plain::new(alloc, world)?;
         let machine = Machine::open(alloc, world, kernel)?;
         let telling = Telling::begin(alloc, machine.kernel())?;
         Ok(Retelling {
@@ -228,8 +187,7 @@ impl<K: Shows> Retelling<K> {
 
     /// Tells the line that has led to the machine, of which this was known before it. NoMemory is want of memory.
     fn tell(&mut self, alloc: Global, line: &Line, before: Before) -> Result<(), NoMemory>
-        requires runs { RunsEntered self.old.machine.state line.now.cpu before }
-        requires few { self.old.count + 1 < 2 ^ 32 }
+        requires { self.old.count + 1 < 2 ^ 32 }
         ensures machine { self.new.machine ≡ self.old.machine }
         ensures count { OnOk result (self.new.count ≡ self.old.count + 1) }
         ensures changes { OnOk result (self.new.telling.families.changes.items ≡ self.old.telling.families.changes.items ++ changes_by self.old.count before.changed (slice_index_or self.old.telling.families.calls before.inc.0 [])) }
@@ -240,8 +198,8 @@ impl<K: Shows> Retelling<K> {
         let _ = PhantomData::<(Call, Making, Refusal, Reply, Template, What)>; // Rattle is to know what a Line holds
         if !does_nothing(&before) {
             let kernel = self.machine.kernel();
-            let doing = doing_on(before, kernel, line.cpu);
-            let slots = param_slots_on(kernel, line, &before);
+            let doing = doing_behind(before, kernel);
+            let slots = param_slots_behind(kernel, line, &before);
             self.telling.add(alloc, kernel, &doing, slots, self.count)?;
         }
         self.count += 1;
@@ -262,31 +220,19 @@ impl<K: Shows> Retelling<K> {
     }
 }
 
-/// The lines of a history once more: what they change under confined calls, the parameters that they gave, and what
-/// has stood in lists. NoMemory is want of memory.
-pub(crate) fn told(alloc: Global, world: &World, lines: &[Line]) -> Result<Telling, NoMemory>
-    requires { length lines.now + 1 < 2 ^ 32 }
-    ensures changes { IfOk result (λ t. t.families.changes.items ≡ changes_from 0 (replicate (opened world.now).state.next_inc.0 []) (doings world.now (opened world.now) lines.now)) }
-    ensures calls { IfOk result (λ t. t.families.calls ≡ families_after 0 (doings world.now (opened world.now) lines.now) (replicate (opened world.now).state.next_inc.0 [])) }
-    ensures params { IfOk result (λ t. t.params ≡ params_given world.now (opened world.now) lines.now) }
-    ensures histories { IfOk result (λ t. t.histories.items ≡ told_histories world.now lines.now) }
+/// What the lines of a history tell: each is made once more on a plain kernel, and told as it comes. NoMemory is want of
+/// memory.
+///
+/// `lines` are steps of `world` from its opening on, in the order of the history.
+pub(crate) fn retold(alloc: Global, world: &World, lines: &[Line]) -> Result<Retelling, NoMemory>
+    requires { AreStepsOf world.now lines.now }
+    ensures { IfOk result (λ told. IsRetold world.now lines.now told) }
 {
-    let kernel = Plain::new(alloc, world)?;
-    let mut machine = Machine::open(alloc, world, kernel)?;
-    let mut telling = Telling::begin(alloc, machine.kernel())?;
-    for (index, line) in lines.iter().enumerate() {
-        let before = before_line(machine.kernel(), line);
-        let _made = machine.step(alloc, world, line.cpu)?;
-        let kernel = machine.kernel();
-        let slots = param_slots_behind(kernel, line, &before);
-        telling.add(
-            alloc,
-            kernel,
-            &doing_behind(before, kernel),
-            slots,
-            index as u32,
-        )?;
+    let _limit = world.limit(); // so that the check knows that it is a world
+    let mut told = Retelling::begin(alloc, world)?;
+    let mut made = blank_line(Cpu(0));
+    for line in lines {
+        let _moved = told.step_into(alloc, world, line.cpu, &mut made)?;
     }
-    finish(alloc, &mut telling.histories, lines.len() as u32 + 1)?;
-    Ok(telling)
+    Ok(told)
 }

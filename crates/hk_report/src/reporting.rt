@@ -13,9 +13,8 @@ ghost use Rattle.hk_report.specs.Reasons.{AreFew};
 ghost use Rattle.hk_report.specs.Retold.{IsRetold};
 ghost use Rattle.hk_report.specs.Written.{IsReport};
 
-use crate::families::{BareChange, changes_of, whole_changes};
-use crate::replay::{Retelling, replayed, told};
-use crate::shows::Shows;
+use crate::families::{BareChange, whole_changes};
+use crate::replay::{Retelling, retold};
 use crate::texts::write_count;
 use hk_confine::{closed_call_law, confinement_law};
 use hk_descent::{descent_law, environment_law};
@@ -27,7 +26,6 @@ use std::alloc::Global;
 /// stand by rising line, and for one line by rising number of the call.
 ///
 /// `lines` are steps of `world` from its opening on, in the order of the history. NoMemory is want of memory.
-#[tactic(auto, using(crate::proofs::Listed::changes_found, crate::proofs::Listed::doings_few, crate::proofs::Lengths::lines_few))]
 pub fn changes_under(
     alloc: Global,
     world: &World,
@@ -37,10 +35,8 @@ pub fn changes_under(
     ensures { IfOk result (λ changes. changes.items ≡ map told_change (bare_changes world.now lines.now)) }
 {
     let _limit = world.limit();
-    let replay = replayed(alloc, world, lines)?;
-    let families = changes_of(alloc, replay.first, replay.doings.as_slice())?;
-    let changes = whole_changes(alloc, families.changes.as_slice())?;
-    Ok(changes)
+    let told = retold(alloc, world, lines)?;
+    whole_changes(alloc, told.telling.families.changes.as_slice())
 }
 
 /// The changes under confined calls, each with its reason (`docs/RULES.md`, "Changes and their
@@ -49,7 +45,6 @@ pub fn changes_under(
 /// by rising number of the call. The laws of protection hold of the lines, whatever the answer is.
 ///
 /// `lines` are steps of `world` from its opening on, in the order of the history. NoMemory is want of memory.
-#[tactic(auto, using(crate::proofs::Lengths::lines_few, crate::proofs::Explained::few_told))]
 pub fn report(alloc: Global, world: &World, lines: &[Line]) -> Result<Vec<Change>, NoMemory>
     requires { AreStepsOf world.now lines.now }
     ensures changes { IfOk result (λ changes. AreChanges world.now lines.now changes.items) }
@@ -63,12 +58,12 @@ pub fn report(alloc: Global, world: &World, lines: &[Line]) -> Result<Vec<Change
     confinement_law(world, lines);
     closed_call_law(world, lines);
     let _limit = world.limit();
-    let mut told = told(alloc, world, lines)?;
+    let mut told = retold(alloc, world, lines)?.end(alloc)?;
     let changes = told.explain(alloc)?;
     Ok(changes)
 }
 
-impl<K: Shows> Retelling<K> {
+impl Retelling {
     /// The changes under confined calls of the lines that have come, each with its reason, as text (`docs/FORMATS.md`,
     /// "Statuses and outputs"): what `changes_text` makes of what `report` tells, written as each reason is found,
     /// without a list of them. NoMemory is want of memory.
@@ -89,15 +84,11 @@ impl<K: Shows> Retelling<K> {
 /// reason is found, without a list of them.
 ///
 /// `lines` are steps of `world` from its opening on, in the order of the history. NoMemory is want of memory.
-#[tactic(auto, using(crate::proofs::Lengths::lines_few, crate::proofs::Explained::few_told))]
 pub fn report_text(alloc: Global, world: &World, lines: &[Line]) -> Result<Text, NoMemory>
     requires { AreStepsOf world.now lines.now }
     ensures { IfOk result (λ text. IsReport world.now lines.now text) }
 {
     let _limit = world.limit();
-    let mut told = told(alloc, world, lines)?;
-    let mut out = told.text(alloc)?;
-    write_count(&mut out, told.families.changes.len())?;
-    let text = Text::from_string(out)?;
+    let text = retold(alloc, world, lines)?.text(alloc)?;
     Ok(text)
 }

@@ -5,7 +5,6 @@ pub mod Gathered
 pub mod Opens
 pub mod QueueMoves
 pub mod Live
-pub mod TopFrames
 pub mod EntryLists
 pub mod PartReads
 pub mod WalkSteps

@@ -13,4 +13,3 @@ pub mod Small
 pub mod Waits
 pub mod Told
 pub mod Rooms
-pub mod Confined

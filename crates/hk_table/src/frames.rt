@@ -51,13 +51,6 @@ fn release_top(objects: &Objects, counts: &mut Counts, stacks: &Stacks, proc: Pr
 }
 
 impl Parts {
-    /// The number that the next incarnation takes.
-    pub(crate) fn next_inc(&self) -> Inc
-        ensures { result ≡ self.now.next_inc }
-    {
-        self.stacks.next()
-    }
-
     /// How many incarnations a process has.
     pub(crate) fn depth(&self, proc: Proc) -> usize
         ensures { result ≡ depth self.now proc }

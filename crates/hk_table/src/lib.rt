@@ -3,7 +3,7 @@
 //!
 //! Its state is that of the rule table, told from its parts. The files are by subject: `stacks` has the name spaces of the
 //! calls, `parts` these with the objects, the queues and the counts, `born`, `counted` and `opening` the state in which a world
-//! opens, `processors` the dispatch, the halt and what a processor runs, `confined` whether that is a confined call, `finding`
+//! opens, `processors` the dispatch, the halt and what a processor runs, `finding`
 //! and `reads` the objects by name, `walks` and `targets` the tests that the calls share, `frames` the incarnations that come
 //! and go, `draft` where a call is put together, `making` and `objects` what is made.
 //! The calls: `words`, `lists`, `slots`, `templates`, `semaphores`, `procedures` and `creating`; `calls` hands each to its row.
@@ -18,7 +18,6 @@
 
 mod born;
 mod calls;
-mod confined;
 mod counted;
 mod counting;
 mod creating;

@@ -23,13 +23,6 @@ fn entry_in(objects: &Objects, slot: SlotNo, at: u32) -> Entry
 }
 
 impl Parts {
-    /// The name that the next object takes.
-    pub(crate) fn next_name(&self) -> Name
-        ensures { result ≡ self.now.next_name }
-    {
-        self.objects.next_name()
-    }
-
     /// The type of an object.
     pub(crate) fn type_of(&self, name: Name) -> Name
         ensures { result ≡ (object self.now name).of }

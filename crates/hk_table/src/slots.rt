@@ -1,11 +1,7 @@
 //! The slots of the current incarnation of a process, and the calls that change them alone: Load, Drop and Restrict.
 
-ghost use Rattle.std.specs.Prelude.{◌≡◌, ◌<◌, [], length, option_map, slice_index_or};
-ghost use Rattle.std.specs.Option.{unwrap_or};
+ghost use Rattle.std.specs.Prelude.{◌≡◌, ◌<◌, length, slice_index_or};
 ghost use Rattle.hk_model.specs.declared.entries.Entry.TheVariants.{Empty};
-ghost use Rattle.hk_model.specs.declared.names.Inc.{Inc};
-ghost use Rattle.hk_model.specs.declared.names.Proc.{Proc};
-ghost use Rattle.hk_model.specs.Processors.{running_on};
 ghost use Rattle.hk_model.specs.State.{incarnation, process, put_slot};
 ghost use Rattle.hk_model.specs.Targets.{not_empty};
 ghost use Rattle.hk_model.specs.Rule.{load_entry, drop_slot, restrict_slot};
@@ -15,7 +11,7 @@ use crate::counting::{hold_entry, release_entry};
 use crate::parts::Parts;
 use hk_calls::slot_at;
 use hk_merge::held;
-use hk_model::{Answer, Cap, Cpu, Entry, Path, Proc, Refusal, Slot, Template};
+use hk_model::{Answer, Cap, Entry, Path, Proc, Refusal, Slot, Template};
 use hk_rights::Rights;
 use std::marker::PhantomData;
 
@@ -31,24 +27,6 @@ fn not_empty(entry: Entry, step: u8) -> Result<Entry, Refusal>
 }
 
 impl Parts {
-    /// The slots of the current incarnation of a process.
-    fn current_slots(&self, proc: Proc) -> &[Entry]
-        requires { proc.0 < length self.now.processes }
-        ensures { result.now ≡ (incarnation self.now (process self.now proc).current).slots }
-    {
-        self.stacks.top_slots(proc)
-    }
-
-    /// The slots of the incarnation that the processor runs; none where it runs nothing.
-    pub(crate) fn running_slots(&self, cpu: Cpu) -> &[Entry]
-        ensures { result.now ≡ unwrap_or (option_map (λ (x : Proc × Inc). (incarnation self.now x.1).slots) (running_on self.now cpu)) [] }
-    {
-        match self.runner(cpu) {
-            Some(proc) => self.current_slots(proc),
-            None => &[],
-        }
-    }
-
     /// What stands in a slot of the current incarnation of a process; Empty where there is no such slot.
     pub(crate) fn slot(&self, proc: Proc, at: usize) -> Entry
         requires { proc.0 < length self.now.processes }

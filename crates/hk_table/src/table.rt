@@ -1,16 +1,11 @@
 //! The table kernel.
 
-ghost use Rattle.std.specs.Prelude.{◌≡◌, ◌≤◌, [], false, length, option_map, IfOk};
-ghost use Rattle.std.specs.Option.{unwrap_or};
-ghost use Rattle.hk_model.specs.declared.names.Inc.{Inc};
-ghost use Rattle.hk_model.specs.declared.names.Proc.{Proc};
+ghost use Rattle.std.specs.Prelude.{◌≡◌, IfOk};
 ghost use Rattle.hk_model.specs.Opening.{opening};
-ghost use Rattle.hk_model.specs.Processors.{running_on};
-ghost use Rattle.hk_model.specs.State.{incarnation, object};
 
 use crate::draft::Draft;
 use crate::parts::Parts;
-use hk_model::{Acted, Call, Cpu, Entry, Inc, Kernel, Name, NoMemory, Proc, Snapshot, World};
+use hk_model::{Acted, Call, Cpu, Inc, Kernel, NoMemory, Proc, Snapshot, World};
 use std::alloc::Global;
 use std::marker::Model;
 
@@ -48,42 +43,6 @@ impl Table {
             draft: Draft::new(),
             rooted: false,
         })
-    }
-
-    /// The name that the next object takes.
-    pub fn next_name(&self) -> Name
-        ensures { result ≡ self.now.next_name }
-    {
-        self.parts.next_name()
-    }
-
-    /// The number that the next incarnation takes.
-    pub fn next_inc(&self) -> Inc
-        ensures { result ≡ self.now.next_inc }
-    {
-        self.parts.next_inc()
-    }
-
-    /// The list of the object of a name; an object that does not stand has none.
-    pub fn entries(&self, name: Name) -> &[Entry]
-        ensures value { result.now ≡ (object self.now name).entries }
-        ensures few { length result.now ≤ 256 }
-    {
-        self.parts.entries(name)
-    }
-
-    /// The slots of the incarnation that the processor runs; none where it runs nothing.
-    pub fn running_slots(&self, cpu: Cpu) -> &[Entry]
-        ensures { result.now ≡ unwrap_or (option_map (λ (x : Proc × Inc). (incarnation self.now x.1).slots) (running_on self.now cpu)) [] }
-    {
-        self.parts.running_slots(cpu)
-    }
-
-    /// Whether the call is confined that the processor runs. False where it runs nothing.
-    pub fn runs_confined(&self, cpu: Cpu) -> bool
-        ensures { result ≡ unwrap_or (option_map (λ (x : Proc × Inc). (incarnation self.now x.1).confined) (running_on self.now cpu)) false }
-    {
-        self.parts.runs_confined(cpu)
     }
 }
 

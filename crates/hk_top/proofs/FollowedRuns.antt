@@ -89,18 +89,18 @@ way_ends_by w first left m (Some end) world h ends whole = (h.0, way_ends w firs
 -- ---- lines that are told as they come
 
 -- the lines that were read lead to the machine, and were told
-pub record IsToldWay {K : Type 0} (w : WorldValue) (first left : List ℕ) (r : Retelling K) : Type 0 where
+pub record IsToldWay (w : WorldValue) (first left : List ℕ) (r : Retelling) : Type 0 where
   pub lines : List Line
   pub way : IsOnWay w first left lines r.machine
   pub told : IsRetold w lines r
 
-pub told_way_begins : {K : Type 0} (w : WorldValue) (first : List ℕ) (r : Retelling K) → r.machine ≡ opened w → IsRetold w [] r → IsToldWay w first first r
+pub told_way_begins : (w : WorldValue) (first : List ℕ) (r : Retelling) → r.machine ≡ opened w → IsRetold w [] r → IsToldWay w first first r
 told_way_begins w first r is told = record { lines = []; way = way_begins w first [] r.machine refl is; told = told }
 
-pub told_few : {K : Type 0} (w : WorldValue) (first left : List ℕ) (r : Retelling K) → IsSound w r.machine → IsToldWay w first left r → r.count + 1 < 2 ^ 32
+pub told_few : (w : WorldValue) (first left : List ℕ) (r : Retelling) → IsSound w r.machine → IsToldWay w first left r → r.count + 1 < 2 ^ 32
 told_few w first left r sound h = retold_count w h.lines r sound.world h.told
 
-pub told_way_goes_on : {K : Type 0} (w : WorldValue) (first left new : List ℕ) (cpu : Cpu) (line : Line) (old more : Retelling K) → IsToldWay w first left old
+pub told_way_goes_on : (w : WorldValue) (first left new : List ℕ) (cpu : Cpu) (line : Line) (old more : Retelling) → IsToldWay w first left old
     → step w old.machine cpu ≡ Some (line, more.machine) → IsToldMore old more line → IsLine line × (left ≡ line_text line ++ new) → IsToldWay w first new more
 told_way_goes_on w first left new cpu line old more h made tells taken =
     let way = way_goes_on w first left new h.lines old.machine more.machine cpu line h.way made taken in
@@ -110,14 +110,14 @@ told_way_goes_on w first left new cpu line old more h made tells taken =
       told = retold_more w h.lines line old more h.told way.steps (step_moves w old.machine cpu line more.machine made) tells;
     }
 
-pub told_way_ends : {K : Type 0} (w : WorldValue) (first left : List ℕ) (r : Retelling K) (end : End) → IsWorld w → IsToldWay w first left r
+pub told_way_ends : (w : WorldValue) (first left : List ℕ) (r : Retelling) (end : End) → IsWorld w → IsToldWay w first left r
     → end_word r.machine.state ≡ Some end
     → ((bytes : List ℕ) (v : WorldValue) (told : List Line) → IsReadTo bytes v told left → audit bytes ≡ Ok (audited v (events told end))) → IsFollowedTold w first r
 told_way_ends w first left r end world h ends whole =
     record { lines = h.lines; end = end; followed = way_ends w first left h.lines r.machine end world h.way ends whole; told = h.told }
 
 -- the changes of such lines are due
-pub changes_are_due : {K : Type 0} (w : WorldValue) (left : List ℕ) (r : Retelling K) (due : DueText) → IsFollowedTold w left r
+pub changes_are_due : (w : WorldValue) (left : List ℕ) (r : Retelling) (due : DueText) → IsFollowedTold w left r
     → (due.status ≡ 0) × ((lines : List Line) → IsRetold w lines r → TellsChanges w lines due.text) → AreDue w left due
 changes_are_due w left r due f h = record { lines = f.lines; end = f.end; followed = f.followed; status_is = h.0; tells = h.1 f.lines f.told }
 

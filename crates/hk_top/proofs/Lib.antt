@@ -12,3 +12,4 @@ pub mod CountedRuns
 pub mod FollowedRuns
 pub mod OneRun
 pub mod NoFaults
+pub mod TakenBack

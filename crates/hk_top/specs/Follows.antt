@@ -19,7 +19,7 @@ pub record IsFollowed (w : WorldValue) (left : List ℕ) (lines : List Line) (en
   pub laws : IsLawful w lines
 
 -- the same of lines that were told as they came
-pub record IsFollowedTold {K : Type 0} (w : WorldValue) (left : List ℕ) (r : Retelling K) : Type 0 where
+pub record IsFollowedTold (w : WorldValue) (left : List ℕ) (r : Retelling) : Type 0 where
   pub lines : List Line
   pub end : End
   pub followed : IsFollowed w left lines end

@@ -19,7 +19,7 @@ use crate::running::FIRST_PROCESSOR;
 use hk_audit::Reader;
 use hk_model::{Cpu, End, Items, Kernel, Line, NoMemory, World};
 use hk_program::{Machine, blank_line};
-use hk_report::{Retelling, Shows};
+use hk_report::Retelling;
 use std::alloc::Global;
 
 /// The end word of a legal record, whose world and reader these are. It makes the step of the processor of
@@ -72,19 +72,17 @@ pub(crate) fn follow_lines<K: Kernel>(
     }
 }
 
-/// What the lines of a legal record tell, followed in the same way: each is told as it comes, and none is kept.
+/// What the lines of a legal record tell, followed in the same way on a plain kernel: each is told as it comes, and none is kept.
 /// None where it finds a difference. NoMemory is want of memory.
-pub(crate) fn follow_told<K: Shows>(
+pub(crate) fn follow_told(
     alloc: Global,
     world: &World,
     reader: Reader<'_>,
-    kernel: K,
-) -> Result<Option<Retelling<K>>, NoMemory>
-    requires { K.state kernel ≡ opening world.now }
+) -> Result<Option<Retelling>, NoMemory>
     ensures { IfOk result (λ found. IfSome found (λ told. IsFollowedTold world.now reader.entry told)) }
 {
     let mut reader = reader;
-    let mut told = Retelling::begin(alloc, world, kernel)?;
+    let mut told = Retelling::begin(alloc, world)?;
     let mut line = blank_line(FIRST_PROCESSOR);
     while let Some(cpu) = reader.cpu() {
         if !tells_step(alloc, world, &mut told, &mut reader, cpu, &mut line)? {
@@ -120,10 +118,10 @@ fn takes_step<K: Kernel>(
 }
 
 /// The same of a machine whose lines are told: where the step has that text it was made, told and read.
-fn tells_step<K: Shows>(
+fn tells_step(
     alloc: Global,
     world: &World,
-    told: &mut Retelling<K>,
+    told: &mut Retelling,
     reader: &mut Reader<'_>,
     cpu: Cpu,
     line: &mut Line,

@@ -13,9 +13,9 @@ mod printed;
 mod processors;
 mod running;
 mod served;
-mod showing;
 pub mod status;
 mod sure;
+mod taking_back;
 mod words;
 mod written;
 

@@ -1,7 +1,7 @@
 //! The status and the text that are due to what a command read (`docs/FORMATS.md`, "Statuses and
 //! outputs").
 
-ghost use Rattle.std.specs.Prelude.{◌≡◌, ◌≢◌, ◌≤◌, ◌-◌, IfOk, IfSome, List, None, length};
+ghost use Rattle.std.specs.Prelude.{◌≡◌, ◌≢◌, ◌≤◌, [], IfOk, IfSome, List, None, length};
 ghost use Rattle.hk_model.specs.declared.lines.Line.{Line};
 ghost use Rattle.hk_report.specs.Retold.{IsRetold};
 ghost use Rattle.hk_format.specs.CauseTexts.{cause_name, refusal_text, too_long_text, verdict_text};
@@ -11,12 +11,11 @@ ghost use Rattle.hk_format.specs.Texts.{ended_line};
 ghost use Rattle.serde_json.specs.Written.{compact_text};
 ghost use Rattle.hk_json.specs.Values.{value};
 ghost use Rattle.hk_model.specs.Opening.{opening};
-ghost use Rattle.hk_model.specs.Running.{AreStepsOf, state_at};
-ghost use Rattle.hk_model.specs.Snapshots.{shown};
+ghost use Rattle.hk_model.specs.Running.{AreStepsOf};
 ghost use Rattle.hk_model.specs.declared.verdicts.Verdict.TheVariants.{Legal};
 ghost use Rattle.hk_top.specs.Words.{words_of, byte_limit, IsInRange, MayTakeBack, MayTrace, ReadsAlone, json_bytes};
 ghost use Rattle.hk_top.specs.BoundTexts.{AreTold};
-ghost use Rattle.hk_top.specs.Outputs.{DueTo, IsChecked, IsRecord, TellsChains, TellsChanges, TellsLegal, TellsState, bad_json_text, moment_text};
+ghost use Rattle.hk_top.specs.Outputs.{DueTo, IsChecked, IsRecord, TellsChains, TellsChanges, TellsLegal, TellsState, bad_json_text};
 ghost use Rattle.hk_top.specs.Follows.{AreDue};
 ghost use Rattle.hk_top.specs.Served.{IsDueTo, Records};
 
@@ -26,21 +25,22 @@ use crate::followed::{follow, follow_lines, follow_told};
 use crate::maker::Maker;
 use crate::running::laws;
 use crate::served::{DueText, Served};
-use crate::showing::open_table;
 use crate::status;
+use crate::taking_back::{makes_again, text_before};
 use crate::words::Command;
 use crate::written::write_run;
 use hk_audit::{Audit, Reader, RecordError, read_record, record_text, steps_have_texts};
 use hk_bound::bound;
-use hk_check::{Judged, check_and_show_on, check_on};
+use hk_check::check;
 use hk_format::Cause;
 use hk_json::{JsonError, json_text, read_json};
 use hk_load::{WorldError, read_world};
-use hk_model::{End, Kernel, Line, NoMemory, Snapshot, Text, Verdict, World};
+use hk_model::{End, Kernel, Line, NoMemory, Text, Verdict, World};
+use hk_plain::Plain;
 use hk_print::script_text;
-use hk_report::{Retelling, Shows, report_text};
+use hk_report::{Retelling, report_text};
 use hk_trace::{chains_text, trace};
-use hk_undo::state_text;
+use hk_undo::Past;
 use std::alloc::Global;
 
 /// What is due to a command and the bytes that it read, where one processor serves it. NoMemory is
@@ -63,10 +63,10 @@ pub(crate) fn due_to_bytes<M: Maker>(
         Command::Bound => Ok(text_alone(bound_script(alloc, bytes)?)),
         Command::Json => Ok(text_alone(json_script(alloc, bytes)?)),
         Command::Unjson => Ok(text_alone(unjson(alloc, bytes)?)),
-        Command::Check => Ok(text_alone(check_record(alloc, bytes, kernels)?)),
-        Command::Confine => Ok(text_alone(confine_record(alloc, bytes, kernels)?)),
-        Command::Trace(line) => Ok(text_alone(trace_record(alloc, bytes, line, kernels)?)),
-        Command::Back(count) => Ok(text_alone(back_record(alloc, bytes, count, kernels)?)),
+        Command::Check => Ok(text_alone(check_record(alloc, bytes)?)),
+        Command::Confine => Ok(text_alone(confine_record(alloc, bytes)?)),
+        Command::Trace(line) => Ok(text_alone(trace_record(alloc, bytes, line)?)),
+        Command::Back(count) => Ok(text_alone(back_record(alloc, bytes, count)?)),
     }
 }
 
@@ -174,18 +174,18 @@ fn unjson(alloc: Global, bytes: &[u8]) -> Result<DueText, NoMemory>
     }
 }
 
-/// What is due to `check` and the bytes of a record. The record is followed step by step; where that finds a
-/// difference, it is read.
-fn check_record<M: Maker>(alloc: Global, bytes: &[u8], kernels: &M) -> Result<DueText, NoMemory>
+/// What is due to `check` and the bytes of a record. The record is followed step by step on a plain kernel; where that
+/// finds a difference, it is read.
+fn check_record(alloc: Global, bytes: &[u8]) -> Result<DueText, NoMemory>
     requires few { length bytes.now ≤ record_bytes }
     ensures { IfOk result (λ due. DueTo (words_of Command.Check) bytes.now due.status due.text None) }
 {
     match Reader::open(alloc, bytes) {
         Ok((world, reader)) => {
-            let kernel = kernels.make(alloc, &world)?;
+            let kernel = Plain::new(alloc, &world)?;
             match follow(alloc, &world, reader, kernel)? {
                 Some(_end) => told(alloc, status::DONE, Verdict::Legal),
-                None => check_read(alloc, bytes, kernels),
+                None => check_read(alloc, bytes),
             }
         }
         Err(RecordError::Refused { line, cause }) => refused(alloc, line, cause),
@@ -194,20 +194,20 @@ fn check_record<M: Maker>(alloc: Global, bytes: &[u8], kernels: &M) -> Result<Du
 }
 
 /// What is due to `check` and the bytes of a record, which is read and then checked.
-fn check_read<M: Maker>(alloc: Global, bytes: &[u8], kernels: &M) -> Result<DueText, NoMemory>
+fn check_read(alloc: Global, bytes: &[u8]) -> Result<DueText, NoMemory>
     requires few { length bytes.now ≤ record_bytes }
     ensures { IfOk result (λ due. DueTo (words_of Command.Check) bytes.now due.status due.text None) }
 {
     match read_record(alloc, bytes) {
-        Ok(audit) => verdict(alloc, &audit, kernels),
+        Ok(audit) => verdict(alloc, &audit),
         Err(RecordError::Refused { line, cause }) => refused(alloc, line, cause),
         Err(RecordError::NoMemory) => Err(NoMemory),
     }
 }
 
-/// What is due to `confine` and the bytes of a record. The record is followed step by step; where that finds a
-/// difference, it is read.
-fn confine_record<M: Maker>(alloc: Global, bytes: &[u8], kernels: &M) -> Result<DueText, NoMemory>
+/// What is due to `confine` and the bytes of a record. The record is followed step by step on a plain kernel; where that
+/// finds a difference, it is read.
+fn confine_record(alloc: Global, bytes: &[u8]) -> Result<DueText, NoMemory>
     requires few { length bytes.now ≤ record_bytes }
     ensures { IfOk result (λ due. DueTo (words_of Command.Confine) bytes.now due.status due.text None) }
 {
@@ -215,7 +215,7 @@ fn confine_record<M: Maker>(alloc: Global, bytes: &[u8], kernels: &M) -> Result<
         Ok((world, reader)) => {
             match follow_changes(alloc, &world, reader)? {
                 Some(due) => Ok(due),
-                None => confine_read(alloc, bytes, kernels),
+                None => confine_read(alloc, bytes),
             }
         }
         Err(RecordError::Refused { line, cause }) => refused(alloc, line, cause),
@@ -224,35 +224,30 @@ fn confine_record<M: Maker>(alloc: Global, bytes: &[u8], kernels: &M) -> Result<
 }
 
 /// What is due to `confine` and the bytes of a record, which is read and then checked.
-fn confine_read<M: Maker>(alloc: Global, bytes: &[u8], kernels: &M) -> Result<DueText, NoMemory>
+fn confine_read(alloc: Global, bytes: &[u8]) -> Result<DueText, NoMemory>
     requires few { length bytes.now ≤ record_bytes }
     ensures { IfOk result (λ due. DueTo (words_of Command.Confine) bytes.now due.status due.text None) }
 {
     match read_record(alloc, bytes) {
-        Ok(audit) => confined(alloc, &audit, kernels),
+        Ok(audit) => confined(alloc, &audit),
         Err(RecordError::Refused { line, cause }) => refused(alloc, line, cause),
         Err(RecordError::NoMemory) => Err(NoMemory),
     }
 }
 
 /// What is due to `trace` with the number of a line, and the bytes of a record. The record is followed step by
-/// step; where that finds a difference, it is read.
-fn trace_record<M: Maker>(
-    alloc: Global,
-    bytes: &[u8],
-    line: u32,
-    kernels: &M,
-) -> Result<DueText, NoMemory>
+/// step on a plain kernel; where that finds a difference, it is read.
+fn trace_record(alloc: Global, bytes: &[u8], line: u32) -> Result<DueText, NoMemory>
     requires few { length bytes.now ≤ record_bytes }
     requires line { MayTrace line }
     ensures { IfOk result (λ due. DueTo (words_of (Command.Trace line)) bytes.now due.status due.text None) }
 {
     match Reader::open(alloc, bytes) {
         Ok((world, reader)) => {
-            let kernel = kernels.make(alloc, &world)?;
+            let kernel = Plain::new(alloc, &world)?;
             match follow_lines(alloc, &world, reader, kernel)? {
                 Some(lines) => chains(alloc, &world, lines.as_slice(), line),
-                None => trace_read(alloc, bytes, line, kernels),
+                None => trace_read(alloc, bytes, line),
             }
         }
         Err(RecordError::Refused { line, cause }) => refused(alloc, line, cause),
@@ -261,36 +256,26 @@ fn trace_record<M: Maker>(
 }
 
 /// What is due to `trace` with the number of a line, and the bytes of a record, which is read and then checked.
-fn trace_read<M: Maker>(
-    alloc: Global,
-    bytes: &[u8],
-    line: u32,
-    kernels: &M,
-) -> Result<DueText, NoMemory>
+fn trace_read(alloc: Global, bytes: &[u8], line: u32) -> Result<DueText, NoMemory>
     requires few { length bytes.now ≤ record_bytes }
     requires line { MayTrace line }
     ensures { IfOk result (λ due. DueTo (words_of (Command.Trace line)) bytes.now due.status due.text None) }
 {
     match read_record(alloc, bytes) {
-        Ok(audit) => traced(alloc, &audit, line, kernels),
+        Ok(audit) => traced(alloc, &audit, line),
         Err(RecordError::Refused { line, cause }) => refused(alloc, line, cause),
         Err(RecordError::NoMemory) => Err(NoMemory),
     }
 }
 
 /// What is due to `back` with a number of lines, and the bytes of a record.
-fn back_record<M: Maker>(
-    alloc: Global,
-    bytes: &[u8],
-    count: u32,
-    kernels: &M,
-) -> Result<DueText, NoMemory>
+fn back_record(alloc: Global, bytes: &[u8], count: u32) -> Result<DueText, NoMemory>
     requires few { length bytes.now ≤ record_bytes }
     requires count { MayTakeBack count }
     ensures { IfOk result (λ due. DueTo (words_of (Command.Back count)) bytes.now due.status due.text None) }
 {
     match read_record(alloc, bytes) {
-        Ok(audit) => taken_back(alloc, &audit, count, kernels),
+        Ok(audit) => taken_back(alloc, &audit, count),
         Err(RecordError::Refused { line, cause }) => refused(alloc, line, cause),
         Err(RecordError::NoMemory) => Err(NoMemory),
     }
@@ -372,13 +357,12 @@ fn bounds(alloc: Global, world: &World) -> Result<DueText, NoMemory>
 }
 
 /// What is due to `check` and a record: the verdict on it.
-fn verdict<M: Maker>(alloc: Global, audit: &Audit, kernels: &M) -> Result<DueText, NoMemory>
+fn verdict(alloc: Global, audit: &Audit) -> Result<DueText, NoMemory>
     ensures { IfOk result (λ due. IsChecked audit.now TellsLegal due.status due.text) }
 {
     let world = audit.world();
     let lines = audit.lines();
-    let kernel = kernels.make(alloc, world)?;
-    let verdict = check_on(alloc, world, lines, audit.end(), kernel)?;
+    let verdict = check(alloc, world, lines, audit.end())?;
     match verdict {
         Verdict::Legal => {
             laws(world, lines);
@@ -390,18 +374,12 @@ fn verdict<M: Maker>(alloc: Global, audit: &Audit, kernels: &M) -> Result<DueTex
 
 /// What is due to `trace` with the number of a line, and a record: the chains of what the line used, or
 /// the verdict where the record is not legal.
-fn traced<M: Maker>(
-    alloc: Global,
-    audit: &Audit,
-    line: u32,
-    kernels: &M,
-) -> Result<DueText, NoMemory>
+fn traced(alloc: Global, audit: &Audit, line: u32) -> Result<DueText, NoMemory>
     ensures { IfOk result (λ due. IsChecked audit.now (TellsChains line) due.status due.text) }
 {
     let world = audit.world();
     let lines = audit.lines();
-    let kernel = kernels.make(alloc, world)?;
-    let found = check_on(alloc, world, lines, audit.end(), kernel)?;
+    let found = check(alloc, world, lines, audit.end())?;
     match found {
         Verdict::Legal => {
             laws(world, lines);
@@ -425,13 +403,12 @@ fn chains(alloc: Global, world: &World, lines: &[Line], line: u32) -> Result<Due
 
 /// What is due to `confine` and a record: its changes under confined calls, each with its reason, or the
 /// verdict where the record is not legal.
-fn confined<M: Maker>(alloc: Global, audit: &Audit, kernels: &M) -> Result<DueText, NoMemory>
+fn confined(alloc: Global, audit: &Audit) -> Result<DueText, NoMemory>
     ensures { IfOk result (λ due. IsChecked audit.now TellsChanges due.status due.text) }
 {
     let world = audit.world();
     let lines = audit.lines();
-    let kernel = kernels.make(alloc, world)?;
-    let found = check_on(alloc, world, lines, audit.end(), kernel)?;
+    let found = check(alloc, world, lines, audit.end())?;
     match found {
         Verdict::Legal => {
             laws(world, lines);
@@ -453,7 +430,7 @@ fn changes(alloc: Global, world: &World, lines: &[Line]) -> Result<DueText, NoMe
 }
 
 /// What is due to `confine` and a legal record, whose world and reader these are: the record is followed step by step on
-/// a table, and each line told as it comes. None where that finds a difference.
+/// a plain kernel, and each line told as it comes. None where that finds a difference.
 fn follow_changes(
     alloc: Global,
     world: &World,
@@ -461,21 +438,7 @@ fn follow_changes(
 ) -> Result<Option<DueText>, NoMemory>
     ensures { IfOk result (λ found. IfSome found (λ due. AreDue world.now reader.entry due)) }
 {
-    let kernel = open_table(alloc, world)?;
-    follow_changes_on(alloc, world, reader, kernel)
-}
-
-/// The same, on a kernel that has opened the world and shows by what changes are told.
-fn follow_changes_on<K: Shows>(
-    alloc: Global,
-    world: &World,
-    reader: Reader<'_>,
-    kernel: K,
-) -> Result<Option<DueText>, NoMemory>
-    requires { K.state kernel ≡ opening world.now }
-    ensures { IfOk result (λ found. IfSome found (λ due. AreDue world.now reader.entry due)) }
-{
-    match follow_told(alloc, world, reader, kernel)? {
+    match follow_told(alloc, world, reader)? {
         Some(told) => {
             let due = changes_told(alloc, world, told)?;
             Ok(Some(due))
@@ -485,11 +448,7 @@ fn follow_changes_on<K: Shows>(
 }
 
 /// The changes under confined calls of lines that were told as they came, as a text.
-fn changes_told<K: Shows>(
-    alloc: Global,
-    world: &World,
-    told: Retelling<K>,
-) -> Result<DueText, NoMemory>
+fn changes_told(alloc: Global, world: &World, told: Retelling) -> Result<DueText, NoMemory>
     requires { (lines : List Line) × IsRetold world.now lines told }
     ensures { IfOk result (λ due. (due.status ≡ 0) × ((lines : List Line) → IsRetold world.now lines told → TellsChanges world.now lines due.text)) }
 {
@@ -501,50 +460,39 @@ fn changes_told<K: Shows>(
 }
 
 /// What is due to `back` with a number of lines, and a record: the state before its last lines, so many, or
-/// the verdict where the record is not legal. It goes over the record once.
-fn taken_back<M: Maker>(
+/// the verdict where the record is not legal.
+fn taken_back(alloc: Global, audit: &Audit, count: u32) -> Result<DueText, NoMemory>
+    ensures { IfOk result (λ due. IsChecked audit.now (TellsState count) due.status due.text) }
+{
+    let mut past = Past::begin(alloc, audit.world().copy(alloc)?)?;
+    state_left(alloc, audit, &mut past, count)
+}
+
+/// The same, by a past of the record's world that has no line: the lines of the record are made once more, and the last are
+/// taken back.
+#[tactic(auto, using(hk_report::proofs::Lengths::lines_few))]
+fn state_left(
     alloc: Global,
     audit: &Audit,
+    past: &mut Past,
     count: u32,
-    kernels: &M,
 ) -> Result<DueText, NoMemory>
+    requires { past.old ≡ record { world = audit.now.world; lines = [] } }
     ensures { IfOk result (λ due. IsChecked audit.now (TellsState count) due.status due.text) }
 {
     let world = audit.world();
     let lines = audit.lines();
-    let moment = lines.len().saturating_sub(count as usize);
-    let kernel = kernels.make(alloc, world)?;
-    let judged = check_and_show_on(alloc, world, lines, audit.end(), moment, kernel)?;
-    match judged {
-        Judged::Legal(state) => {
-            laws(world, lines);
-            state_left(alloc, world, lines, moment, &state)
-        }
-        Judged::Illegal { line, cause } => {
-            told(alloc, status::ILLEGAL, Verdict::Illegal { line, cause })
-        }
+    let end = audit.end();
+    let _limit = world.limit(); // so that the check knows that it is a world
+    if makes_again(alloc, past, lines, end)? {
+        laws(world, lines);
+        return Ok(DueText {
+            status: status::DONE,
+            text: text_before(alloc, past, count)?,
+        });
     }
-}
-
-/// The state at a moment of the lines, as a text.
-#[tactic(auto, using(hk_report::proofs::Lengths::lines_few))]
-fn state_left(
-    alloc: Global,
-    world: &World,
-    lines: &[Line],
-    moment: usize,
-    state: &Snapshot,
-) -> Result<DueText, NoMemory>
-    requires steps { AreStepsOf world.now lines.now }
-    requires inside { moment ≤ length lines.now }
-    requires state { state.now ≡ shown (state_at world.now lines.now moment) }
-    ensures { IfOk result (λ due. (due.status ≡ 0) × (due.text ≡ moment_text world.now lines.now moment)) }
-{
-    let _limit = world.limit();
-    Ok(DueText {
-        status: status::DONE,
-        text: state_text(alloc, state, moment as u32)?,
-    })
+    let found = check(alloc, world, lines, end)?;
+    told(alloc, status::ILLEGAL, found)
 }
 
 /// A verdict as a text, with its status.

@@ -15,6 +15,6 @@ mod reversible;
 mod texts;
 mod turning;
 
-pub use hk_model::{Cpu, Frame, Line, NoMemory, Proc, Snapshot, Text, World};
+pub use hk_model::{Cpu, End, Frame, Line, NoMemory, Proc, Snapshot, Text, World};
 pub use past::Past;
 pub use texts::state_text;

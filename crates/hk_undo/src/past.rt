@@ -2,12 +2,13 @@
 //! taken back").
 
 ghost use Rattle.std.specs.Prelude.{◌≡◌, [], length, IfOk, IfSome, IfNone, OnErr, None, Some, slice_get};
+ghost use Rattle.hk_model.specs.Legal.{end_word};
 ghost use Rattle.hk_model.specs.Running.{AreStepsOf, context_of, line_of};
 ghost use Rattle.hk_model.specs.Snapshots.{shown};
 ghost use Rattle.hk_undo.specs.Pasts.{machine_after, with_line};
 
 use crate::reversible::{Made, Reversible};
-use hk_model::{Cpu, Frame, Line, NoMemory, Proc, Snapshot, World};
+use hk_model::{Cpu, End, Frame, Line, NoMemory, Proc, Snapshot, World};
 use std::alloc::Global;
 use std::marker::Model;
 
@@ -98,6 +99,14 @@ impl Past {
         ensures { IfOk result (λ s. s ≡ shown (machine_after self.now).state) }
     {
         self.machine.snapshot(alloc)
+    }
+
+    /// The end word of the state after the lines (`docs/FORMATS.md`, "The record"). None exactly where it has none. NoMemory is
+    /// want of memory.
+    pub fn end(&self, alloc: Global) -> Result<Option<End>, NoMemory>
+        ensures { IfOk result (λ end. end ≡ end_word (machine_after self.now).state) }
+    {
+        self.machine.end(alloc)
     }
 
     /// The current frame of a process after the lines. None exactly where it has no frame.

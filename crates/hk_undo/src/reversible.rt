@@ -2,6 +2,7 @@
 //! back").
 
 ghost use Rattle.std.specs.Prelude.{◌≡◌, ◌<◌, length, IfOk, IfSome, IfNone, IsTrue, OnErr, OnOk, None, Some, slice_get};
+ghost use Rattle.hk_model.specs.Legal.{end_word};
 ghost use Rattle.hk_model.specs.Processors.{may_step, running_on};
 ghost use Rattle.hk_model.specs.Running.{context_of, opened, step};
 ghost use Rattle.hk_model.specs.Snapshots.{shown};
@@ -12,9 +13,9 @@ ghost use Rattle.hk_undo.specs.Pasts.{CanPutBack, IsMade, contexts_back};
 use crate::frames::{FramesBefore, put_back};
 use crate::turning::turn;
 use hk_model::limits::CPU_LIMIT;
-use hk_model::{Cpu, Frame, Inc, Kernel, Line, NoMemory, Proc, Reply, Snapshot, What, World};
+use hk_model::{Cpu, End, Frame, Inc, Kernel, Line, NoMemory, Proc, Reply, Snapshot, What, World};
 use hk_plain::{Inverse, Plain};
-use hk_program::{Context, beginnings};
+use hk_program::{Context, beginnings, end_word};
 use std::alloc::Global;
 use std::marker::Model;
 
@@ -169,6 +170,13 @@ impl Reversible {
         ensures { result ≡ slice_get (context_of self.now proc) 0 }
     {
         self.contexts.get(proc.0 as usize)?.top()
+    }
+
+    /// The end word of the state. None exactly where it has none. NoMemory is want of memory.
+    pub(crate) fn end(&self, alloc: Global) -> Result<Option<End>, NoMemory>
+        ensures { IfOk result (λ end. end ≡ end_word self.now.state) }
+    {
+        end_word(alloc, &self.kernel)
     }
 
     /// The state as plain data. NoMemory is want of memory.

@@ -1,7 +1,7 @@
 // A process that returns at once: its record, and records that differ from it in one place.
 
 use crate::worlds::world;
-use hk_check::{Judged, check, check_and_show, verdict_is_one};
+use hk_check::{check, verdict_is_one};
 use hk_model::{Call, Cpu, End, Inc, Line, Misstep, Proc, Reply, Verdict, What};
 use std::alloc::Global;
 use std::test::Fail;
@@ -57,27 +57,5 @@ fn the_steps_of_a_run_are_legal_and_others_are_told(rt: HostRuntime) -> Result<(
         cause: Misstep::EndWord,
     };
     assert!(rt; stuck == told);
-    Ok(())
-}
-
-/// How many events the state at a moment of a record tells, where the record is legal.
-fn events(alloc: Global, lines: &[Line], moment: usize) -> Result<Option<u32>, Fail> {
-    let world = world(alloc, SCRIPT)?;
-    if moment > lines.len() {
-        return Ok(None);
-    }
-    match check_and_show(alloc, &world, lines, End::Done, moment) {
-        Ok(Judged::Legal(shown)) => Ok(Some(shown.events)),
-        Ok(Judged::Illegal { .. }) => Ok(None),
-        Err(_) => Err("a verdict".into()),
-    }
-}
-
-#[test]
-fn the_state_at_a_moment_is_shown(rt: HostRuntime) -> Result<(), Fail> {
-    let alloc = rt.alloc();
-    assert_eq!(rt; events(alloc, &lines(15, 15), 1)?, Some(1));
-    assert_eq!(rt; events(alloc, &lines(15, 15), 2)?, Some(2));
-    assert_eq!(rt; events(alloc, &lines(1, 0), 1)?, None);
     Ok(())
 }

@@ -4,4 +4,4 @@ use Rattle.hk_report.proofs.histories.opened_histories.Given as goal
 
 -- the histories of the objects so far
 abbrev pub invariant-loop-number : goal.invariant-loop-number
-invariant-loop-number g l = l.all.items ≡ opened_below (g.K.Kernel.state l.kernel) l.number
+invariant-loop-number l = l.all.items ≡ opened_below l.kernel l.number

@@ -10,4 +10,4 @@ pub record Naming (started rest : Type 0) : Type 0 where
   pub ends : rest
 
 abbrev pub invariant-loop-step : goal.invariant-loop-step
-invariant-loop-step g l = Naming (0 < l.step) (named_last (g.K.Kernel.state l.kernel) l.name (drop l.step l.path) ≡ named_by (g.K.Kernel.state l.kernel) l.fn.caller.inc l.path)
+invariant-loop-step l = Naming (0 < l.step) (named_last l.kernel l.name (drop l.step l.path) ≡ named_by l.kernel l.fn.inc l.path)

@@ -5,12 +5,12 @@ use Rattle.hk_top.proofs.AnswerLemmas.{verdict_due, record_refused_due}
 use Rattle.hk_top.proofs.outputs.check_read.Goals as goal
 
 pub read_record-requires : goal.read_record-requires
-read_record-requires g c = omega (arith, lines_few c.args.bytes.now, c.requires.few)
+read_record-requires c = omega (arith, lines_few c.args.bytes.now, c.requires.few)
 
 pub returns-in-Ok : goal.returns-in-Ok
-returns-in-Ok g c = verdict_due c.args.bytes.now c.in-Ok.audit c.verdict.result c.in-Ok.ensures.ok c.verdict.ensures
+returns-in-Ok c = verdict_due c.args.bytes.now c.in-Ok.audit c.verdict.result c.in-Ok.ensures.ok c.verdict.ensures
 
 pub returns-in-Err-Refused : goal.returns-in-Err-Refused
-returns-in-Err-Refused g c =
+returns-in-Err-Refused c =
     record_refused_due command.Check c.args.bytes.now c.in-Err-Refused.line c.in-Err-Refused.cause c.refused.result (inl refl)
     (c.read_record.ensures.refused c.in-Err-Refused.line c.in-Err-Refused.cause (c.in-Err-Refused.is ∙ ap (λ e. Err e) c.in-Err-Refused.field-0-is)) c.refused.ensures

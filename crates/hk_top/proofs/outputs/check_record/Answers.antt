@@ -8,15 +8,15 @@ use Rattle.hk_top.proofs.FollowedRuns.{followed_due}
 use Rattle.hk_top.proofs.outputs.check_record.Goals as goal
 
 pub open-requires : goal.open-requires
-open-requires g c = omega (arith, lines_few c.args.bytes.now, c.requires.few)
+open-requires c = omega (arith, lines_few c.args.bytes.now, c.requires.few)
 
 pub returns-in-Some : goal.returns-in-Some
-returns-in-Some g c =
+returns-in-Some c =
     let found = rw c.in-Some.is at c.in_ok-_end-in-Ok.ensures in
     verdict_due c.args.bytes.now (audited c.in-Ok.world (events found.0 c.in-Some._end)) c.told.result (found.1.told c.args.bytes.now c.in-Ok.ensures.ok)
     (followed_due c.in-Ok.world c.in-Ok.reader found.0 c.in-Some._end TellsLegal c.told.result found.1 c.told.ensures)
 
 pub returns-in-Err-Refused : goal.returns-in-Err-Refused
-returns-in-Err-Refused g c =
+returns-in-Err-Refused c =
     record_refused_due command.Check c.args.bytes.now c.in-Err-Refused.line c.in-Err-Refused.cause c.refused.result (inl refl)
     (c.open.ensures.refused c.in-Err-Refused.line c.in-Err-Refused.cause (c.in-Err-Refused.is ∙ ap (λ e. Err e) c.in-Err-Refused.field-0-is)) c.refused.ensures

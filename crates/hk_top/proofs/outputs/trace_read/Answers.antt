@@ -5,13 +5,13 @@ use Rattle.hk_top.proofs.AnswerLemmas.{chains_due, record_refused_due}
 use Rattle.hk_top.proofs.outputs.trace_read.Goals as goal
 
 pub read_record-requires : goal.read_record-requires
-read_record-requires g c = omega (arith, lines_few c.args.bytes.now, c.requires.few)
+read_record-requires c = omega (arith, lines_few c.args.bytes.now, c.requires.few)
 
 pub returns-in-Ok : goal.returns-in-Ok
-returns-in-Ok g c = chains_due c.args.bytes.now c.in-Ok.audit c.args.line c.traced.result c.requires.line c.in-Ok.ensures.ok c.traced.ensures
+returns-in-Ok c = chains_due c.args.bytes.now c.in-Ok.audit c.args.line c.traced.result c.requires.line c.in-Ok.ensures.ok c.traced.ensures
 
 pub returns-in-Err-Refused : goal.returns-in-Err-Refused
-returns-in-Err-Refused g c =
+returns-in-Err-Refused c =
     record_refused_due (command.Trace c.args.line) c.args.bytes.now c.in-Err-Refused.line c.in-Err-Refused.cause c.refused.result
     (inr (inr (inl (c.args.line, (refl, c.requires.line)))))
     (c.read_record.ensures.refused c.in-Err-Refused.line c.in-Err-Refused.cause (c.in-Err-Refused.is ∙ ap (λ e. Err e) c.in-Err-Refused.field-0-is)) c.refused.ensures

@@ -1,21 +1,10 @@
-use Rattle.std.proofs.Common.{refl, sym, subst}
-use Rattle.hk_report.specs.declared.doings.Before.{Before}
-use Rattle.hk_report.specs.Doings.{RunsEntered}
-use Rattle.hk_report.proofs.NextLines.{line_asked, step_enters}
+use Rattle.std.proofs.Common.{refl}
+use Rattle.hk_report.proofs.NextLines.{line_asked}
 use Rattle.hk_report.proofs.Retold.{told_more}
 use Rattle.hk_report.proofs.replay.Retelling.step_into.Goals as goal
 
-pub tell-requires-clause-runs : goal.tell-requires-clause-runs
-tell-requires-clause-runs g c =
-    let old = c.args.self.now in
-    let line = c.step_watched.new.line in
-    let made = c.in_ok-step_watched.ensures.made c.if-not-branch.false in
-    let seen = c.in_ok-step_watched.ensures.seen c.if-not-branch.false in
-    let asked = line_asked c.args.world.now old.machine c.args.cpu line c.step_watched.new.self made _ c.step_watched.new.watch c.before_by-before.result refl seen c.before_by-before.ensures in
-    subst (λ (b : Before). RunsEntered c.step_watched.new.self.state line.cpu b) (sym asked.is) (step_enters c.args.world.now old.machine c.args.cpu line c.step_watched.new.self made)
-
 pub returns-clause-told : goal.returns-clause-told
-returns-clause-told g c _ =
+returns-clause-told c _ =
     let old = c.args.self.now in
     let line = c.step_watched.new.line in
     let made = c.in_ok-step_watched.ensures.made c.if-not-branch.false in

@@ -3,7 +3,7 @@ use Rattle.hk_report.proofs.Retold.{retold}
 use Rattle.hk_report.proofs.replay.Retelling.text.Goals as goal
 
 pub returns : goal.returns
-returns g c w lines world t =
+returns c w lines world t =
     let told = c.in_ok-told.told in
     let e = c.in_ok-told.ensures in
     let x = c.in_ok-out.ensures in
