@@ -1,6 +1,8 @@
 -- The changes of a run, counted as its lines come.
 use Rattle.std.proofs.Common.{◌≡◌, ◌≢◌, ℕ, suc, ◌+◌, ◌-◌, ◌<◌, List, [], ◌∷◌, ◌++◌, length, Bool, true, false, Option, Some, None, refl, ap, ◌∙◌, sym, subst}
 use Rattle.std.specs.Prelude.{option_map, slice_get, slice_index_or, take}
+use Rattle.std.specs.Option.{unwrap_or}
+use Rattle.hk_model.specs.declared.names.Cpu.{Cpu}
 use Rattle.hk_model.specs.declared.names.Inc.{Inc}
 use Rattle.hk_model.specs.declared.names.Proc.{Proc}
 use Rattle.hk_model.specs.declared.lines.Line.{Line}
@@ -21,7 +23,7 @@ use Rattle.hk_gen.specs.ConfinedCalls.{AllCallsConfined}
 use Rattle.hk_gen.specs.WholeRuns.{WholeRunsEnd}
 use Rattle.hk_report.specs.Counts.{Counted, changes_more, confined_on, counted, counted_by, depth_entered}
 use Rattle.hk_report.proofs.Counts.{RunsNew, counted_more, runs_each}
-use Rattle.hk_report.proofs.NextLines.{confined_run, step_line, step_moves}
+use Rattle.hk_report.proofs.NextLines.{step_line, step_moves}
 use Rattle.hk_top.specs.Outputs.{first_processor, status_of, IsCountedRun, IsSummed}
 use Rattle.hk_top.specs.Summaries.{summed_text}
 use Rattle.hk_top.proofs.Histories.{IsHistory, begins, grows_by, last}
@@ -89,6 +91,16 @@ unentered line c a b e =
       depths = elim enters [ true ↦ c.depths ++ depth_entered confined (slice_index_or c.depths line.inc.0 0) ∷ [] | false ↦ c.depths ];
       changes = c.changes + changes_more line c.depths;
     }
+
+-- whether the call is confined that a processor runs
+confined_run : (s : State) (cpu : Cpu) (inc : Inc) → option_map (λ (x : Proc × Inc). x.1) (running_on s cpu) ≡ Some inc
+    → confined_on s cpu ≡ (incarnation s inc).confined
+confined_run s cpu inc h = by (running_on s cpu) h
+  where
+    by : (o : Option (Proc × Inc)) → option_map (λ (x : Proc × Inc). x.1) o ≡ Some inc
+        → unwrap_or (option_map (λ (x : Proc × Inc). (incarnation s x.1).confined) o) false ≡ (incarnation s inc).confined
+    by None e = absurd (cc)
+    by (Some x) e = let same : x.1 ≡ inc = cc in ap (λ (i : Inc). (incarnation s i).confined) same
 
 -- one line more, where every call is confined
 pub counting_confined : (w : WorldValue) (c new : Counted) (m : Machine) (line : Line) (after : Machine) → AllCallsConfined w → IsCounting w c m

@@ -1,6 +1,7 @@
 -- Lines that are made once more, and taken back.
-use Rattle.std.proofs.Common.{◌≡◌, ℕ, zero, suc, ◌+◌, ◌-◌, ◌<◌, ◌≤◌, List, [], ◌∷◌, ◌++◌, length, take, Bool, true, false, Option, Some, None, refl, sym, ap, subst, ◌∙◌, arith, append_assoc, slice_get, IfOk, Result}
+use Rattle.std.proofs.Common.{◌≡◌, ℕ, zero, suc, ◌+◌, ◌-◌, ◌<◌, ◌≤◌, ◌^◌, List, [], ◌∷◌, ◌++◌, length, take, Bool, true, false, Option, Some, None, refl, sym, ap, subst, ◌∙◌, arith, append_assoc, slice_get, IfOk, Result}
 use Rattle.std.specs.Prelude.{◌&&◌, Decides, IfSome, IfNone}
+use Rattle.std.proofs.lemmas.Bool.{true≢false}
 use Rattle.std.proofs.lemmas.List.{append-nil, length-append, take_all}
 use Rattle.std.proofs.Math.Seq.{take-append_seam}
 use Rattle.hk_model.specs.declared.calls.Reply.{Reply}
@@ -14,18 +15,19 @@ use Rattle.hk_model.specs.declared.kernel.NoMemory.{NoMemory}
 use Rattle.hk_model.specs.declared.snapshot.Snapshot.{Snapshot}
 use Rattle.hk_model.specs.declared.verdicts.Verdict.{Verdict}
 use Rattle.hk_model.specs.declared.verdicts.Verdict.TheVariants as verdict
-use Rattle.hk_model.specs.WorldValue.{WorldValue}
+use Rattle.hk_model.specs.WorldValue.{WorldValue, IsWorld}
 use Rattle.hk_model.specs.Snapshots.{shown}
 use Rattle.hk_model.specs.Verdicts.{IsVerdict}
 use Rattle.hk_format.specs.Audits.{Audited}
 use Rattle.hk_format.specs.CauseTexts.{verdict_text}
 use Rattle.hk_model.specs.Legal.{IsLegal, end_word}
-use Rattle.hk_model.specs.Running.{AreStepsOf, after_lines, line_of, opened}
+use Rattle.hk_model.specs.Running.{AreStepsOf, line_of, opened}
 use Rattle.hk_model.proofs.Steps.{line_steps}
+use Rattle.hk_report.proofs.Lengths.{lines_few}
 use Rattle.hk_undo.specs.Pasts.{History, machine_after, with_line}
 use Rattle.hk_undo.specs.StateTexts.{state_text}
 use Rattle.hk_top.specs.declared.served.DueText.{DueText}
-use Rattle.hk_top.specs.Outputs.{IsChecked, moment_text}
+use Rattle.hk_top.specs.Outputs.{IsChecked, IsLawful, TellsState, legal, moment_text}
 use Rattle.hk_top.proofs.AnswerLemmas.{illegal_due}
 
 -- the history of these lines
@@ -53,8 +55,8 @@ made_more w lines n line old new there is made =
 -- where the step is another, the lines are no legal history
 pub other_made : (w : WorldValue) (lines : List Line) (end : End) (n : ℕ) (line : Line) (old : History) → slice_get lines n ≡ Some line
     → old ≡ history w (take n lines) → (line_of old.world (machine_after old) line.cpu ≡ Some line → ⊥) → IsLegal w lines end → ⊥
-other_made w lines end n line old there is other legal =
-    other (ap (λ (h : History). line_of h.world (machine_after h) line.cpu) is ∙ line_steps w (opened w) lines n line legal.steps there)
+other_made w lines end n line old there is other holds =
+    other (ap (λ (h : History). line_of h.world (machine_after h) line.cpu) is ∙ line_steps w (opened w) lines n line holds.steps there)
 
 -- two lines are the same if and only if all that they tell is
 line_parts : (a b : Line) → a.cpu ≡ b.cpu → a.proc ≡ b.proc → a.inc ≡ b.inc → a.what ≡ b.what → a.reply ≡ b.reply → a ≡ b
@@ -91,7 +93,7 @@ pub ends_legal : (w : WorldValue) (lines : List Line) (n : ℕ) (end : End) (pas
     → AreStepsOf past.world past.lines → Decides same (end_word (machine_after past).state ≡ Some end) → Decides same (IsLegal w lines end)
 ends_legal w lines n end past same all is steps decides = (
   λ e. record { steps = subst (λ (h : History). AreStepsOf h.world h.lines) whole steps; ends = subst (λ (h : History). end_word (machine_after h).state ≡ Some end) whole (decides.0 e) },
-  λ legal. decides.1 (subst (λ (h : History). end_word (machine_after h).state ≡ Some end) (sym whole) legal.ends),
+  λ holds. decides.1 (subst (λ (h : History). end_word (machine_after h).state ≡ Some end) (sym whole) holds.ends),
 )
   where
     whole : past ≡ history w lines
@@ -152,6 +154,35 @@ text_of first past moment count s text world lines is same e =
   where
     past_is : past ≡ history first.world (take moment first.lines)
     past_is = ap (λ (w : WorldValue). history w past.lines) world ∙ ap (history first.world) lines
+
+-- ---- what is due to it
+
+-- of a past that had no line, in which the lines of a record were made
+module _ (a : Audited) (before past : History) (w : WorldValue) (lines : List Line) (end : End) (legal_is : Bool) (begun : before ≡ history a.world []) (world_is : w ≡ a.world)
+    (lines_are : lines ≡ a.lines) (end_is : end ≡ a.end) (decides : Decides legal_is (IsLegal before.world lines end)) where
+  same_world : before.world ≡ w
+  same_world = ap (λ (h : History). h.world) begun ∙ sym world_is
+
+  pub legal_lines : legal_is ≡ true → IsLegal w lines end
+  legal_lines e = subst (λ (v : WorldValue). IsLegal v lines end) same_world (decides.0 e)
+
+  pub not_legal : legal_is ≡ false → IsLegal w lines end → ⊥
+  not_legal e h = true≢false (sym (decides.1 (subst (λ (v : WorldValue). IsLegal v lines end) (sym same_world) h)) ∙ e)
+
+  pub made_few : IsWorld w → legal_is ≡ true → past ≡ history before.world lines → length past.lines < 2 ^ 32
+  made_few world e made =
+      let few = lines_few w lines world (legal_lines e).steps in
+      let same = ap (λ (h : History). length h.lines) made in
+      omega (arith, few, same)
+
+  pub told_legal : (count : ℕ) (text : List ℕ) → legal_is ≡ true → past ≡ history before.world lines → IsLawful w lines
+      → text ≡ moment_text past.world past.lines (length past.lines - count) → IsChecked a (TellsState count) 0 text
+  told_legal count text e made laws told =
+      let holds : IsLegal a.world a.lines a.end = rw (world_is, lines_are, end_is) at (legal_lines e) in
+      let lawful : IsLawful a.world a.lines = rw (world_is, lines_are) at laws in
+      let tells : text ≡ moment_text a.world a.lines (length a.lines - count) =
+      told ∙ ap (λ (h : History). moment_text h.world h.lines (length h.lines - count)) (made ∙ ap (λ (v : WorldValue). history v lines) (same_world ∙ world_is) ∙ ap (history a.world) lines_are) in
+      legal text holds lawful tells
 
 -- no history that is not legal has the verdict that it is
 pub told_illegal : (a : Audited) (Told : WorldValue → List Line → List ℕ → Type 0) (w : WorldValue) (lines : List Line) (end : End) (v : Verdict) (r : Result DueText NoMemory)

@@ -470,7 +470,6 @@ fn taken_back(alloc: Global, audit: &Audit, count: u32) -> Result<DueText, NoMem
 
 /// The same, by a past of the record's world that has no line: the lines of the record are made once more, and the last are
 /// taken back.
-#[tactic(auto, using(hk_report::proofs::Lengths::lines_few))]
 fn state_left(
     alloc: Global,
     audit: &Audit,

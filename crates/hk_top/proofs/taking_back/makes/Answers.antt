@@ -1,5 +1,4 @@
 use Rattle.std.proofs.Common.{sym, ◌∙◌}
-use Rattle.std.specs.Prelude.{Some}
 use Rattle.hk_top.proofs.TakenBack.{found_same, made_same}
 use Rattle.hk_top.proofs.taking_back.makes.Goals as goal
 
