@@ -50,7 +50,7 @@ holder_lives s i n h = by (lookup (same_inc i) s.incarnations) h
     by (Some x) g = refl
     by None g = absurd (true≢false g)
 
-taken_stands : (n : ℕ) (xs : List Entry) (i : ℕ) (x : Entry) → slice_get (take n xs) i ≡ Some x → slice_index_or xs i Empty ≡ x
+pub taken_stands : (n : ℕ) (xs : List Entry) (i : ℕ) (x : Entry) → slice_get (take n xs) i ≡ Some x → slice_index_or xs i Empty ≡ x
 taken_stands zero xs i x h = absurd (cc)
 taken_stands (suc n) [] i x h = absurd (cc)
 taken_stands (suc n) (y ∷ xs) zero x h = cc

@@ -1,14 +1,16 @@
-//! The laws of descent and of environment: where what stands somewhere came from, and that a
-//! parameter without ENV stays under its call. They hold of every history, whichever processors made
-//! its lines (`docs/RULES.md`, "Descent" and "Marks").
+//! The laws of descent and of environment: where what stands somewhere came from, that a parameter
+//! without ENV stays under its call, and that chains and marks tell one descent. They hold of every
+//! history, whichever processors made its lines (`docs/RULES.md`, "Descent" and "Marks").
 //!
 //! A law is a function that does nothing: calling it costs nothing, and gives its caller the law of the
-//! lines that it has. The definitions are those of `hk_model`, and no law looks at a kernel.
+//! lines that it has. The definitions are those of `hk_model`, beside the descent that joins chains and
+//! marks (`specs/Joined`), and no law looks at a kernel.
 #![tactic(auto)]
 
 ghost use Rattle.hk_model.specs.Running.{AreStepsOf};
 ghost use Rattle.hk_model.specs.Descent.{DescentLaw, ChainsFall};
 ghost use Rattle.hk_model.specs.Marks.{EnvironmentLaw};
+ghost use Rattle.hk_descent.specs.Joined.{AreOneDescent};
 
 use hk_model::{Line, World};
 
@@ -44,4 +46,18 @@ pub fn environment_law(world: &World, lines: &[Line])
 pub fn chain_lines_law(world: &World, lines: &[Line])
     requires { AreStepsOf world.now lines.now }
     ensures { ChainsFall world.now lines.now }
+{}
+
+/// Chains and marks are one descent (`docs/RULES.md`, "Marks"). At every moment, what stands at a place
+/// has a chain that leads back to another place at an earlier moment exactly where it came from there,
+/// line by line, by the origins of what was written. A place is marked for a parameter without ENV
+/// exactly where what stands there came from the parameter, line by line, by origins and by the walks of
+/// a Load and a Copy, which count all that they pass. So a place whose chain leads back to the parameter
+/// is marked, and the environment law speaks of all that descends from it.
+///
+/// `lines` are steps of `world` from its opening on, in the order of the history.
+#[tactic(auto, using(crate::proofs::Joined::one_descent))]
+pub fn one_descent_law(world: &World, lines: &[Line])
+    requires { AreStepsOf world.now lines.now }
+    ensures { AreOneDescent world.now lines.now }
 {}
