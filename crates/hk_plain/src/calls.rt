@@ -51,7 +51,7 @@ impl Tables {
             Call::Length { of } => self.length(inc, of),
             Call::Load { from, into } => self.load(inc, from, *into),
             Call::Store { list, at, from } => self.store(inc, list, *at, *from),
-            Call::Append { list, from } => self.append(inc, list, *from),
+            Call::Append { list, from } => self.append(alloc, inc, list, *from),
             Call::Erase { list, at } => self.erase(inc, list, *at),
             Call::Drop { slot } => self.drop_slot(inc, *slot),
             Call::Restrict { slot, keep } => self.restrict(inc, *slot, *keep),

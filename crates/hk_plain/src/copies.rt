@@ -1,8 +1,8 @@
-//! Equal copies of objects and incarnations, and lists whose last item goes.
+//! Equal copies of objects and incarnations, and lists to which an item is added or whose last item goes.
 
-ghost use Rattle.std.specs.Prelude.{◌≡◌, ◌-◌, length, take, IfOk};
+ghost use Rattle.std.specs.Prelude.{◌≡◌, ◌-◌, ◌<◌, ◌++◌, ◌∷◌, [], length, take, IfOk, OnOk, OnErr};
 
-use hk_model::{Entries, Entry, Incarnation, Items, Object, Proc, Template, Words};
+use hk_model::{Entries, Entry, Incarnation, Items, NoMemory, Object, Proc, Template, Words};
 use std::alloc::{AllocError, Global};
 use std::marker::PhantomData;
 use std::mem;
@@ -42,6 +42,35 @@ pub(crate) fn incarnation_copy(
         confined: incarnation.confined,
         slots,
     })
+}
+
+/// Adds an entry after the last. A list that had none takes room for one, since most lists stay that short.
+fn push_behind(items: &mut Vec<Entry>, entry: Entry) -> Result<(), AllocError>
+    ensures ok { OnOk result (items.new.items ≡ items.old.items ++ entry ∷ []) }
+    ensures err { OnErr result (items.new.items ≡ items.old.items) }
+{
+    let _ = PhantomData::<Template>; // Rattle is to know what an Entry holds
+    if items.is_empty() {
+        items.reserve_exact(1)?;
+    }
+    if items.push(entry).is_err() {
+        return Err(AllocError);
+    }
+    Ok(())
+}
+
+/// Adds an entry after the last of a list that has room for it. NoMemory is want of memory.
+pub(crate) fn push_entry(alloc: Global, entries: &mut Entries, entry: Entry) -> Result<(), NoMemory>
+    requires { length entries.old < 256 }
+    ensures ok { OnOk result (entries.new ≡ entries.old ++ entry ∷ []) }
+    ensures err { OnErr result (entries.new ≡ entries.old) }
+{
+    let _ = PhantomData::<Template>; // Rattle is to know what an Entry holds
+    let mut items = mem::replace(entries, Entries::new(alloc)).into_vec();
+    let pushed = push_behind(&mut items, entry);
+    *entries = Entries::from_vec(items);
+    pushed?;
+    Ok(())
 }
 
 /// The last word goes, if there is one.

@@ -10,10 +10,12 @@ ghost use Rattle.hk_running.specs.Runners.{with_run};
 ghost use Rattle.hk_plain.specs.Counts.{Moved, inner_names, waiting_names, object_in};
 ghost use Rattle.hk_plain.specs.Removing.{HasObjectsRoom, ObjectsWent};
 
+use crate::copies;
 use crate::counts::Counts;
 use crate::removed::Removed;
 use hk_model::{Cpu, Entry, Name, NoMemory, Object, Proc, ProcessState, Template};
 use hk_running::Processes;
+use std::alloc::Global;
 use std::collections::BTreeMap;
 use std::marker::PhantomData;
 
@@ -82,6 +84,7 @@ pub(crate) fn set_entry(
 /// Adds an entry after the last of an object that has room for it.
 #[tactic(auto, using(crate::proofs::Maps::set_value_absent, crate::proofs::Maps::set_value_same))]
 pub(crate) fn push_entry(
+    alloc: Global,
     objects: &mut BTreeMap<Name, Object>,
     name: Name,
     entry: Entry,
@@ -95,7 +98,7 @@ pub(crate) fn push_entry(
     let _ = PhantomData::<Template>; // Rattle is to know what an Entry holds
     if let Some(object) = objects.get_mut(&name) {
         counts.hold_entry(&entry);
-        if object.entries.push(entry).is_err() {
+        if copies::push_entry(alloc, &mut object.entries, entry).is_err() {
             counts.release_entry(&entry);
             return Err(NoMemory);
         }

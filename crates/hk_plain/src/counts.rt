@@ -251,7 +251,7 @@ pub(crate) fn last_unnamed(counts: &mut Counts, objects: &BTreeMap<Name, Object>
     ensures none { IfNone result (counts.new.lost ≡ []) }
 {
     while let Some(name) = counts.last_lost() {
-        if objects.contains_key(&name) && counts.is_unnamed(name) {
+        if counts.is_unnamed(name) && objects.contains_key(&name) {
             return Some(name);
         }
         counts.pop_lost();

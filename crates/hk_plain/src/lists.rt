@@ -13,6 +13,7 @@ use hk_calls::{Stop, Wanted, slot_at};
 use hk_model::limits::ENTRY_LIMIT;
 use hk_model::{Answer, Entry, Inc, Name, Path, Refusal, Slot, Template, What8};
 use hk_rights::Rights;
+use std::alloc::Global;
 use std::marker::PhantomData;
 
 impl Tables {
@@ -40,14 +41,14 @@ impl Tables {
     }
 
     /// Adds an entry after the last of an object, if there is room.
-    fn push_entry(&mut self, name: Name, entry: Entry) -> Result<Answer, Stop>
+    fn push_entry(&mut self, alloc: Global, name: Name, entry: Entry) -> Result<Answer, Stop>
         ensures { Gives self.old (entry_added self.old name entry) result self.new }
     {
         if self.entries_of(name) >= ENTRY_LIMIT {
             let what = What8::Entries;
             return Err(Stop::Refused(Refusal::Full { what }));
         }
-        push_entry(&mut self.objects, name, entry, &mut self.counts)?;
+        push_entry(alloc, &mut self.objects, name, entry, &mut self.counts)?;
         Ok(Answer::Done)
     }
 
@@ -74,7 +75,13 @@ impl Tables {
 
     /// Append: what the slot holds goes after the last entry.
     #[tactic(auto, unfolding(hk_model::specs::Rule::append_entry))]
-    pub(crate) fn append(&mut self, inc: Inc, path: &Path, from: Slot) -> Result<Answer, Stop>
+    pub(crate) fn append(
+        &mut self,
+        alloc: Global,
+        inc: Inc,
+        path: &Path,
+        from: Slot,
+    ) -> Result<Answer, Stop>
         ensures { Gives self.old (append_entry self.old inc path.now from) result self.new }
     {
         let _ = PhantomData::<Template>; // Rattle is to know what an Entry holds
@@ -82,7 +89,7 @@ impl Tables {
         let slot = slot_at(from, step)?;
         let cap = self.target(inc, path, Wanted::Listed, Rights::APPEND_MODIFY)?;
         let entry = storable(self.slot(inc, slot), step)?;
-        self.push_entry(cap.name, entry)
+        self.push_entry(alloc, cap.name, entry)
     }
 
     /// Erase: the entry at an index becomes Empty.

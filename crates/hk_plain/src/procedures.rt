@@ -1,10 +1,11 @@
 //! The calls of procedures: Enter and Leave.
 
-ghost use Rattle.std.specs.Prelude.{◌≡◌, ◌<◌, ◌≤◌, ◌+◌, length, map, IfOk, OnOk, OnErr};
+ghost use Rattle.std.specs.Prelude.{◌≡◌, ◌<◌, ◌≤◌, ◌+◌, length, map, Ok, Err, IfOk, IfErr, OnOk, OnErr};
 ghost use Rattle.std.specs.Map.{lookup};
 ghost use Rattle.hk_model.specs.State.{object, incarnation, same_inc};
 ghost use Rattle.hk_model.specs.Rule.{slots_at, type_held, argument, enter_procedure, leave, returned_cap};
 ghost use Rattle.hk_model.specs.Merging.{name_space};
+ghost use Rattle.hk_spaces.specs.Spaces.{empty_slots};
 ghost use Rattle.hk_plain.specs.Giving.{Gives};
 ghost use Rattle.hk_plain.specs.Numbers.{HasNumbers};
 ghost use Rattle.hk_plain.specs.Removing.{HasRoom, removed_at};
@@ -12,7 +13,7 @@ ghost use Rattle.hk_plain.specs.Removing.{HasRoom, removed_at};
 use crate::removed::Removed;
 use crate::tables::Tables;
 use hk_calls::{Stop, Wanted, slot_at};
-use hk_merge::{Arg, allowed, build_space, held};
+use hk_merge::{Arg, allowed, fill_space, held};
 use hk_model::limits::{DEPTH_LIMIT, SLOT_LIMIT};
 use hk_model::{
     Answer, Args, Cap, Entries, Entry, Inc, Incarnation, Name, Path, Proc, ProcessState, Refusal,
@@ -77,30 +78,28 @@ impl Tables {
         Ok(args)
     }
 
-    /// The name space that a call of a procedure gives.
-    fn space_of(
+    /// Fills a name space that is empty with the one that a call of a procedure gives.
+    fn fill(
         &self,
+        space: &mut Space,
         procedure: Name,
         args: &[Arg],
         confined: bool,
         first_step: u8,
-    ) -> Result<Space, Refusal>
+    ) -> Result<(), Refusal>
+        requires empty { space.old ≡ empty_slots }
         requires args { length args.now ≤ 8 }
         requires first_step { first_step ≤ 8 }
-        ensures { let o = object self.now procedure in result ≡ name_space args.now o.params o.entries confined first_step }
+        ensures ok { OnOk result (let o = object self.now procedure in name_space args.now o.params o.entries confined first_step ≡ Ok space.new) }
+        ensures refused { IfErr result (λ refusal. let o = object self.now procedure in name_space args.now o.params o.entries confined first_step ≡ Err refusal) }
     {
         match self.object(procedure) {
             Some(object) => {
                 let params = object.params.as_slice();
-                build_space(
-                    args,
-                    params,
-                    object.entries.as_slice(),
-                    confined,
-                    first_step,
-                )
+                let entries = object.entries.as_slice();
+                fill_space(space, args, params, entries, confined, first_step)
             }
-            None => build_space(args, &[], &[], confined, first_step),
+            None => fill_space(space, args, &[], &[], confined, first_step),
         }
     }
 
@@ -125,7 +124,8 @@ impl Tables {
         let cap = self.target(inc, path, Wanted::Procedures, Rights::A0)?;
         let confined = !cap.rights.has(Right::UNCONF);
         let held = self.args(alloc, inc, args.as_slice())?;
-        let space = self.space_of(cap.name, held.as_slice(), confined, step)?;
+        let mut space = Space::empty();
+        self.fill(&mut space, cap.name, held.as_slice(), confined, step)?;
         if self.depth(proc) >= DEPTH_LIMIT {
             return Err(Stop::Refused(Refusal::Deep));
         }

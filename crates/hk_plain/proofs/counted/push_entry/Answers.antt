@@ -13,11 +13,11 @@ use Rattle.hk_plain.proofs.counted.push_entry.Goals as goal
 
 pub returns-else-is_err-clause-counted : goal.returns-else-is_err-clause-counted
 returns-else-is_err-clause-counted c =
-    let more : c.push.new.self ≡ c.in-Some.object.now.entries ++ c.args.entry ∷ [] = on_ok c.push.result _ (sym c.if-is_err.ensures.value) c.push.ensures.ok in
-    let w : Object = record c.in-Some.object.now { entries = c.push.new.self } in
+    let more : c.push_entry.new.entries ≡ c.in-Some.object.now.entries ++ c.args.entry ∷ [] = on_ok c.push_entry.result _ (sym c.if-is_err.ensures.value) c.push_entry.ensures.ok in
+    let w : Object = record c.in-Some.object.now { entries = c.push_entry.new.entries } in
     subst (λ (es : List (Name × Object)). Moved c.args.counts.now c.hold_entry.new.self (inner_names es) (inner_names c.args.objects.now.entries))
     (sym (c.get_mut.follows.holds w).0)
     (written_moved object_names c.args.counts.now c.hold_entry.new.self (same_name c.args.name) c.args.objects.now.entries c.in-Some.object.now w (sym c.in-Some.ensures.value)
-    (beside c.args.counts.now c.hold_entry.new.self c.in-Some.object.now.of (flat_map entry_names c.push.new.self) (flat_map entry_names c.in-Some.object.now.entries)
+    (beside c.args.counts.now c.hold_entry.new.self c.in-Some.object.now.of (flat_map entry_names c.push_entry.new.entries) (flat_map entry_names c.in-Some.object.now.entries)
     (subst (λ (es : List Entry). Moved c.args.counts.now c.hold_entry.new.self (flat_map entry_names es) (flat_map entry_names c.in-Some.object.now.entries)) (sym more)
     (push_moved entry_names c.args.counts.now c.hold_entry.new.self c.in-Some.object.now.entries c.args.entry c.hold_entry.ensures))))

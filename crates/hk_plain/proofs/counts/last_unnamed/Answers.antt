@@ -7,14 +7,14 @@ use Rattle.hk_model.specs.State.{same_name}
 use Rattle.hk_plain.specs.Counts.{is_unnamed}
 use Rattle.hk_plain.proofs.CountLemmas.{found_dropped, only_list}
 use Rattle.hk_plain.proofs.counts.last_unnamed.Goals as goal
-use Rattle.hk_plain.proofs.counts.last_unnamed.Goals.{else-contains_key-via-then-contains_key+else-is_unnamed, else-contains_key-via-else-contains_key}
+use Rattle.hk_plain.proofs.counts.last_unnamed.Goals.{else-is_unnamed-via-then-is_unnamed+else-contains_key, else-is_unnamed-via-else-is_unnamed}
 
 pub loop-name-preserved : goal.loop-name-preserved
 loop-name-preserved c =
     let not_lost : is_some (lookup (same_name c.in-Some.name) c.args.objects.now.entries) ≡ true → is_unnamed c.loop-name.counts c.in-Some.name ≡ true → ⊥ = λ stands unnamed. elim
-    c.else-contains_key.branch [
-      | else-contains_key-via-then-contains_key+else-is_unnamed w ↦ true≢false (sym unnamed ∙ sym w.is_unnamed.ensures ∙ w.if-is_unnamed.false)
-      | else-contains_key-via-else-contains_key w ↦ true≢false (sym stands ∙ sym c.contains_key.ensures ∙ w.if-contains_key.false)
+    c.else-is_unnamed.branch [
+      | else-is_unnamed-via-then-is_unnamed+else-contains_key w ↦ true≢false (sym stands ∙ sym w.contains_key.ensures ∙ w.if-contains_key.false)
+      | else-is_unnamed-via-else-is_unnamed w ↦ true≢false (sym unnamed ∙ sym c.is_unnamed.ensures ∙ w.if-is_unnamed.false)
     ] in
     record {
       same =
