@@ -8,6 +8,7 @@ ghost use Rattle.hk_model.specs.Places.{cap_of};
 ghost use Rattle.hk_report.specs.Histories.{StaysListed, same_at, same_cap, stays, since_by, ended_by, added, padded, relisted, no_history, touched, touched_name, maker_of, noted, opened_below, finished_below};
 
 use crate::doings::Doing;
+use crate::lists::add_one;
 use crate::shows::entries_of;
 use hk_model::lists::Limited;
 use hk_model::{Cap, Entry, Inc, Items, Name, NoMemory, Template};
@@ -137,11 +138,11 @@ fn ended_by(moment: u32, index: u16, old: &Option<Since>, new: &Option<Cap>) -> 
 }
 
 /// One span more, if there is one.
-fn add(spans: &mut Items<Span>, span: Option<Span>) -> Result<(), NoMemory>
+fn add(alloc: Global, spans: &mut Items<Span>, span: Option<Span>) -> Result<(), NoMemory>
     ensures { OnOk result (spans.new ≡ spans.old ++ added span) }
 {
     if let Some(span) = span {
-        spans.push(span)?;
+        add_one(alloc, spans, span)?;
     }
     Ok(())
 }
@@ -164,6 +165,7 @@ fn padded(now: Vec<Option<Since>>, count: usize) -> Result<Vec<Option<Since>>, N
 
 /// Writes what stands at an index from a moment on over what stood there, which ends.
 fn relist_at(
+    alloc: Global,
     spans: &mut Items<Span>,
     now: &mut [Option<Since>],
     moment: u32,
@@ -176,7 +178,7 @@ fn relist_at(
     ensures spans { OnOk result (spans.new ≡ spans.old ++ added (ended_by moment index (slice_index_or now.old index None) new.now)) }
 {
     let old = now[index];
-    add(spans, ended_by(moment, index as u16, &old, new))?;
+    add(alloc, spans, ended_by(moment, index as u16, &old, new))?;
     now[index] = since_by(moment, &old, new);
     Ok(())
 }
@@ -199,7 +201,7 @@ fn relist(
     let mut now = padded(before, entries.len())?;
     for index in 0..now.len() {
         let new = cap_at(entries, index);
-        relist_at(&mut history.spans, &mut now, moment, index, &new)?;
+        relist_at(alloc, &mut history.spans, &mut now, moment, index, &new)?;
     }
     history.now = Limited::from_vec(now);
     if maker.is_some() {

@@ -5,6 +5,7 @@ ghost use Rattle.hk_model.specs.declared.names.Name.{Name};
 ghost use Rattle.hk_report.specs.Holders.{AreHolders, IsOneMore, held_at, holds, stretch_at, stretches};
 
 use crate::histories::{History, Span};
+use crate::lists::add_one;
 use crate::runs::{ends_at, spans_at};
 use hk_model::{Cap, Items, Name, NoMemory};
 use std::alloc::Global;
@@ -43,13 +44,13 @@ fn add(alloc: Global, all: &mut Vec<Items<Stretch>>, stretch: Stretch) -> Result
     let name = stretch.cap.name;
     match all.get_mut(name.0 as usize) {
         Some(held) => {
-            held.push(stretch)?;
+            add_one(alloc, held, stretch)?;
             Ok(())
         }
         None => {
             reach_up(alloc, all, name)?;
             let mut held = Items::new(alloc);
-            held.push(stretch)?;
+            add_one(alloc, &mut held, stretch)?;
             all.push(held)?;
             Ok(())
         }

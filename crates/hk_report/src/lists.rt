@@ -4,9 +4,24 @@ ghost use Rattle.std.specs.Prelude.{◌≡◌, ◌≤◌, ◌+◌, ◌++◌, ◌
 ghost use Rattle.std.specs.List.{slice_range};
 ghost use Rattle.hk_report.specs.Lists.{IsPlace, ArePlaces, no_place};
 
-use hk_model::NoMemory;
+use hk_model::{Items, NoMemory};
 use std::alloc::Global;
 use std::marker::Model;
+use std::mem;
+
+/// Adds an item behind the others. A list that had none takes room for one, since most lists stay that short. NoMemory is want
+/// of memory.
+pub(crate) fn add_one<T: Drop>(alloc: Global, list: &mut Items<T>, item: T) -> Result<(), NoMemory>
+    ensures { OnOk result (list.new ≡ list.old ++ item ∷ []) }
+{
+    let mut items = mem::replace(list, Items::new(alloc)).into_vec();
+    if items.is_empty() {
+        items.reserve_exact(1)?;
+    }
+    items.push(item)?;
+    *list = Items::from_vec(items);
+    Ok(())
+}
 
 /// Where the items of a list stand: from one place on, up to another.
 #[derive(Clone, Copy)]

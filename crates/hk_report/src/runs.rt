@@ -9,6 +9,7 @@ ghost use Rattle.hk_report.specs.Reachable.{can_matter, moment_at, IsKept, AreKe
 ghost use Rattle.hk_report.specs.Runs.{precedes, IsRun, AreCut, ends_at, AreRuns, is_open, AreByName, AreOrdered};
 
 use crate::histories::{History, Span, same_cap};
+use crate::lists::add_one;
 use crate::reachable::moment_at;
 use hk_model::{Items, Name, NoMemory};
 use std::alloc::Global;
@@ -75,11 +76,11 @@ fn ends_of(alloc: Global, spans: &[Span]) -> Result<Items<usize>, NoMemory>
     let mut ends = Items::new(alloc);
     for place in 1..spans.len() {
         if !precedes(&spans[place - 1], &spans[place]) {
-            ends.push(place)?;
+            add_one(alloc, &mut ends, place)?;
         }
     }
     if !spans.is_empty() {
-        ends.push(spans.len())?;
+        add_one(alloc, &mut ends, spans.len())?;
     }
     Ok(ends)
 }

@@ -13,6 +13,7 @@ ghost use Rattle.hk_report.specs.Fronts.{ways_at, IsOneMore, IsWay, AreSound, Ar
 use crate::fronts::{Fronts, are_fronts, ways_at};
 use crate::histories::Span;
 use crate::hops::{Arrived, Ground, arrived_by, later};
+use crate::lists::add_one;
 use crate::params::GivenParam;
 use crate::runs::spans_at;
 use crate::ways::{Way, first_there, hop_over, stands_for};
@@ -126,7 +127,7 @@ impl Spreading {
 
     /// A way is kept, where enough is left to look at, and its object is one of those of the lists. Where more would be kept of
     /// the object than may be, nothing is left. NoMemory is want of memory.
-    fn keep(&mut self, way: Way) -> Result<(), NoMemory>
+    fn keep(&mut self, alloc: Global, way: Way) -> Result<(), NoMemory>
         ensures { OnOk result (IsOneMore way self.old.ways.items self.new.ways.items) }
     {
         if !self.spend(way.hops.len() + 4) {
@@ -139,7 +140,7 @@ impl Spreading {
                 self.left = 0;
                 return Ok(());
             }
-            ways.push(way)?;
+            add_one(alloc, ways, way)?;
             self.fresh.push(Kept { name, number })?;
         }
         Ok(())
@@ -169,7 +170,7 @@ impl Spreading {
         }
         let hops = Items::new(alloc);
         let arg = arg as u8;
-        self.keep(Way { arg, hops, to })?;
+        self.keep(alloc, Way { arg, hops, to })?;
         Ok(())
     }
 
@@ -258,7 +259,7 @@ impl Spreading {
         if !self.is_new(&onward.to, way.hops.len()) {
             return Ok(());
         }
-        self.keep(way.longer(alloc, onward)?)?;
+        self.keep(alloc, way.longer(alloc, onward)?)?;
         Ok(())
     }
 
