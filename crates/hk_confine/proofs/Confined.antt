@@ -45,14 +45,14 @@ empty_drop : (n : ℕ) → drop {A = Line} n [] ≡ []
 empty_drop zero = refl
 empty_drop (suc n) = refl
 
-part_after : (w : WorldValue) (m : Machine) (lines : List Line) (k j n : ℕ) → n ≡ k + j
+pub part_after : (w : WorldValue) (m : Machine) (lines : List Line) (k j n : ℕ) → n ≡ k + j
     → after_lines w (after_lines w m (take k lines)) (take j (drop k lines)) ≡ after_lines w m (take n lines)
 part_after w m [] k j n e = rw (empty_take n, empty_take k, empty_drop k, empty_take j) refl
 part_after w m (line ∷ lines) zero j n e = let f : n ≡ j = omega (arith, e) in rw f refl
 part_after w m (line ∷ lines) (suc k) j zero e = absurd (omega (arith, e))
 part_after w m (line ∷ lines) (suc k) j (suc n) e = part_after w (moved w m line.cpu) lines k j n (omega (arith, e))
 
-get_part : (lines : List Line) (k j n : ℕ) → n ≡ k + j → slice_get (drop k lines) j ≡ slice_get lines n
+pub get_part : (lines : List Line) (k j n : ℕ) → n ≡ k + j → slice_get (drop k lines) j ≡ slice_get lines n
 get_part [] k j n e = rw (empty_drop k) refl
 get_part (line ∷ lines) zero j n e = let f : n ≡ j = omega (arith, e) in rw f refl
 get_part (line ∷ lines) (suc k) j zero e = absurd (omega (arith, e))
@@ -75,7 +75,7 @@ Late low s = Sound s × (low ≤ s.next_inc.0)
 late_line : (low : ℕ) (s : State) (line : Line) (t : State) → (Sound s → LineKnown s line t) → Late low s → Late low t
 late_line low s line t g k = let up = turn_up s line t (g k.0).turn in let a = k.1 in ((g k.0).after, omega (arith, up, a))
 
-numbers_later : (w : WorldValue) (lines : List Line) (n d : ℕ) → AreStepsOf w lines → (state_at w lines n).next_inc.0 ≤ (state_at w lines (n + d)).next_inc.0
+pub numbers_later : (w : WorldValue) (lines : List Line) (n d : ℕ) → AreStepsOf w lines → (state_at w lines n).next_inc.0 ≤ (state_at w lines (n + d)).next_inc.0
 numbers_later w lines n d h =
     let low : ℕ = (state_at w lines n).next_inc.0 in
     let late : Late low (after_lines w (machine_at w lines n) (take d (drop n lines))).state =

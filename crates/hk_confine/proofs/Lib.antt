@@ -5,3 +5,4 @@ mod Kept
 mod Callers
 pub mod Begins
 pub mod Confined
+pub mod Untouched

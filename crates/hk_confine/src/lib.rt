@@ -12,6 +12,7 @@ ghost use Rattle.hk_model.specs.Confinement.{ConfinementLaw, ClosedCallLaw};
 ghost use Rattle.hk_model.specs.Effects.{LeavesOthers, NamesLast};
 ghost use Rattle.hk_model.specs.Changes.{HasOneList, ListsChanges};
 ghost use Rattle.hk_model.specs.Reaches.{ReachLaw};
+ghost use Rattle.hk_confine.specs.Untouched.{UntouchedLaw};
 
 use hk_model::{Line, World};
 
@@ -41,6 +42,20 @@ pub fn confinement_law(world: &World, lines: &[Line])
 pub fn closed_call_law(world: &World, lines: &[Line])
     requires { AreStepsOf world.now lines.now }
     ensures { ClosedCallLaw world.now lines.now }
+{
+    let _ = world.limit();
+}
+
+/// The confinement law over states (`docs/RULES.md`, "Reaches"): each line by an incarnation under a
+/// confined call leaves every object that was neither made under the call nor is in its modifiable
+/// reach at the moment before the line as it was, with all its parts. Or the object has gone: then it
+/// was none of the opening, and after the line nothing names it.
+///
+/// `lines` are steps of `world` from its opening on, in the order of the history.
+#[tactic(auto, using(crate::proofs::Untouched::untouched))]
+pub fn untouched_law(world: &World, lines: &[Line])
+    requires { AreStepsOf world.now lines.now }
+    ensures { UntouchedLaw world.now lines.now }
 {
     let _ = world.limit();
 }
