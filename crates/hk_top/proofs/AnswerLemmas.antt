@@ -1,12 +1,9 @@
 -- How answers come about: a text that is due and said, and a text that is due to an input.
-use Rattle.std.proofs.Common.{◌≡◌, ◌∙◌, ap, ◌≢◌, ◌<◌, ◌≤◌, ◌↔◌, ℕ, List, length, codes, Option, None, option_map, Ok, Err, IfOk, IfErr, IsErrOf, refl, subst, sym, inl, inr, Vec, arith}
-use Rattle.std.proofs.Common.{Global, Result}
+use Rattle.std.proofs.Common.{◌≡◌, ◌≢◌, ◌<◌, ℕ, List, length, codes, Option, None, option_map, Ok, Err, IfOk, IfErr, IsErrOf, refl, subst, sym, inl, inr}
+use Rattle.std.proofs.Common.{Result}
 use Rattle.hk_io.specs.Streams.{Took}
-use Rattle.hk_io.specs.declared.whole.ReadError.{ReadError}
 use Rattle.std.specs.Fmt.{digits}
-use Rattle.std.specs.Io.KnownBytes.{Consumes, IsAtEnd}
 use Rattle.hk_format.specs.declared.causes.Cause.{Cause}
-use Rattle.hk_io.specs.Causes.{Rose}
 use Rattle.hk_model.specs.declared.verdicts.Misstep.{Misstep}
 use Rattle.hk_model.specs.declared.verdicts.Verdict.{Verdict}
 use Rattle.hk_model.specs.declared.verdicts.Verdict.TheVariants.{Legal, Illegal}
@@ -32,14 +29,15 @@ use Rattle.hk_top.specs.declared.served.Silence.{Silence}
 use Rattle.hk_top.specs.declared.served.Silence.TheVariants as silence
 use Rattle.hk_top.specs.declared.words.Command.{Command}
 use Rattle.hk_top.specs.declared.words.Command.TheVariants as command
-use Rattle.hk_top.specs.Words.{IsCommand, IsReading, IsAlone, IsInRange, MayGenerate, MayTakeBack}
-use Rattle.hk_top.specs.Words.{MayTrace, ReadsAlone, ReadsScript, ReadsRecord, ReadsAtMost, words_of, byte_limit}
+use Rattle.hk_top.specs.Words.{IsCommand, IsReading, IsAlone, IsInRange, MayTakeBack, TakesInput}
+use Rattle.hk_top.specs.Words.{MayTrace, ReadsAlone, ReadsRecord, ReadsAtMost, RunsScript, TellsScript, words_of, byte_limit}
 use Rattle.hk_top.specs.BoundTexts.{AreTold}
-use Rattle.hk_top.specs.Served.{IsSummary, IsTooLong, silent_status}
-use Rattle.hk_top.specs.Outputs.{Due, DueTo, Answer, IsRecorded, IsSummed, IsChecked, IsLawful, Stream, IsSaid, status_of, read}
-use Rattle.hk_top.specs.Outputs.{record_of, script_of, bounds_of, json_of, world_of, verdict_of, changes_of, chains_of, state_of, script_refused, bad_json_text}
+use Rattle.hk_top.specs.Served.{silent_status}
+use Rattle.hk_top.specs.Runs.{IsRecorded, IsRunDue, IsLawful, record_of, run_refused, status_of}
+use Rattle.hk_top.specs.Outputs.{Due, DueTo, Answer, IsSummed, IsChecked, Stream, IsSaid}
+use Rattle.hk_top.specs.Outputs.{run_of, script_of, bounds_of, json_of, world_of, verdict_of, changes_of, chains_of, state_of, script_refused, bad_json_text}
 use Rattle.hk_top.specs.Outputs.{TellsLegal, TellsChanges, TellsChains, TellsState}
-use Rattle.hk_top.specs.Outputs.{record_refused, json_refused, legal, illegal, summed, too_long, written, read_fault, no_memory, write_fault, FailedReading, stream}
+use Rattle.hk_top.specs.Outputs.{record_refused, json_refused, legal, illegal, too_long, written, read_fault, no_memory, write_fault, FailedReading}
 
 -- a text that is due and said is an answer
 pub said : {words : List (List ℕ)} {input output : Stream} {status result : ℕ} {text : List ℕ} {made : Option State} → Due words input.before input.after status text made
@@ -52,11 +50,6 @@ pub due_at : {words others : List (List ℕ)} {before after : Option (List ℕ)}
     → text ≡ same → Due words before after status text made → Due others before after number same made
 due_at {words} {others} {before} {after} {status} {number} {text} {same} {made} w n t due =
     subst (λ x. Due x before after number same made) w (subst (λ x. Due words before after x same made) n (subst (λ x. Due words before after status x made) t due))
-
--- where a read answered that the input is too long, more bytes were taken than the limit
-pub too_long_taken : (limit : ℕ) (before after : Option (List ℕ)) (r : Result (Vec ℕ Global) ReadError) → r ≡ Err ReadError.TooLong
-    → Took before after (λ bytes. IsErrOf r ReadError.TooLong ↔ (limit < length bytes)) → Took before after (λ bytes. limit < length bytes)
-too_long_taken limit before after r is took = (took.0, took.1, took.2.0 is)
 
 -- the refusal, letter by letter
 pub too_long_is : codes "line 0: TooLong\n" ≡ too_long_text
@@ -72,7 +65,8 @@ bad_json_is = refl
 pub record_due : {K : Type 0} (state : K → State) (words : List (List ℕ)) (bytes : List ℕ) (w : WorldValue) (r : Result (Served K) NoMemory) → world bytes ≡ Ok w
     → IfOk r (λ served. IsRecorded words w served.due.status served.due.text (option_map state served.kernel))
     → IfOk r (λ served. DueTo words bytes served.due.status served.due.text (option_map state served.kernel))
-record_due state words bytes w (Ok served) is h = record_of w served.due.status served.due.text (option_map state served.kernel) is h
+record_due state words bytes w (Ok served) is h =
+    run_of served.due.status served.due.text (option_map state served.kernel) (record_of w served.due.status served.due.text (option_map state served.kernel) is h)
 record_due state words bytes w (Err error) is h = tt
 
 pub script_due : (bytes : List ℕ) (w : WorldValue) (r : Result DueText NoMemory) → world bytes ≡ Ok w → IfOk r (λ due. (due.status ≡ 0) × (due.text ≡ canon w))
@@ -85,7 +79,7 @@ pub bounds_due : (bytes : List ℕ) (w : WorldValue) (r : Result DueText NoMemor
 bounds_due bytes w (Ok due) is h = rw (h.2, h.3) (bounds_of w h.0 refl is h.1)
 bounds_due bytes w (Err error) is h = tt
 
-pub script_refused_due : (c : Command) (bytes : List ℕ) (line : ℕ) (cause : Cause) (r : Result DueText NoMemory) → ReadsScript (words_of c) → world bytes ≡ Err (line, cause)
+pub script_refused_due : (c : Command) (bytes : List ℕ) (line : ℕ) (cause : Cause) (r : Result DueText NoMemory) → TellsScript (words_of c) → world bytes ≡ Err (line, cause)
     → IfOk r (λ due. (due.status ≡ 3) × (due.text ≡ refusal_text line (cause_name cause))) → IfOk r (λ due. DueTo (words_of c) bytes due.status due.text None)
 script_refused_due c bytes line cause (Ok due) reads is h = rw (h.0, h.1) (script_refused line cause reads is)
 script_refused_due c bytes line cause (Err error) reads is h = tt
@@ -158,11 +152,6 @@ illegal_due a Told w lines end v n cause (Err error) w_is lines_are end_is is v_
 
 -- what is due to an input
 
--- the command reads something
-abbrev pub TakesInput : Command → Type 0
-TakesInput (command.Gen count) = ⊥
-TakesInput c = Unit {0}
-
 pub reads_alone : (c : Command) → ReadsAlone c → TakesInput c
 reads_alone command.Run alone = tt
 reads_alone (command.RunOn cpus) alone = tt
@@ -191,7 +180,7 @@ alone_reads (command.Back count) alone other = tt
 alone_reads (command.Gen count) alone other = absurd (other count refl)
 
 -- the most bytes that the words of a command may read
-at_most : (c : Command) → TakesInput c → IsInRange c → ReadsAtMost (words_of c) (byte_limit c)
+pub at_most : (c : Command) → TakesInput c → IsInRange c → ReadsAtMost (words_of c) (byte_limit c)
 at_most command.Run reads range = inl (inl refl, refl)
 at_most (command.RunOn cpus) reads range = inl (inr (inl (cpus, (refl, range))), refl)
 at_most command.Show reads range = inl (inr (inr (inl refl)), refl)
@@ -203,21 +192,6 @@ at_most command.Confine reads range = inr (inl (inr (inl refl), refl))
 at_most (command.Trace line) reads range = inr (inl (inr (inr (inl (line, (refl, range)))), refl))
 at_most (command.Back count) reads range = inr (inl (inr (inr (inr (count, (refl, range)))), refl))
 at_most (command.Gen count) reads range = absurd reads
-
-pub read_due : {before after : Option (List ℕ)} {bytes same text : List ℕ} {status : ℕ} {made : Option State} (c : Command) (limit : ℕ) → TakesInput c → IsInRange c
-    → limit ≡ byte_limit c
-    → Consumes before after bytes → IsAtEnd after → length bytes ≤ limit → same ≡ bytes
-    → DueTo (words_of c) same status text made → Due (words_of c) before after status text made
-read_due {before} {after} {bytes} {same} {text} {status} {made} c limit reads range limit_is taken end few is due =
-    read bytes status text made (record {
-      taken = taken;
-      end = end;
-      limit = limit;
-      at_most = subst (λ n. ReadsAtMost (words_of c) n) (sym limit_is) (at_most c reads range);
-      few
-          = few;
-    })
-    (subst (λ b. DueTo (words_of c) b status text made) is due)
 
 pub too_long_due : {before after : Option (List ℕ)} {status : ℕ} {text : List ℕ} {made : Option State} (c : Command) (limit : ℕ) → TakesInput c → IsInRange c → limit ≡ byte_limit c
     → Took before after (λ bytes. limit < length bytes) → (status ≡ 3) × (text ≡ too_long_text) × (made ≡ None)
@@ -237,8 +211,12 @@ check_speaks : {a : Audited} {Told : WorldValue → List Line → List ℕ → T
 check_speaks (legal text is laws told) = (λ e. absurd (cc), λ e. absurd (cc))
 check_speaks (illegal n cause is) = (λ e. absurd (cc), λ e. absurd (cc))
 
+due_speaks : {words : List (List ℕ)} {bytes : List ℕ} {status : ℕ} {text : List ℕ} {made : Option State} → IsRunDue words bytes status text made → Speaks status
+due_speaks (record_of w status text made is r) = subst Speaks (sym r.record_is.status_is) (run_speaks r.end)
+due_speaks (run_refused line cause runs is) = (λ e. absurd (cc), λ e. absurd (cc))
+
 pub speaks : {words : List (List ℕ)} {bytes : List ℕ} {status : ℕ} {text : List ℕ} {made : Option State} → DueTo words bytes status text made → (status ≢ 4) × (status ≢ 5)
-speaks (record_of w status text made is r) = subst Speaks (sym r.record_is.status_is) (run_speaks r.end)
+speaks (run_of status text made run) = due_speaks run
 speaks (script_of w show is) = (λ e. absurd (cc), λ e. absurd (cc))
 speaks (bounds_of w bounds bound is are) = (λ e. absurd (cc), λ e. absurd (cc))
 speaks (verdict_of a status text checks is h) = check_speaks h
@@ -254,23 +232,17 @@ speaks (record_refused line cause reads is) = (λ e. absurd (cc), λ e. absurd (
 pub summary_speaks : {count status : ℕ} {text : List ℕ} {made : Option State} → IsSummed count status text made → (status ≢ 4) × (status ≢ 5)
 summary_speaks h = subst Speaks (sym h.status_is) (run_speaks end.Done)
 
--- the summary that is due to the words of a generated world
-pub summary_due : {K : Type 0} (state : K → State) (count : ℕ) (before after : Option (List ℕ)) (served : Served K) → MayGenerate count → after ≡ before
-    → IsSummary state count served
-    → Due (words_of (command.Gen count)) before after served.due.status served.due.text (option_map state served.kernel)
-summary_due state count before after served may same h = summed count _ _ _ (refl, may) h same
-
-of_reads : (words : List (List ℕ)) (limit : ℕ) → ReadsAtMost words limit → IsReading words
+pub of_reads : (words : List (List ℕ)) (limit : ℕ) → ReadsAtMost words limit → IsReading words
 of_reads words limit (inl h) = inl h.0
 of_reads words limit (inr (inl h)) = inr (inl h.0)
 of_reads words limit (inr (inr h)) = inr (inr h.0)
 
 -- the words of a command that reads something are those of such a command
-is_reading : (c : Command) → TakesInput c → IsInRange c → IsReading (words_of c)
+pub is_reading : (c : Command) → TakesInput c → IsInRange c → IsReading (words_of c)
 is_reading c reads range = of_reads (words_of c) (byte_limit c) (at_most c reads range)
 
 -- the words of each command are those of a command
-command_words : (c : Command) → IsInRange c → IsCommand (words_of c)
+pub command_words : (c : Command) → IsInRange c → IsCommand (words_of c)
 command_words command.Run range = inl (is_reading command.Run tt range)
 command_words (command.RunOn cpus) range = inl (is_reading (command.RunOn cpus) tt range)
 command_words command.Show range = inl (is_reading command.Show tt range)
@@ -288,42 +260,11 @@ pub of_command : {words : List (List ℕ)} (c : Command) → IsInRange c → wor
 of_command c range is = subst IsCommand (sym is) (command_words c range)
 
 -- what a run of many processors, or of one, came to where the script is refused
-pub refused_served : {K : Type 0} (state : K → State) (c : Command) (bytes : List ℕ) (line : ℕ) (cause : Cause) (due : DueText) (served : Served K) → ReadsScript (words_of c)
+pub refused_served : {K : Type 0} (state : K → State) (c : Command) (bytes : List ℕ) (line : ℕ) (cause : Cause) (due : DueText) (served : Served K) → RunsScript (words_of c)
     → world bytes ≡ Err (line, cause)
     → (due.status ≡ 3) × (due.text ≡ refusal_text line (cause_name cause)) → served.due ≡ due → served.kernel ≡ None
     → DueTo (words_of c) bytes served.due.status served.due.text (option_map state served.kernel)
-refused_served state c bytes line cause due served reads is told due_is none = rw (due_is, none, told.0, told.1) (script_refused line cause reads is)
-
--- what is due where the source was not read to its end
-pub unread_due : {K : Type 0} (state : K → State) (c : Command) (limit : ℕ) (before after : Option (List ℕ)) (r : Result (Vec ℕ Global) ReadError) (error : ReadError)
-    (out : Result (Served K) Silence) → TakesInput c → IsInRange c → limit ≡ byte_limit c → r ≡ Err error
-    → Took before after (λ bytes. IsErrOf r ReadError.TooLong ↔ (limit < length bytes)) → IfOk out (λ served. (error ≡ ReadError.TooLong) × IsTooLong served)
-    → IfOk out (λ served. Due (words_of c) before after served.due.status served.due.text (option_map state served.kernel))
-unread_due state c limit before after r error (Ok served) reads range limit_is is took h =
-    too_long_due c limit reads range limit_is (too_long_taken limit before after r (is ∙ ap (λ e. Err e) h.0) took) (h.1.0, h.1.1, ap (option_map state) h.1.2)
-unread_due state c limit before after r error (Err silence) reads range limit_is is took h = tt
-
--- a read that failed, where the source was not read to its end
-pub unread_failed : {K : Type 0} (c : Command) (limit : ℕ) (before after : Option (List ℕ)) (faults_before faults_after : ℕ) (r : Result (Vec ℕ Global) ReadError) (error : ReadError)
-    (out : Result (Served K) Silence) → TakesInput c → IsInRange c → limit ≡ byte_limit c → r ≡ Err error
-    → Took before after (λ bytes. IsErrOf r ReadError.TooLong ↔ (limit < length bytes)) → (IsErrOf r ReadError.ReadFault → Rose faults_before faults_after)
-    → (IsErrOf out Silence.ReadFault → error ≡ ReadError.ReadFault)
-    → IsErrOf out Silence.ReadFault → FailedReading (words_of c) (stream before after faults_before faults_after)
-unread_failed c limit before after faults_before faults_after r error out reads range limit_is is took rose cause failed = record {
-  limit = limit;
-  reads = subst (λ n. ReadsAtMost (words_of c) n) (sym limit_is) (at_most c reads range);
-  fault = rose fault_is;
-  few = (took.0, took.1, few);
-}
-  where
-    fault_is : r ≡ Err ReadError.ReadFault
-    fault_is = is ∙ ap (λ e. Err e) (cause failed)
-
-    no_more : limit < length took.0 → ⊥
-    no_more more = let clash : Err ReadError.ReadFault ≡ Err ReadError.TooLong = sym fault_is ∙ took.2.1 more in cc
-
-    few : length took.0 ≤ limit
-    few = omega (arith, no_more)
+refused_served state c bytes line cause due served reads is told due_is none = rw (due_is, none, told.0, told.1) (run_of 3 (refusal_text line (cause_name cause)) None (run_refused line cause reads is))
 
 -- a call whose text is said, or that is silent, with the kernel that it hands back
 pub answered : {K : Type 0} (P : Type 0) (state : K → State) {words : List (List ℕ)} {input output : Stream} (c : Command) (due : Result (Served K) Silence) (out : ℕ × Option K)

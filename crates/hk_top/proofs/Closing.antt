@@ -35,7 +35,7 @@ use Rattle.hk_shared.specs.Books.{IsBookOf, stops}
 use Rattle.hk_shared.proofs.Notes.{append_nil, lines_append, lines_book, steps_first}
 use Rattle.hk_top.specs.declared.words.Command.TheVariants as command
 use Rattle.hk_top.specs.Words.{MayRun, words_of}
-use Rattle.hk_top.specs.Outputs.{IsRecord, IsRecorded, shared}
+use Rattle.hk_top.specs.Runs.{IsRecord, IsRecorded, shared}
 use Rattle.hk_top.specs.Workers.{HasSeenEnd, IsClosed, IsEnd, IsFresh}
 use Rattle.hk_top.proofs.Ends.{AreStill, word_there}
 

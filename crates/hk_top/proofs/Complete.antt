@@ -4,7 +4,7 @@ use Rattle.std.specs.Io.KnownBytes.{Appends, Consumes, IsAtEnd}
 use Rattle.hk_model.specs.State.{State}
 use Rattle.hk_top.specs.Words.{IsGen, IsReading, ReadsAtMost}
 use Rattle.hk_top.proofs.WordLemmas.{no_record, no_json, no_json_record, one_count, gen_reads_nothing}
-use Rattle.hk_top.specs.Outputs.{Answer, Due, DueTo, HadFault, IsComplete, IsSummed, Stream, read, summed, usage, too_long, written, read_fault, no_memory, write_fault}
+use Rattle.hk_top.specs.Outputs.{Answer, Due, DueTo, HadFault, IsComplete, IsSummed, Serves, Stream, whole, beyond, generated, no_command, read, summed, usage, too_long, written, read_fault, no_memory, write_fault}
 
 -- a source that told its bytes and was read to its end gave them all
 all_read : (before after : Option (List ℕ)) (bytes got : List ℕ) → before ≡ Some bytes → Consumes before after got → IsAtEnd after → got ≡ bytes
@@ -50,6 +50,19 @@ module _ {words : List (List ℕ)} {before after : Option (List ℕ)} (bytes : L
       let same = one_limit reads mine in
       let more = took.2 in
       absurd (omega (arith, less, same, more, few))
+
+-- what is due where a source had these bytes is served for them
+pub due_serves : {words : List (List ℕ)} {before after : Option (List ℕ)} (bytes : List ℕ) → before ≡ Some bytes → {status : ℕ} {text : List ℕ} {made : Option State}
+    → Due words before after status text made → Serves words bytes status text made
+due_serves {words} {before} {after} bytes told (read got status text made was due) =
+    let same = all_read before after bytes got told was.taken was.end in
+    whole was.limit status text made was.at_most (subst (λ (b : List ℕ). length b ≤ was.limit) same was.few) (subst (λ (b : List ℕ). DueTo words b status text made) same due)
+due_serves bytes told (summed count status text made asks is same) = generated count status text made asks is
+due_serves bytes told (usage none same) = no_command none
+due_serves {words} {before} {after} bytes told (too_long limit reads took) =
+    let less = most_taken before after bytes took.0 told took.1 in
+    let more = took.2 in
+    beyond limit reads (omega (arith, less, more))
 
 -- what is due where a world is generated
 due_summed : {words : List (List ℕ)} {before after : Option (List ℕ)} (count : ℕ) → IsGen words count → {status : ℕ} {text : List ℕ} {made : Option State}

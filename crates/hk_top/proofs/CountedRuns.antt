@@ -24,7 +24,8 @@ use Rattle.hk_gen.specs.WholeRuns.{WholeRunsEnd}
 use Rattle.hk_report.specs.Counts.{Counted, changes_more, confined_on, counted, counted_by, depth_entered}
 use Rattle.hk_report.proofs.Counts.{RunsNew, counted_more, runs_each}
 use Rattle.hk_report.proofs.NextLines.{step_line, step_moves}
-use Rattle.hk_top.specs.Outputs.{first_processor, status_of, IsCountedRun, IsSummed}
+use Rattle.hk_top.specs.Runs.{first_processor, status_of}
+use Rattle.hk_top.specs.Outputs.{IsCountedRun, IsSummed}
 use Rattle.hk_top.specs.Summaries.{summed_text}
 use Rattle.hk_top.proofs.Histories.{IsHistory, begins, grows_by, last}
 use Rattle.hk_top.proofs.WrittenRuns.{lawful}

@@ -13,7 +13,7 @@ use Rattle.hk_model.specs.State.{State}
 use Rattle.hk_model.specs.Processors.{runner, runner_from, is_ready, is_running, is_waiting, has_ended, may_step, dispatched_from}
 use Rattle.hk_model.specs.Running.{Machine, event_of, dispatch_event, step}
 use Rattle.hk_model.specs.Legal.{end_word}
-use Rattle.hk_top.specs.Outputs.{first_processor}
+use Rattle.hk_top.specs.Runs.{first_processor}
 use Rattle.hk_top.proofs.Scheduled.{Placed, ArePlaced, IsPlaced}
 
 -- none of the processes is ready or runs

@@ -15,8 +15,9 @@ use Rattle.hk_check.proofs.OneVerdict.{one_verdict}
 use Rattle.hk_top.specs.declared.words.Command.TheVariants as command
 use Rattle.hk_top.specs.Words.{words_of, ReadsScript}
 use Rattle.hk_top.proofs.WordLemmas.{no_record, no_json_record}
-use Rattle.hk_top.specs.Outputs.{DueTo, IsChecked, IsRunOf, record_of, script_of, bounds_of, json_of, world_of, verdict_of, changes_of}
-use Rattle.hk_top.specs.Outputs.{chains_of, state_of, script_refused, record_refused, json_refused, TellsLegal, legal, illegal, alone, shared}
+use Rattle.hk_top.specs.Runs.{IsRunDue, IsRunOf, alone, record_of, run_refused, shared}
+use Rattle.hk_top.specs.Outputs.{DueTo, IsChecked, run_of, script_of, bounds_of, json_of, world_of, verdict_of, changes_of}
+use Rattle.hk_top.specs.Outputs.{chains_of, state_of, script_refused, record_refused, json_refused, TellsLegal, legal, illegal}
 
 -- the words `check` read no script and ask for no run
 no_run : {w : WorldValue} {lines : List Line} {end : End} → IsRunOf (words_of command.Check) w lines end → ⊥
@@ -25,6 +26,11 @@ no_run (shared cpus is run) = let words = is.0 in absurd (cc)
 
 no_script : ReadsScript (words_of command.Check) → ⊥
 no_script reads = no_record reads (inl refl)
+
+no_run_due : {bytes text : List ℕ} {status : ℕ} {made : Option State} → IsRunDue (words_of command.Check) bytes status text made → ⊥
+no_run_due (record_of w status text made script recorded) = no_run recorded.run
+no_run_due (run_refused line cause (inl run) script) = no_script (inl run)
+no_run_due (run_refused line cause (inr many) script) = no_script (inr (inl many))
 
 checked_legal : (a : Audited) (status : ℕ) (text : List ℕ) → IsLegal a.world a.lines a.end → IsChecked a TellsLegal status text → (status ≡ 0) × (text ≡ verdict_text Legal)
 checked_legal a status text h (legal _ is laws told) = (refl, told)
@@ -38,7 +44,7 @@ found_legal w lines end world is status text made due = by due
     again = record_again w lines end world (steps_in_range w lines world is.steps)
 
     by : {status : ℕ} {text : List ℕ} {made : Option State} → DueTo (words_of command.Check) (record_text w lines end) status text made → (status ≡ 0) × (text ≡ verdict_text Legal)
-    by (record_of v _ _ _ reads recorded) = absurd (no_run recorded.run)
+    by (run_of _ _ _ run) = absurd (no_run_due run)
     by (script_of v show reads) = absurd (cc)
     by (bounds_of v bounds bound reads are) = absurd (no_script (inr (inr (inr (inl bound)))))
     by (json_of v json reads) = absurd (no_script (inr (inr (inr (inr json)))))
@@ -50,6 +56,6 @@ found_legal w lines end world is status text made due = by due
     by (changes_of a _ _ confine reads checked) = absurd (cc)
     by (state_of a count _ _ back reads checked) = let both = back.0 in absurd (cc)
     by (chains_of a line _ _ trace reads checked) = let both = trace.0 in absurd (cc)
-    by (script_refused line cause reads refused) = absurd (no_script reads)
+    by (script_refused line cause reads refused) = absurd (no_script (inr (inr reads)))
     by (record_refused line cause reads refused) = let both = sym again ∙ refused in absurd (cc)
     by (json_refused unjson none) = absurd (no_json_record (inl refl) unjson)

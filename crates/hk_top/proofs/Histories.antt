@@ -18,7 +18,7 @@ use Rattle.hk_model.specs.Control.{Context, next}
 use Rattle.hk_model.specs.Running.{Machine, AreSteps, AreStepsOf, after_lines, context_of, dispatch_event, event, event_of, line_of, moved, opened, state_after, step}
 use Rattle.hk_model.proofs.Steps.{moved_holds}
 use Rattle.hk_model.proofs.EventCounts.{events_each}
-use Rattle.hk_top.specs.Outputs.{first_processor, IsWholeRun}
+use Rattle.hk_top.specs.Runs.{first_processor, IsWholeRun}
 use Rattle.hk_top.proofs.Ends.{ends}
 use Rattle.hk_top.proofs.Scheduled.{GoesOn, Placed, each_goes, opening_placed}
 

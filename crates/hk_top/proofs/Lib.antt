@@ -1,8 +1,10 @@
+mod CodeLimits
 pub mod AnswerLemmas
 pub mod Histories
 pub mod Scheduled
 pub mod Closing
 pub mod Complete
+mod ServedLemmas
 pub mod Ends
 pub mod FoundLegal
 pub mod ReadWhole

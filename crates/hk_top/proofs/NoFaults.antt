@@ -1,15 +1,16 @@
 -- Over streams that never fail no status is that of a fault.
-use Rattle.std.proofs.Common.{◌≡◌, ◌≤◌, ◌⊎◌, ℕ, List, length, Option, Some, None, refl, sym, subst, arith, inl, inr}
+use Rattle.std.proofs.Common.{◌≡◌, ◌⊎◌, ℕ, List, Option, Some, None, refl, sym, subst, arith, inl, inr}
 use Rattle.hk_model.specs.declared.lines.End.{End}
 use Rattle.hk_model.specs.declared.lines.End.TheVariants as end
 use Rattle.hk_model.specs.State.{State}
 use Rattle.hk_model.specs.WorldValue.{WorldValue}
 use Rattle.hk_model.specs.declared.lines.Line.{Line}
 use Rattle.hk_format.specs.Audits.{Audited}
-use Rattle.hk_top.specs.Words.{IsGen, ReadsAtMost}
-use Rattle.hk_top.specs.Outputs.{Answer, Due, DueTo, HadFault, IsChecked, IsComplete, IsSummed, stream, status_of}
+use Rattle.hk_top.specs.Runs.{IsRunDue, record_of, run_refused, status_of}
+use Rattle.hk_top.specs.Outputs.{Answer, Due, DueTo, HadFault, IsChecked, Serves, stream}
 use Rattle.hk_top.specs.Outputs.{read, summed, usage, too_long, written, read_fault, no_memory, write_fault, legal, illegal}
-use Rattle.hk_top.specs.Outputs.{record_of, script_of, bounds_of, json_of, world_of, verdict_of, chains_of, changes_of, state_of, script_refused, record_refused, json_refused}
+use Rattle.hk_top.specs.Outputs.{run_of, script_of, bounds_of, json_of, world_of, verdict_of, chains_of, changes_of, state_of, script_refused, record_refused, json_refused}
+use Rattle.hk_top.proofs.Complete.{due_serves}
 
 -- a status that tells of no fault
 abbrev IsFaultless : ℕ → Type 0
@@ -39,8 +40,12 @@ checked_is : {a : Audited} {Told : WorldValue → List Line → List ℕ → Typ
 checked_is (legal text is laws told) = zero_is
 checked_is (illegal n cause is) = eight_is
 
+run_due_is : {words : List (List ℕ)} {bytes : List ℕ} {status : ℕ} {text : List ℕ} {made : Option State} → IsRunDue words bytes status text made → IsFaultless status
+run_due_is (record_of w status text made script is) = subst IsFaultless (sym is.record_is.status_is) (end_is is.end)
+run_due_is (run_refused line cause runs script) = three_is
+
 due_to_is : {words : List (List ℕ)} {bytes : List ℕ} {status : ℕ} {text : List ℕ} {made : Option State} → DueTo words bytes status text made → IsFaultless status
-due_to_is (record_of w status text made script is) = subst IsFaultless (sym is.record_is.status_is) (end_is is.end)
+due_to_is (run_of status text made run) = run_due_is run
 due_to_is (script_of w show script) = zero_is
 due_to_is (bounds_of w bounds asks script are) = zero_is
 due_to_is (json_of w asks script) = zero_is
@@ -71,16 +76,10 @@ never_fails {before = before} {after = after} (read_fault failed) = absurd (no_f
 never_fails (no_memory command) = five_is
 never_fails {taken_before = before} {taken_after = after} (write_fault status text made sent due fault few appends) = absurd (no_fault before after fault)
 
-due_alone : {P : Type 0} {Is Appended : List ℕ → Type 0} → P ⊎ ((text : List ℕ) × Is text × Appended text) → P ⊎ ((text : List ℕ) × Is text)
-due_alone (inl want) = inl want
-due_alone (inr due) = inr (due.0, due.1)
-
-pub is_summed : {words : List (List ℕ)} {before after : Option (List ℕ)} {status : ℕ} {made : Option State}
-    → IsComplete words (stream before after 0 0) (stream None None 0 0) status made
-    → (count : ℕ) → IsGen words count → (status ≡ 5) ⊎ ((text : List ℕ) × IsSummed count status text made)
-is_summed h count asks = due_alone (h.generating count asks (no_fault None None))
-
-pub is_due : {words : List (List ℕ)} {bytes : List ℕ} {after : Option (List ℕ)} {status : ℕ} {made : Option State}
-    → IsComplete words (stream (Some bytes) after 0 0) (stream None None 0 0) status made
-    → (limit : ℕ) → ReadsAtMost words limit → length bytes ≤ limit → (status ≡ 5) ⊎ ((text : List ℕ) × DueTo words bytes status text made)
-is_due {bytes = bytes} {after = after} h limit most few = due_alone (h.reading bytes limit refl most few (no_fault (Some bytes) after) (no_fault None None))
+-- what the source had is served, or memory was wanted
+pub is_served : {words : List (List ℕ)} {bytes : List ℕ} {after : Option (List ℕ)} {status : ℕ} {made : Option State}
+    → Answer words (stream (Some bytes) after 0 0) (stream None None 0 0) status made → (status ≡ 5) ⊎ ((text : List ℕ) × Serves words bytes status text made)
+is_served {bytes = bytes} (written status text made due appends) = inr (text, due_serves bytes refl due)
+is_served {bytes = bytes} {after = after} (read_fault failed) = absurd (no_fault (Some bytes) after failed.fault)
+is_served (no_memory command) = inl refl
+is_served (write_fault status text made sent due fault few appends) = absurd (no_fault None None fault)

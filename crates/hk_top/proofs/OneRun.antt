@@ -14,7 +14,7 @@ use Rattle.hk_model.specs.Processors.{has_ended, is_ready, is_running, is_waitin
 use Rattle.hk_model.specs.Running.{Machine, AreSteps, after_lines, line_of, moved, opened, state_after}
 use Rattle.hk_model.specs.Legal.{end_word}
 use Rattle.hk_program.proofs.Machines.{sound_after, sound_kept}
-use Rattle.hk_top.specs.Outputs.{first_processor, IsRunBy, IsWholeRun}
+use Rattle.hk_top.specs.Runs.{first_processor, IsRunBy, IsWholeRun}
 use Rattle.hk_top.proofs.Ends.{AreStill}
 use Rattle.hk_top.proofs.Closing.{HasEnded, at_limit, still, no_step}
 

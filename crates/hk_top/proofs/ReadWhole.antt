@@ -11,7 +11,8 @@ use Rattle.hk_format.specs.CauseTexts.{verdict_text}
 use Rattle.hk_audit.proofs.RecordLengths.{record_fits}
 use Rattle.hk_top.specs.declared.words.Command.TheVariants as command
 use Rattle.hk_top.specs.Words.{words_of, ReadsScript, ReadsAtMost}
-use Rattle.hk_top.specs.Outputs.{Due, DueTo, IsRunOf, IsPrinted, alone, shared}
+use Rattle.hk_top.specs.Runs.{IsRunOf, alone, shared}
+use Rattle.hk_top.specs.Outputs.{Due, DueTo, IsPrinted}
 use Rattle.hk_top.proofs.Complete.{due_told, one_limit}
 use Rattle.hk_top.proofs.FoundLegal.{found_legal}
 

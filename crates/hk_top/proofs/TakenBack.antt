@@ -27,7 +27,8 @@ use Rattle.hk_report.proofs.Lengths.{lines_few}
 use Rattle.hk_undo.specs.Pasts.{History, machine_after, with_line}
 use Rattle.hk_undo.specs.StateTexts.{state_text}
 use Rattle.hk_top.specs.declared.served.DueText.{DueText}
-use Rattle.hk_top.specs.Outputs.{IsChecked, IsLawful, TellsState, legal, moment_text}
+use Rattle.hk_top.specs.Runs.{IsLawful}
+use Rattle.hk_top.specs.Outputs.{IsChecked, TellsState, legal, moment_text}
 use Rattle.hk_top.proofs.AnswerLemmas.{illegal_due}
 
 -- the history of these lines

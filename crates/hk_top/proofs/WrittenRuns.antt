@@ -11,12 +11,18 @@ use Rattle.hk_format.specs.Records.{record_text}
 use Rattle.hk_model.specs.Running.{Machine, AreStepsOf, opened, step}
 use Rattle.hk_audit.specs.Begun.{begun}
 use Rattle.hk_audit.proofs.StepsInRange.{steps_in_range}
+use Rattle.hk_model.proofs.ChainLines.{chains_fall}
+use Rattle.hk_model.proofs.KindsStay.{leaves_others, names_last}
+use Rattle.hk_model.proofs.ReachRules.{reaches_are_least}
 use Rattle.hk_descent.proofs.Chains.{descent}
+use Rattle.hk_descent.proofs.Joined.{one_descent}
 use Rattle.hk_descent.proofs.Environment.{environment}
 use Rattle.hk_confine.proofs.Confined.{confinement, closed_call}
+use Rattle.hk_confine.proofs.Untouched.{untouched}
 use Rattle.hk_program.proofs.AlwaysKept.{kept_law}
 use Rattle.hk_bound.proofs.Law.{law}
-use Rattle.hk_top.specs.Outputs.{first_processor, status_of, IsLawful, IsRecorded, IsRunOf, IsWrittenRun}
+use Rattle.hk_top.specs.Runs.{first_processor, status_of, IsLawful, IsRecorded, IsRunOf}
+use Rattle.hk_top.specs.Outputs.{IsWrittenRun}
 use Rattle.hk_top.specs.Words.{IsRun}
 use Rattle.hk_top.proofs.Histories.{IsHistory, begins, grows_by, last}
 
@@ -50,9 +56,15 @@ told_more w text new m line after t made add =
 pub lawful : (w : WorldValue) (lines : List Line) → IsWorld w → AreStepsOf w lines → IsLawful w lines
 lawful w lines world steps = record {
   descent = descent w lines steps;
+  chains = chains_fall w lines steps;
+  one_descent = one_descent w lines steps;
   environment = environment w lines steps;
   confinement = confinement w lines steps world;
   closed_call = closed_call w lines steps world;
+  untouched = untouched w lines steps world;
+  others = leaves_others w lines steps;
+  names = names_last w lines steps;
+  reaches = reaches_are_least w lines;
   kept = kept_law w world lines steps;
   bound = law w w lines world (record { limit = refl; objects = refl; tasks = refl; labels = refl }) steps;
 }

@@ -9,7 +9,8 @@ use Rattle.hk_audit.specs.Followed.{IsReadTo}
 use Rattle.hk_report.specs.declared.replay.Retelling.{Retelling}
 use Rattle.hk_report.specs.Retold.{IsRetold}
 use Rattle.hk_top.specs.declared.served.DueText.{DueText}
-use Rattle.hk_top.specs.Outputs.{IsLawful, TellsChanges}
+use Rattle.hk_top.specs.Runs.{IsLawful}
+use Rattle.hk_top.specs.Outputs.{TellsChanges}
 
 -- the bytes of which these are left behind the line `record` tell these lines and this end word, which are legal, and the laws
 -- hold of the lines

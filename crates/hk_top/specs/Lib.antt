@@ -1,5 +1,6 @@
 pub mod BoundTexts
 pub mod Summaries
+pub mod Runs
 pub mod Outputs
 pub mod Follows
 pub mod Served

@@ -1,5 +1,5 @@
 -- What the program writes, and its status. docs/FORMATS.md, "Statuses and outputs".
-use Rattle.std.specs.Prelude.{◌≡◌, ℕ, ◌-◌, ◌<◌, ◌≤◌, ◌⊎◌, List, [], ◌∷◌, ◌++◌, length, take, Option, Some, None, Ok, Err, All, codes}
+use Rattle.std.specs.Prelude.{◌≡◌, ℕ, ◌-◌, ◌<◌, ◌≤◌, ◌⊎◌, List, [], ◌∷◌, ◌++◌, length, take, Option, Some, None, Ok, Err, codes}
 use Rattle.std.specs.Io.KnownBytes.{Consumes, Appends, IsAtEnd}
 use Rattle.hk_io.specs.Causes.{Rose}
 use Rattle.hk_io.specs.Streams.{Took}
@@ -17,21 +17,16 @@ use Rattle.hk_model.specs.Changes.{AreChanges, bare_changes}
 use Rattle.hk_model.specs.Snapshots.{shown}
 use Rattle.hk_model.specs.WorldValue.{IsWorld, WorldValue}
 use Rattle.hk_model.specs.State.{State}
-use Rattle.hk_model.specs.Running.{opened, step, after_lines, state_after, state_at}
+use Rattle.hk_model.specs.Running.{state_after, state_at}
 use Rattle.hk_model.specs.Legal.{IsLegal}
 use Rattle.hk_model.specs.Verdicts.{IsVerdict}
-use Rattle.hk_model.specs.Descent.{DescentLaw}
-use Rattle.hk_model.specs.Marks.{EnvironmentLaw}
-use Rattle.hk_model.specs.Confinement.{ConfinementLaw, ClosedCallLaw}
-use Rattle.hk_model.specs.Kept.{KeptLaw}
-use Rattle.hk_bound.specs.Bounds.{BoundLaw}
 use Rattle.hk_format.specs.Worlds.{world}
 use Rattle.hk_format.specs.Canonical.{canon}
 use Rattle.hk_format.specs.Records.{record_text}
 use Rattle.hk_format.specs.Texts.{ended_line}
 use Rattle.hk_format.specs.Audits.{Audited, audit}
 use Rattle.hk_model.specs.Generated.{generate}
-pub use Rattle.hk_gen.specs.WholeRuns.{first_processor}
+use Rattle.hk_top.specs.Runs.{IsWholeRun, IsLawful, IsRecorded, IsRunDue}
 use Rattle.hk_top.specs.BoundTexts.{AreBounds, bounds_text}
 use Rattle.hk_top.specs.Summaries.{summary_text}
 use Rattle.hk_json.specs.Readings.{Reads}
@@ -40,49 +35,12 @@ use Rattle.hk_report.specs.ChangeTexts.{changes_text}
 use Rattle.hk_undo.specs.StateTexts.{state_text}
 use Rattle.hk_trace.specs.ChainTexts.{chains_text}
 use Rattle.hk_trace.specs.Traced.{trace_of}
-use Rattle.hk_top.specs.Words.{IsRun, IsRunOn, IsShow, IsBound, IsJson, IsUnjson, IsCheck, IsConfine}
-use Rattle.hk_top.specs.Words.{IsTrace, IsBack, IsGen, ReadsScript, ReadsRecord, IsCommand, ReadsAtMost}
+use Rattle.hk_top.specs.Words.{IsShow, IsBound, IsJson, IsUnjson, IsCheck, IsConfine}
+use Rattle.hk_top.specs.Words.{IsTrace, IsBack, IsGen, TellsScript, ReadsRecord, IsCommand, ReadsAtMost}
 
 -- what is written of words that are no command
 abbrev pub usage_text : List ℕ
 usage_text = codes "usage: hydra COMMAND [NUMBER]" ++ 10 ∷ []
-
--- a whole run of a world on processor 0: its steps from the opening on, until it has none
-pub record IsWholeRun (w : WorldValue) (lines : List Line) (end : End) : Type 0 where
-  pub legal : IsLegal w lines end
-  pub alone : All (λ (line : Line). line.cpu ≡ first_processor) lines
-  pub last : step w (after_lines w (opened w) lines) first_processor ≡ None
-
--- a run of a world on so many processors: whichever of them made each line, the history is legal
-pub record IsRunBy (w : WorldValue) (cpus : ℕ) (lines : List Line) (end : End) : Type 0 where
-  pub legal : IsLegal w lines end
-  pub below : All (λ (line : Line). line.cpu.0 < cpus) lines
-
--- a run of a world that these words ask for
-pub data IsRunOf (words : List (List ℕ)) (w : WorldValue) (lines : List Line) (end : End) : Type 0 where
-  alone : IsRun words → IsWholeRun w lines end → IsRunOf words w lines end
-  shared : (cpus : ℕ) → IsRunOn words cpus → IsRunBy w cpus lines end → IsRunOf words w lines end
-
--- the laws of protection over these lines, that of kept objects, and that of the static bound
-pub record IsLawful (w : WorldValue) (lines : List Line) : Type 0 where
-  pub descent : DescentLaw w lines
-  pub environment : EnvironmentLaw w lines
-  pub confinement : ConfinementLaw w lines
-  pub closed_call : ClosedCallLaw w lines
-  pub kept : KeptLaw w lines
-  pub bound : BoundLaw w w lines
-
--- the status of a run that ended so
-abbrev pub status_of : End → ℕ
-status_of end.Done = 0
-status_of end.Stuck = 1
-status_of end.Limit = 7
-
--- the record of these lines, of which the laws hold, and its status
-pub record IsRecord (w : WorldValue) (lines : List Line) (end : End) (status : ℕ) (text : List ℕ) : Type 0 where
-  pub laws : IsLawful w lines
-  pub status_is : status ≡ status_of end
-  pub text_is : text ≡ record_text w lines end
 
 -- the record of a whole run on processor 0, of whose lines the laws hold, and the state behind them
 pub record IsWrittenRun (w : WorldValue) (text : List ℕ) (end : End) (state : State) : Type 0 where
@@ -100,14 +58,6 @@ pub record IsCountedRun (w : WorldValue) (changes : ℕ) (end : End) (state : St
   pub laws : IsLawful w lines
   pub changes_is : changes ≡ length (bare_changes w lines)
   pub state_is : state ≡ state_after w lines
-
--- the record of a run that these words ask for, and the state of the kernel that made it: the lines lead there
-pub record IsRecorded (words : List (List ℕ)) (w : WorldValue) (status : ℕ) (text : List ℕ) (made : Option State) : Type 0 where
-  pub lines : List Line
-  pub end : End
-  pub run : IsRunOf words w lines end
-  pub record_is : IsRecord w lines end status text
-  pub kernel : made ≡ Some (state_after w lines)
 
 -- the summary of the whole run of the generated world of so many processes, which ends with every process ended, and the state
 -- of the kernel that made it
@@ -155,8 +105,8 @@ bad_json_text = refusal_text 0 (codes "BadJson")
 -- the status and the text that are due to these words and to the bytes that were read, and the state of the kernel, if one
 -- made a record
 pub data DueTo (words : List (List ℕ)) (bytes : List ℕ) : ℕ → List ℕ → Option State → Type 0 where
-  -- 0, 1, 7: the bytes are the script of a world, and the text is the record of its run
-  record_of : (w : WorldValue) (status : ℕ) (text : List ℕ) (made : Option State) → world bytes ≡ Ok w → IsRecorded words w status text made → DueTo words bytes status text made
+  -- 0, 1, 3, 7: the words run a script, and the text is the record of its run, or the line that is refused
+  run_of : (status : ℕ) (text : List ℕ) (made : Option State) → IsRunDue words bytes status text made → DueTo words bytes status text made
   -- 0: the bytes are the script of a world, and the text is its canonical script
   script_of : (w : WorldValue) → IsShow words → world bytes ≡ Ok w → DueTo words bytes 0 (canon w) None
   -- 0: the bytes are the script of a world, and the text is the bounds of its processes
@@ -176,11 +126,23 @@ pub data DueTo (words : List (List ℕ)) (bytes : List ℕ) : ℕ → List ℕ �
   state_of : (a : Audited) (count status : ℕ) (text : List ℕ) → IsBack words count → audit bytes ≡ Ok a → IsChecked a (TellsState count) status text
       → DueTo words bytes status text None
   -- 3: the bytes are the script of no world, and the text is the first line that is refused, with its first cause
-  script_refused : (line : ℕ) (cause : Cause) → ReadsScript words → world bytes ≡ Err (line, cause) → DueTo words bytes 3 (refusal_text line (cause_name cause)) None
+  script_refused : (line : ℕ) (cause : Cause) → TellsScript words → world bytes ≡ Err (line, cause) → DueTo words bytes 3 (refusal_text line (cause_name cause)) None
   -- 3: the bytes are no record, and the text is the line that is refused first, with its cause
   record_refused : (line : ℕ) (cause : Cause) → ReadsRecord words → audit bytes ≡ Err (line, cause) → DueTo words bytes 3 (refusal_text line (cause_name cause)) None
   -- 3: the bytes have no reading, or one that is the value of no world
   json_refused : IsUnjson words → ((w : WorldValue) → IsWorld w → Reads bytes (value w) → ⊥) → DueTo words bytes 3 bad_json_text None
+
+-- the status and the text of a call with these words and bytes, without streams, and the state of the kernel, if one ran
+pub data Serves (words : List (List ℕ)) (bytes : List ℕ) : ℕ → List ℕ → Option State → Type 0 where
+  -- 0, 1, 3, 7, 8: the bytes are no more than the words may read, and the text is due to them
+  whole : (limit status : ℕ) (text : List ℕ) (made : Option State) → ReadsAtMost words limit → length bytes ≤ limit → DueTo words bytes status text made
+      → Serves words bytes status text made
+  -- 3: there are more bytes than the words may read
+  beyond : (limit : ℕ) → ReadsAtMost words limit → limit < length bytes → Serves words bytes 3 too_long_text None
+  -- 0: the words ask for the run of a generated world, and the text is its summary, whatever the bytes are
+  generated : (count status : ℕ) (text : List ℕ) (made : Option State) → IsGen words count → IsSummed count status text made → Serves words bytes status text made
+  -- 2: the words are no command, whatever the bytes are
+  no_command : (IsCommand words → ⊥) → Serves words bytes 2 usage_text None
 
 -- these bytes were read: they are all that the source had, up to its end, and no more than these words may read
 pub record WasRead (words : List (List ℕ)) (before after : Option (List ℕ)) (bytes : List ℕ) : Type 0 where

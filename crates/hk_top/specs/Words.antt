@@ -3,7 +3,6 @@ use Rattle.std.specs.Prelude.{◌≡◌, ℕ, ◌≤◌, ◌⊎◌, List, [], �
 use Rattle.std.specs.Fmt.{decimal}
 use Rattle.hk_model.specs.Limits.{cpu_limit, process_limit, script_bytes, record_bytes}
 use Rattle.hk_top.specs.declared.words.Command.{Command}
-use Rattle.hk_top.specs.declared.words.TheConstants.{BACK_LIMIT, JSON_BYTES, TRACE_LIMIT}
 use Rattle.hk_top.specs.declared.words.Command.TheVariants as command
 
 -- the words `run`
@@ -56,7 +55,7 @@ IsConfine words = words ≡ codes "confine" ∷ []
 
 -- the largest number of a line that can be traced
 abbrev pub trace_limit : ℕ
-trace_limit = TRACE_LIMIT
+trace_limit = 999
 
 -- the line of this number may be traced
 abbrev pub MayTrace : ℕ → Type 0
@@ -72,7 +71,7 @@ Traces words = (line : ℕ) × IsTrace words line
 
 -- the largest number of lines that can be taken back
 abbrev pub back_limit : ℕ
-back_limit = BACK_LIMIT
+back_limit = 999
 
 -- so many lines may be taken back
 abbrev pub MayTakeBack : ℕ → Type 0
@@ -98,9 +97,17 @@ IsGen words count = (words ≡ codes "gen" ∷ decimal count ∷ []) × MayGener
 abbrev pub Generates : List (List ℕ) → Type 0
 Generates words = (count : ℕ) × IsGen words count
 
+-- the words of a command that runs a script
+abbrev pub RunsScript : List (List ℕ) → Type 0
+RunsScript words = IsRun words ⊎ RunsOnMany words
+
+-- the words of a command that reads a script, and does not run it
+abbrev pub TellsScript : List (List ℕ) → Type 0
+TellsScript words = IsShow words ⊎ (IsBound words ⊎ IsJson words)
+
 -- the words of a command that reads a script
 abbrev pub ReadsScript : List (List ℕ) → Type 0
-ReadsScript words = IsRun words ⊎ (RunsOnMany words ⊎ (IsShow words ⊎ (IsBound words ⊎ IsJson words)))
+ReadsScript words = IsRun words ⊎ (RunsOnMany words ⊎ TellsScript words)
 
 -- the words of a command that reads a record
 abbrev pub ReadsRecord : List (List ℕ) → Type 0
@@ -116,7 +123,7 @@ IsCommand words = IsReading words ⊎ Generates words
 
 -- the most bytes that the JSON of a world may have
 abbrev pub json_bytes : ℕ
-json_bytes = JSON_BYTES
+json_bytes = 16777216
 
 -- the words are those of a command, and this is the most bytes that what it reads may have
 abbrev pub ReadsAtMost : List (List ℕ) → ℕ → Type 0
@@ -147,6 +154,11 @@ abbrev pub ReadsAlone : Command → Type 0
 ReadsAlone (command.RunOn cpus) = ⊥
 ReadsAlone (command.Gen count) = ⊥
 ReadsAlone c = Unit {0}
+
+-- the command reads something
+abbrev pub TakesInput : Command → Type 0
+TakesInput (command.Gen count) = ⊥
+TakesInput c = Unit {0}
 
 -- the most bytes that this command reads; none where it reads nothing
 abbrev pub byte_limit : Command → ℕ

@@ -2,20 +2,17 @@
 
 ghost use Rattle.std.specs.Prelude.{◌≡◌, ◌≢◌, ◌⊎◌, IfOk, IfErr, IsErrOf, None, map, option_map, string_bytes};
 ghost use Rattle.hk_io.specs.Streams.{Took};
-ghost use Rattle.hk_model.specs.Limits.{script_bytes};
-ghost use Rattle.hk_top.specs.Words.{IsReading, IsAlone, IsInRange, MayRun, ReadsAlone, RunsOnMany, words_of, byte_limit};
-ghost use Rattle.hk_top.specs.Outputs.{Answer, FailedReading, IsComplete, IsSaid, stream};
-ghost use Rattle.hk_top.specs.Served.{IsDue, IsTooLong, silent_status};
+ghost use Rattle.hk_top.specs.Words.{IsReading, IsInRange, RunsOnMany, TakesInput, words_of};
+ghost use Rattle.hk_top.specs.Outputs.{Answer, FailedReading, IsComplete, IsSaid, stream, usage_text};
+ghost use Rattle.hk_top.specs.Served.{IsDue, IsTaken, IsTooLong, IsUntaken, silent_status};
 
-use crate::generated::run_generated;
 use crate::maker::Maker;
-use crate::outputs::{due_to_bytes, text_alone, too_long};
-use crate::processors::run_script_on;
+use crate::outputs::{text_alone, too_long};
 use crate::served::{Served, Silence};
+use crate::serving::{serve, serve_alone};
 use crate::status;
-use crate::words::{Command, JSON_BYTES, read_command};
+use crate::words::{Command, byte_limit, read_command};
 use hk_io::{ReadError, Sink, Source, read_all, write_all};
-use hk_model::limits::{RECORD_BYTES, SCRIPT_BYTES};
 use hk_procs::Gate;
 use std::alloc::Global;
 use std::sync::Wait;
@@ -53,13 +50,11 @@ pub fn hydra<S: Source, W: Sink, G: Gate + Sync, M: Maker, R: Threads + Wait + S
     ensures untouched { (IsReading (map string_bytes words.now) → ⊥) → input.new ≡ input.old }
     ensures silent { (result.0 ≡ 4) ⊎ (result.0 ≡ 5) → output.new ≡ output.old }
 {
-    match read_command(words) {
-        Some(Command::RunOn(cpus)) => {
-            let due = due_on(rt, alloc, cpus, input, gate, kernels);
-            say_due(output, due)
-        }
-        _ => answer(alloc, words, input, output, kernels),
-    }
+    let Some(command) = read_command(words) else {
+        return (say_usage(output), None);
+    };
+    let due = due(rt, alloc, words, command, input, gate, kernels);
+    say_due(output, due)
 }
 
 /// What `hydra` does for all words but `run N`. It waits for nobody and always returns.
@@ -84,21 +79,24 @@ pub fn answer<S: Source, W: Sink, M: Maker>(
     ensures silent { (result.0 ≡ 4) ⊎ (result.0 ≡ 5) → output.new ≡ output.old }
 {
     let Some(command) = read_command(words) else {
-        let status = say(output, status::USAGE, b"usage: hydra COMMAND [NUMBER]\n");
-        return (status, None);
+        return (say_usage(output), None);
     };
-    let due = due(alloc, command, input, kernels);
+    let due = due_alone(alloc, words, command, input, kernels);
     say_due(output, due)
 }
 
-/// What is due to a command that one processor serves.
-fn due<S: Source, M: Maker>(
+/// What is due to words and an input: the source is read as far as the words have it, and what `serve` gives for the bytes.
+/// It may wait.
+fn due<S: Source, G: Gate + Sync, M: Maker, R: Threads + Wait + Sync>(
+    rt: &R,
     alloc: Global,
+    words: &[String],
     command: Command,
     input: &mut S,
+    gate: &G,
     kernels: &M,
 ) -> Result<Served<M::Made>, Silence>
-    requires alone { IsAlone command }
+    requires words { map string_bytes words.now ≡ words_of command }
     requires range { IsInRange command }
     ensures due { IfOk result (λ served. IsDue M.Made.state (words_of command) (S.left input.old) (S.left input.new) served) }
     ensures status { IfOk result (λ served. served.due.status ≢ 4 × served.due.status ≢ 5) }
@@ -106,50 +104,45 @@ fn due<S: Source, M: Maker>(
     ensures untouched { (IsReading (words_of command) → ⊥) → input.new ≡ input.old }
     ensures fault { IsErrOf result Silence.ReadFault → FailedReading (words_of command) (stream (S.left input.old) (S.left input.new) (S.faults input.old) (S.faults input.new)) }
 {
-    match command {
-        Command::Gen(count) => Ok(run_generated(alloc, count, kernels)?),
-        _ => due_to_source(alloc, command, input, kernels),
+    match take(alloc, command, input) {
+        Ok(bytes) => Ok(serve(rt, alloc, words, &bytes, gate, kernels)?),
+        Err(error) => unread(alloc, error),
     }
 }
 
-/// What is due to a command that one processor serves, which reads the source.
-fn due_to_source<S: Source, M: Maker>(
+/// The same for all words but `run N`. It waits for nobody.
+fn due_alone<S: Source, M: Maker>(
     alloc: Global,
+    words: &[String],
     command: Command,
     input: &mut S,
     kernels: &M,
 ) -> Result<Served<M::Made>, Silence>
-    requires alone { ReadsAlone command }
+    requires alone { RunsOnMany (map string_bytes words.now) → ⊥ }
+    requires words { map string_bytes words.now ≡ words_of command }
     requires range { IsInRange command }
     ensures due { IfOk result (λ served. IsDue M.Made.state (words_of command) (S.left input.old) (S.left input.new) served) }
     ensures status { IfOk result (λ served. served.due.status ≢ 4 × served.due.status ≢ 5) }
     ensures taken { Took (S.left input.old) (S.left input.new) (λ _. Unit {0}) }
+    ensures untouched { (IsReading (words_of command) → ⊥) → input.new ≡ input.old }
     ensures fault { IsErrOf result Silence.ReadFault → FailedReading (words_of command) (stream (S.left input.old) (S.left input.new) (S.faults input.old) (S.faults input.new)) }
 {
-    match read_all(alloc, input, byte_limit(command)) {
-        Ok(bytes) => Ok(due_to_bytes(alloc, command, &bytes, kernels)?),
+    match take(alloc, command, input) {
+        Ok(bytes) => Ok(serve_alone(alloc, words, &bytes, kernels)?),
         Err(error) => unread(alloc, error),
     }
 }
 
-/// What is due to `run N`, which reads the source. It may wait.
-fn due_on<S: Source, G: Gate + Sync, M: Maker, R: Threads + Wait + Sync>(
-    rt: &R,
-    alloc: Global,
-    cpus: u8,
-    input: &mut S,
-    gate: &G,
-    kernels: &M,
-) -> Result<Served<M::Made>, Silence>
-    requires cpus { MayRun cpus }
-    ensures due { IfOk result (λ served. IsDue M.Made.state (words_of (Command.RunOn cpus)) (S.left input.old) (S.left input.new) served) }
-    ensures status { IfOk result (λ served. served.due.status ≢ 4 × served.due.status ≢ 5) }
+/// The bytes of the source for a command that reads; none, and the source is left, for one that does not.
+fn take<S: Source>(alloc: Global, command: Command, input: &mut S) -> Result<Vec<u8>, ReadError>
     ensures taken { Took (S.left input.old) (S.left input.new) (λ _. Unit {0}) }
-    ensures fault { IsErrOf result Silence.ReadFault → FailedReading (words_of (Command.RunOn cpus)) (stream (S.left input.old) (S.left input.new) (S.faults input.old) (S.faults input.new)) }
+    ensures bytes { IfOk result (λ bytes. IsTaken command (S.left input.old) (S.left input.new) bytes.items) }
+    ensures untouched { (TakesInput command → ⊥) → input.new ≡ input.old }
+    ensures error { IfErr result (λ error. IsUntaken command (stream (S.left input.old) (S.left input.new) (S.faults input.old) (S.faults input.new)) error) }
 {
-    match read_all(alloc, input, SCRIPT_BYTES) {
-        Ok(bytes) => Ok(run_script_on(rt, alloc, cpus, &bytes, gate, kernels)?),
-        Err(error) => unread(alloc, error),
+    match command {
+        Command::Gen(_) => Ok(Vec::new(alloc)),
+        _ => read_all(alloc, input, byte_limit(command)),
     }
 }
 
@@ -181,17 +174,11 @@ fn say_due<W: Sink, K>(output: &mut W, due: Result<Served<K>, Silence>) -> (u8, 
     }
 }
 
-/// The most bytes that a command may read; none where it reads nothing.
-fn byte_limit(command: Command) -> usize
-    ensures { result ≡ byte_limit command }
+/// Says that the words are no command.
+fn say_usage<W: Sink>(output: &mut W) -> u8
+    ensures { IsSaid 2 usage_text (stream (W.taken output.old) (W.taken output.new) (W.faults output.old) (W.faults output.new)) result }
 {
-    match command {
-        Command::Run | Command::RunOn(_) | Command::Show | Command::Bound | Command::Json =>
-            SCRIPT_BYTES,
-        Command::Check | Command::Confine | Command::Trace(_) | Command::Back(_) => RECORD_BYTES,
-        Command::Unjson => JSON_BYTES,
-        Command::Gen(_) => 0,
-    }
+    say(output, status::USAGE, b"usage: hydra COMMAND [NUMBER]\n")
 }
 
 /// Writes a text. Where a write fails, its status stands in place of the one that the text had.

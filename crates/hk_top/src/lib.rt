@@ -13,6 +13,7 @@ mod printed;
 mod processors;
 mod running;
 mod served;
+mod serving;
 pub mod status;
 mod sure;
 mod taking_back;
@@ -25,4 +26,6 @@ pub use printed::{
     one_processor_runs_alone, printed_record_is_legal, printed_record_is_read_whole,
     whole_run_is_one,
 };
+pub use served::{DueText, Served};
+pub use serving::serve;
 pub use sure::hydra_surely;

@@ -15,7 +15,8 @@ ghost use Rattle.hk_model.specs.Running.{AreStepsOf};
 ghost use Rattle.hk_model.specs.declared.verdicts.Verdict.TheVariants.{Legal};
 ghost use Rattle.hk_top.specs.Words.{words_of, byte_limit, IsInRange, MayTakeBack, MayTrace, ReadsAlone, json_bytes};
 ghost use Rattle.hk_top.specs.BoundTexts.{AreTold};
-ghost use Rattle.hk_top.specs.Outputs.{DueTo, IsChecked, IsRecord, TellsChains, TellsChanges, TellsLegal, TellsState, bad_json_text};
+ghost use Rattle.hk_top.specs.Runs.{IsRecord};
+ghost use Rattle.hk_top.specs.Outputs.{DueTo, IsChecked, TellsChains, TellsChanges, TellsLegal, TellsState, bad_json_text};
 ghost use Rattle.hk_top.specs.Follows.{AreDue};
 ghost use Rattle.hk_top.specs.Served.{IsDueTo, Records};
 

@@ -9,7 +9,8 @@ ghost use Rattle.hk_format.specs.CauseTexts.{verdict_text};
 ghost use Rattle.hk_model.specs.declared.verdicts.Verdict.TheVariants.{Legal};
 ghost use Rattle.hk_top.specs.declared.words.Command.TheVariants as command;
 ghost use Rattle.hk_top.specs.Words.{words_of};
-ghost use Rattle.hk_top.specs.Outputs.{Due, DueTo, IsPrinted, IsRunBy, IsWholeRun};
+ghost use Rattle.hk_top.specs.Runs.{IsRunBy, IsWholeRun};
+ghost use Rattle.hk_top.specs.Outputs.{Due, DueTo, IsPrinted};
 
 use hk_model::{End, Line, World};
 

@@ -1,7 +1,7 @@
 //! The statuses of the top calls (`docs/FORMATS.md`, "Statuses and outputs").
 
 ghost use Rattle.std.specs.Prelude.{◌≡◌};
-ghost use Rattle.hk_top.specs.Outputs.{status_of};
+ghost use Rattle.hk_top.specs.Runs.{status_of};
 
 use hk_model::End;
 

@@ -3,9 +3,9 @@
 ghost use Rattle.std.specs.Prelude.{◌≡◌, [], ◌∷◌, IfSome, IfNone, map, string_bytes};
 ghost use Rattle.std.specs.Fmt.{decimal};
 ghost use Rattle.hk_model.specs.Limits.{cpu_limit, process_limit};
-ghost use Rattle.hk_top.specs.Words.{Calls, IsBetween, IsNoNumber, MayRun, MayTakeBack, MayTrace, MayGenerate, back_limit, trace_limit};
+ghost use Rattle.hk_top.specs.Words.{Calls, byte_limit, IsBetween, IsNoNumber, MayRun, MayTakeBack, MayTrace, MayGenerate, back_limit, trace_limit};
 
-use hk_model::limits::{CPU_LIMIT, PROCESS_LIMIT};
+use hk_model::limits::{CPU_LIMIT, PROCESS_LIMIT, RECORD_BYTES, SCRIPT_BYTES};
 use hk_text::numeral;
 
 /// The largest number of a line that can be traced (`docs/FORMATS.md`, "Statuses and outputs").
@@ -43,6 +43,19 @@ pub enum Command {
     Back(u32),
     /// Runs the generated world of so many processes, 1 to 256, on processor 0, and writes a summary.
     Gen(u32),
+}
+
+/// The most bytes that a command may read; none where it reads nothing.
+pub(crate) fn byte_limit(command: Command) -> usize
+    ensures { result ≡ byte_limit command }
+{
+    match command {
+        Command::Run | Command::RunOn(_) | Command::Show | Command::Bound | Command::Json =>
+            SCRIPT_BYTES,
+        Command::Check | Command::Confine | Command::Trace(_) | Command::Back(_) => RECORD_BYTES,
+        Command::Unjson => JSON_BYTES,
+        Command::Gen(_) => 0,
+    }
 }
 
 /// The command of these words. None exactly where they are no command.

@@ -1,14 +1,23 @@
-use Rattle.hk_top.specs.declared.words.Command.TheVariants as command
-use Rattle.hk_top.proofs.AnswerLemmas.{answered}
+use Rattle.std.proofs.Common.{refl, subst, sym}
+use Rattle.hk_top.specs.Words.{IsReading}
+use Rattle.hk_top.specs.Outputs.{usage}
+use Rattle.hk_top.proofs.AnswerLemmas.{said, answered}
 use Rattle.hk_top.proofs.Complete.{complete}
 use Rattle.hk_top.proofs.commands.hydra.Goals as goal
 
-pub returns-in-Some-RunOn-clause-answer : goal.returns-in-Some-RunOn-clause-answer
-returns-in-Some-RunOn-clause-answer g c =
-    let read = rw c.in-Some-RunOn.field-0-is at c.in-Some-RunOn.ensures in
-    answered _ g.M.Made.Kernel.state (command.RunOn c.in-Some-RunOn.cpus) c.due_on-due.result c.say_due.result read.1 read.0 c.due_on-due.ensures.due
-    c.due_on-due.ensures.fault
+pub returns-in_default-clause-answer : goal.returns-in_default-clause-answer
+returns-in_default-clause-answer g c = said (usage c.in_default.ensures refl) c.say_usage.ensures
+
+pub returns-clause-answer : goal.returns-clause-answer
+returns-clause-answer g c =
+    answered _ g.M.Made.Kernel.state c.in-Some.command c.due-due.result c.say_due.result c.in-Some.ensures.1 c.in-Some.ensures.0 c.due-due.ensures.due c.due-due.ensures.fault
     c.say_due.ensures.said c.say_due.ensures.silent
 
-pub returns-in-Some-RunOn-clause-complete : goal.returns-in-Some-RunOn-clause-complete
-returns-in-Some-RunOn-clause-complete g c = complete (returns-in-Some-RunOn-clause-answer g c)
+pub returns-in_default-clause-complete : goal.returns-in_default-clause-complete
+returns-in_default-clause-complete g c = complete (returns-in_default-clause-answer g c)
+
+pub returns-clause-complete : goal.returns-clause-complete
+returns-clause-complete g c = complete (returns-clause-answer g c)
+
+pub returns-clause-untouched : goal.returns-clause-untouched
+returns-clause-untouched g c none = c.due-due.ensures.untouched (λ reads. none (subst IsReading (sym c.in-Some.ensures.0) reads))

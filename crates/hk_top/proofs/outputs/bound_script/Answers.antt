@@ -12,5 +12,5 @@ returns-in-Ok c = bounds_due c.args.bytes.now c.in-Ok.world c.bounds.result c.in
 
 pub returns-in-Err-Refused : goal.returns-in-Err-Refused
 returns-in-Err-Refused c =
-    script_refused_due command.Bound c.args.bytes.now c.in-Err-Refused.line c.in-Err-Refused.cause c.refused.result (inr (inr (inr (inl refl))))
+    script_refused_due command.Bound c.args.bytes.now c.in-Err-Refused.line c.in-Err-Refused.cause c.refused.result (inr (inl refl))
     (c.read_world.ensures.refused c.in-Err-Refused.line c.in-Err-Refused.cause (c.in-Err-Refused.is ∙ ap (λ e. Err e) c.in-Err-Refused.field-0-is)) c.refused.ensures

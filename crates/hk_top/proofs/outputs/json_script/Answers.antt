@@ -12,5 +12,5 @@ returns-in-Ok c = json_due c.args.bytes.now c.in-Ok.world c.json.result c.in-Ok.
 
 pub returns-in-Err-Refused : goal.returns-in-Err-Refused
 returns-in-Err-Refused c =
-    script_refused_due command.Json c.args.bytes.now c.in-Err-Refused.line c.in-Err-Refused.cause c.refused.result (inr (inr (inr (inr refl))))
+    script_refused_due command.Json c.args.bytes.now c.in-Err-Refused.line c.in-Err-Refused.cause c.refused.result (inr (inr refl))
     (c.read_world.ensures.refused c.in-Err-Refused.line c.in-Err-Refused.cause (c.in-Err-Refused.is ∙ ap (λ e. Err e) c.in-Err-Refused.field-0-is)) c.refused.ensures

@@ -1,4 +1,4 @@
-use Rattle.hk_top.proofs.NoFaults.{never_fails, is_due, is_summed}
+use Rattle.hk_top.proofs.NoFaults.{never_fails, is_served}
 use Rattle.hk_top.proofs.sure.hydra_surely.Goals as goal
 
 pub returns-clause-answer : goal.returns-clause-answer
@@ -10,8 +10,5 @@ returns-clause-read g c = (never_fails c.hydra.ensures.answer).0
 pub returns-clause-written : goal.returns-clause-written
 returns-clause-written g c = (never_fails c.hydra.ensures.answer).1
 
-pub returns-clause-due : goal.returns-clause-due
-returns-clause-due g c = is_due c.hydra.ensures.complete
-
-pub returns-clause-generated : goal.returns-clause-generated
-returns-clause-generated g c = is_summed c.hydra.ensures.complete
+pub returns-clause-served : goal.returns-clause-served
+returns-clause-served g c = is_served c.hydra.ensures.answer
