@@ -1,13 +1,14 @@
-"""What `confine`, `trace N` and `back K` tell of a history, worked out from docs/RULES.md word by word, with no thought of time.
+"""What `confine`, `trace N` and `back K` tell of a history, and its marks, worked out from docs/RULES.md word by word, with no thought of time.
 
 It is not proved, and no verdict rests on it: tests/told compares the built program with it. It stands on tools/rules.py, whose steps
 it remembers with the state at each moment.
 """
 import copy
 from dataclasses import dataclass
+from functools import cached_property
 
 import rules
-from rules import LNS, MODIFY, PROCEDURE, SEMAPHORE, UNCONF, UNIVERSAL, Cap, Template, names_in, spelled
+from rules import ENV, LNS, MODIFY, PROCEDURE, SEMAPHORE, UNCONF, UNIVERSAL, Cap, Template, names_in, spelled
 
 CHANGING = ("putdata", "adddata", "store", "append", "erase", "v")
 
@@ -251,17 +252,37 @@ class History:
             return {("slot", gone.caller, gone.into): mine(call.slots[0])}
         return {}
 
+    @cached_property
+    def writes(self):
+        """What each line writes: places with their origins."""
+        return [self.written(at) for at in range(len(self.lines))]
+
+    @cached_property
+    def writers(self):
+        """The lines that write each place, from the first on."""
+        found = {}
+        for at, writes in enumerate(self.writes):
+            for place in writes:
+                found.setdefault(place, []).append(at)
+        return found
+
+    def writer(self, place, moment):
+        """The last line by this moment that wrote a place, or None."""
+        return next((at for at in reversed(self.writers.get(place, [])) if at < moment), None)
+
+    def links(self, place, moment):
+        """The links of the chain of a place at a moment, from the latest back: the line, the place, and its origin, which is None at a making."""
+        while place is not None and (at := self.writer(place, moment)) is not None:
+            origin = self.writes[at][place]
+            yield at, place, origin
+            place, moment = origin, at
+
     def chain(self, place, moment):
         """The texts of the links of a place at a moment, from the latest back, and of where it ends."""
-        for at in range(moment - 1, -1, -1):
-            writes = self.written(at)
-            if place in writes:
-                place = writes[place]
-                if place is None:
-                    yield f"made {at + 1}"
-                    return
-                yield f"{at + 1} {self.lines[at].call.verb} {self.told(at, place)}"
-        yield "opening"
+        for at, _, place in self.links(place, moment):
+            yield f"made {at + 1}" if place is None else f"{at + 1} {self.lines[at].call.verb} {self.told(at, place)}"
+        if place is not None:
+            yield "opening"
 
     def told(self, moment, place):
         return f"{place[0]} {place[1]} {place[2]} {content(self.standing(moment, place))}"
@@ -272,6 +293,36 @@ class History:
         for step, place in used:
             out += [f"step {step} {self.told(number - 1, place)}", *self.chain(place, number - 1)]
         return "".join(f"{line}\n" for line in [*out, f"steps {len(used)}"])
+
+    # Marks: what descends from a parameter without ENV.
+
+    def local_params(self):
+        """Each parameter without ENV: its slot, and the moment at which its call began."""
+        for at, line in enumerate(self.lines):
+            if line.done and line.call.verb == "call":
+                new, count = self.states[at].next_inc, len(line.call.slots) - 1
+                for slot, cap in enumerate(self.states[at + 1].incarnations[new].slots[:count]):
+                    if not cap.rights & ENV:
+                        yield ("slot", new, slot), at + 1
+
+    def is_marked_by(self, at, marks, origin):
+        """Whether line `at`, before which these places are marked, marks a place that it writes, which has this origin."""
+        verb = self.lines[at].call.verb
+        if verb in ("load", "copy"):
+            return origin in marks or any(place in marks for place in self.path(at))
+        if verb == "call":
+            return origin in marks and origin[0] == "slot"
+        return origin in marks
+
+    def marks(self, slot, begun):
+        """Each moment from a call's beginning on, with the places that are marked then for the parameter in this slot."""
+        marks = {slot}
+        yield begun, marks
+        for at in range(begun, len(self.lines)):
+            writes = self.writes[at]
+            marked = {place for place, origin in writes.items() if marks and self.is_marked_by(at, marks, origin)}
+            marks = {place for place in (marks - writes.keys()) | marked if self.standing(at + 1, place) is not None}
+            yield at + 1, marks
 
     # A state as text.
 
