@@ -16,7 +16,7 @@ pub(crate) const SCRIPT: &'static [u8; 96] =
     b"hydra 1\nobject d DATA\nwords 7\nend\ncode main\ngetdata 0 0 r0\nend\nprocess a main\ncap d GETDATA\nend\n";
 
 /// The record of its run.
-const RECORD: &'static [u8; 184] =
+pub(crate) const RECORD: &'static [u8; 184] =
     b"hydra 1\nobject d DATA\nwords 7\nend\ncode main\ngetdata 0 0 r0\nend\nprocess a main\ncap d GETDATA\nend\nrecord\n0 0 0 dispatch -> done\n0 0 0 getdata 0 0 -> word 7\n0 0 0 return -> done\nend done\n";
 
 /// It holds nobody up.
@@ -35,7 +35,7 @@ pub struct Answered {
 }
 
 /// How many events a kernel tells, where there is one, and memory to show it.
-fn events_of<K: Kernel>(alloc: Global, kernel: Option<K>) -> Option<u32> {
+pub(crate) fn events_of<K: Kernel>(alloc: Global, kernel: Option<K>) -> Option<u32> {
     match kernel?.snapshot(alloc) {
         Ok(shown) => Some(shown.events),
         Err(_) => None,
@@ -118,7 +118,7 @@ fn serve_surely<M: Maker, R: Threads + Wait + Sync>(
 }
 
 /// The run was made, of three events.
-const OF_THREE_EVENTS: Answered = Answered {
+pub(crate) const OF_THREE_EVENTS: Answered = Answered {
     status: status::DONE,
     events: Some(3),
 };

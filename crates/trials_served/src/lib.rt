@@ -10,6 +10,7 @@ mod commands;
 mod desk;
 #[cfg(test)]
 mod processors;
+mod serving;
 #[cfg(test)]
 mod standing;
 #[cfg(test)]
