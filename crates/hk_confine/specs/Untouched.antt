@@ -30,8 +30,8 @@ pub record IsLineUnder (w : WorldValue) (lines : List Line) (k : ℕ) (call : In
   pub is : slice_get lines moment ≡ Some line
   pub under : is_under w lines k call line.inc ≡ true
 
--- the law: each line under a confined call leaves untouched every object that was neither made under the call nor is in its
--- modifiable reach at the moment before the line
+-- the law: each line under a confined call leaves as it was, or lets go, every object that no line makes under the call, and that is
+-- not in its modifiable reach at the moment before the line
 abbrev pub UntouchedLaw : WorldValue → List Line → Type 0
 UntouchedLaw w lines =
     (k : ℕ) (call : Inc) → IsConfinedCall w lines k call

@@ -1,4 +1,5 @@
--- Chains and marks tell one descent, which is told here by itself, line by line. docs/RULES.md, "Marks".
+-- Chains tell descent, and marks tell it with walks added: descent is told here line by line, by what each line writes, and both
+-- are compared with it. docs/RULES.md, "Marks".
 use Rattle.std.specs.Prelude.{◌≡◌, ◌≤◌, ◌<◌, ◌⊎◌, ◌↔◌, ℕ, suc, true, false, List, take, length, slice_get, Option, Some, None}
 use Rattle.std.specs.Option.{option_and_then}
 use Rattle.std.specs.List.{Contains}

@@ -125,7 +125,7 @@ pub data DueTo (words : List (List ℕ)) (bytes : List ℕ) : ℕ → List ℕ �
   -- 0, 8: the bytes are a record, and the text is the state before the last of its lines, so many, or the verdict on it
   state_of : (a : Audited) (count status : ℕ) (text : List ℕ) → IsBack words count → audit bytes ≡ Ok a → IsChecked a (TellsState count) status text
       → DueTo words bytes status text None
-  -- 3: the bytes are the script of no world, and the text is the first line that is refused, with its first cause
+  -- 3: the bytes are the script of no world, and the text is the line that the first pass to refuse one refuses, with its first cause
   script_refused : (line : ℕ) (cause : Cause) → TellsScript words → world bytes ≡ Err (line, cause) → DueTo words bytes 3 (refusal_text line (cause_name cause)) None
   -- 3: the bytes are no record, and the text is the line that is refused first, with its cause
   record_refused : (line : ℕ) (cause : Cause) → ReadsRecord words → audit bytes ≡ Err (line, cause) → DueTo words bytes 3 (refusal_text line (cause_name cause)) None
@@ -144,7 +144,8 @@ pub data Serves (words : List (List ℕ)) (bytes : List ℕ) : ℕ → List ℕ 
   -- 2: the words are no command, whatever the bytes are
   no_command : (IsCommand words → ⊥) → Serves words bytes 2 usage_text None
 
--- these bytes were read: they are all that the source had, up to its end, and no more than these words may read
+-- these bytes were read: they are no more than these words may read, and all that the source had, up to its end, where it tells its
+-- bytes
 pub record WasRead (words : List (List ℕ)) (before after : Option (List ℕ)) (bytes : List ℕ) : Type 0 where
   pub taken : Consumes before after bytes
   pub end : IsAtEnd after
@@ -200,7 +201,7 @@ pub record FailedReading (words : List (List ℕ)) (input : Stream) : Type 0 whe
 
 -- the status of a call and the state of the kernel that it hands back, if it does, and why they come
 pub data Answer (words : List (List ℕ)) (input output : Stream) : ℕ → Option State → Type 0 where
-  -- 0, 1, 2, 3, 7, 8: the sink took the whole text that is due
+  -- 0, 1, 2, 3, 7, 8: the sink took the whole text that is due, where it tells what it takes
   written : (status : ℕ) (text : List ℕ) (made : Option State) → Due words input.before input.after status text made → Appends output.before output.after text
       → Answer words input output status made
   -- 4: a read failed, and no more bytes were taken before than these words may read

@@ -39,7 +39,7 @@ pub data IsRunOf (words : List (List ℕ)) (w : WorldValue) (lines : List Line) 
   alone : IsRun words → IsWholeRun w lines end → IsRunOf words w lines end
   shared : (cpus : ℕ) → IsRunOn words cpus → IsRunBy w cpus lines end → IsRunOf words w lines end
 
--- the laws over these lines. Of descent: what stands somewhere descends by its chain, and chains and marks tell one descent; a
+-- the laws over these lines. Of descent: what stands somewhere descends by its chain; marks tell the same descent with walks added; a
 -- parameter without ENV stays under its call. Of confinement: what a line under a confined call changes, and what it leaves
 -- untouched. Of what these speak of: what a line changes, how long names and kinds last, what the reaches are. Of kept objects;
 -- and the static bound
@@ -82,5 +82,5 @@ pub record IsRecorded (words : List (List ℕ)) (w : WorldValue) (status : ℕ) 
 pub data IsRunDue (words : List (List ℕ)) (bytes : List ℕ) : ℕ → List ℕ → Option State → Type 0 where
   -- 0, 1, 7: the bytes are the script of a world, and the text is the record of its run
   record_of : (w : WorldValue) (status : ℕ) (text : List ℕ) (made : Option State) → world bytes ≡ Ok w → IsRecorded words w status text made → IsRunDue words bytes status text made
-  -- 3: the bytes are the script of no world, and the text is the first line that is refused, with its first cause
+  -- 3: the bytes are the script of no world, and the text is the line that the first pass to refuse one refuses, with its first cause
   run_refused : (line : ℕ) (cause : Cause) → RunsScript words → world bytes ≡ Err (line, cause) → IsRunDue words bytes 3 (refusal_text line (cause_name cause)) None
