@@ -10,6 +10,7 @@ mod commands;
 mod desk;
 #[cfg(test)]
 mod processors;
+#[cfg(test)]
 mod serving;
 #[cfg(test)]
 mod standing;
