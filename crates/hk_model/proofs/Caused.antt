@@ -32,7 +32,7 @@ use Rattle.hk_model.specs.Does.{enter_deep, leave_slot, leave_what, leave_denied
 use Rattle.hk_model.specs.Needs.{Behind, Demand, Carried, Into, Env, Checked, needs, in_slot, MergesWith, with_template, with_parameter}
 use Rattle.hk_model.specs.Needs.{to_give, to_go_on, at_the_end, to_hand_on, to_merge, Counts, of_slots, of_list, of_words, of_items, of_carried, of_written}
 use Rattle.hk_model.specs.Needs.{Wants, Cause, nothing_there, template_there, right_missing, number_too_large, no_number, type_unwanted, type_uncreated}
-use Rattle.hk_model.specs.Needs.{type_of_template, template_unused, arguments_miscounted, words_full, entries_full, objects_full, slots_full, tokens_full, depth_full}
+use Rattle.hk_model.specs.Needs.{type_of_template, no_create_template, no_amplify_template, capability_to_create, amplify_to_create, capability_to_merge, create_to_merge, HasPath, arguments_miscounted, words_full, entries_full, objects_full, slots_full, tokens_full, too_deep}
 use Rattle.hk_model.proofs.CausedSteps.{leads_by_some, one_end, Rises, rights_rise, lower_had, is_in_list, leads_on, found, found_end, next_at, needed_before}
 use Rattle.hk_model.proofs.CausedSteps.{needed_end, needed_behind, HandsOn, MergesIt}
 
@@ -172,31 +172,31 @@ module _ (s : State) (proc : Proc) (inc : Inc) where
       too_large steps (of_list (end_step path) there (leads_on s inc path (needs c).path (at ∷ more) (e ∙ append_assoc path (at ∷ []) more) led)) past
 
   -- what begins the path of a call leads nowhere
-  begins_nowhere : {c : Call} (path more : List ℕ) {refusal : Refusal} → (needs c).path ≡ path ++ more → (path ≡ [] → more ≡ []) → LeadsNowhere s inc path refusal
+  begins_nowhere : {c : Call} → HasPath c → (path more : List ℕ) {refusal : Refusal} → (needs c).path ≡ path ++ more → (path ≡ [] → more ≡ []) → LeadsNowhere s inc path refusal
       → Cause s proc inc c refusal
-  begins_nowhere path more e all no_path = no_number (e ∙ all refl)
-  begins_nowhere path more e all (no_slot h) = number_too_large (of_slots (rw e refl)) h
-  begins_nowhere path more e all (stopped at next before h) =
-      begins_nowhere (at ∷ before) (next ∷ more) (e ∙ append_assoc (at ∷ before) (next ∷ []) more) (λ f. absurd (cc)) h
-  begins_nowhere path more e all (from_nothing before at h) = nothing_there (found s inc before (at ∷ more) (e ∙ append_assoc before (at ∷ []) more) h)
-  begins_nowhere path more e all (from_template before at h) = template_there (found s inc before (at ∷ more) (e ∙ append_assoc before (at ∷ []) more) h)
-  begins_nowhere path more e all (without_load before at h g) = lacks_load before at more e h g
-  begins_nowhere path more e all (past_end before at h g i) = past_list before at more e h i
-  begins_nowhere path more e all (template_without_env before at h g i j) = lacks_env before at more e h g i j
+  begins_nowhere has path more e all no_path = no_number has (e ∙ all refl)
+  begins_nowhere has path more e all (no_slot h) = number_too_large (of_slots (rw e refl)) h
+  begins_nowhere has path more e all (stopped at next before h) =
+      begins_nowhere has (at ∷ before) (next ∷ more) (e ∙ append_assoc (at ∷ before) (next ∷ []) more) (λ f. absurd (cc)) h
+  begins_nowhere has path more e all (from_nothing before at h) = nothing_there (found s inc before (at ∷ more) (e ∙ append_assoc before (at ∷ []) more) h)
+  begins_nowhere has path more e all (from_template before at h) = template_there (found s inc before (at ∷ more) (e ∙ append_assoc before (at ∷ []) more) h)
+  begins_nowhere has path more e all (without_load before at h g) = lacks_load before at more e h g
+  begins_nowhere has path more e all (past_end before at h g i) = past_list before at more e h i
+  begins_nowhere has path more e all (template_without_env before at h g i j) = lacks_env before at more e h g i j
 
   -- the whole path leads nowhere
-  leads_nowhere : {c : Call} {refusal : Refusal} → LeadsNowhere s inc (needs c).path refusal → Cause s proc inc c refusal
-  leads_nowhere {c} h = begins_nowhere (needs c).path [] (sym (append-nil (needs c).path)) (λ e. refl) h
+  leads_nowhere : {c : Call} {refusal : Refusal} → HasPath c → LeadsNowhere s inc (needs c).path refusal → Cause s proc inc c refusal
+  leads_nowhere {c} has h = begins_nowhere has (needs c).path [] (sym (append-nil (needs c).path)) (λ e. refl) h
 
   -- ---- a path that leads to no target
 
   -- the path of a row leads to no target of the row
-  no_target : {c : Call} {refusal : Refusal} → Rises 0 (needs c).rights → NoTarget s inc (needs c).path (Wants c) (needs c).rights refusal → Cause s proc inc c refusal
-  no_target rise (nowhere h) = leads_nowhere h
-  no_target rise (nothing h) = nothing_there (found_end s inc h)
-  no_target rise (no_capability h) = template_there (found_end s inc h)
-  no_target rise (other_type h g) = type_unwanted h g
-  no_target {c} rise (denied {cap} {right} h g f) =
+  no_target : {c : Call} {refusal : Refusal} → HasPath c → Rises 0 (needs c).rights → NoTarget s inc (needs c).path (Wants c) (needs c).rights refusal → Cause s proc inc c refusal
+  no_target has rise (nowhere h) = leads_nowhere has h
+  no_target has rise (nothing h) = nothing_there (found_end s inc h)
+  no_target has rise (no_capability h) = template_there (found_end s inc h)
+  no_target has rise (other_type h g) = type_unwanted h g
+  no_target {c} has rise (denied {cap} {right} h g f) =
       let listed = is_in_list cap.rights right (needs c).rights f in
       let far = leads_by_some (needs c).path (Held cap) h in
       right_missing (record {
@@ -289,15 +289,15 @@ module _ (s : State) (proc : Proc) (inc : Inc) where
   not_created : {path : List ℕ} {into : Slot} {entry : Entry} {refusal : Refusal} → Leads s inc path entry → IsNoCreate (end_step path) entry refusal
       → Cause s proc inc (call.Create path into) refusal
   not_created h creates_nothing = nothing_there (found_end s inc h)
-  not_created h creates_capability = template_unused h (λ u. elim u [ ])
-  not_created h creates_amplify = template_unused h (λ u. elim u [ ])
+  not_created h creates_capability = no_create_template h capability_to_create
+  not_created h creates_amplify = no_create_template h amplify_to_create
 
   -- what stands at the path of a Merge is no Amplify template
   not_amplified : {path : List ℕ} {from into : Slot} {entry : Entry} {refusal : Refusal} → Leads s inc path entry → IsNoAmplify (end_step path) entry refusal
       → Cause s proc inc (call.Merge path from into) refusal
   not_amplified h amplifies_nothing = nothing_there (found_end s inc h)
-  not_amplified h amplifies_capability = template_unused h (λ u. elim u [ ])
-  not_amplified h amplifies_create = template_unused h (λ u. elim u [ ])
+  not_amplified h amplifies_capability = no_amplify_template h capability_to_merge
+  not_amplified h amplifies_create = no_amplify_template h create_to_merge
 
   -- ---- the arguments of an Enter
 
@@ -322,57 +322,57 @@ some_path {entry = entry} path led e = let far = leads_by_some path entry led in
 
 -- what is so in the state before a refusal
 pub caused : (s : State) (proc : Proc) (inc : Inc) {c : Call} {refusal : Refusal} → Refuses s proc inc c refusal → Cause s proc inc c refusal
-caused s proc inc (get_target h) = no_target s proc inc (omega arith) h
+caused s proc inc (get_target h) = no_target s proc inc tt (omega arith) h
 caused s proc inc (get_range t h) = first_too_large s proc inc (of_words 0 refl t.leads) h
-caused s proc inc (put_target h) = no_target s proc inc (omega arith) h
+caused s proc inc (put_target h) = no_target s proc inc tt (omega arith) h
 caused s proc inc (put_range t h) = first_too_large s proc inc (of_words 0 refl t.leads) h
-caused s proc inc (add_target h) = no_target s proc inc (omega arith) h
+caused s proc inc (add_target h) = no_target s proc inc tt (omega arith) h
 caused s proc inc (add_full t h) = words_full t.leads h
-caused s proc inc (count_target h) = no_target s proc inc (omega arith) h
+caused s proc inc (count_target h) = no_target s proc inc tt (omega arith) h
 caused s proc inc (load_into h) = first_too_large s proc inc (of_written 0 refl) h
-caused s proc inc (load_nowhere i h) = leads_nowhere s proc inc h
+caused s proc inc (load_nowhere i h) = leads_nowhere s proc inc tt h
 caused s proc inc (load_nothing i h) = nothing_there (found_end s inc h)
 caused s proc inc (store_from h) = number_too_large (of_carried 1 refl) h
-caused s proc inc (store_target i h) = no_target s proc inc (omega arith) h
+caused s proc inc (store_target i h) = no_target s proc inc tt (omega arith) h
 caused s proc inc (store_range i t h) = first_too_large s proc inc (of_items 0 refl t.leads) h
 caused s proc inc (store_what {path} i t lt st h) = not_storable s proc inc 1 (length path + 1) refl (λ e. absurd (some_path path t.leads e)) refl st h
 caused s proc inc (append_from h) = first_too_large s proc inc (of_carried 0 refl) h
-caused s proc inc (append_target i h) = no_target s proc inc (omega arith) h
+caused s proc inc (append_target i h) = no_target s proc inc tt (omega arith) h
 caused s proc inc (append_what {path} i t st h) = not_storable s proc inc 0 (length path) (sym (add-zero (length path))) (λ e. absurd (some_path path t.leads e)) refl st h
 caused s proc inc (append_full i t st g h) = entries_full t.leads h
-caused s proc inc (erase_target h) = no_target s proc inc (omega arith) h
+caused s proc inc (erase_target h) = no_target s proc inc tt (omega arith) h
 caused s proc inc (erase_range t h) = first_too_large s proc inc (of_items 0 refl t.leads) h
 caused s proc inc (drop_slot h) = number_too_large (of_written 0 refl) h
 caused s proc inc (restrict_slot h) = number_too_large (of_carried 0 refl) h
 caused s proc inc (restrict_what i st h) = no_cap_there s proc inc 0 0 refl refl st h
-caused s proc inc (look_nowhere h) = leads_nowhere s proc inc h
+caused s proc inc (look_nowhere h) = leads_nowhere s proc inc tt h
 caused s proc inc (make_template_into h) = first_too_large s proc inc (of_written 0 refl) h
-caused s proc inc (make_template_target i h) = no_target s proc inc (omega arith) h
+caused s proc inc (make_template_target i h) = no_target s proc inc tt (omega arith) h
 caused s proc inc (create_into h) = first_too_large s proc inc (of_written 0 refl) h
-caused s proc inc (create_nowhere i h) = leads_nowhere s proc inc h
+caused s proc inc (create_nowhere i h) = leads_nowhere s proc inc tt h
 caused s proc inc (create_what i led h) = not_created s proc inc led h
 caused s proc inc (create_type i led h) = type_uncreated led h
-caused s proc inc (create_full i led g h) = objects_full h
+caused s proc inc (create_full i led g h) = objects_full refl h
 caused s proc inc (merge_from h) = first_too_large s proc inc (of_carried 0 refl) h
 caused s proc inc (merge_into i h) = number_too_large (of_written 1 refl) h
-caused s proc inc (merge_nowhere i j h) = leads_nowhere s proc inc h
+caused s proc inc (merge_nowhere i j h) = leads_nowhere s proc inc tt h
 caused s proc inc (merge_what i j led h) = not_amplified s proc inc led h
 caused s proc inc (merge_cap {path} i j led st h) = no_cap_there s proc inc 0 (length path) (sym (add-zero (length path))) refl st h
 caused s proc inc (merge_refused {path} i j led st h) = fails_there s proc inc 0 (length path) (sym (add-zero (length path))) (with_template led) refl st (by_merge h)
 caused s proc inc (copy_into h) = first_too_large s proc inc (of_written 0 refl) h
-caused s proc inc (copy_target i h) = no_target s proc inc (omega arith) h
-caused s proc inc (copy_full i t h) = objects_full h
+caused s proc inc (copy_target i h) = no_target s proc inc tt (omega arith) h
+caused s proc inc (copy_full i t h) = objects_full refl h
 caused s proc inc (enter_argument h) = no_argument s proc inc h
 caused s proc inc (enter_into {path} {args} {into} i h) = number_too_large (of_written (length args) (into_at args into.0)) h
-caused s proc inc (enter_target i j h) = no_target s proc inc (omega arith) h
-caused s proc inc (enter_count i j t h) = arguments_miscounted refl t.leads h
+caused s proc inc (enter_target i j h) = no_target s proc inc tt (omega arith) h
+caused s proc inc (enter_count i j t h) = arguments_miscounted t.leads h
 caused s proc inc (enter_passes i j t n h) = passes_not s proc inc t.leads h
-caused s proc inc (enter_full {args = args} {cap = cap} {caps = caps} i j t p h) =
-    let count = passed_count args (object s cap.name).params caps p in slots_full t.leads (omega (arith, count, h))
-caused s proc inc (enter_deep i j t p n h) = depth_full h
+caused s proc inc (enter_full {args = args} {cap = held} {caps = caps} i j t p h) =
+    let count = passed_count args (object s held.name).params caps p in slots_full t.leads (omega (arith, count, h))
+caused s proc inc (enter_deep i j t p n h) = too_deep h
 caused s proc inc (leave_slot h) = number_too_large (of_carried 0 refl) h
 caused s proc inc (leave_what i st h) = no_cap_there s proc inc 0 0 refl refl st h
 caused s proc inc (leave_denied i st h) = not_storable s proc inc 0 0 refl (λ e. refl) refl st (kept_local h)
-caused s proc inc (p_target h) = no_target s proc inc (omega arith) h
-caused s proc inc (v_target h) = no_target s proc inc (omega arith) h
-caused s proc inc (v_full t none h) = tokens_full t.leads h
+caused s proc inc (p_target h) = no_target s proc inc tt (omega arith) h
+caused s proc inc (v_target h) = no_target s proc inc tt (omega arith) h
+caused s proc inc (v_full t none h) = tokens_full t.leads none h

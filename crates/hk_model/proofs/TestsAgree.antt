@@ -1,8 +1,8 @@
 -- Each test of the rule table passes, and refuses, exactly where the judgment of the inference rules holds that stands for it.
 use Rattle.std.proofs.Common.{◌≡◌, ◌<◌, ◌≤◌, ℕ, zero, suc, List, [], ◌∷◌, length, Bool, true, false, not, ◌&&◌, Option, Some, None, Result, Ok, Err, refl, sym, ◌∙◌, ap, cond, subst, arith}
-use Rattle.std.specs.Prelude.{find, filter, slice_get, nat_lt}
+use Rattle.std.specs.Prelude.{find, filter, slice_get, nat_lt, nat_le}
 use Rattle.std.proofs.lemmas.List.Elements.{All-cons, All-nil}
-use Rattle.std.proofs.lemmas.Bool.{ltb-true, lt-ltb, ltb-false, le-ltb}
+use Rattle.std.proofs.lemmas.Bool.{ltb-true, lt-ltb, ltb-false, le-ltb, leb-true, leb-false}
 use Rattle.std.proofs.lemmas.Option.{slice_get_past}
 use Rattle.hk_model.specs.declared.calls.Refusal.{Refusal}
 use Rattle.hk_model.specs.declared.calls.Refusal.TheVariants as refused
@@ -25,6 +25,11 @@ pub gives_and : {A B : Type 0} {P : A → Type 0} {Q S : Refusal → Type 0} {R 
     → Gives P Q r → ((x : A) → P x → Gives R S next) → ((e : Refusal) → Q e → S e) → Gives R S (r >> next)
 gives_and (gives p) h k = h _ p
 gives_and (refuses q) h k = refuses (k _ q)
+
+-- what a test gives, in other words
+pub gives_as : {A : Type 0} {P R : A → Type 0} {Q S : Refusal → Type 0} {r : Result A Refusal} → Gives P Q r → ((x : A) → P x → R x) → ((e : Refusal) → Q e → S e) → Gives R S r
+gives_as (gives p) h k = gives (h _ p)
+gives_as (refuses q) h k = refuses (k _ q)
 
 -- a test that passes, and one that refuses, before others
 pub ok_then : {A B : Type 0} {r : Result A Refusal} {x : A} {y : Result B Refusal} (f : A → Result B Refusal) → r ≡ Ok x → f x ≡ y → (r >>= f) ≡ y
@@ -150,3 +155,11 @@ below_ok a b refusal h = rw (lt-ltb a b h) refl
 
 pub below_err : (a b : ℕ) (refusal : Refusal) → b ≤ a → unless (nat_lt a b) refusal ≡ Err refusal
 below_err a b refusal h = rw (le-ltb a b h) refl
+
+-- what is at most a limit
+pub within_gives : (a b : ℕ) (refusal : Refusal) → Gives (λ (u : Unit {0}). a ≤ b) (λ r. (b < a) × (r ≡ refusal)) (unless (nat_le a b) refusal)
+within_gives a b refusal = by (nat_le a b) refl
+  where
+    by : (c : Bool) → nat_le a b ≡ c → Gives (λ (u : Unit {0}). a ≤ b) (λ r. (b < a) × (r ≡ refusal)) (unless c refusal)
+    by true e = gives (leb-true a b e)
+    by false e = refuses (leb-false a b e, refl)

@@ -1,5 +1,6 @@
 -- The rules of the kernel calls a second time, as inference rules: one constructor for each way in which a call is answered.
--- docs/RULES.md, "The rules as inference rules". They share with the rule table the state and the rights, and nothing else.
+-- docs/RULES.md, "The rules as inference rules". They share with the rule table the state, the rights, the limits, the names of the kernel
+-- types and which objects are kept or rooted, and none of its tests, its order, its targets, its walk, its reduction and its merging.
 use Rattle.std.specs.Prelude.{◌≡◌, ◌<◌, ◌≤◌, ℕ, ◌+◌, ◌-◌, ◌*◌, ◌^◌, ◌==◌, not, List, [], ◌∷◌, ◌++◌, length, Option, Some, None, All, bit_and, count_by, map, replicate, slice_set}
 use Rattle.std.specs.Map.{remove_entry}
 use Rattle.std.specs.BTreeMap.{insert_entry}
@@ -48,12 +49,13 @@ pub data Makes (of : Name) : Making → Template → Type 0 where
   makes_amplify : {check give : ℕ} → Makes of (making.Amplify check give) (Amplify (Some of) check give)
   makes_create : {give : ℕ} → Makes of (making.Create give) (Create of give)
 
--- an entry that is no Create template, and one that is no Amplify template
+-- the entry of this step is no Create template, for this cause
 pub data IsNoCreate (step : ℕ) : Entry → Refusal → Type 0 where
   creates_nothing : IsNoCreate step Empty (refused.Empty step)
   creates_capability : {cap : Cap} → IsNoCreate step (Held cap) (refused.BadTemplate step)
   creates_amplify : {of : Option Name} {check give : ℕ} → IsNoCreate step (Form (Amplify of check give)) (refused.BadTemplate step)
 
+-- the entry of this step is no Amplify template, for this cause
 pub data IsNoAmplify (step : ℕ) : Entry → Refusal → Type 0 where
   amplifies_nothing : IsNoAmplify step Empty (refused.Empty step)
   amplifies_capability : {cap : Cap} → IsNoAmplify step (Held cap) (refused.BadTemplate step)
@@ -160,7 +162,7 @@ pub data Answers (s : State) (proc : Proc) (inc : Inc) : Call → Reply → Stat
       → Target s inc path (IsType PROCEDURE) (a0_right ∷ []) cap
       → Passes s inc args (object s cap.name).params caps
       → Inherits cap.rights (object s cap.name).entries inherited
-      → length caps + length inherited ≤ slot_limit
+      → length caps + length (object s cap.name).entries ≤ slot_limit
       → incarnations_of s proc < depth_limit
       → Answers s proc inc (call.Enter path args into) Done
       (record (put_process s proc (record (process s proc) { current = s.next_inc })) {
@@ -170,7 +172,7 @@ pub data Answers (s : State) (proc : Proc) (inc : Inc) : Call → Reply → Stat
           caller = Some inc;
           into = into;
           confined = not (has cap.rights unconf_right);
-          slots = map (λ (c : Cap). Held c) caps ++ (inherited ++ replicate (slot_limit - (length caps + length inherited)) Empty);
+          slots = map (λ (c : Cap). Held c) caps ++ (inherited ++ replicate (slot_limit - (length caps + length (object s cap.name).entries)) Empty);
         });
         next_inc = record { 0 = s.next_inc.0 + 1 };
       })
@@ -455,9 +457,9 @@ pub data Refuses (s : State) (proc : Proc) (inc : Inc) : Call → Refusal → Ty
 -- the call of a process in its current incarnation gives this reply and this state: each call is one event, and what is no longer
 -- kept vanishes where it is not refused
 pub data Does (s : State) (proc : Proc) : Call → Reply → State → Type 0 where
-  answered : {c : Call} {reply : Reply} {after : State}
+  is_answered : {c : Call} {reply : Reply} {after : State}
       → Answers s proc (process s proc).current c reply after
       → Does s proc c reply (record (restricted after) { events = s.events + 1 })
-  refuses : {c : Call} {refusal : Refusal}
+  is_refused : {c : Call} {refusal : Refusal}
       → Refuses s proc (process s proc).current c refusal
       → Does s proc c (No refusal) (record s { events = s.events + 1 })

@@ -38,12 +38,13 @@ pub data FirstLacking (rights : ℕ) : List ℕ → ℕ → Type 0 where
 abbrev pub rights_of : ℕ → List ℕ
 rights_of set = filter (has set) right_numbers
 
--- the general types, and the listed ones
+-- a general type
 pub data IsGeneral : Name → Type 0 where
   of_data : {of : Name} → of.0 ≡ DATA → IsGeneral of
   of_universal : {of : Name} → of.0 ≡ UNIVERSAL → IsGeneral of
   of_declared : {of : Name} → LNS < of.0 → IsGeneral of
 
+-- a listed type
 pub data IsListed : Name → Type 0 where
   lists_universal : {of : Name} → of.0 ≡ UNIVERSAL → IsListed of
   lists_procedure : {of : Name} → of.0 ≡ PROCEDURE → IsListed of
@@ -183,7 +184,7 @@ pub data Passes (s : State) (inc : Inc) : List ℕ → List Param → List Cap �
       → Stands s inc slot (Held cap) → Merges cap (object s cap.name).of param new → Passes s inc args params caps
       → Passes s inc (slot ∷ args) (param ∷ params) (new ∷ caps)
 
--- the arguments, of which the first has this step, are as many as the parameters, but one does not merge, for this cause
+-- one of the arguments, of which the first has this step, does not merge with its parameter, for this cause
 pub data PassesNot (s : State) (inc : Inc) : ℕ → List ℕ → List Param → Refusal → Type 0 where
   argument_missing : {step slot : ℕ} {args : List ℕ} {param : Param} {params : List Param} {entry : Entry} {refusal : Refusal}
       → Stands s inc slot entry → NoCapability step entry refusal
@@ -216,6 +217,7 @@ pub data CopiesTo (by : ℕ) : Entry → Entry → Type 0 where
   copies_capability : {cap : Cap} {rights : ℕ} → Reduction by cap.rights rights → Has rights env_right → CopiesTo by (Held cap) (Held (record cap { rights = rights }))
   leaves_capability : {cap : Cap} {rights : ℕ} → Reduction by cap.rights rights → Lacks rights env_right → CopiesTo by (Held cap) Empty
 
+-- each entry of a list and its copy
 pub data CopiesAll (by : ℕ) : List Entry → List Entry → Type 0 where
   copies_none : CopiesAll by [] []
   copies_more : {entry copy : Entry} {rest copies : List Entry} → CopiesTo by entry copy → CopiesAll by rest copies → CopiesAll by (entry ∷ rest) (copy ∷ copies)

@@ -1,6 +1,6 @@
 -- What each kernel call needs, as one table, and what the table says of what is answered and refused: the permission law and the
 -- denial law. docs/RULES.md, "What each call needs".
-use Rattle.std.specs.Prelude.{◌≡◌, ◌<◌, ◌≤◌, ℕ, ◌+◌, List, [], ◌∷◌, ◌++◌, length, Option, Some, None, Contains, map, take}
+use Rattle.std.specs.Prelude.{◌≡◌, ◌<◌, ◌≤◌, ℕ, ◌+◌, true, List, [], ◌∷◌, ◌++◌, length, Option, Some, None, Contains, map, take}
 use Rattle.hk_model.specs.declared.names.Name.{Name}
 use Rattle.hk_model.specs.declared.names.Inc.{Inc}
 use Rattle.hk_model.specs.declared.names.Proc.{Proc}
@@ -26,7 +26,7 @@ use Rattle.hk_model.specs.State.{State, object, incarnation}
 use Rattle.hk_model.specs.Targets.{TYPE, SEMAPHORE, PROCEDURE}
 use Rattle.hk_model.specs.Judgments.{Has, Lacks, rights_of, IsGeneral, IsListed, IsType, IsUncreated, IsAt, Stands, Leads, end_step, NamesOther, IsFullTable}
 use Rattle.hk_model.specs.Does.{incarnations_of}
-use Rattle.hk_model.specs.Lines.{done_call}
+use Rattle.hk_model.specs.Lines.{done_call, makes_object}
 use Rattle.hk_model.specs.Running.{state_at}
 
 -- what a call needs of what a slot carries: nothing, ENV of a capability, or what its template checks
@@ -159,41 +159,62 @@ Wants (call.P path) = IsType SEMAPHORE
 Wants (call.V path) = IsType SEMAPHORE
 Wants _ = λ of. Unit {0}
 
--- a template of the kind that a call uses stands at its path's end
-pub data IsUsed : Call → Entry → Type 0 where
-  creates : {path : List ℕ} {into : Slot} {of : Name} {give : ℕ} → IsUsed (call.Create path into) (Form (Create of give))
-  amplifies : {path : List ℕ} {from into : Slot} {of : Option Name} {check give : ℕ} → IsUsed (call.Merge path from into) (Form (Amplify of check give))
+-- the calls that have a path
+abbrev pub HasPath : Call → Type 0
+HasPath (call.Drop slot) = ⊥
+HasPath (call.Restrict slot keep) = ⊥
+HasPath (call.Leave give) = ⊥
+HasPath call.Yield = ⊥
+HasPath _ = Unit {0}
+
+-- an entry of another kind than the template by which an object is created, or a capability merged
+pub data IsNoCreateTemplate : Entry → Type 0 where
+  capability_to_create : {cap : Cap} → IsNoCreateTemplate (Held cap)
+  amplify_to_create : {of : Option Name} {check give : ℕ} → IsNoCreateTemplate (Form (Amplify of check give))
+
+pub data IsNoAmplifyTemplate : Entry → Type 0 where
+  capability_to_merge : {cap : Cap} → IsNoAmplifyTemplate (Held cap)
+  create_to_merge : {of : Name} {give : ℕ} → IsNoAmplifyTemplate (Form (Create of give))
 
 -- the plain cause of each refusal of a call: what is so in the state before it
-pub data Cause (s : State) (proc : Proc) (inc : Inc) (c : Call) : Refusal → Type 0 where
-  nothing_there : {step : ℕ} → Finds s inc c step Empty → Cause s proc inc c (refused.Empty step)
-  template_there : {step : ℕ} {form : Template} → Finds s inc c step (Form form) → Cause s proc inc c (refused.NotCap step)
-  right_missing : {step right : ℕ} → IsDenied s inc c step right → Cause s proc inc c (refused.Denied step right)
-  number_too_large : {step at bound : ℕ} → Counts s inc c step at bound → bound ≤ at → Cause s proc inc c (refused.Range step)
-  no_number : (needs c).path ≡ [] → Cause s proc inc c (refused.Range 0)
-  type_unwanted : {cap : Cap}
+pub data Cause (s : State) (proc : Proc) (inc : Inc) : Call → Refusal → Type 0 where
+  nothing_there : {c : Call} {step : ℕ} → Finds s inc c step Empty → Cause s proc inc c (refused.Empty step)
+  template_there : {c : Call} {step : ℕ} {form : Template} → Finds s inc c step (Form form) → Cause s proc inc c (refused.NotCap step)
+  right_missing : {c : Call} {step right : ℕ} → IsDenied s inc c step right → Cause s proc inc c (refused.Denied step right)
+  number_too_large : {c : Call} {step at bound : ℕ} → Counts s inc c step at bound → bound ≤ at → Cause s proc inc c (refused.Range step)
+  no_number : {c : Call} → HasPath c → (needs c).path ≡ [] → Cause s proc inc c (refused.Range 0)
+  type_unwanted : {c : Call} {cap : Cap}
       → Leads s inc (needs c).path (Held cap) → (Wants c (object s cap.name).of → ⊥)
       → Cause s proc inc c (refused.WrongType (end_step (needs c).path))
-  type_uncreated : {of : Name} {give : ℕ}
-      → Leads s inc (needs c).path (Form (Create of give)) → IsUncreated of
-      → Cause s proc inc c (refused.WrongType (end_step (needs c).path))
-  type_of_template : (place : ℕ) {form : Param} {cap : Cap}
+  type_uncreated : {path : List ℕ} {into : Slot} {of : Name} {give : ℕ}
+      → Leads s inc path (Form (Create of give)) → IsUncreated of
+      → Cause s proc inc (call.Create path into) (refused.WrongType (end_step path))
+  type_of_template : {c : Call} (place : ℕ) {form : Param} {cap : Cap}
       → MergesWith s inc c place form → Finds s inc c (length (needs c).path + place) (Held cap) → NamesOther form (object s cap.name).of
       → Cause s proc inc c (refused.WrongType (length (needs c).path + place))
-  template_unused : {entry : Entry}
-      → Leads s inc (needs c).path entry → (IsUsed c entry → ⊥)
-      → Cause s proc inc c (refused.BadTemplate (end_step (needs c).path))
+  no_create_template : {path : List ℕ} {into : Slot} {entry : Entry}
+      → Leads s inc path entry → IsNoCreateTemplate entry
+      → Cause s proc inc (call.Create path into) (refused.BadTemplate (end_step path))
+  no_amplify_template : {path : List ℕ} {from into : Slot} {entry : Entry}
+      → Leads s inc path entry → IsNoAmplifyTemplate entry
+      → Cause s proc inc (call.Merge path from into) (refused.BadTemplate (end_step path))
   arguments_miscounted : {path args : List ℕ} {into : Slot} {cap : Cap}
-      → c ≡ call.Enter path args into → Leads s inc path (Held cap) → (length args ≡ length (object s cap.name).params → ⊥)
-      → Cause s proc inc c refused.Count
-  words_full : {cap : Cap} → Leads s inc (needs c).path (Held cap) → word_limit ≤ length (object s cap.name).words → Cause s proc inc c (refused.Full full.Words)
-  entries_full : {cap : Cap} → Leads s inc (needs c).path (Held cap) → entry_limit ≤ length (object s cap.name).entries → Cause s proc inc c (refused.Full full.Entries)
-  objects_full : IsFullTable s → Cause s proc inc c (refused.Full full.Objects)
-  slots_full : {cap : Cap}
-      → Leads s inc (needs c).path (Held cap) → slot_limit < length (object s cap.name).params + length (object s cap.name).entries
-      → Cause s proc inc c (refused.Full full.Slots)
-  tokens_full : {cap : Cap} → Leads s inc (needs c).path (Held cap) → token_limit ≤ (object s cap.name).count → Cause s proc inc c (refused.Full full.Tokens)
-  depth_full : depth_limit ≤ incarnations_of s proc → Cause s proc inc c refused.Deep
+      → Leads s inc path (Held cap) → (length args ≡ length (object s cap.name).params → ⊥)
+      → Cause s proc inc (call.Enter path args into) refused.Count
+  words_full : {path : List ℕ} {word : ℕ} {cap : Cap}
+      → Leads s inc path (Held cap) → word_limit ≤ length (object s cap.name).words
+      → Cause s proc inc (call.Add path word) (refused.Full full.Words)
+  entries_full : {path : List ℕ} {from : Slot} {cap : Cap}
+      → Leads s inc path (Held cap) → entry_limit ≤ length (object s cap.name).entries
+      → Cause s proc inc (call.Append path from) (refused.Full full.Entries)
+  objects_full : {c : Call} → makes_object (Some c) ≡ true → IsFullTable s → Cause s proc inc c (refused.Full full.Objects)
+  slots_full : {path args : List ℕ} {into : Slot} {cap : Cap}
+      → Leads s inc path (Held cap) → slot_limit < length (object s cap.name).params + length (object s cap.name).entries
+      → Cause s proc inc (call.Enter path args into) (refused.Full full.Slots)
+  tokens_full : {path : List ℕ} {cap : Cap}
+      → Leads s inc path (Held cap) → (object s cap.name).waiters ≡ [] → token_limit ≤ (object s cap.name).count
+      → Cause s proc inc (call.V path) (refused.Full full.Tokens)
+  too_deep : {path args : List ℕ} {into : Slot} → depth_limit ≤ incarnations_of s proc → Cause s proc inc (call.Enter path args into) refused.Deep
 
 -- a call that was answered and not refused had, at the moment before, every right that it needs, where it needs it
 abbrev pub PermissionLaw : WorldValue → List Line → Type 0
