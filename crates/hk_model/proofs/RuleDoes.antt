@@ -249,7 +249,7 @@ module _ (s : State) (proc : Proc) (inc : Inc) where
 
   space_gives : (path args : List ℕ) (into : Slot) (cap : Cap) → All IsSlot args → IsSlot into.0 → Target s inc path (IsType PROCEDURE) (a0_right ∷ []) cap
       → Gives (IsSpace path args cap) (Refuses s proc inc (call.Enter path args into))
-        (name_space (map (argument s inc) args) (object s cap.name).params (object s cap.name).entries (not (has cap.rights unconf_right)) (length path))
+      (name_space (map (argument s inc) args) (object s cap.name).params (object s cap.name).entries (not (has cap.rights unconf_right)) (length path))
   space_gives path args into cap a i t = by (length (map (argument s inc) args) == length (object s cap.name).params) refl
     where
       merged_then : length args ≡ length (object s cap.name).params → Gives (IsSpace path args cap) (Refuses s proc inc (call.Enter path args into))
@@ -265,9 +265,9 @@ module _ (s : State) (proc : Proc) (inc : Inc) where
 
       by : (b : Bool) → (length (map (argument s inc) args) == length (object s cap.name).params) ≡ b
           → Gives (IsSpace path args cap) (Refuses s proc inc (call.Enter path args into))
-            (unless b refused.Count >> (merged_all (map (argument s inc) args) (object s cap.name).params (length path) >>= (λ caps.
-            unless (nat_le (length caps + length (object s cap.name).entries) slot_limit) (refused.Full full.Slots) >>
-            Ok (call_slots caps (object s cap.name).entries (not (has cap.rights unconf_right))))))
+          (unless b refused.Count >> (merged_all (map (argument s inc) args) (object s cap.name).params (length path) >>= (λ caps.
+          unless (nat_le (length caps + length (object s cap.name).entries) slot_limit) (refused.Full full.Slots) >>
+          Ok (call_slots caps (object s cap.name).entries (not (has cap.rights unconf_right))))))
       by true e =
           merged_then (sym (length-map args (argument s inc)) ∙ eqb-true (length (map (argument s inc) args)) (length (object s cap.name).params) e)
       by false e =
@@ -322,7 +322,7 @@ module _ (s : State) (proc : Proc) (inc : Inc) where
     where
       by : (caller : Option Inc) → (incarnation s inc).caller ≡ caller → (give : Option Cap) → IsReturned slot give
           → Answers s proc inc (call.Leave (Some slot)) reply.Done
-            (leave_to (record s { incarnations = remove_entry (same_inc inc) s.incarnations }) proc caller (incarnation s inc).into.0 give)
+          (leave_to (record s { incarnations = remove_entry (same_inc inc) s.incarnations }) proc caller (incarnation s inc).into.0 give)
       by None e give g = rules.end_with g.good g.stands g.env e
       by (Some caller) e give g =
           subst (λ x. Answers s proc inc (call.Leave (Some slot)) reply.Done
@@ -338,8 +338,11 @@ module _ (s : State) (proc : Proc) (inc : Inc) where
       after_p : Cap → Bool → Answer × State
       after_p cap b = elim b [
         | true ↦ (Done, put_object s cap.name (record (object s cap.name) { count = (object s cap.name).count - 1 }))
-        | false ↦ (Waits, put_process (put_object s cap.name (record (object s cap.name) { waiters = (object s cap.name).waiters ++ proc ∷ [] })) proc
-          (record (process s proc) { run = Waiting cap.name }))
+        | false ↦ (
+          Waits,
+          put_process (put_object s cap.name (record (object s cap.name) { waiters = (object s cap.name).waiters ++ proc ∷ [] })) proc
+              (record (process s proc) { run = Waiting cap.name }),
+        )
       ]
 
       by : (cap : Cap) → Target s inc path (IsType SEMAPHORE) (modify_right ∷ a0_right ∷ []) cap → (b : Bool) → nat_lt 0 (object s cap.name).count ≡ b

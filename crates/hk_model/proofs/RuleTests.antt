@@ -186,9 +186,17 @@ makes (making.Create give) of = makes_create
 -- all of a template's rights but those special ones that are missing, are the others and those special ones that are there
 given_rights : (rights give : ℕ) → minus give (minus special_rights rights) ≡ merged_rights rights (Some (record { 0 = 0 })) give
 given_rights rights give = same_rights (minus give (minus special_rights rights)) (merged_rights rights (Some (record { 0 = 0 })) give) (λ n.
-    rw (has-bit_and give (all_but (minus special_rights rights)) n, has-lacking all_rights (minus special_rights rights) n, has-bit_and special_rights (all_but rights) n,
-    has-lacking all_rights rights n, has-bit_or (minus give special_rights) (bit_and (bit_and give special_rights) rights) n, has-bit_and give (all_but special_rights) n,
-    has-lacking all_rights special_rights n, has-bit_and (bit_and give special_rights) rights n, has-bit_and give special_rights n)
+    rw (
+      has-bit_and give (all_but (minus special_rights rights)) n,
+      has-lacking all_rights (minus special_rights rights) n,
+      has-bit_and special_rights (all_but rights) n,
+      has-lacking all_rights rights n,
+      has-bit_or (minus give special_rights) (bit_and (bit_and give special_rights) rights) n,
+      has-bit_and give (all_but special_rights) n,
+      has-lacking all_rights special_rights n,
+      has-bit_and (bit_and give special_rights) rights n,
+      has-bit_and give special_rights n,
+    )
     (by (has give n) (has all_rights n) (has special_rights n) (has rights n) (HasAll-from_bit_and all_rights special_rights refl n)))
   where
     by : (g a s r : Bool) → (s ≡ true → a ≡ true) → (g && (a && not (s && (a && not r)))) ≡ ((g && (a && not s)) || ((g && s) && r))
@@ -217,7 +225,7 @@ merged_gives cap of form step = by form.of form.check form.give
 
     typed : (check give : ℕ) (type : Name) (b : Bool) → same_name type of ≡ b
         → Gives (Merges cap of (record { of = Some type; check = check; give = give })) (NoMerge step cap of (record { of = Some type; check = check; give = give }))
-          (unless b (refused.WrongType step) >> (allowed cap.rights check step >> Ok (record { name = cap.name; rights = merged_rights cap.rights (Some type) give })))
+        (unless b (refused.WrongType step) >> (allowed cap.rights check step >> Ok (record { name = cap.name; rights = merged_rights cap.rights (Some type) give })))
     typed check give type false e =
         refuses (merge_other (record { type = type; names = refl; other = λ same. true≢false (sym (name_itself type of same) ∙ e) }))
     typed check give type true e =
@@ -230,7 +238,7 @@ merged_gives cap of form step = by form.of form.check form.give
 
     by : (o : Option Name) (check give : ℕ)
         → Gives (Merges cap of (record { of = o; check = check; give = give })) (NoMerge step cap of (record { of = o; check = check; give = give }))
-          (merged cap of (record { of = o; check = check; give = give }) step)
+        (merged cap of (record { of = o; check = check; give = give }) step)
     by None check give =
         rights_give (record { of = None; check = check; give = give }) (Merges cap of (record { of = None; check = check; give = give }))
         (record { name = cap.name; rights = merged_rights cap.rights None give }) (λ g. by_any_type g) (λ o. absurd (none-some o.type o.names))
@@ -309,7 +317,7 @@ room_gives s = each (has_room s.objects) refl
   where
     each : (b : Bool) → has_room s.objects ≡ b
         → Gives (λ room. MakesRoom s (record s { objects = room })) (λ r. IsFullTable s × (r ≡ refused.Full full.Objects))
-          (cond b (Ok s.objects) (unless (has_room (rooted_objects s)) (refused.Full full.Objects) >> Ok (rooted_objects s)))
+        (cond b (Ok s.objects) (unless (has_room (rooted_objects s)) (refused.Full full.Objects) >> Ok (rooted_objects s)))
     each true e = gives (already (ltb-true (length s.objects) object_limit e))
     each false e =
         let many = ltb-false (length s.objects) object_limit e in

@@ -142,7 +142,7 @@ module _ (s : State) (inc : Inc) where
     where
       wanted : (cap : Cap) (b : Bool) → test (object s cap.name).of ≡ b → Leads s inc path (Held cap)
           → Gives (Target s inc path types needed) (NoTarget s inc path types needed)
-            (unless b (refused.WrongType (last_step path)) >> (allowed cap.rights rights (last_step path) >> Ok cap))
+          (unless b (refused.WrongType (last_step path)) >> (allowed cap.rights rights (last_step path) >> Ok cap))
       wanted cap true e l =
           let typed = tells.yes (object s cap.name).of e in
           gives_and (allowed_gives cap.rights rights (last_step path) needed same)
@@ -152,8 +152,8 @@ module _ (s : State) (inc : Inc) where
 
       at_entry : (entry : Entry) → Leads s inc path entry
           → Gives (Target s inc path types needed) (NoTarget s inc path types needed)
-            (held entry (last_step path) >>= (λ cap. unless (test (object s cap.name).of) (refused.WrongType (last_step path)) >>
-            (allowed cap.rights rights (last_step path) >> Ok cap)))
+          (held entry (last_step path) >>= (λ cap. unless (test (object s cap.name).of) (refused.WrongType (last_step path)) >>
+          (allowed cap.rights rights (last_step path) >> Ok cap)))
       at_entry Empty l = refuses (nothing l)
       at_entry (Form form) l = refuses (no_capability l)
       at_entry (Held cap) l = wanted cap (test (object s cap.name).of) refl l

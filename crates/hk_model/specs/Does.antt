@@ -29,6 +29,7 @@ use Rattle.hk_model.specs.Limits.{word_limit, entry_limit, slot_limit, depth_lim
 use Rattle.hk_model.specs.State.{State, object, incarnation, process, put_object, put_slot, put_process, add_object, same_inc, inc_cmp}
 use Rattle.hk_model.specs.Keeping.{restricted}
 use Rattle.hk_model.specs.Targets.{TYPE, SEMAPHORE, PROCEDURE}
+use Rattle.hk_model.specs.Rule.{rule}
 use Rattle.hk_model.specs.Judgments.{Has, Lacks, IsGeneral, IsListed, IsType, IsUncreated, IsAt, IsPastEnd, IsSlot, IsNoSlot, Stands, Leads, LeadsNowhere, end_step, Target, NoTarget}
 use Rattle.hk_model.specs.Judgments.{IsStorable, NotStorable, NoCapability, Merges, NoMerge, Passes, PassesNot, Inherits, CopiesAll, MakesRoom, IsFullTable}
 
@@ -463,3 +464,7 @@ pub data Does (s : State) (proc : Proc) : Call → Reply → State → Type 0 wh
   is_refused : {c : Call} {refusal : Refusal}
       → Refuses s proc (process s proc).current c refusal
       → Does s proc c (No refusal) (record s { events = s.events + 1 })
+
+-- in every state, for every process and call, the reply and the state that the rule table gives are given by an inference rule
+abbrev pub RulesInferred : Type 0
+RulesInferred = (s : State) (proc : Proc) (c : Call) → Does s proc c (rule s proc c).0 (rule s proc c).1

@@ -19,6 +19,7 @@ use Rattle.hk_descent.proofs.Joined.{one_descent}
 use Rattle.hk_descent.proofs.Environment.{environment}
 use Rattle.hk_confine.proofs.Confined.{confinement, closed_call}
 use Rattle.hk_confine.proofs.Untouched.{untouched}
+use Rattle.hk_model.proofs.NeededRights.{permission_law, denial_law}
 use Rattle.hk_program.proofs.AlwaysKept.{kept_law}
 use Rattle.hk_bound.proofs.Law.{law}
 use Rattle.hk_top.specs.Runs.{first_processor, status_of, IsLawful, IsRecorded, IsRunOf}
@@ -55,6 +56,8 @@ told_more w text new m line after t made add =
 -- the laws hold of the lines of a history
 pub lawful : (w : WorldValue) (lines : List Line) → IsWorld w → AreStepsOf w lines → IsLawful w lines
 lawful w lines world steps = record {
+  permission = permission_law w lines steps;
+  denial = denial_law w lines steps;
   descent = descent w lines steps;
   chains = chains_fall w lines steps;
   one_descent = one_descent w lines steps;

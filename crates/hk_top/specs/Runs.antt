@@ -7,6 +7,7 @@ use Rattle.hk_model.specs.WorldValue.{WorldValue}
 use Rattle.hk_model.specs.State.{State}
 use Rattle.hk_model.specs.Running.{opened, step, after_lines, state_after}
 use Rattle.hk_model.specs.Legal.{IsLegal}
+use Rattle.hk_model.specs.Needs.{PermissionLaw, DenialLaw}
 use Rattle.hk_model.specs.Descent.{DescentLaw, ChainsFall}
 use Rattle.hk_descent.specs.Joined.{AreOneDescent}
 use Rattle.hk_model.specs.Marks.{EnvironmentLaw}
@@ -39,11 +40,13 @@ pub data IsRunOf (words : List (List ℕ)) (w : WorldValue) (lines : List Line) 
   alone : IsRun words → IsWholeRun w lines end → IsRunOf words w lines end
   shared : (cpus : ℕ) → IsRunOn words cpus → IsRunBy w cpus lines end → IsRunOf words w lines end
 
--- the laws over these lines. Of descent: what stands somewhere descends by its chain; marks tell the same descent with walks added; a
--- parameter without ENV stays under its call. Of confinement: what a line under a confined call changes, and what it leaves
--- untouched. Of what these speak of: what a line changes, how long names and kinds last, what the reaches are. Of kept objects;
--- and the static bound
+-- the laws over these lines. Of rights: what is answered had every right that it needs, and what is refused has its cause. Of descent:
+-- what stands somewhere descends by its chain; marks tell the same descent with walks added; a parameter without ENV stays under its
+-- call. Of confinement: what a line under a confined call changes, and what it leaves untouched. Of what these speak of: what a line
+-- changes, how long names and kinds last, what the reaches are. Of kept objects; and the static bound
 pub record IsLawful (w : WorldValue) (lines : List Line) : Type 0 where
+  pub permission : PermissionLaw w lines
+  pub denial : DenialLaw w lines
   pub descent : DescentLaw w lines
   pub chains : ChainsFall w lines
   pub one_descent : AreOneDescent w lines

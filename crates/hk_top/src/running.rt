@@ -6,18 +6,20 @@ ghost use Rattle.hk_top.specs.Runs.{IsLawful};
 use hk_bound::bound_law;
 use hk_confine::{changes_law, closed_call_law, confinement_law, reach_law, untouched_law};
 use hk_descent::{chain_lines_law, descent_law, environment_law, one_descent_law};
-use hk_model::{Cpu, Line, World};
+use hk_model::{Cpu, Line, World, denial_law, permission_law};
 use hk_program::kept_law;
 
 /// The processor that runs a script alone.
 pub(crate) const FIRST_PROCESSOR: Cpu = Cpu(0);
 
-/// The laws over the lines of a history: of descent, of confinement and what they speak of, of kept objects, and the static
+/// The laws over the lines of a history: of permission and denial, of descent, of confinement and what they speak of, of kept objects, and the static
 /// bound. The function does nothing: its contract is what it is for.
 pub(crate) fn laws(world: &World, lines: &[Line])
     requires { AreStepsOf world.now lines.now }
     ensures { IsLawful world.now lines.now }
 {
+    permission_law(world, lines);
+    denial_law(world, lines);
     descent_law(world, lines);
     chain_lines_law(world, lines);
     one_descent_law(world, lines);

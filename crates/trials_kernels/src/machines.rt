@@ -6,7 +6,7 @@ ghost use Rattle.hk_model.specs.Opening.{opening};
 ghost use Rattle.hk_program.specs.Machines.{IsSound};
 
 use crate::worlds::world;
-use hk_model::{Cpu, End, Kernel, World};
+use hk_model::{Cpu, End, Kernel, World, denial_law, permission_law, rules_inferred};
 use hk_plain::Plain;
 use hk_program::{Machine, end_word, kept_law, shapes_law};
 use std::alloc::Global;
@@ -83,6 +83,9 @@ fn run<K: Kernel>(alloc: Global, world: &World, kernel: K) -> Result<([Seen; 3],
 /// The run of the script.
 fn run_of_script(alloc: Global) -> Result<([Seen; 3], Option<End>), Fail> {
     let world = world(alloc, SCRIPT)?;
+    rules_inferred();
+    permission_law(&world, &[]);
+    denial_law(&world, &[]);
     kept_law(&world, &[]);
     shapes_law(&world, &[]);
     let Ok(kernel) = Plain::new(alloc, &world) else {
