@@ -15,3 +15,8 @@ pub mod FollowedRuns
 pub mod OneRun
 pub mod NoFaults
 pub mod TakenBack
+mod DoesWalks
+mod DoesTests
+mod DoesParts
+mod DoesRule
+mod RulesAgree

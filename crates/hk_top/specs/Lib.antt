@@ -1,3 +1,4 @@
+pub mod Agreement
 pub mod BoundTexts
 pub mod Summaries
 pub mod Runs

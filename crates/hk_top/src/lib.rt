@@ -1,6 +1,7 @@
 //! The commands of `hydra`, from words and bytes to bytes and a status.
 #![tactic(auto)]
 
+mod agreement;
 mod bounds;
 mod causes;
 mod commands;
@@ -20,6 +21,7 @@ mod taking_back;
 mod words;
 mod written;
 
+pub use agreement::rules_agree;
 pub use commands::{answer, hydra};
 pub use maker::{Maker, Maps, Slots};
 pub use printed::{

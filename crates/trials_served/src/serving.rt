@@ -2,7 +2,7 @@
 
 use crate::commands::{Answered, OF_THREE_EVENTS, Open, RECORD, SCRIPT, events_of, words};
 use hk_model::Text;
-use hk_top::{Maker, Maps, Slots, serve, status};
+use hk_top::{Maker, Maps, Slots, rules_agree, serve, status};
 use std::alloc::Global;
 use std::sync::Wait;
 use std::test::Fail;
@@ -35,6 +35,7 @@ fn alone(status: u8) -> Answered {
 
 #[test]
 fn a_script_has_its_record(rt: HostRuntime) -> Result<(), Fail> {
+    rules_agree();
     let (one, record) = served(&rt, rt.alloc(), &["run"], SCRIPT, &Slots)?;
     assert_eq!(rt; one, OF_THREE_EVENTS);
     assert_eq!(rt; record.as_bytes(), &RECORD[..]);
